@@ -6,7 +6,7 @@ use Rattle.smallvec.specs.SmallVec.{SmallVec}
 use Rattle.apl_tokens.specs.declared.name.Name.{Name}
 use Rattle.apl_tokens.specs.Lexemes.{Lexeme, Number, Sign}
 use Rattle.apl_tokens.specs.Signs.{right_bracket, left_arrow}
-use Rattle.apl_tokens.specs.NumberEdits.{position_lexemes, edit_lexemes, numbers_in, AreSeveral, row_lexemes, Says}
+use Rattle.apl_tokens.specs.NumberEdits.{position_lexemes, edit_lexemes, row_numbers_of, AreSeveral, row_lexemes, Says}
 use Rattle.apl_tokens.specs.declared.row_edit.RowNumbers.{RowNumbers}
 use Rattle.apl_tokens.specs.declared.row_edit.RowNumbers.TheVariants.{One, Several}
 use Rattle.apl_expr.specs.declared.command.Change.TheVariants as changed
@@ -49,10 +49,10 @@ row_is name (n ∷ ns) l some few is plain =
     let size = length-map ns (λ (k : ℤ). Number k) in
     (omega (arith, size, few), change (row (nums_lit (numbers_read n ns)) (ap (λ (m : trees.Literal). Some (lines.Row name m)) (sym is))), λ no. no, plain)
 
-some_numbers : (r : RowNumbers) → AreSeveral r → 0 < length (numbers_in r)
+some_numbers : (r : RowNumbers) → AreSeveral r → 0 < length (row_numbers_of r)
 some_numbers (One n) several = lit< tt
 some_numbers (Several ns) several = omega (arith, several)
 
-pub row_answers : (name : Name) (r : RowNumbers) (l : Literal) → 3 + length (numbers_in r) ≤ most_tokens → literal_of l ≡ Numbers (numbers_in r) → (AreSeveral r → is_plain l ≡ true) → (cs : List ℕ) → Says 0 cs (row_lexemes name (numbers_in r)) × AreSeveral r → TokensAnswer cs (Ok (command.Change (changed.Row name l)))
+pub row_answers : (name : Name) (r : RowNumbers) (l : Literal) → 3 + length (row_numbers_of r) ≤ most_tokens → literal_of l ≡ Numbers (row_numbers_of r) → (AreSeveral r → is_plain l ≡ true) → (cs : List ℕ) → Says 0 cs (row_lexemes name (row_numbers_of r)) × AreSeveral r → TokensAnswer cs (Ok (command.Change (changed.Row name l)))
 row_answers name r l few is plain cs says =
-    (says.0.0, says.0.1, subst (λ (ts : List Lexeme). IsCommand ts (Ok (command.Change (changed.Row name l)))) (sym says.0.2) (row_is name (numbers_in r) l (some_numbers r says.1) few is (plain says.1)))
+    (says.0.0, says.0.1, subst (λ (ts : List Lexeme). IsCommand ts (Ok (command.Change (changed.Row name l)))) (sym says.0.2) (row_is name (row_numbers_of r) l (some_numbers r says.1) few is (plain says.1)))

@@ -3,7 +3,7 @@
 ghost use Rattle.std.specs.Prelude.{◌≡◌, true, ◌+◌, ◌<◌, ◌≤◌, ◌∷◌, ℕ, List, length, None, Some, Ok, MatchOption};
 ghost use Rattle.std.specs.Str.{chars};
 ghost use Rattle.apl_tokens.specs.Lexemes.{lexemes, Named, Sign};
-ghost use Rattle.apl_tokens.specs.NumberEdits.{IsNumberEdit, IsNumberRow, AreSeveral, numbers_in};
+ghost use Rattle.apl_tokens.specs.NumberEdits.{IsNumberEdit, IsNumberRow, AreSeveral, row_numbers_of};
 ghost use Rattle.apl_tokens.specs.Signs.{left_arrow, right_parenthesis, left_bracket};
 ghost use Rattle.apl_expr.specs.Limits.{most_tokens};
 ghost use Rattle.apl_expr.specs.Trees.{Numbers, literal_of, is_plain};
@@ -464,7 +464,7 @@ fn cell_of(edit: NumberEdit) -> Command
 /// The literal of the numbers of a row.
 #[inline(always)]
 fn literal_of_row(numbers: RowNumbers) -> Literal
-    ensures numbers { literal_of result ≡ Numbers (numbers_in numbers) }
+    ensures numbers { literal_of result ≡ Numbers (row_numbers_of numbers) }
     ensures plain { AreSeveral numbers → is_plain result ≡ true }
 {
     match numbers {
@@ -476,7 +476,7 @@ fn literal_of_row(numbers: RowNumbers) -> Literal
 /// The command of a row that was read from the bytes of a text.
 #[inline(always)]
 fn row_of(row: NumberRow) -> Command
-    requires { 3 + length (numbers_in row.numbers) ≤ most_tokens }
+    requires { 3 + length (row_numbers_of row.numbers) ≤ most_tokens }
     ensures { (cs : List ℕ) → IsNumberRow cs row → IsAnswered cs (Ok result) }
 {
     Command::Change(Change::Row(row.name, literal_of_row(row.numbers)))

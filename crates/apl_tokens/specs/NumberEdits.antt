@@ -27,9 +27,9 @@ abbrev pub IsNumberEdit : List ℕ → NumberEdit → Type 0
 IsNumberEdit cs e = Says 0 cs (edit_lexemes e.name e.positions.items e.number) × (0 < length e.positions.items) × (length e.positions.items ≤ 4)
 
 -- the numbers of a row
-abbrev pub numbers_in : RowNumbers → List ℤ
-numbers_in (One n) = n ∷ []
-numbers_in (Several ns) = ns.items
+abbrev pub row_numbers_of : RowNumbers → List ℤ
+row_numbers_of (One n) = n ∷ []
+row_numbers_of (Several ns) = ns.items
 
 -- several are more than one
 abbrev pub AreSeveral : RowNumbers → Type 0
@@ -46,4 +46,4 @@ row_lexemes name ns = Sign right_parenthesis ∷ Named (codes "ROW") ∷ Named n
 
 -- the tokens of the characters are this row
 abbrev pub IsNumberRow : List ℕ → NumberRow → Type 0
-IsNumberRow cs r = Says 0 cs (row_lexemes r.name (numbers_in r.numbers)) × AreSeveral r.numbers
+IsNumberRow cs r = Says 0 cs (row_lexemes r.name (row_numbers_of r.numbers)) × AreSeveral r.numbers

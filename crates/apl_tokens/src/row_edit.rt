@@ -2,7 +2,7 @@
 
 ghost use Rattle.std.specs.Prelude.{◌≡◌, ◌<◌, ◌≤◌, ◌+◌, [], ◌∷◌, ◌++◌, length, codes, count_by, vec_capacity, IfSome, ◌==◌};
 ghost use Rattle.std.specs.Str.{chars};
-ghost use Rattle.apl_tokens.specs.NumberEdits.{IsNumberRow, numbers_in, number_lexemes, AreSeveral};
+ghost use Rattle.apl_tokens.specs.NumberEdits.{IsNumberRow, row_numbers_of, number_lexemes, AreSeveral};
 ghost use Rattle.apl_tokens.specs.Reading.{ReadsBefore, EndsNumber, GoesOn};
 
 use crate::fronts::{after_blank, name_front, number_front};
@@ -83,9 +83,9 @@ fn several_numbers(alloc: Global, first: i64, text: &[u8], most: usize) -> Optio
 /// The numbers that are all that stands here, with one blank between them: at most so many.
 fn row_numbers(alloc: Global, text: &[u8], most: usize) -> Option<RowNumbers>
     requires { 0 < most }
-    ensures reads { IfSome result (λ numbers. ReadsBefore EndsNumber text.now [] (number_lexemes (numbers_in numbers))) }
+    ensures reads { IfSome result (λ numbers. ReadsBefore EndsNumber text.now [] (number_lexemes (row_numbers_of numbers))) }
     ensures several { IfSome result AreSeveral }
-    ensures few { IfSome result (λ numbers. length (numbers_in numbers) ≤ most) }
+    ensures few { IfSome result (λ numbers. length (row_numbers_of numbers) ≤ most) }
 {
     let (first, rest) = number_front(text)?;
     if rest.is_empty() {
@@ -100,7 +100,7 @@ fn row_numbers(alloc: Global, text: &[u8], most: usize) -> Option<RowNumbers>
 pub fn number_row(alloc: Global, text: &str, most: usize) -> Option<NumberRow>
     requires { 0 < most }
     ensures row { IfSome result (λ row. IsNumberRow (chars text.now) row) }
-    ensures few { IfSome result (λ row. length (numbers_in row.numbers) ≤ most) }
+    ensures few { IfSome result (λ row. length (row_numbers_of row.numbers) ≤ most) }
 {
     let rest = after_row(text.as_bytes())?;
     let Some(front) = name_front(rest, b' ') else {

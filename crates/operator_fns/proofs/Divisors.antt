@@ -8,7 +8,7 @@ use Rattle.scalar_fns.specs.Numbers.{residue, dyadic_on_numbers}
 use Rattle.operator_fns.specs.declared.residue_scan.Divisor.{Divisor}
 use Rattle.operator_fns.specs.LinearScan.{depth}
 use Rattle.operator_fns.specs.RecalledScan.{given_at}
-use Rattle.operator_fns.specs.ResidueScan.{reach_at, place_before, no_divisor, AreDivisors, IsBeside, AreTheSame, IsDivisor, Leads, LeadsTo, from}
+use Rattle.operator_fns.specs.ResidueScan.{extent_at, place_before, no_divisor, AreDivisors, IsBeside, AreTheSame, IsDivisor, Leads, LeadsTo, from}
 use Rattle.operator_fns.proofs.RecalledFolds.{at_first, at_later}
 use Rattle.operator_fns.proofs.OneSided.{stays, comes_near, beside_at, rest_stays_beside}
 
@@ -19,13 +19,13 @@ positive (suc n) h = omega arith
 module _ (zs : List ℤ) (stride count : ℕ) where
   -- a number that a divisor reaches goes on as its residue
   pub divided : (place : ℕ) (d : Divisor) (w : ℤ) → IsDivisor zs stride count place d → place < length zs → IsBeside zs w → FitsSigned w64 w
-      → reach_at zs place ≤ unsigned_abs w
+      → extent_at zs place ≤ unsigned_abs w
       → from zs stride count (Some place) w ≡ from zs stride count d.below (residue (get_or zs place (pos 0)) w)
   divided place d w is below beside fit far =
       let x = get_or zs place (pos 0) in
       let at = beside_at zs w place beside below in
       let rest = residue x w in
-      let near : unsigned_abs rest < reach_at zs place = comes_near x w at far fit in
+      let near : unsigned_abs rest < extent_at zs place = comes_near x w at far fit in
       let beside_rest = rest_stays_beside zs w place beside below in
       let again : residue x rest ≡ rest = stays x rest (beside_at zs rest place beside_rest below) near in
       ap (given_at (dyadic_on_numbers ByResidue) zs stride count place) (sym again) ∙ is.below rest beside_rest near
@@ -39,7 +39,7 @@ module _ (zs : List ℤ) (stride count : ℕ) where
         by_depth true h = rw h (at_first (dyadic_on_numbers ByResidue) zs stride count apart some place w (eqb-true (depth stride count place) 0 h))
         by_depth false h = rw h (at_later (dyadic_on_numbers ByResidue) zs stride count apart some place w (positive (depth stride count place) (eqb-false (depth stride count place) 0 h)))
 
-    pub passes : (place : ℕ) (below : Option ℕ) (w : ℤ) → place < length zs → IsBeside zs w → unsigned_abs w < reach_at zs place
+    pub passes : (place : ℕ) (below : Option ℕ) (w : ℤ) → place < length zs → IsBeside zs w → unsigned_abs w < extent_at zs place
         → from zs stride count (place_before stride count place) w ≡ from zs stride count below w
         → from zs stride count (Some place) w ≡ from zs stride count below w
     passes place below w inside beside near same =
@@ -47,8 +47,8 @@ module _ (zs : List ℤ) (stride count : ℕ) where
         ∙ at_place place w ∙ same
 
   -- what is further on the way from the place below is further on the way from the place
-  pub leads_on : (place : ℕ) (below far : Option ℕ) → AreTheSame zs stride count (reach_at zs place) (Some place) below
-      → IfSome below (λ b. reach_at zs b < reach_at zs place) → LeadsTo zs stride count below far → IfSome far (Leads zs stride count (Some place))
+  pub leads_on : (place : ℕ) (below far : Option ℕ) → AreTheSame zs stride count (extent_at zs place) (Some place) below
+      → IfSome below (λ b. extent_at zs b < extent_at zs place) → LeadsTo zs stride count below far → IfSome far (Leads zs stride count (Some place))
   leads_on place below None same near leads = _
   leads_on place None (Some far) same near leads = absurd (let no = leads.before in omega (arith, no))
   leads_on place (Some b) (Some far) same near leads =

@@ -9,7 +9,7 @@ use Rattle.std.proofs.lemmas.Nat.{mod_below}
 use Rattle.std.proofs.Math.Nat.{mod-eq_of_lt}
 use Rattle.scalar_fns.specs.Numbers.{residue}
 use Rattle.scalar_fns.proofs.Residues.{both_positive, both_negative, negative_divisor_whole}
-use Rattle.operator_fns.specs.ResidueScan.{reach_of, is_low, is_high, are_one_sided, IsBeside}
+use Rattle.operator_fns.specs.ResidueScan.{extent_of, is_low, is_high, are_one_sided, IsBeside}
 
 -- two numbers on one side of 0
 abbrev pub AreBeside : ℤ → ℤ → Type 0
@@ -21,8 +21,8 @@ some a = false_from_ne_true _ (λ t. let e = (Decides-int_eq (pos (suc a)) (pos 
 positive_residue : (a b : ℕ) → residue (pos (suc a)) (pos b) ≡ pos (b % suc a)
 positive_residue a b = rw (some a) (both_positive b a)
 
-positive_reach : (a : ℕ) → reach_of (pos (suc a)) ≡ suc a
-positive_reach a = rw (some a) refl
+positive_extent : (a : ℕ) → extent_of (pos (suc a)) ≡ suc a
+positive_extent a = rw (some a) refl
 
 whole : (a : ℕ) → 0 % suc a ≡ 0
 whole a = mod-eq_of_lt (omega arith)
@@ -45,9 +45,9 @@ high : (n : ℕ) → IsTrue (is_high (pos n))
 high n = le-leb 0 n (omega arith)
 
 -- one that is nearer to 0 stays
-pub stays : (a b : ℤ) → AreBeside a b → unsigned_abs b < reach_of a → residue a b ≡ b
+pub stays : (a b : ℤ) → AreBeside a b → unsigned_abs b < extent_of a → residue a b ≡ b
 stays (pos zero) b beside near = refl
-stays (pos (suc a)) (pos b) beside near = positive_residue a b ∙ ap pos (mod-eq_of_lt (omega (arith, near, positive_reach a)))
+stays (pos (suc a)) (pos b) beside near = positive_residue a b ∙ ap pos (mod-eq_of_lt (omega (arith, near, positive_extent a)))
 stays (pos (suc a)) (negsuc b) (inl h) near = absurd (not_low a h.0)
 stays (pos (suc a)) (negsuc b) (inr h) near = absurd (let no = h.1 in cc)
 stays (negsuc a) (pos zero) beside near = nothing_left a
@@ -70,10 +70,10 @@ rest_high (pos (suc a)) (negsuc b) left right = absurd (let no = right in cc)
 rest_high (negsuc a) b left right = absurd (let no = left in cc)
 
 -- any other comes nearer to 0 than the divisor
-pub comes_near : (a b : ℤ) → AreBeside a b → reach_of a ≤ unsigned_abs b → FitsSigned w64 b → unsigned_abs (residue a b) < reach_of a
+pub comes_near : (a b : ℤ) → AreBeside a b → extent_of a ≤ unsigned_abs b → FitsSigned w64 b → unsigned_abs (residue a b) < extent_of a
 comes_near (pos zero) (pos b) beside far fit = omega (arith, fit)
 comes_near (pos zero) (negsuc b) beside far fit = omega (arith, fit)
-comes_near (pos (suc a)) (pos b) beside far fit = rw (positive_residue a b, positive_reach a) (omega (arith, mod_below b (suc a) (omega arith)))
+comes_near (pos (suc a)) (pos b) beside far fit = rw (positive_residue a b, positive_extent a) (omega (arith, mod_below b (suc a) (omega arith)))
 comes_near (pos (suc a)) (negsuc b) (inl h) far fit = absurd (not_low a h.0)
 comes_near (pos (suc a)) (negsuc b) (inr h) far fit = absurd (let no = h.1 in cc)
 comes_near (negsuc a) (pos zero) beside far fit = absurd (omega (arith, far))

@@ -11,7 +11,7 @@ use Rattle.arrays_core.specs.Items.{and_then}
 use Rattle.scalar_fns.specs.Folds.{folded}
 use Rattle.scalar_fns.proofs.RightFolds.{fold_more}
 use Rattle.operator_fns.specs.LinearScan.{depth, run_to}
-use Rattle.operator_fns.specs.Prefixes.{right_rule, IsFresh, Tells, Continues, IsClosed}
+use Rattle.operator_fns.specs.Prefixes.{fold_to, IsFresh, Tells, Continues, IsClosed}
 use Rattle.operator_fns.proofs.Runs.{through, as_it_is, run_first, run_more, first_row, later_row}
 
 regroup : {A B C : Type 0} (r : Result A Kind) (g : A → Result B Kind) (h : B → Result C Kind) → and_then (and_then r g) h ≡ and_then r (λ z. and_then (g z) h)
@@ -49,10 +49,10 @@ module _ (f : ℤ → ℤ → Result ℤ Kind) (zs : List ℤ) (stride count : �
     (fits : FitsSigned w64 (get_or zs place (pos 0)))
     (fresh : depth stride count place ≡ 0 → IsFresh before)
     (told : 0 < depth stride count place → Tells f before (run_to (pos 0) zs stride count (place - stride))) where
-  pub fold_here : right_rule f zs stride count place ≡ before (get_or zs place (pos 0))
+  pub fold_here : fold_to f zs stride count place ≡ before (get_or zs place (pos 0))
   fold_here = decide (depth stride count place) refl
     where
-      decide : (d : ℕ) → depth stride count place ≡ d → right_rule f zs stride count place ≡ before (get_or zs place (pos 0))
+      decide : (d : ℕ) → depth stride count place ≡ d → fold_to f zs stride count place ≡ before (get_or zs place (pos 0))
       decide zero e = ap (folded f) (run_first stride count apart some (pos 0) zs place e) ∙ sym ((fresh e).is (get_or zs place (pos 0)) fits)
       decide (suc d) e =
           let deep : 0 < depth stride count place = omega (arith, e) in

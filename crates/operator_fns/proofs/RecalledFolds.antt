@@ -11,7 +11,7 @@ use Rattle.scalar_fns.specs.Folds.{strided, folded}
 use Rattle.scalar_fns.proofs.RightFolds.{length-strided, get_or-strided, take-strided}
 use Rattle.operator_fns.specs.LinearScan.{depth, run_to, AreResultsTo}
 use Rattle.operator_fns.specs.declared.recalled_scan.Recalled.{Recalled}
-use Rattle.operator_fns.specs.Prefixes.{right_rule}
+use Rattle.operator_fns.specs.Prefixes.{fold_to}
 use Rattle.operator_fns.specs.RecalledScan.{run_before, given_at, nothing, IsRecalled, AreRecalled}
 use Rattle.operator_fns.proofs.Firsts.{entry_of}
 use Rattle.operator_fns.proofs.Runs.{as_it_is, one_deeper, depth_high}
@@ -45,7 +45,7 @@ module _ (f : ℤ → ℤ → Result ℤ Kind) (zs : List ℤ) (stride count : �
       ∙ ap (λ z. strided (pos 0) zs first stride k ++ z ∷ []) (get_or-strided (pos 0) zs first stride (k + 1) k (pos 0) (omega arith) ∙ ap (λ n. get_or zs n (pos 0)) last)
 
   -- the number that stands at a place
-  pub own_number : (place : ℕ) → given_at f zs stride count place (get_or zs place (pos 0)) ≡ right_rule f zs stride count place
+  pub own_number : (place : ℕ) → given_at f zs stride count place (get_or zs place (pos 0)) ≡ fold_to f zs stride count place
   own_number place = ap (folded f) (sym (run_is place))
 
   -- at the first place of a line a number gives itself

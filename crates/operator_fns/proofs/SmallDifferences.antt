@@ -12,7 +12,7 @@ use Rattle.scalar_fns.specs.Numbers.{dyadic_on_numbers}
 use Rattle.scalar_fns.specs.Folds.{folded}
 use Rattle.scalar_fns.proofs.RightFolds.{length-strided}
 use Rattle.operator_fns.specs.LinearScan.{depth, run_to}
-use Rattle.operator_fns.specs.Prefixes.{right_rule}
+use Rattle.operator_fns.specs.Prefixes.{fold_to}
 use Rattle.operator_fns.specs.Sum.{IsSmall}
 use Rattle.operator_fns.proofs.Endings.{held_within}
 use Rattle.operator_fns.proofs.SmallSums.{fits_between}
@@ -122,7 +122,7 @@ module _ (zs : List ℤ) (stride count : ℕ) (apart : 0 < stride) (some : 1 ≤
     run_small : All IsSmall (run_to (pos 0) zs stride count place)
     run_small = run_each zs stride count apart some IsSmall (length zs) (λ k inside. small k (pos 0) inside) place below
 
-    pub sum_is : right_rule (dyadic_on_numbers Minus) zs stride count place ≡ Ok (sum_to zs stride count place)
+    pub sum_is : fold_to (dyadic_on_numbers Minus) zs stride count place ≡ Ok (sum_to zs stride count place)
     sum_is = small_difference (run_to (pos 0) zs stride count place) (run_some stride count apart some (pos 0) zs place) run_few run_small
 
     pub sum_fits : SFits w64 (sum_to zs stride count place)
@@ -130,10 +130,10 @@ module _ (zs : List ℤ) (stride count : ℕ) (apart : 0 < stride) (some : 1 ≤
 
 -- the results so far are what the numbers come to
 pub result_is : (zs : List ℤ) (stride count : ℕ) (apart : 0 < stride) (some : 1 ≤ count) → All IsSmall zs → length zs ≤ 1048576 → (place q : ℕ) (xs : List ℤ)
-    → all_or_first_error (take place (map (right_rule (dyadic_on_numbers Minus) zs stride count) (range_with_len 0 (length zs)))) ≡ Ok xs → q < place → place ≤ length zs
+    → all_or_first_error (take place (map (fold_to (dyadic_on_numbers Minus) zs stride count) (range_with_len 0 (length zs)))) ≡ Ok xs → q < place → place ≤ length zs
     → get_or xs q (pos 0) ≡ sum_to zs stride count q
 result_is zs stride count apart some small few place q xs made before within =
-    let rule = right_rule (dyadic_on_numbers Minus) zs stride count in
+    let rule = fold_to (dyadic_on_numbers Minus) zs stride count in
     let rs = map rule (range_with_len 0 (length zs)) in
     let long : length rs ≡ length zs = length-map-range_with_len rule 0 (length zs) in
     let entry = entry_of (take place rs) xs q (Ok (pos 0)) (pos 0) made (omega (arith, length-take place rs)) in

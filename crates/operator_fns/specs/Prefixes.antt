@@ -10,8 +10,8 @@ use Rattle.scalar_fns.specs.Folds.{folded}
 use Rattle.operator_fns.specs.LinearScan.{run_to}
 
 -- the fold of the numbers up to each place
-abbrev pub right_rule : (ℤ → ℤ → Result ℤ Kind) → List ℤ → (stride count place : ℕ) → Result ℤ Kind
-right_rule f zs stride count place = folded f (run_to (pos 0) zs stride count place)
+abbrev pub fold_to : (ℤ → ℤ → Result ℤ Kind) → List ℤ → (stride count place : ℕ) → Result ℤ Kind
+fold_to f zs stride count place = folded f (run_to (pos 0) zs stride count place)
 
 -- a number of 64 bits as it is: what no numbers and that one fold to
 pub record IsFresh (gives : ℤ → Result ℤ Kind) : Type 0 where
@@ -35,13 +35,13 @@ difference total is_added low high v =
     if int_le low v && int_le v high then number_or_limit (if is_added then total +ℤ v else total -ℤ v) else Err Limit
 
 -- at most that far below 0, or above it
-abbrev pub reaches : (below above : ℕ) → ℤ → Bool
-reaches below above (pos n) = nat_le n above
-reaches below above (negsuc n) = nat_lt n below
+abbrev pub lies_within : (below above : ℕ) → ℤ → Bool
+lies_within below above (pos n) = nat_le n above
+lies_within below above (negsuc n) = nat_lt n below
 
--- a product of some total and of a number within reach; that of any other is beyond the limits on its way
+-- a product of some total and of a number within the margin; that of any other is beyond the limits on its way
 abbrev pub product : (total : ℤ) (below above : ℕ) → ℤ → Result ℤ Kind
-product total below above v = if reaches below above v then number_or_limit (total *ℤ v) else Err Limit
+product total below above v = if lies_within below above v then number_or_limit (total *ℤ v) else Err Limit
 
 -- 0, 1 or ¯1
 pub record IsUnit (z : ℤ) : Type 0 where

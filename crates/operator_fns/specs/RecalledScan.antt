@@ -4,7 +4,7 @@ use Rattle.arrays_core.specs.declared.item.Kind.{Kind}
 use Rattle.scalar_fns.specs.Folds.{strided, folded}
 use Rattle.operator_fns.specs.declared.recalled_scan.Recalled.{Recalled}
 use Rattle.operator_fns.specs.LinearScan.{depth}
-use Rattle.operator_fns.specs.Prefixes.{right_rule}
+use Rattle.operator_fns.specs.Prefixes.{fold_to}
 
 -- the entries of the line of a place before the one there
 abbrev pub run_before : List ℤ → (stride count place : ℕ) → List ℤ
@@ -20,7 +20,7 @@ nothing = record { number = pos 0; later = 0 }
 
 -- a number that came to a place gives there what the fold up to the later place gives
 abbrev pub IsRecalled : (ℤ → ℤ → Result ℤ Kind) → List ℤ → (stride count place : ℕ) → Recalled → Type 0
-IsRecalled f zs stride count place r = given_at f zs stride count place r.number ≡ right_rule f zs stride count r.later
+IsRecalled f zs stride count place r = given_at f zs stride count place r.number ≡ fold_to f zs stride count r.later
 
 abbrev pub AreRecalled : (ℤ → ℤ → Result ℤ Kind) → List ℤ → (stride count : ℕ) → List Recalled → Type 0
 AreRecalled f zs stride count rs = (place : ℕ) → place < length rs → IsRecalled f zs stride count place (get_or rs place nothing)

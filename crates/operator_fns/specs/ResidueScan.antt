@@ -10,11 +10,11 @@ use Rattle.operator_fns.specs.LinearScan.{depth}
 use Rattle.operator_fns.specs.RecalledScan.{given_at}
 
 -- how far from 0 a number is as a divisor: what is nearer is its own residue by it
-abbrev pub reach_of : ℤ → ℕ
-reach_of z = if int_eq z (pos 0) then 2 ^ 64 - 1 else unsigned_abs z
+abbrev pub extent_of : ℤ → ℕ
+extent_of z = if int_eq z (pos 0) then 2 ^ 64 - 1 else unsigned_abs z
 
-abbrev pub reach_at : List ℤ → ℕ → ℕ
-reach_at zs place = reach_of (get_or zs place (pos 0))
+abbrev pub extent_at : List ℤ → ℕ → ℕ
+extent_at zs place = extent_of (get_or zs place (pos 0))
 
 -- a number is not above 0; it is not below
 abbrev pub is_low : ℤ → Bool
@@ -46,13 +46,13 @@ from zs stride count None w = Ok w
 from zs stride count (Some place) w = given_at (dyadic_on_numbers ByResidue) zs stride count place (residue (get_or zs place (pos 0)) w)
 
 -- numbers that are nearer to 0 than this come to the same from two places
-abbrev pub AreTheSame : List ℤ → (stride count reach : ℕ) → Option ℕ → Option ℕ → Type 0
-AreTheSame zs stride count reach start end = (w : ℤ) → IsBeside zs w → unsigned_abs w < reach → from zs stride count start w ≡ from zs stride count end w
+abbrev pub AreTheSame : List ℤ → (stride count extent : ℕ) → Option ℕ → Option ℕ → Type 0
+AreTheSame zs stride count extent start end = (w : ℤ) → IsBeside zs w → unsigned_abs w < extent → from zs stride count start w ≡ from zs stride count end w
 
--- from a place to one whose reach is not more: what is nearer to 0 than that comes to the same from both
+-- from a place to one whose extent is not more: what is nearer to 0 than that comes to the same from both
 pub record Leads (zs : List ℤ) (stride count : ℕ) (start : Option ℕ) (end : ℕ) : Type 0 where
-  pub less : IfSome start (λ place. reach_at zs end ≤ reach_at zs place)
-  pub same : AreTheSame zs stride count (reach_at zs end) start (Some end)
+  pub less : IfSome start (λ place. extent_at zs end ≤ extent_at zs place)
+  pub same : AreTheSame zs stride count (extent_at zs end) start (Some end)
 
 pub record LeadsTo (zs : List ℤ) (stride count : ℕ) (start end : Option ℕ) : Type 0 where
   pub before : rank end ≤ rank start
@@ -60,15 +60,15 @@ pub record LeadsTo (zs : List ℤ) (stride count : ℕ) (start end : Option ℕ)
 
 -- the divisor of a place
 pub record IsDivisor (zs : List ℤ) (stride count place : ℕ) (d : Divisor) : Type 0 where
-  pub reach : d.reach ≡ reach_at zs place
-  pub below : AreTheSame zs stride count (reach_at zs place) (Some place) d.below
+  pub extent : d.extent ≡ extent_at zs place
+  pub below : AreTheSame zs stride count (extent_at zs place) (Some place) d.below
   pub before : rank d.below ≤ place
   pub before_far : rank d.far ≤ place
   pub far : IfSome d.far (Leads zs stride count (Some place))
 
 -- nothing
 abbrev pub no_divisor : Divisor
-no_divisor = record { reach = 0; below = None; far = None; steps = 0 }
+no_divisor = record { extent = 0; below = None; far = None; steps = 0 }
 
 abbrev pub AreDivisors : List ℤ → (stride count : ℕ) → List Divisor → Type 0
 AreDivisors zs stride count ds = (place : ℕ) → place < length ds → IsDivisor zs stride count place (get_or ds place no_divisor)

@@ -6,7 +6,7 @@ ghost use Rattle.scalar_fns.specs.NumberLists.{IsListAnswerTo};
 ghost use Rattle.scalar_fns.specs.Folds.{folded};
 ghost use Rattle.operator_fns.specs.AxisLines.{scans_of};
 ghost use Rattle.operator_fns.specs.LinearScan.{scanned, AreResultsTo};
-ghost use Rattle.operator_fns.specs.Prefixes.{right_rule, Continues, IsClosed, IsFresh};
+ghost use Rattle.operator_fns.specs.Prefixes.{fold_to, Continues, IsClosed, IsFresh};
 
 use crate::axis_lines::AxisLines;
 use crate::linear_scan::place_after;
@@ -41,8 +41,8 @@ fn push_folds<P: Prefix + Copy>(
     requires some { 1 ≤ count }
     requires more { vec_len results.old < length numbers.now }
     requires begins { vec_len results.old % count ≡ 0 }
-    requires before { AreResultsTo (vec_len results.old) (right_rule (P.step none.now) numbers.now 1 count) numbers.now results.old }
-    ensures is { IfOk result (λ u. AreResultsTo (min (vec_len results.old + count) (length numbers.now)) (right_rule (P.step none.now) numbers.now 1 count) numbers.now results.new) }
+    requires before { AreResultsTo (vec_len results.old) (fold_to (P.step none.now) numbers.now 1 count) numbers.now results.old }
+    ensures is { IfOk result (λ u. AreResultsTo (min (vec_len results.old + count) (length numbers.now)) (fold_to (P.step none.now) numbers.now 1 count) numbers.now results.new) }
     ensures first { IfErr result (λ kind. scanned (folded (P.step none.now)) numbers.now 1 count ≡ Err kind) }
 {
     let first = results.len();

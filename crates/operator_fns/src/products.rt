@@ -4,7 +4,7 @@ ghost use Rattle.std.specs.Prelude.{◌≡◌, ◌<◌, ◌≤◌, ◌/◌, ◌^
 ghost use Rattle.std.specs.Int.{w64};
 ghost use Rattle.function_names.specs.declared.scalar.Scalar2.TheVariants.{Times as Product};
 ghost use Rattle.scalar_fns.specs.Numbers.{dyadic_on_numbers};
-ghost use Rattle.operator_fns.specs.Prefixes.{IsFresh, product, reaches};
+ghost use Rattle.operator_fns.specs.Prefixes.{IsFresh, product, lies_within};
 
 use crate::prefix::Prefix;
 use arrays_core::Kind;
@@ -12,7 +12,7 @@ use scalar_fns::kernels::{Times, TwoNumbers};
 
 /// How far below 0 and above it a number may be.
 #[derive(Clone, Copy)]
-struct Reach {
+struct Margin {
     below: u64,
     above: u64,
     ghost low: { below ≤ 2 ^ 63 },
@@ -31,12 +31,12 @@ fn quotient(number: u64, divisor: u64) -> u64
     }
 }
 
-impl Reach {
+impl Margin {
     /// That of the numbers of 64 bits.
-    fn whole() -> Reach
-        ensures { (v : ℤ) → FitsSigned w64 v → reaches result.below result.above v ≡ true }
+    fn whole() -> Margin
+        ensures { (v : ℤ) → FitsSigned w64 v → lies_within result.below result.above v ≡ true }
     {
-        Reach {
+        Margin {
             below: i64::MIN.unsigned_abs(),
             above: i64::MAX.unsigned_abs(),
         }
@@ -44,7 +44,7 @@ impl Reach {
 
     /// Whether a number is within it.
     fn has(&self, number: i64) -> bool
-        ensures { result ≡ reaches self.now.below self.now.above number }
+        ensures { result ≡ lies_within self.now.below self.now.above number }
     {
         let size = number.unsigned_abs();
         if number < 0 {
@@ -55,41 +55,41 @@ impl Reach {
     }
 
     /// That of the numbers whose products with a number are within it.
-    fn divided(&self, number: i64) -> Reach
-        ensures { (v : ℤ) → FitsSigned w64 v → reaches result.below result.above v ≡ reaches self.now.below self.now.above (number *ℤ v) }
+    fn divided(&self, number: i64) -> Margin
+        ensures { (v : ℤ) → FitsSigned w64 v → lies_within result.below result.above v ≡ lies_within self.now.below self.now.above (number *ℤ v) }
     {
         let size = number.unsigned_abs();
         if size == 0 {
-            return Reach::whole();
+            return Margin::whole();
         }
         let below = quotient(self.below, size);
         let above = quotient(self.above, size);
         if number < 0 {
-            return Reach {
+            return Margin {
                 below: above,
                 above: below.min(i64::MAX.unsigned_abs()),
             };
         }
-        Reach { below, above }
+        Margin { below, above }
     }
 }
 
 /// `x1 × (x2 × (.. (xk × v)))` for each v: a total times the next number v. Each product on the way to it is within 64 bits
-/// where v is within reach, as 0 always is.
+/// where v is within margin, as 0 always is.
 #[derive(Clone, Copy)]
 pub(crate) struct Products {
     total: i64,
-    reach: Reach,
+    margin: Margin,
 }
 
 impl Products {
     /// That of no numbers.
     pub(crate) fn none() -> Products
-        ensures { IsFresh (product result.total result.reach.below result.reach.above) }
+        ensures { IsFresh (product result.total result.margin.below result.margin.above) }
     {
         Products {
             total: 1,
-            reach: Reach::whole(),
+            margin: Margin::whole(),
         }
     }
 }
@@ -97,16 +97,16 @@ impl Products {
 impl Prefix for Products {
     ghost step = { λ s. dyadic_on_numbers Product };
 
-    ghost gives = { λ s. product s.total s.reach.below s.reach.above };
+    ghost gives = { λ s. product s.total s.margin.below s.margin.above };
 
     fn push(&mut self, number: i64) -> Result<i64, Kind> {
-        if !self.reach.has(number) {
+        if !self.margin.has(number) {
             return Err(Kind::Limit);
         }
         let total = Times.at(self.total, number)?;
         *self = Products {
             total,
-            reach: self.reach.divided(number),
+            margin: self.margin.divided(number),
         };
         Ok(total)
     }

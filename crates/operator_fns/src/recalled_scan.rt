@@ -4,7 +4,7 @@ ghost use Rattle.std.specs.Prelude.{◌≡◌, ℕ, ◌<◌, ◌≤◌, pos, len
 ghost use Rattle.scalar_fns.specs.NumberLists.{IsListAnswerTo};
 ghost use Rattle.operator_fns.specs.AxisLines.{scans_of};
 ghost use Rattle.operator_fns.specs.LinearScan.{run_to};
-ghost use Rattle.operator_fns.specs.Prefixes.{right_rule};
+ghost use Rattle.operator_fns.specs.Prefixes.{fold_to};
 ghost use Rattle.operator_fns.specs.RecalledScan.{AreRecalled};
 
 use crate::axis_lines::AxisLines;
@@ -35,9 +35,9 @@ fn recalled_fold<S: TwoNumbers>(
     requires apart { 0 < stride }
     requires more { length results.now < length numbers.now }
     requires long { length recalled.old ≡ length results.now }
-    requires results { (place : ℕ) → place < length results.now → right_rule (S.gives step.now) numbers.now stride count place ≡ Ok (get_or results.now place (pos 0)) }
+    requires results { (place : ℕ) → place < length results.now → fold_to (S.gives step.now) numbers.now stride count place ≡ Ok (get_or results.now place (pos 0)) }
     requires recalled { AreRecalled (S.gives step.now) numbers.now stride count recalled.old }
-    ensures is { result ≡ right_rule (S.gives step.now) numbers.now stride count (length results.now) }
+    ensures is { result ≡ fold_to (S.gives step.now) numbers.now stride count (length results.now) }
     ensures long { length recalled.new ≡ length recalled.old }
     ensures recalled { AreRecalled (S.gives step.now) numbers.now stride count recalled.new }
 {

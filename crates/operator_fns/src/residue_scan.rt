@@ -7,7 +7,7 @@ ghost use Rattle.scalar_fns.specs.Numbers.{dyadic_on_numbers};
 ghost use Rattle.scalar_fns.specs.Folds.{folded};
 ghost use Rattle.operator_fns.specs.AxisLines.{scans_of};
 ghost use Rattle.operator_fns.specs.LinearScan.{scanned};
-ghost use Rattle.operator_fns.specs.ResidueScan.{reach_of, reach_at, place_before, are_one_sided, is_low, is_high, IsBeside, AreDivisors, IsDivisor, AreTheSame, LeadsTo, from, rank};
+ghost use Rattle.operator_fns.specs.ResidueScan.{extent_of, extent_at, place_before, are_one_sided, is_low, is_high, IsBeside, AreDivisors, IsDivisor, AreTheSame, LeadsTo, from, rank};
 
 use crate::axis_lines::AxisLines;
 use arrays_core::room_of;
@@ -18,8 +18,8 @@ use std::alloc::{AllocError, Global};
 #[derive(Clone, Copy)]
 pub(crate) struct Divisor {
     /// How far from 0 the number is: one that is nearer to 0 is its own residue by it. By 0 all are, so it is farther than any.
-    pub(crate) reach: u64,
-    /// The last place before this one whose reach is less.
+    pub(crate) extent: u64,
+    /// The last place before this one whose extent is less.
     pub(crate) below: Option<usize>,
     /// A place further on that way, so that each one on it is found in few steps.
     pub(crate) far: Option<usize>,
@@ -28,8 +28,8 @@ pub(crate) struct Divisor {
 }
 
 /// How far from 0 a number is as a divisor.
-fn reach_of(number: i64) -> u64
-    ensures is { result ≡ reach_of number }
+fn extent_of(number: i64) -> u64
+    ensures is { result ≡ extent_of number }
     ensures some { 0 < result }
 {
     if number == 0 {
@@ -84,35 +84,35 @@ impl<'a> SidedLines<'a> {
         }
     }
 
-    /// The next place on the way back from one whose reach is more than this to one whose reach is not.
-    fn next_place(&self, divisors: &[Divisor], place: usize, reach: u64) -> Option<usize>
+    /// The next place on the way back from one whose extent is more than this to one whose extent is not.
+    fn next_place(&self, divisors: &[Divisor], place: usize, extent: u64) -> Option<usize>
         requires place { place < length divisors.now }
         requires divisors { AreDivisors self.now.numbers.now self.now.stride self.now.count divisors.now }
-        requires more { reach < reach_at self.now.numbers.now place }
-        ensures same { AreTheSame self.now.numbers.now self.now.stride self.now.count (reach + 1) (Some place) result }
+        requires more { extent < extent_at self.now.numbers.now place }
+        ensures same { AreTheSame self.now.numbers.now self.now.stride self.now.count (extent + 1) (Some place) result }
         ensures before { rank result ≤ place }
     {
         let divisor = divisors[place];
         match divisor.far {
-            Some(far) if divisors[far].reach > reach => Some(far),
+            Some(far) if divisors[far].extent > extent => Some(far),
             _ => divisor.below,
         }
     }
 
-    /// The first place on the way back from one whose reach is at most this.
-    fn nearest(&self, divisors: &[Divisor], start: Option<usize>, reach: u64) -> Option<usize>
+    /// The first place on the way back from one whose extent is at most this.
+    fn nearest(&self, divisors: &[Divisor], start: Option<usize>, extent: u64) -> Option<usize>
         requires start { rank start ≤ length divisors.now }
         requires divisors { AreDivisors self.now.numbers.now self.now.stride self.now.count divisors.now }
-        ensures same { AreTheSame self.now.numbers.now self.now.stride self.now.count (reach + 1) start result }
+        ensures same { AreTheSame self.now.numbers.now self.now.stride self.now.count (extent + 1) start result }
         ensures before { rank result ≤ rank start }
-        ensures within { IfSome result (λ place. reach_at self.now.numbers.now place ≤ reach) }
+        ensures within { IfSome result (λ place. extent_at self.now.numbers.now place ≤ extent) }
     {
         let mut found = start;
         while let Some(place) = found {
-            if divisors[place].reach <= reach {
+            if divisors[place].extent <= extent {
                 return found;
             }
-            found = self.next_place(divisors, place, reach);
+            found = self.next_place(divisors, place, extent);
         }
         None
     }
@@ -165,11 +165,11 @@ impl<'a> SidedLines<'a> {
         ensures { IsDivisor self.now.numbers.now self.now.stride self.now.count (length divisors.now) result }
     {
         let place = divisors.len();
-        let reach = reach_of(self.numbers[place]);
-        let below = self.nearest(divisors, self.place_before(place), reach - 1);
+        let extent = extent_of(self.numbers[place]);
+        let below = self.nearest(divisors, self.place_before(place), extent - 1);
         let (far, steps) = self.far_from(divisors, below);
         Divisor {
-            reach,
+            extent,
             below,
             far,
             steps,

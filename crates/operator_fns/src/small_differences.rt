@@ -9,7 +9,7 @@ ghost use Rattle.scalar_fns.specs.NumberLists.{IsListAnswerTo};
 ghost use Rattle.scalar_fns.specs.Folds.{folded};
 ghost use Rattle.operator_fns.specs.AxisLines.{scans_of};
 ghost use Rattle.operator_fns.specs.LinearScan.{depth, scanned, AreResultsTo};
-ghost use Rattle.operator_fns.specs.Prefixes.{right_rule};
+ghost use Rattle.operator_fns.specs.Prefixes.{fold_to};
 ghost use Rattle.operator_fns.specs.Sum.{IsSmall};
 
 use crate::axis_lines::AxisLines;
@@ -51,8 +51,8 @@ fn push_line(results: &mut Vec<i64>, numbers: &[i64], count: usize)
     requires some { 1 ≤ count }
     requires more { vec_len results.old < length numbers.now }
     requires begins { vec_len results.old % count ≡ 0 }
-    requires before { AreResultsTo (vec_len results.old) (right_rule (dyadic_on_numbers Difference) numbers.now 1 count) numbers.now results.old }
-    ensures { AreResultsTo (min (vec_len results.old + count) (length numbers.now)) (right_rule (dyadic_on_numbers Difference) numbers.now 1 count) numbers.now results.new }
+    requires before { AreResultsTo (vec_len results.old) (fold_to (dyadic_on_numbers Difference) numbers.now 1 count) numbers.now results.old }
+    ensures { AreResultsTo (min (vec_len results.old + count) (length numbers.now)) (fold_to (dyadic_on_numbers Difference) numbers.now 1 count) numbers.now results.new }
 {
     let first = results.len();
     let end = first + count.min(numbers.len() - first);
@@ -94,8 +94,8 @@ fn push_row(
     requires more { vec_len results.old < length numbers.now }
     requires begins { vec_len results.old % stride ≡ 0 }
     requires row { row ≡ depth stride count (vec_len results.old) }
-    requires before { AreResultsTo (vec_len results.old) (right_rule (dyadic_on_numbers Difference) numbers.now stride count) numbers.now results.old }
-    ensures is { AreResultsTo (min (vec_len results.old + stride) (length numbers.now)) (right_rule (dyadic_on_numbers Difference) numbers.now stride count) numbers.now results.new }
+    requires before { AreResultsTo (vec_len results.old) (fold_to (dyadic_on_numbers Difference) numbers.now stride count) numbers.now results.old }
+    ensures is { AreResultsTo (min (vec_len results.old + stride) (length numbers.now)) (fold_to (dyadic_on_numbers Difference) numbers.now stride count) numbers.now results.new }
     ensures next { result ≡ (row + 1) % count }
 {
     let first = results.len();

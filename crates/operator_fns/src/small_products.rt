@@ -8,7 +8,7 @@ use arrays_core::room_of;
 use std::alloc::{AllocError, Global};
 
 /// How far the numbers of a list are from 0 at most.
-fn reach(numbers: &[i64]) -> u64
+fn farthest(numbers: &[i64]) -> u64
     ensures { All (IsNear result) numbers.now }
 {
     let mut least: i64 = 0;
@@ -42,7 +42,7 @@ pub(crate) fn add_up(left: &[i64], right: &[i64], count: usize) -> bool
     if count <= MOST_ITEMS && are_near(right) && are_near(left) {
         return true;
     }
-    match reach(left).checked_mul(reach(right)) {
+    match farthest(left).checked_mul(farthest(right)) {
         None => false,
         Some(product) => match product.checked_mul(count as u64) {
             None => false,

@@ -11,10 +11,10 @@ use Rattle.apl_expr.specs.Answers.{IsAnswered}
 use Rattle.sheet_recalc.specs.History.{change_of}
 use Rattle.sheet_desk.specs.Desk as desk
 use Rattle.sheet_desk.specs.Desk.{SlotValue, DeskValue, held_in, commit_refusal, drop_refusal, IsRefused, IsEvent}
-use Rattle.sheet_cli.specs.Answer.{State, state_of, IsEdited, IsPrintedFor, IsAsked, IsCarriedOut, IsTextAnswer, no_line, too_large, carried_out}
+use Rattle.sheet_cli.specs.Answer.{State, state_of, IsChangeAnswered, IsPrintedFor, IsAsked, IsCarriedOut, IsTextAnswer, no_line, too_large, carried_out}
 
 -- the changes of lines are edits
-pub change_carried_out : (change : asked.Change) (old : State) (text : List ℕ) (new : State) → IsEdited old (change_of change) text new → IsCarriedOut old (change_meaning change) text new
+pub change_carried_out : (change : asked.Change) (old : State) (text : List ℕ) (new : State) → IsChangeAnswered old (change_of change) text new → IsCarriedOut old (change_meaning change) text new
 change_carried_out (lined.Define name tree) old text new h = h
 change_carried_out (lined.Data name tree) old text new h = h
 change_carried_out (lined.Cell name positions literal) old text new h = h

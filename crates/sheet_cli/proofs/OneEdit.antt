@@ -6,7 +6,7 @@ use Rattle.sheet_recalc.specs.Costs.{HasCost}
 use Rattle.sheet_desk.specs.Desk.{Refused}
 use Rattle.sheet_desk.proofs.Causes.{accepted_refused, refused_one}
 use Rattle.sheet_desk.proofs.Spent.{accepts_one}
-use Rattle.sheet_cli.specs.Answer.{State, refusal_text, IsEdited, accepted, refused}
+use Rattle.sheet_cli.specs.Answer.{State, refusal_text, IsChangeAnswered, accepted, refused}
 use Rattle.sheet_cli.proofs.OneEvent.{texts_one}
 
 -- what accepts an edit gives one cost
@@ -16,7 +16,7 @@ costs_one names edit new₁ new₂ cost₁ cost₂ same a b = subst (λ (new : N
 same_state : (a b : State) → a.names ≡ b.names → a.cost ≡ b.cost → a.slots ≡ b.slots → a ≡ b
 same_state a b names cost slots = λ i. record { names = names i; cost = cost i; slots = slots i }
 
-pub edit_one : (old : State) (edit : SheetChange) (text₁ text₂ : List ℕ) (new₁ new₂ : State) → IsEdited old edit text₁ new₁ → IsEdited old edit text₂ new₂ → (text₁ ≡ text₂) × (new₁ ≡ new₂)
+pub edit_one : (old : State) (edit : SheetChange) (text₁ text₂ : List ℕ) (new₁ new₂ : State) → IsChangeAnswered old edit text₁ new₁ → IsChangeAnswered old edit text₂ new₂ → (text₁ ≡ text₂) × (new₁ ≡ new₂)
 edit_one old edit text₁ text₂ new₁ new₂ (accepted a c s) (accepted b d t) =
     let same = accepts_one old.names edit _ _ a b in
     (refl, same_state new₁ new₂ same (costs_one old.names edit _ _ _ _ same c d) (s ∙ sym t))

@@ -7,7 +7,7 @@ use Rattle.sheet_recalc.specs.declared.refusal.Refusal.TheVariants as why
 use Rattle.sheet_desk.specs.Desk.{SlotValue, DeskValue, Event, Plain, Answer, Done, Left, Shown, Refused, stale, IsRefused, IsEvent}
 use Rattle.sheet_desk.specs.Laws.{told_of_slot, AreAlike, names_cycle, IsSameAnswer}
 use Rattle.sheet_desk.proofs.OneAnswer.{one_answer}
-use Rattle.sheet_cli.specs.Answer.{OpenChange, State, open_change, state_of, as_stale, IsEdited, accepted, refused, IsPrintedFor, IsAsked}
+use Rattle.sheet_cli.specs.Answer.{OpenChange, State, open_change, state_of, as_stale, IsChangeAnswered, accepted, refused, IsPrintedFor, IsAsked}
 
 -- what answers tell of a slot is what a run keeps of it
 abbrev told : OpenChange → SheetChange × Bool × ℕ
@@ -89,12 +89,12 @@ open_stale (None ∷ slots) = ap (λ (rest : List (Option OpenChange)). None ∷
 open_stale (Some s ∷ slots) = ap (λ (rest : List (Option OpenChange)). Some (as_stale (open_change s)) ∷ rest) (open_stale slots)
 
 -- a plain change is an edit
-pub plain_edited : (d next : DeskValue) (change : SheetChange) (answer : Answer) (text : List ℕ) → IsEvent d (Plain change) answer next → IsPrintedFor answer text → IsEdited (state_of d) change text (state_of next)
+pub plain_edited : (d next : DeskValue) (change : SheetChange) (answer : Answer) (text : List ℕ) → IsEvent d (Plain change) answer next → IsPrintedFor answer text → IsChangeAnswered (state_of d) change text (state_of next)
 plain_edited d next change Done text made h = rw h (accepted made.accepts made.cost (ap (λ (slots : List (Option SlotValue)). map (option_map open_change) slots) made.slots ∙ open_stale d.slots))
 plain_edited d next change (Left n) text e h = absurd e
 plain_edited d next change (Shown outcome) text e h = absurd h
 plain_edited d next change (Refused cause) text e h = by e.0
   where
-    by : IsRefused d (Plain change) cause → IsEdited (state_of d) change text (state_of next)
+    by : IsRefused d (Plain change) cause → IsChangeAnswered (state_of d) change text (state_of next)
     by (inl slot) = let never : None ≡ Some cause = slot in absurd (let no : ⊥ = cc in no)
     by (inr then) = rw (e.1, h.0) (refused cause then.1 h.1)

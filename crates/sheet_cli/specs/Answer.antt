@@ -107,9 +107,9 @@ IsRefusalText cause text = (text ≡ refusal_text cause) × (cause ≢ why.NoMem
 
 -- an edit is accepted, prints nothing, its cost is kept and all changes that are open are stale; or it is refused, not for want of memory,
 -- prints why and changes nothing
-pub data IsEdited : State → SheetChange → List ℕ → State → Type 0 where
-  accepted : {old new : State} {edit : SheetChange} → Accepts old.names edit new.names → HasCost old.names edit new.names new.cost → new.slots ≡ map (option_map as_stale) old.slots → IsEdited old edit [] new
-  refused : {old : State} {edit : SheetChange} (cause : Refusal) → Refuses old.names edit cause → cause ≢ why.NoMemory → IsEdited old edit (refusal_text cause) old
+pub data IsChangeAnswered : State → SheetChange → List ℕ → State → Type 0 where
+  accepted : {old new : State} {edit : SheetChange} → Accepts old.names edit new.names → HasCost old.names edit new.names new.cost → new.slots ≡ map (option_map as_stale) old.slots → IsChangeAnswered old edit [] new
+  refused : {old : State} {edit : SheetChange} (cause : Refusal) → Refuses old.names edit cause → cause ≢ why.NoMemory → IsChangeAnswered old edit (refusal_text cause) old
 
 -- what a desk answers to a line about a slot, as it is printed: nothing where the thing is done, how many steps are left, or why it is refused
 abbrev pub IsPrintedFor : desk.Answer → List ℕ → Type 0
@@ -145,11 +145,11 @@ IsOpening old k (Some edit) text new = IsAsked old (desk.Open k edit) text new
 -- what a line means is carried out
 abbrev pub IsCarriedOut : State → Meaning → List ℕ → State → Type 0
 IsCarriedOut old Nothing text new = (text ≡ []) × (new ≡ old)
-IsCarriedOut old (Define n t) text new = IsEdited old (change.Define n t) text new
-IsCarriedOut old (Data n t) text new = IsEdited old (change.Store n t) text new
-IsCarriedOut old (Cell n ps l) text new = IsEdited old (change.SetCell n ps l) text new
-IsCarriedOut old (Row n l) text new = IsEdited old (change.AddRow n l) text new
-IsCarriedOut old (Erase n) text new = IsEdited old (change.Erase n) text new
+IsCarriedOut old (Define n t) text new = IsChangeAnswered old (change.Define n t) text new
+IsCarriedOut old (Data n t) text new = IsChangeAnswered old (change.Store n t) text new
+IsCarriedOut old (Cell n ps l) text new = IsChangeAnswered old (change.SetCell n ps l) text new
+IsCarriedOut old (Row n l) text new = IsChangeAnswered old (change.AddRow n l) text new
+IsCarriedOut old (Erase n) text new = IsChangeAnswered old (change.Erase n) text new
 IsCarriedOut old (Show t) text new = (text ≡ shown_text (eval t (val old.names))) × (new ≡ old)
 IsCarriedOut old Names text new = (text ≡ names_text (keys_of old.names)) × (new ≡ old)
 IsCarriedOut old Cost text new = (text ≡ cost_text old.cost) × (new ≡ old)

@@ -12,7 +12,7 @@ ghost use Rattle.sheet_cli.specs.Printed.{printed_bytes};
 use crate::count_line::CountLine;
 use crate::printed::Printed;
 use crate::queries::{list_names, show, table};
-use crate::refusals::{count_text, edit_text};
+use crate::refusals::{count_text, outcome_text};
 use apl_expr::{Command, Expr, LineFault, line_into};
 use apl_tokens::Spanned;
 use sheet_desk::Desk;
@@ -74,7 +74,7 @@ fn carry_out_lent(
     ensures err { OnErr result (desk.new ≡ desk.old) }
 {
     match command {
-        Command::Change(change) => edit_text(alloc, desk.plain_lent(change)),
+        Command::Change(change) => outcome_text(alloc, desk.plain_lent(change)),
         Command::Show(expr) => shown(alloc, desk.sheet(), expr),
         _ => carry_out_taken(alloc, desk, command),
     }
@@ -113,7 +113,7 @@ fn carry_out(alloc: Global, desk: &mut Desk, command: Command) -> Result<Printed
 {
     match command {
         Command::Nothing => Ok(Printed::Fixed("")),
-        Command::Change(change) => edit_text(alloc, desk.plain(change)),
+        Command::Change(change) => outcome_text(alloc, desk.plain(change)),
         Command::Show(expr) => shown(alloc, desk.sheet(), &expr),
         Command::Names => Ok(Printed::Made(list_names(alloc, desk.sheet())?)),
         Command::Cost => Ok(Printed::Count(CountLine::new(desk.sheet().last_cost()))),
@@ -123,8 +123,8 @@ fn carry_out(alloc: Global, desk: &mut Desk, command: Command) -> Result<Printed
             desk.open(number, Box::into_inner(change)),
         ),
         Command::Step(number) => count_text(alloc, desk.step(number)),
-        Command::Commit(number) => edit_text(alloc, desk.commit(number)),
-        Command::Drop(number) => edit_text(alloc, desk.drop_slot(number)),
+        Command::Commit(number) => outcome_text(alloc, desk.commit(number)),
+        Command::Drop(number) => outcome_text(alloc, desk.drop_slot(number)),
     }
 }
 

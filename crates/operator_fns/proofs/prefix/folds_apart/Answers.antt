@@ -5,7 +5,7 @@ use Rattle.std.proofs.lemmas.Nat.{mod_below}
 use Rattle.std.proofs.Math.Nat.{mod-add-mod, mul-pos}
 use Rattle.arrays_core.specs.Items.{all_or_first_error}
 use Rattle.scalar_fns.proofs.Errors.{list_error}
-use Rattle.operator_fns.specs.Prefixes.{right_rule}
+use Rattle.operator_fns.specs.Prefixes.{fold_to}
 use Rattle.operator_fns.proofs.LeftScans.{one_more, first_error, results_end}
 use Rattle.operator_fns.proofs.Prefixes.{IsFoldKept, line_kept, more_kept, fold_here}
 use Rattle.operator_fns.proofs.prefix.folds_apart.Goals as goal
@@ -17,7 +17,7 @@ returns-in_err-result-clause-is g c =
     let none = c.args.none.now in
     let zs = c.args.lines.now.numbers.now in
     let k = c.loop-place.place in
-    let rule = right_rule (step none) zs c.args.lines.now.stride c.args.lines.now.count in
+    let rule = fold_to (step none) zs c.args.lines.now.stride c.args.lines.now.count in
     let before = c.loop-place.invariant in
     let fit : SFits w64 (get_or zs k (pos 0)) = search rules in
     let read : to_z w64 (of_z w64 (get_or zs k (pos 0))) ≡ get_or zs k (pos 0) = to_z-of_z w64 _ fit in
@@ -41,7 +41,7 @@ loop-place-preserved g c =
     let none = c.args.none.now in
     let zs = c.args.lines.now.numbers.now in
     let k = c.loop-place.place in
-    let rule = right_rule (step none) zs c.args.lines.now.stride c.args.lines.now.count in
+    let rule = fold_to (step none) zs c.args.lines.now.stride c.args.lines.now.count in
     let before = c.loop-place.invariant in
     let fit : SFits w64 (get_or zs k (pos 0)) = search rules in
     let read : to_z w64 (of_z w64 (get_or zs k (pos 0))) ≡ get_or zs k (pos 0) = to_z-of_z w64 _ fit in
@@ -67,5 +67,5 @@ loop-place-preserved g c =
 
 pub returns-clause-is : goal.returns-clause-is
 returns-clause-is g c =
-    results_end (right_rule (g.P.Prefix.step c.args.none.now) c.args.lines.now.numbers.now c.args.lines.now.stride c.args.lines.now.count) c.args.lines.now.numbers.now c.loop-place.place c.loop-place.results
+    results_end (fold_to (g.P.Prefix.step c.args.none.now) c.args.lines.now.numbers.now c.args.lines.now.stride c.args.lines.now.count) c.args.lines.now.numbers.now c.loop-place.place c.loop-place.results
     c.loop-place.invariant.so_far (omega arith)

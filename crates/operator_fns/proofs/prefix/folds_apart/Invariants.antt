@@ -1,12 +1,12 @@
 use Rattle.std.proofs.Common.{◌≡◌, ◌*◌, ◌%◌, length}
 use Rattle.operator_fns.specs.LinearScan.{AreResultsTo}
-use Rattle.operator_fns.specs.Prefixes.{right_rule}
+use Rattle.operator_fns.specs.Prefixes.{fold_to}
 use Rattle.operator_fns.proofs.Prefixes.{AreFoldsKept}
 use Rattle.operator_fns.proofs.prefix.folds_apart.Given as goal
 
 abbrev pub invariant-loop-place : goal.invariant-loop-place
 invariant-loop-place g l = record {
-  so_far : AreResultsTo l.place (right_rule (g.P.Prefix.step l.none) l.numbers l.stride l.lines.count) l.numbers l.results;
+  so_far : AreResultsTo l.place (fold_to (g.P.Prefix.step l.none) l.numbers l.stride l.lines.count) l.numbers l.results;
   here : l.block_place ≡ l.place % (l.lines.count * l.stride);
   column : l.column ≡ l.place % l.stride;
   long : length l.kept.items ≡ l.stride;

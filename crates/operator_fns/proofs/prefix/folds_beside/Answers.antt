@@ -1,13 +1,13 @@
 use Rattle.std.proofs.Common.{◌≡◌, ◌∙◌, ◌+◌, ◌<◌, ◌%◌, ap, length, vec_len, arith, subst, sym}
 use Rattle.std.proofs.Math.Nat.{add-mod_right, mod-eq_of_lt}
 use Rattle.operator_fns.specs.LinearScan.{AreResultsTo}
-use Rattle.operator_fns.specs.Prefixes.{right_rule}
+use Rattle.operator_fns.specs.Prefixes.{fold_to}
 use Rattle.operator_fns.proofs.LeftScans.{none_yet, results_end}
 use Rattle.operator_fns.proofs.prefix.folds_beside.Goals as goal
 
 pub loop-results-init : goal.loop-results-init
 loop-results-init g c =
-    let rule = right_rule (g.P.Prefix.step c.args.none.now) c.args.numbers.now 1 c.args.count in
+    let rule = fold_to (g.P.Prefix.step c.args.none.now) c.args.numbers.now 1 c.args.count in
     let made = c.in_ok-results.ensures in
     let none = none_yet rule c.args.numbers.now c.in_ok-results.results made.items made.len (omega (arith, c.room_of.ensures.low, made.capacity)) in
     record {
@@ -27,7 +27,7 @@ loop-results-smaller g c = omega (arith, c.in_ok-push_folds.ensures.is.long, c.l
 
 pub loop-results-preserved : goal.loop-results-preserved
 loop-results-preserved g c =
-    let rule = right_rule (g.P.Prefix.step c.args.none.now) c.args.numbers.now 1 c.args.count in
+    let rule = fold_to (g.P.Prefix.step c.args.none.now) c.args.numbers.now 1 c.args.count in
     let is = c.in_ok-push_folds.ensures.is in
     let n = vec_len c.loop-results.results in
     let more : n < length c.args.numbers.now = omega (arith, c.loop-results-test.true, c.len.ensures) in
@@ -41,7 +41,7 @@ loop-results-preserved g c =
 
 pub returns-clause-is : goal.returns-clause-is
 returns-clause-is g c =
-    results_end (right_rule (g.P.Prefix.step c.args.none.now) c.args.numbers.now 1 c.args.count) c.args.numbers.now (vec_len c.loop-results.results) c.loop-results.results
+    results_end (fold_to (g.P.Prefix.step c.args.none.now) c.args.numbers.now 1 c.args.count) c.args.numbers.now (vec_len c.loop-results.results) c.loop-results.results
     c.loop-results.invariant.so_far (omega (arith, c.loop-results-test.false, c.len.ensures))
 
 pub returns-clause-long : goal.returns-clause-long

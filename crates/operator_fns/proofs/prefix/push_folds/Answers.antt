@@ -2,7 +2,7 @@ use Rattle.std.proofs.Common.{◌≡◌, ◌∙◌, ◌+◌, ◌%◌, ◌<◌, �
 use Rattle.std.proofs.lemmas.Int.{to_z-of_z}
 use Rattle.scalar_fns.proofs.Errors.{passed_on}
 use Rattle.operator_fns.specs.LinearScan.{AreResultsTo}
-use Rattle.operator_fns.specs.Prefixes.{right_rule}
+use Rattle.operator_fns.specs.Prefixes.{fold_to}
 use Rattle.operator_fns.proofs.LeftScans.{one_more, first_error}
 use Rattle.operator_fns.proofs.Prefixes.{IsFoldKept, line_begun, line_goes_on, fold_here}
 use Rattle.operator_fns.proofs.prefix.push_folds.Goals as goal
@@ -13,7 +13,7 @@ loop-place-init g c =
     let gives = g.P.Prefix.gives in
     let none = c.args.none.now in
     let zs = c.args.numbers.now in
-    let rule = right_rule (step none) zs 1 c.args.count in
+    let rule = fold_to (step none) zs 1 c.args.count in
     let begins : c.len-first.result % c.args.count ≡ 0 = ap (λ n. n % c.args.count) c.len-first.ensures ∙ c.requires.begins in
     record {
       so_far = subst (λ p. AreResultsTo p rule zs c.args.results.now) (sym c.len-first.ensures) c.requires.before;
@@ -27,7 +27,7 @@ returns-in_err-result-clause-first g c =
     let none = c.args.none.now in
     let zs = c.args.numbers.now in
     let k = c.loop-place.place in
-    let rule = right_rule (step none) zs 1 c.args.count in
+    let rule = fold_to (step none) zs 1 c.args.count in
     let before = c.loop-place.invariant in
     let below : k < length zs = omega (arith, c.loop-place-test.true, c.min.ensures, c.len-first.ensures) in
     let near : k < c.len-first.result + c.args.count = omega (arith, c.loop-place-test.true, c.min.ensures) in
@@ -50,7 +50,7 @@ loop-place-preserved g c =
     let none = c.args.none.now in
     let zs = c.args.numbers.now in
     let k = c.loop-place.place in
-    let rule = right_rule (step none) zs 1 c.args.count in
+    let rule = fold_to (step none) zs 1 c.args.count in
     let before = c.loop-place.invariant in
     let begins : c.len-first.result % c.args.count ≡ 0 = ap (λ n. n % c.args.count) c.len-first.ensures ∙ c.requires.begins in
     let below : k < length zs = omega (arith, c.loop-place-test.true, c.min.ensures, c.len-first.ensures) in
@@ -74,6 +74,6 @@ loop-place-preserved g c =
 
 pub returns-clause-is : goal.returns-clause-is
 returns-clause-is g c =
-    let rule = right_rule (g.P.Prefix.step c.args.none.now) c.args.numbers.now 1 c.args.count in
+    let rule = fold_to (g.P.Prefix.step c.args.none.now) c.args.numbers.now 1 c.args.count in
     let end : c.loop-place.place ≡ min (c.args.results.now.len + c.args.count) (length c.args.numbers.now) = omega (arith, c.loop-place-test.false, c.min.ensures, c.len-first.ensures) in
     subst (λ p. AreResultsTo p rule c.args.numbers.now c.loop-place.results) end c.loop-place.invariant.so_far

@@ -1,11 +1,11 @@
 use Rattle.std.proofs.Common.{◌+◌, ◌<◌}
 use Rattle.operator_fns.specs.LinearScan.{AreResultsTo}
-use Rattle.operator_fns.specs.Prefixes.{right_rule}
+use Rattle.operator_fns.specs.Prefixes.{fold_to}
 use Rattle.operator_fns.proofs.Prefixes.{IsFoldKept}
 use Rattle.operator_fns.proofs.prefix.push_folds.Given as goal
 
 abbrev pub invariant-loop-place : goal.invariant-loop-place
 invariant-loop-place g l = record {
-  so_far : AreResultsTo l.place (right_rule (g.P.Prefix.step l.fn.none) l.numbers 1 l.count) l.numbers l.results;
+  so_far : AreResultsTo l.place (fold_to (g.P.Prefix.step l.fn.none) l.numbers 1 l.count) l.numbers l.results;
   kept : l.place < l.first + l.count → IsFoldKept g.P.Prefix.step g.P.Prefix.gives l.fn.none l.numbers 1 l.count l.place l.line;
 }

@@ -4,7 +4,7 @@ use Rattle.std.proofs.lemmas.List.{length-set}
 use Rattle.arrays_core.specs.Items.{and_then}
 use Rattle.scalar_fns.proofs.Errors.{passed_on}
 use Rattle.operator_fns.specs.LinearScan.{depth}
-use Rattle.operator_fns.specs.Prefixes.{right_rule}
+use Rattle.operator_fns.specs.Prefixes.{fold_to}
 use Rattle.operator_fns.specs.RecalledScan.{given_at, nothing}
 use Rattle.operator_fns.proofs.Runs.{one_deeper, past_stride}
 use Rattle.operator_fns.proofs.RecalledFolds.{own_number, at_later, one_recalled}
@@ -57,13 +57,13 @@ returns-then-before-place-clause-is g c =
     let z = c.in_ok-number.number in
     let fits : SFits w64 z = search rules in
     let gave : Ok z ≡ f (get_or zs (here - s) (pos 0)) c.loop.number = rw (c.loop.number-is, read) at c.in_ok-number.ensures in
-    let still : given_at f zs s n (here - s) z ≡ right_rule f zs s n (length c.args.results.now) =
+    let still : given_at f zs s n (here - s) z ≡ fold_to f zs s n (length c.args.results.now) =
     ap (λ r. and_then r (given_at f zs s n (here - s))) gave ∙ sym later ∙ started in
     let r = get_or c.loop.recalled (here - s) nothing in
     let came : SFits w64 r.number = search rules in
     let same : r.number ≡ z = sym (to_z-of_z w64 r.number came) ∙ ap (to_z w64) c.if-before-number.true ∙ to_z-of_z w64 z fits in
     let inside : here - s < length c.loop.recalled = omega (arith, c.loop.invariant.long, c.loop.invariant.back, c.loop-test.true, c.requires.apart) in
-    let given : given_at f zs s n (here - s) z ≡ right_rule f zs s n r.later = rw same at (c.loop.invariant.recalled (here - s) inside) in
+    let given : given_at f zs s n (here - s) z ≡ fold_to f zs s n r.later = rw same at (c.loop.invariant.recalled (here - s) inside) in
     let result = c.requires.results r.later c.if-before-place.true in
     let out : SFits w64 (get_or c.args.results.now r.later (pos 0)) = search rules in
     ap Ok (to_z-of_z w64 _ out) ∙ sym result ∙ sym given ∙ still
@@ -83,12 +83,12 @@ returns-then-number-numbers-clause-is g c =
     let z = c.in_ok-number.number in
     let fits : SFits w64 z = search rules in
     let gave : Ok z ≡ f (get_or zs (here - s) (pos 0)) c.loop.number = rw (c.loop.number-is, read) at c.in_ok-number.ensures in
-    let still : given_at f zs s n (here - s) z ≡ right_rule f zs s n (length c.args.results.now) =
+    let still : given_at f zs s n (here - s) z ≡ fold_to f zs s n (length c.args.results.now) =
     ap (λ r. and_then r (given_at f zs s n (here - s))) gave ∙ sym later ∙ started in
     let same : z ≡ get_or zs (here - s) (pos 0) = sym (to_z-of_z w64 z fits) ∙ ap (to_z w64) c.if-number-numbers.true ∙ read in
     let inside : here - s < length c.args.results.now = omega (arith, c.loop.invariant.back, c.requires.apart, c.loop-test.true) in
     let own = own_number f zs s n c.requires.apart c.requires.some (here - s) in
-    let given : given_at f zs s n (here - s) z ≡ right_rule f zs s n (here - s) = ap (given_at f zs s n (here - s)) same ∙ own in
+    let given : given_at f zs s n (here - s) z ≡ fold_to f zs s n (here - s) = ap (given_at f zs s n (here - s)) same ∙ own in
     let out : SFits w64 (get_or c.args.results.now (here - s) (pos 0)) = search rules in
     ap Ok (to_z-of_z w64 _ out) ∙ sym (c.requires.results (here - s) inside) ∙ sym given ∙ still
 
@@ -107,7 +107,7 @@ loop-preserved g c =
     let z = c.in_ok-number.number in
     let fits : SFits w64 z = search rules in
     let gave : Ok z ≡ f (get_or zs (here - s) (pos 0)) c.loop.number = rw (c.loop.number-is, read) at c.in_ok-number.ensures in
-    let still : given_at f zs s n (here - s) z ≡ right_rule f zs s n (length c.args.results.now) =
+    let still : given_at f zs s n (here - s) z ≡ fold_to f zs s n (length c.args.results.now) =
     ap (λ r. and_then r (given_at f zs s n (here - s))) gave ∙ sym later ∙ started in
     let out : to_z w64 (of_z w64 z) ≡ z = to_z-of_z w64 z fits in
     let come = ap (given_at f zs s n (here - s)) out ∙ still in

@@ -1,6 +1,6 @@
 use Rattle.std.proofs.Common.{◌≡◌, ◌+◌, ◌*◌, length}
 use Rattle.operator_fns.specs.LinearScan.{depth}
-use Rattle.operator_fns.specs.Prefixes.{right_rule}
+use Rattle.operator_fns.specs.Prefixes.{fold_to}
 use Rattle.operator_fns.specs.RecalledScan.{given_at, AreRecalled}
 use Rattle.operator_fns.proofs.recalled_scan.recalled_fold.Given as goal
 
@@ -8,7 +8,7 @@ abbrev pub invariant-loop : goal.invariant-loop
 invariant-loop g l = record {
   back : l.here + l.counter * l.stride ≡ l.place;
   deep : depth l.stride l.count l.here + l.counter ≡ depth l.stride l.count l.place;
-  still : given_at (g.S.TwoNumbers.gives l.step) l.numbers l.stride l.count l.here l.number ≡ right_rule (g.S.TwoNumbers.gives l.step) l.numbers l.stride l.count l.place;
+  still : given_at (g.S.TwoNumbers.gives l.step) l.numbers l.stride l.count l.here l.number ≡ fold_to (g.S.TwoNumbers.gives l.step) l.numbers l.stride l.count l.place;
   long : length l.recalled ≡ length l.results;
   recalled : AreRecalled (g.S.TwoNumbers.gives l.step) l.numbers l.stride l.count l.recalled;
 }

@@ -5,7 +5,7 @@ use Rattle.std.proofs.Math.Seq.{take-append_seam}
 use Rattle.arrays_core.specs.Items.{all_or_first_error}
 use Rattle.operator_fns.specs.declared.recalled_scan.Recalled.{Recalled}
 use Rattle.scalar_fns.proofs.Errors.{list_error}
-use Rattle.operator_fns.specs.Prefixes.{right_rule}
+use Rattle.operator_fns.specs.Prefixes.{fold_to}
 use Rattle.operator_fns.proofs.LeftScans.{none_yet, one_more, first_error, results_end}
 use Rattle.operator_fns.proofs.RecalledFolds.{next_recalled, result_before}
 use Rattle.operator_fns.proofs.recalled_scan.recalled_folds.Goals as goal
@@ -15,7 +15,7 @@ loop-place-init g c =
     let made = c.in_ok-results.ensures in
     let kept = c.in_ok-recalled.ensures in
     record {
-      so_far = none_yet (right_rule (g.S.TwoNumbers.gives c.args.step.now) c.args.lines.now.numbers.now c.args.lines.now.stride c.args.lines.now.count) c.args.lines.now.numbers.now c.in_ok-results.results made.items made.len
+      so_far = none_yet (fold_to (g.S.TwoNumbers.gives c.args.step.now) c.args.lines.now.numbers.now c.args.lines.now.stride c.args.lines.now.count) c.args.lines.now.numbers.now c.in_ok-results.results made.items made.len
           (omega (arith, c.room_of.ensures.low, made.capacity));
       long = kept.len;
       room = omega (arith, kept.capacity);
@@ -24,7 +24,7 @@ loop-place-init g c =
 
 pub recalled_fold-requires-clause-results : goal.recalled_fold-requires-clause-results
 recalled_fold-requires-clause-results g c place h =
-    let rule = right_rule (g.S.TwoNumbers.gives c.args.step.now) c.args.lines.now.numbers.now c.args.lines.now.stride c.args.lines.now.count in
+    let rule = fold_to (g.S.TwoNumbers.gives c.args.step.now) c.args.lines.now.numbers.now c.args.lines.now.stride c.args.lines.now.count in
     let so_far = c.loop-place.invariant.so_far in
     let below : place < c.loop-place.place = omega (arith, h, c.deref.ensures.len, so_far.long) in
     result_before rule c.args.lines.now.numbers.now c.loop-place.place c.loop-place.results so_far (omega arith) place below
@@ -35,7 +35,7 @@ returns-in_err-result-clause-is g c =
     let f = g.S.TwoNumbers.gives c.args.step.now in
     let zs = c.args.lines.now.numbers.now in
     let k = c.loop-place.place in
-    let rule = right_rule f zs c.args.lines.now.stride c.args.lines.now.count in
+    let rule = fold_to f zs c.args.lines.now.stride c.args.lines.now.count in
     let so_far = c.loop-place.invariant.so_far in
     let fit : SFits w64 (get_or zs k (pos 0)) = search rules in
     let count : length c.deref.result.now ≡ k = omega (arith, c.deref.ensures.len, so_far.long) in
@@ -49,7 +49,7 @@ loop-place-preserved g c =
     let k = c.loop-place.place in
     let s = c.args.lines.now.stride in
     let n = c.args.lines.now.count in
-    let rule = right_rule f zs s n in
+    let rule = fold_to f zs s n in
     let before = c.loop-place.invariant in
     let so_far = before.so_far in
     let fit : SFits w64 (get_or zs k (pos 0)) = search rules in
@@ -78,5 +78,5 @@ loop-place-preserved g c =
 
 pub returns-clause-is : goal.returns-clause-is
 returns-clause-is g c =
-    results_end (right_rule (g.S.TwoNumbers.gives c.args.step.now) c.args.lines.now.numbers.now c.args.lines.now.stride c.args.lines.now.count) c.args.lines.now.numbers.now c.loop-place.place c.loop-place.results
+    results_end (fold_to (g.S.TwoNumbers.gives c.args.step.now) c.args.lines.now.numbers.now c.args.lines.now.stride c.args.lines.now.count) c.args.lines.now.numbers.now c.loop-place.place c.loop-place.results
     c.loop-place.invariant.so_far (omega (arith, c.loop-place-test.false))

@@ -3,13 +3,13 @@ use Rattle.std.proofs.Math.Nat.{add-mod_right}
 use Rattle.function_names.specs.declared.scalar.Scalar2.TheVariants.{Minus}
 use Rattle.scalar_fns.specs.Numbers.{dyadic_on_numbers}
 use Rattle.operator_fns.specs.LinearScan.{AreResultsTo}
-use Rattle.operator_fns.specs.Prefixes.{right_rule}
+use Rattle.operator_fns.specs.Prefixes.{fold_to}
 use Rattle.operator_fns.proofs.LeftScans.{results_end}
 use Rattle.operator_fns.proofs.small_differences.differences_beside.Goals as goal
 
 pub loop-results-preserved : goal.loop-results-preserved
 loop-results-preserved c =
-    let rule = right_rule (dyadic_on_numbers Minus) c.args.numbers.now 1 c.args.count in
+    let rule = fold_to (dyadic_on_numbers Minus) c.args.numbers.now 1 c.args.count in
     let is = c.push_line.ensures in
     let n = vec_len c.loop-results.results in
     let more : n < length c.args.numbers.now = omega (arith, c.loop-results-test.true, c.len.ensures) in
@@ -23,5 +23,5 @@ loop-results-preserved c =
 
 pub returns-clause-is : goal.returns-clause-is
 returns-clause-is c =
-    results_end (right_rule (dyadic_on_numbers Minus) c.args.numbers.now 1 c.args.count) c.args.numbers.now (vec_len c.loop-results.results) c.loop-results.results
+    results_end (fold_to (dyadic_on_numbers Minus) c.args.numbers.now 1 c.args.count) c.args.numbers.now (vec_len c.loop-results.results) c.loop-results.results
     c.loop-results.invariant.so_far (omega (arith, c.loop-results-test.false, c.len.ensures))

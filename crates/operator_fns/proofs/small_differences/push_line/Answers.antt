@@ -2,7 +2,7 @@ use Rattle.std.proofs.Common.{◌≡◌, ◌∙◌, ◌+◌, ◌-◌, ◌%◌, �
 use Rattle.std.proofs.lemmas.Int.{to_z-of_z}
 use Rattle.function_names.specs.declared.scalar.Scalar2.TheVariants.{Minus}
 use Rattle.scalar_fns.specs.Numbers.{dyadic_on_numbers}
-use Rattle.operator_fns.specs.Prefixes.{right_rule}
+use Rattle.operator_fns.specs.Prefixes.{fold_to}
 use Rattle.operator_fns.proofs.LeftScans.{one_more}
 use Rattle.operator_fns.proofs.SmallDifferences.{sum_to, next_total, next_beside, sum_is, sum_fits}
 use Rattle.operator_fns.proofs.small_differences.push_line.Goals as goal
@@ -28,7 +28,7 @@ loop-place-preserved c =
     let k = c.loop-place.place in
     let first = c.len-first.result in
     let it = c.loop-place.invariant in
-    let rule = right_rule (dyadic_on_numbers Minus) zs 1 c.args.count in
+    let rule = fold_to (dyadic_on_numbers Minus) zs 1 c.args.count in
     let begins : first % c.args.count ≡ 0 = ap (λ n. n % c.args.count) c.len-first.ensures ∙ c.requires.begins in
     let below : k < length zs = omega (arith, c.loop-place-test.true, c.min.ensures, c.len-first.ensures) in
     let near : k < first + c.args.count = omega (arith, c.loop-place-test.true, c.min.ensures) in

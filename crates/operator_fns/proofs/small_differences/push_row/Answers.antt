@@ -3,7 +3,7 @@ use Rattle.std.proofs.lemmas.Int.{to_z-of_z}
 use Rattle.function_names.specs.declared.scalar.Scalar2.TheVariants.{Minus}
 use Rattle.scalar_fns.specs.Numbers.{dyadic_on_numbers}
 use Rattle.operator_fns.specs.LinearScan.{depth}
-use Rattle.operator_fns.specs.Prefixes.{right_rule}
+use Rattle.operator_fns.specs.Prefixes.{fold_to}
 use Rattle.operator_fns.proofs.LeftScans.{one_more}
 use Rattle.operator_fns.proofs.Runs.{past_stride}
 use Rattle.operator_fns.proofs.SmallDifferences.{sum_to, next_total, next_sum, result_is, row_depth, sum_is, sum_fits}
@@ -51,7 +51,7 @@ loop-place-preserved c =
     let first = c.len-first.result in
     let it = c.loop-place.invariant in
     let b = c.total_before-before.result in
-    let rule = right_rule (dyadic_on_numbers Minus) zs s n in
+    let rule = fold_to (dyadic_on_numbers Minus) zs s n in
     let begins : first % s ≡ 0 = ap (λ m. m % s) c.len-first.ensures ∙ c.requires.begins in
     let below : k < length zs = omega (arith, c.loop-place-test.true, c.min.ensures, c.len-first.ensures) in
     let near : k < first + s = omega (arith, c.loop-place-test.true, c.min.ensures) in

@@ -19,5 +19,5 @@ returns-clause-next c =
     let is = held_ok (s.total *ℤ x) z held in
     rw (to_z-of_z w64 z total_fits, is.same)
     (record {
-      is = λ v fits. next_product s.total x v s.reach.below s.reach.above c.divided.result.below c.divided.result.above s.reach.low s.reach.high (rw x_same at (c.divided.ensures v fits));
+      is = λ v fits. next_product s.total x v s.margin.below s.margin.above c.divided.result.below c.divided.result.above s.margin.low s.margin.high (rw x_same at (c.divided.ensures v fits));
     })

@@ -4,7 +4,7 @@ use Rattle.operator_fns.proofs.residue_scan.SidedLines.nearest.Given as goal
 
 abbrev pub invariant-loop-found : goal.invariant-loop-found
 invariant-loop-found l = record {
-  same : AreTheSame l.self.numbers.now l.self.stride l.self.count (l.reach + 1) l.fn.start l.found;
+  same : AreTheSame l.self.numbers.now l.self.stride l.self.count (l.extent + 1) l.fn.start l.found;
   before : rank l.found ≤ rank l.fn.start;
 }
 

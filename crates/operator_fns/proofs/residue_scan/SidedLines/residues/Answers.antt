@@ -2,7 +2,7 @@ use Rattle.std.proofs.Common.{◌≡◌, ◌∙◌, ◌++◌, ◌∷◌, [], ap,
 use Rattle.std.proofs.lemmas.Int.{to_z-of_z}
 use Rattle.function_names.specs.declared.scalar.Scalar2.TheVariants.{Residue as ByResidue}
 use Rattle.scalar_fns.specs.Numbers.{dyadic_on_numbers}
-use Rattle.operator_fns.specs.Prefixes.{right_rule}
+use Rattle.operator_fns.specs.Prefixes.{fold_to}
 use Rattle.operator_fns.specs.ResidueScan.{from, IsDivisor}
 use Rattle.operator_fns.proofs.LeftScans.{one_more, results_end}
 use Rattle.operator_fns.proofs.RecalledFolds.{own_number}
@@ -17,7 +17,7 @@ loop-place-preserved c =
     let s = lines.stride in
     let n = lines.count in
     let k = c.loop-place.place in
-    let rule = right_rule f zs s n in
+    let rule = fold_to f zs s n in
     let before = c.loop-place.invariant in
     let fit : SFits w64 (get_or zs k (pos 0)) = search rules in
     let read : to_z w64 (of_z w64 (get_or zs k (pos 0))) ≡ get_or zs k (pos 0) = to_z-of_z w64 _ fit in
@@ -42,5 +42,5 @@ loop-place-preserved c =
 pub returns-clause-is : goal.returns-clause-is
 returns-clause-is c =
     let lines = c.args.self.now in
-    results_end (right_rule (dyadic_on_numbers ByResidue) lines.numbers.now lines.stride lines.count) lines.numbers.now c.loop-place.place c.loop-place.results
+    results_end (fold_to (dyadic_on_numbers ByResidue) lines.numbers.now lines.stride lines.count) lines.numbers.now c.loop-place.place c.loop-place.results
     c.loop-place.invariant.so_far (omega (arith, c.loop-place-test.false))

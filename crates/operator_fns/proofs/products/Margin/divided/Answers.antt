@@ -1,7 +1,7 @@
 use Rattle.std.proofs.Common.{◌≡◌, ◌∙◌, ap, sym, ◌<◌, ◌≤ℤ◌, ◌<ℤ◌, ◌/◌, min, pos, unsigned_abs, arith, to_z, of_z, w64, SFits, rules}
 use Rattle.std.proofs.lemmas.Int.{ints, to_z-of_z}
 use Rattle.operator_fns.proofs.NextProducts.{by_none, by_above, by_below}
-use Rattle.operator_fns.proofs.products.Reach.divided.Goals as goal
+use Rattle.operator_fns.proofs.products.Margin.divided.Goals as goal
 
 pub returns : goal.returns
 returns c =

@@ -1,5 +1,5 @@
 use Rattle.std.proofs.Common.{◌≤ℤ◌, ◌<◌, get_or, pos, ℕ}
-use Rattle.operator_fns.proofs.small_products.reach.Given as goal
+use Rattle.operator_fns.proofs.small_products.farthest.Given as goal
 
 abbrev pub invariant-loop-number : goal.invariant-loop-number
 invariant-loop-number l = record {
