@@ -1,4 +1,4 @@
-// The program: lines of a file or of standard input, answers on standard output.
+//! The program: lines of a file or of standard input, answers on standard output.
 #![tactic(auto)]
 
 ghost use Rattle.std.specs.Prelude.{None};
@@ -73,6 +73,7 @@ fn keep_what_arrays_give_back(alloc: Global) {
     let _piece: Result<Vec<u8>, AllocError> = Vec::with_capacity(alloc, LARGEST_PIECE);
 }
 
+/// Hands the words, the files and the streams of the machine to the program, and its status back.
 fn main(rt: HostRuntime) -> ExitCode {
     keep_what_arrays_give_back(rt.alloc());
     let mut input = Device::new(rt.reader());

@@ -58,12 +58,14 @@ pub(crate) fn moved_by(delta: &Delta) -> Option<IndexBox>
     }
 }
 
+/// No argument changed.
 pub(crate) fn all_same(args: &[(Seen, &Delta)]) -> bool
     ensures { result ≡ all_same args.now }
 {
     args.iter().all(|(_, delta)| matches!(delta, Delta::Same))
 }
 
+/// Some argument is another array, or an error.
 fn any_whole(args: &[(Seen, &Delta)]) -> bool
     ensures { result ≡ list_any (λ a. is_whole a.1.now) args.now }
 {

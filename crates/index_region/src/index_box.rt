@@ -276,6 +276,7 @@ fn are_on(intervals: &[(u32, u32)], axes: &[u32]) -> bool
     }
 }
 
+/// An index list lies in the box of these intervals: each index in that of its axis.
 fn is_inside(intervals: &[(u32, u32)], index: &[u32]) -> bool
     ensures { result ≡ is_within intervals.now index.now }
 {
@@ -288,6 +289,7 @@ fn is_inside(intervals: &[(u32, u32)], index: &[u32]) -> bool
     }
 }
 
+/// How many places of the box of these intervals come before an index list in it, and how many it has.
 fn offset_and_size(intervals: &[(u32, u32)], index: &[u32]) -> (usize, usize)
     requires within { IsTrue (is_within intervals.now index.now) }
     requires size { box_size intervals.now < 2 ^ 64 }
@@ -308,6 +310,7 @@ fn offset_and_size(intervals: &[(u32, u32)], index: &[u32]) -> (usize, usize)
     )
 }
 
+/// How many places the box of these intervals has.
 fn size_of_intervals(intervals: &[(u32, u32)]) -> usize
     requires { box_size intervals.now < 2 ^ 64 }
     ensures { result ≡ box_size intervals.now }

@@ -106,7 +106,7 @@ impl Summary {
         }
     }
 
-    /// The same, worked out two by two.
+    /// That of four numbers whose sums may be far from 0, worked out two by two.
     #[cold]
     #[inline(never)]
     fn of_far(sum: i64, right: i64, later: i64, last: i64) -> Summary
@@ -212,7 +212,7 @@ impl Summary {
         }
     }
 
-    /// The same, worked out in 128 bits.
+    /// It and a later one as one, where their sums may be far from 0: worked out in 128 bits.
     #[cold]
     #[inline(never)]
     fn join_far(&self, later: &Summary) -> Summary

@@ -13,6 +13,7 @@ use arrays_core::Kind;
 pub(crate) trait OneNumber {
     ghost gives: { Self → ℤ → Result ℤ Kind };
 
+    /// What it gives of a number.
     fn at(&self, b: i64) -> Result<i64, Kind>
         ensures { result ≡ gives self.now b };
 }

@@ -209,7 +209,7 @@ pub fn apply_to_right(
     }
 }
 
-/// The same of a number at the left of an array.
+/// A scalar function of a number and, at its right, an array, as `apply_to_right` says of an array and a number.
 pub fn apply_to_left(
     alloc: Global,
     function: Scalar2,

@@ -1,4 +1,4 @@
-// The answer to one line.
+//! The answer to one line.
 ghost use Rattle.std.specs.Prelude.{◌≡◌, ℤ, IfOk, OnErr, IsOk};
 ghost use Rattle.std.specs.Str.{chars};
 ghost use Rattle.apl_expr.specs.Lines.{meaning, Cost, Commit, Drop};

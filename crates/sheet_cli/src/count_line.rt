@@ -1,4 +1,4 @@
-// A count as it is printed.
+//! A count as it is printed.
 ghost use Rattle.std.specs.Prelude.{◌≡◌, ◌≤◌, List, ℕ, ◌++◌, decimal, drop};
 ghost use Rattle.array_text.specs.Text.{line_end};
 

@@ -1,4 +1,4 @@
-// What follows from the definitions alone.
+//! What follows from the definitions alone.
 ghost use Rattle.sheet_cli.specs.Answers.{EachLineHasOneAnswer, LinesHaveOneAnswer};
 
 /// A line has one answer, and leads to one state.

@@ -13,7 +13,10 @@ use sheet_recalc::Refusal;
 use std::alloc::{AllocError, Global};
 
 /// The text of what is done, or of the refusal in its place. Only that of an error of an expression needs memory.
-pub(crate) fn outcome_text(alloc: Global, outcome: Result<(), Refusal>) -> Result<Printed, AllocError>
+pub(crate) fn outcome_text(
+    alloc: Global,
+    outcome: Result<(), Refusal>,
+) -> Result<Printed, AllocError>
     ensures text { IfOk result (λ text. IsPrintedFor (done_answer outcome) (printed_bytes text)) }
     ensures done { IsOk outcome → IsOk result }
     ensures always { IfErr outcome (λ cause. is_always_there cause ≡ true → IsOk result) }

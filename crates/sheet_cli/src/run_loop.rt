@@ -1,4 +1,4 @@
-// The loop from a source to a sink.
+//! The loop from a source to a sink.
 ghost use Rattle.std.specs.Prelude.{◌≡◌, ◌+◌, ◌≤◌, ◌<◌, ◌^◌, ◌∷◌, ℕ, List, [], ◌++◌, length, take, slice_index, MatchOption, OnOk, OnErr, IfOk, IsErrOf, true};
 ghost use Rattle.std.specs.Io.KnownBytes.{Appends};
 ghost use Rattle.sheet_cli.specs.Answer.{state_of};
@@ -98,6 +98,7 @@ struct Progress {
 }
 
 impl Progress {
+    /// That of a run which has read nothing yet.
     fn new(alloc: Global) -> Result<Progress, AllocError>
         ensures { IfOk result (λ p. (p.open_line ≡ []) × (p.tally ≡ record { lines = 0; refused_for_memory = 0 })) }
     {

@@ -1,4 +1,4 @@
-// What follows from the definitions alone.
+//! What follows from the definitions alone.
 ghost use Rattle.sheet_desk.specs.Laws.{EachEventHasOneAnswer, NamesAreOfChangesCommitted, ShowsAreOfChangesCommitted, StaleWhereChanged};
 
 /// After any events the names are those that the changes make of them which were committed, plain ones and commits, in their order.

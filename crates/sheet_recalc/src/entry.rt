@@ -44,7 +44,7 @@ impl Entry {
         }
     }
 
-    /// The same with its error lent.
+    /// What it shows under a name, with its error lent.
     pub(crate) fn lent<'a>(&'a self, name: &'a Name) -> Result<&'a Array, LentFault<'a>>
         ensures { read result ≡ entry_outcome name.now self.now }
     {

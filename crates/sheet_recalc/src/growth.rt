@@ -55,7 +55,7 @@ fn growth_with(
     all_that_lacks(alloc, entries, users, references)
 }
 
-/// The same, where something does.
+/// What lacks for one more entry, where something does.
 fn all_that_lacks(
     alloc: Global,
     entries: &IndexMap<Name, Entry>,

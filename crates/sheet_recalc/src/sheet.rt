@@ -557,6 +557,7 @@ impl Sheet {
         })
     }
 
+    /// The allocator that it takes memory from.
     pub(crate) fn alloc(&self) -> Global {
         self.alloc
     }
