@@ -94,7 +94,7 @@ pub fn evaluate<S: Shows>(
     evaluate_counted(alloc, tree, names, &mut Meter::new())
 }
 
-/// The same value. The meter counts the items that each function gives, and none for a literal or a name: as many as working out
+/// The value of an expression, as `evaluate` answers it. The meter counts the items that each function gives, and none for a literal or a name: as many as working out
 /// a new formula of the expression costs where the value is an array, and at most as many where it is an error.
 pub fn evaluate_counted<S: Shows>(
     alloc: Global,

@@ -40,7 +40,8 @@ use std::marker::Model;
 #[derive(Drop)]
 pub struct Formula {
     alloc: Global,
-    names: Vec<Name>,
+    /// In a box, since an entry of data has the room of one with a formula.
+    names: Box<Vec<Name>>,
     nodes: Vec<Kept>,
     is_new: bool,
     /// Room for the changes of the next plan, kept from the last edit.
@@ -58,9 +59,9 @@ impl Model for Formula {
 
     ghost coded = { Prim.hlevel (codes, coded_tree) };
 
-    ghost view = { λ f. record { tree = root_of f.names.items (nodes_of f.nodes.items); is_new = f.is_new; nodes = holdings_of f.nodes.items } };
+    ghost view = { λ f. record { tree = root_of f.names.value.items (nodes_of f.nodes.items); is_new = f.is_new; nodes = holdings_of f.nodes.items } };
 
-    ghost invariant = { λ f. IsTableOf f.names.items (nodes_of f.nodes.items) (root_of f.names.items (nodes_of f.nodes.items)) };
+    ghost invariant = { λ f. IsTableOf f.names.value.items (nodes_of f.nodes.items) (root_of f.names.value.items (nodes_of f.nodes.items)) };
 }
 
 impl Formula {
@@ -82,7 +83,7 @@ impl Formula {
         lower_whole(alloc, &mut names, &mut nodes, tree)?;
         Ok(Formula {
             alloc,
-            names,
+            names: Box::new(alloc, names)?,
             nodes,
             is_new: true,
             room: Cell::new(Vec::new(alloc)),
@@ -120,7 +121,7 @@ impl Formula {
         }
     }
 
-    /// The same result, with its error lent.
+    /// The result that its expression was last given, with its error lent.
     pub fn lent(&self) -> Result<&Array, LentFault<'_>>
         ensures { read result ≡ root_result self.now.nodes }
     {

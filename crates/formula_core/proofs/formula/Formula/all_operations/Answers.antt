@@ -10,4 +10,4 @@ pub returns : goal.returns
 returns c =
     let inside = c.self.inside in
     c.count_operations.ensures ∙ (ap (λ (ns : List Kept). count_by (λ k. applies k.node) ns) c.as_slice.ensures.value
-    ∙ (operations_counted inside.names.items inside.nodes.items _ c.self.invariant ∙ ap (λ (f : FormulaValue). operations f.tree) c.self.view_is))
+    ∙ (operations_counted inside.names.value.items inside.nodes.items _ c.self.invariant ∙ ap (λ (f : FormulaValue). operations f.tree) c.self.view_is))

@@ -13,7 +13,7 @@ next_place-requires-clause-below c =
       arith,
       c.requires.below,
       ap (λ (ns : List Kept). length ns) c.as_slice.ensures.value,
-      counted c.args.self.now c.self.inside.names.items c.self.inside.nodes.items c.self.invariant (ap (λ (v : FormulaValue). v.tree) c.self.view_is) (ap (λ (v : FormulaValue). v.nodes) c.self.view_is),
+      counted c.args.self.now c.self.inside.names.value.items c.self.inside.nodes.items c.self.invariant (ap (λ (v : FormulaValue). v.tree) c.self.view_is) (ap (λ (v : FormulaValue). v.nodes) c.self.view_is),
     )
 
 pub next_place-requires-clause-staged : goal.next_place-requires-clause-staged
@@ -25,7 +25,7 @@ next_place-requires-clause-staged c =
         names_in f.tree,
         (
           subtrees f.tree,
-          staged_by f c.self.inside.names.items c.self.inside.nodes.items c.self.invariant (ap (λ (v : FormulaValue). v.tree) c.self.view_is) (ap (λ (v : FormulaValue). v.nodes) c.self.view_is)
+          staged_by f c.self.inside.names.value.items c.self.inside.nodes.items c.self.invariant (ap (λ (v : FormulaValue). v.tree) c.self.view_is) (ap (λ (v : FormulaValue). v.nodes) c.self.view_is)
               w.0 c.args.inputs.now w.1.0 c.args.changes.now w.1.1.0 w.1.1.1 _ (sym c.if-self.false ∙ ap (λ (v : FormulaValue). v.is_new) c.self.view_is) refl c.as_slice.ensures.value refl,
         ),
       ),
@@ -35,5 +35,5 @@ pub returns-clause-step : goal.returns-clause-step
 returns-clause-step c =
     IfSome_then c.next_place.result c.next_place.ensures.step
     (λ p step change told cost begun.
-    stepped_by c.args.self.now c.self.inside.names.items c.self.inside.nodes.items c.self.invariant (ap (λ (v : FormulaValue). v.tree) c.self.view_is) (ap (λ (v : FormulaValue). v.nodes) c.self.view_is)
+    stepped_by c.args.self.now c.self.inside.names.value.items c.self.inside.nodes.items c.self.invariant (ap (λ (v : FormulaValue). v.tree) c.self.view_is) (ap (λ (v : FormulaValue). v.nodes) c.self.view_is)
     change c.args.inputs.now told c.args.changes.now cost begun _ (sym c.if-self.false ∙ ap (λ (v : FormulaValue). v.is_new) c.self.view_is) refl c.as_slice.ensures.value refl _ 1 _ _ (step change))

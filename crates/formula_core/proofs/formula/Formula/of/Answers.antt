@@ -7,5 +7,6 @@ use Rattle.formula_core.proofs.formula.Formula.of.Goals as goal
 
 pub returns : goal.returns
 returns c =
-    made_new c.lower_whole.new.names.items (nodes_of c.lower_whole.new.nodes.items) c.lower_whole.new.nodes.items (tree_of c.args.tree.now) c.in_ok-lower_whole.ensures.table refl
-    (new_holdings c.lower_whole.new.nodes.items c.in_ok-lower_whole.ensures.anew)
+    rw c.in_ok-new.ensures.ok
+    (made_new c.lower_whole.new.names.items (nodes_of c.lower_whole.new.nodes.items) c.lower_whole.new.nodes.items (tree_of c.args.tree.now) c.in_ok-lower_whole.ensures.table refl
+    (new_holdings c.lower_whole.new.nodes.items c.in_ok-lower_whole.ensures.anew))

@@ -11,7 +11,7 @@ pub push_by_rule-requires : goal.push_by_rule-requires
 push_by_rule-requires c =
     let f = c.args.self.now in
     let none = c.in_ok-room_for_changes.ensures in
-    let all = known f c.self.inside.names.items c.self.inside.nodes.items c.self.invariant (ap (λ (v : FormulaValue). v.tree) c.self.view_is) (ap (λ (v : FormulaValue). v.nodes) c.self.view_is) in
+    let all = known f c.self.inside.names.value.items c.self.inside.nodes.items c.self.invariant (ap (λ (v : FormulaValue). v.tree) c.self.view_is) (ap (λ (v : FormulaValue). v.nodes) c.self.view_is) in
     record {
       below = omega (arith, ap (λ (ds : List NodeChange). length ds) none, some_node f.tree, all);
       begun = (c.requires.0, (c.requires.1, (0, subst (λ (ds : List NodeChange). IsBegun f c.requires.0 ds 0) (sym none) (begun_none f c.requires.0 all))));
@@ -20,7 +20,7 @@ push_by_rule-requires c =
 pub returns-then-applies-clause-planned : goal.returns-then-applies-clause-planned
 returns-then-applies-clause-planned c = λ change told.
     let f = c.args.self.now in
-    let names = c.self.inside.names.items in
+    let names = c.self.inside.names.value.items in
     let nodes = c.self.inside.nodes.items in
     let root = ap (λ (v : FormulaValue). v.tree) c.self.view_is in
     let held = ap (λ (v : FormulaValue). v.nodes) c.self.view_is in
@@ -38,7 +38,7 @@ returns-then-applies-clause-planned c = λ change told.
 pub returns-clause-none : goal.returns-clause-none
 returns-clause-none c =
     let f = c.args.self.now in
-    let names = c.self.inside.names.items in
+    let names = c.self.inside.names.value.items in
     let nodes = c.self.inside.nodes.items in
     let root = ap (λ (v : FormulaValue). v.tree) c.self.view_is in
     let held = ap (λ (v : FormulaValue). v.nodes) c.self.view_is in
@@ -53,7 +53,7 @@ returns-clause-none c =
 pub returns-clause-planned : goal.returns-clause-planned
 returns-clause-planned c = λ change told.
     let f = c.args.self.now in
-    let names = c.self.inside.names.items in
+    let names = c.self.inside.names.value.items in
     let nodes = c.self.inside.nodes.items in
     let root = ap (λ (v : FormulaValue). v.tree) c.self.view_is in
     let held = ap (λ (v : FormulaValue). v.nodes) c.self.view_is in
