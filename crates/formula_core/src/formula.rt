@@ -1,6 +1,6 @@
 //! A formula: an expression as a table of nodes, with the result that each node was last given.
 
-ghost use Rattle.std.specs.Prelude.{◌≡◌, ◌+◌, ◌≤◌, ◌<◌, ℕ, List, true, false, [], length, get_or, take, map, min, IfOk, IfSome, IsNone, OnOk, OnErr, MatchBool};
+ghost use Rattle.std.specs.Prelude.{◌≡◌, ◌+◌, ◌≤◌, ◌<◌, ℕ, List, true, false, [], length, get_or, min, IfOk, IfSome, IsNone, OnOk, OnErr, MatchBool};
 ghost use Rattle.std.specs.List.{Contains, count_by};
 ghost use Rattle.apl_expr.specs.Trees.{tree_of};
 ghost use Rattle.change_core.specs.Meters.{ticked};
@@ -13,7 +13,7 @@ ghost use Rattle.formula_core.specs.Holdings.{nodes_of, not_worked_out, place_ch
 ghost use Rattle.formula_core.specs.Formulas.{new_formula, root_result, operations, IsHeld, IsTableOf};
 ghost use Rattle.formula_core.specs.Joins.{most_joins, least_joins, tree_joins, tree_least_joins};
 ghost use Rattle.formula_core.specs.Plans.{tree_cost, node_cost_at, IsComputed, AllComputed, IsPlanOf, IsTold, IsPlanned};
-ghost use Rattle.formula_core.specs.Progress.{operations_among, IsAtOperation, IsPlannedTo};
+ghost use Rattle.formula_core.specs.Progress.{operations_among, IsPlannedTo};
 ghost use Rattle.formula_core.specs.Stages.{IsBegun, IsLiteralChange, IsNodeStep, IsOneMore};
 ghost use Rattle.formula_core.specs.Tables.{applies, subtrees, tree_at};
 

@@ -10,7 +10,7 @@ use Rattle.apl_expr.specs.Lines.{Open, meaning, change_meaning}
 use Rattle.apl_expr.specs.Answers.{IsAnswered}
 use Rattle.sheet_recalc.specs.History.{change_of}
 use Rattle.sheet_desk.specs.Desk as desk
-use Rattle.sheet_desk.specs.Desk.{SlotValue, DeskValue, held_in, commit_refusal, drop_refusal, IsRefused, IsEvent}
+use Rattle.sheet_desk.specs.Desk.{DeskValue, IsEvent}
 use Rattle.sheet_cli.specs.Answer.{State, state_of, IsChangeAnswered, IsPrintedFor, IsAsked, IsCarriedOut, IsTextAnswer, no_line, too_large, carried_out}
 
 -- the changes of lines are edits
