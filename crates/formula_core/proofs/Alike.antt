@@ -20,7 +20,7 @@ use Rattle.arrays_core.specs.Outcomes.{Outcome}
 use Rattle.formula_core.specs.Meaning.{eval, eval_positions, applied1, applied2, indexed, in_front, empty_in_front, names_in, names_in_positions}
 use Rattle.formula_core.specs.Tables.{inside, inside_positions, subtrees}
 use Rattle.formula_core.specs.Rules.{right_rule, both_rule}
-use Rattle.formula_core.specs.Changes.{Change, arguments, paired, operation_delta, operation_cost, written, values_of, change, changes, cost_at, operation_size, tree_size}
+use Rattle.formula_core.specs.Changes.{NamesChange, arguments, paired, operation_delta, operation_cost, written, values_of, change, changes, cost_at, operation_size, tree_size}
 use Rattle.formula_core.specs.Plans.{node_cost_at, tree_cost}
 
 -- what holds of each name in an expression holds of each in a part of it
@@ -67,7 +67,7 @@ values_alike (Filled e ps) a b h =
     λ i. first i ∷ others i
 
 -- a name showed, shows and changed the same
-pub record IsAlikeAt (c d : Change) (x : List ℕ) : Type 0 where
+pub record IsAlikeAt (c d : NamesChange) (x : List ℕ) : Type 0 where
   pub old : c.old x ≡ d.old x
   pub new : c.new x ≡ d.new x
   pub delta : c.delta x ≡ d.delta x
@@ -77,7 +77,7 @@ abbrev OfOperation : Type 0 → Type 0
 OfOperation A = RuleModel → Result (List ArrayValue) Fault → List Delta → Outcome → A
 
 -- it is the same where the arguments showed, show and changed the same
-module _ {A : Type 0} (of_operation : OfOperation A) (c d : Change) where
+module _ {A : Type 0} (of_operation : OfOperation A) (c d : NamesChange) where
   monad_alike : (f : Function1) (r : Tree) → ((x : List ℕ) → Contains (names_in r) x → IsAlikeAt c d x) → change c r ≡ change d r
       → of_operation (right_rule f) (arguments (eval r c.new ∷ [])) (change c r ∷ []) (applied1 f (eval r c.old))
       ≡ of_operation (right_rule f) (arguments (eval r d.new ∷ [])) (change d r ∷ []) (applied1 f (eval r d.old))
@@ -107,7 +107,7 @@ module _ {A : Type 0} (of_operation : OfOperation A) (c d : Change) where
 
 mutual
   -- the change of a tree is the same where the names in it showed, show and changed the same
-  pub change_alike : (t : Tree) (c d : Change) → ((x : List ℕ) → Contains (names_in t) x → IsAlikeAt c d x) → change c t ≡ change d t
+  pub change_alike : (t : Tree) (c d : NamesChange) → ((x : List ℕ) → Contains (names_in t) x → IsAlikeAt c d x) → change c t ≡ change d t
   change_alike (Const l) c d h = refl
   change_alike (Name x) c d h = (h x (Contains-push [] x)).delta
   change_alike (Monad f r) c d h = monad_alike operation_delta c d (function1.Monad f) r h (change_alike r c d h)
@@ -122,7 +122,7 @@ mutual
   change_alike (Inner f g l r) c d h =
       dyad_alike operation_delta c d (function2.Inner f g) l r h (change_alike l c d (in_left _ (names_in l) (names_in r) h)) (change_alike r c d (in_right _ (names_in l) (names_in r) h))
 
-  pub changes_alike : (ps : Positions) (c d : Change) → ((x : List ℕ) → Contains (names_in_positions ps) x → IsAlikeAt c d x) → changes c ps ≡ changes d ps
+  pub changes_alike : (ps : Positions) (c d : NamesChange) → ((x : List ℕ) → Contains (names_in_positions ps) x → IsAlikeAt c d x) → changes c ps ≡ changes d ps
   changes_alike NoPositions c d h = refl
   changes_alike (Empty ps) c d h = changes_alike ps c d h
   changes_alike (Filled e ps) c d h =
@@ -131,7 +131,7 @@ mutual
       λ i. first i ∷ others i
 
 -- so is what the change of its own node costs
-pub cost_alike : (t : Tree) (c d : Change) → ((x : List ℕ) → Contains (names_in t) x → IsAlikeAt c d x) → cost_at c t ≡ cost_at d t
+pub cost_alike : (t : Tree) (c d : NamesChange) → ((x : List ℕ) → Contains (names_in t) x → IsAlikeAt c d x) → cost_at c t ≡ cost_at d t
 cost_alike (Const l) c d h = refl
 cost_alike (Name x) c d h = refl
 cost_alike (Monad f r) c d h = monad_alike operation_cost c d (function1.Monad f) r h (change_alike r c d h)
@@ -195,7 +195,7 @@ module _ (P : List ℕ → Type 0) (f g : Tree → ℕ) (same : (t : Tree) → (
   subtree_sums_alike (Inner k j l r) h = sums_alike (Inner k j l r) h
 
 -- and what the changes of all nodes in it cost
-pub costs_alike : (t : Tree) (c d : Change) → ((x : List ℕ) → Contains (names_in t) x → IsAlikeAt c d x) → sum_by (cost_at c) (inside t) ≡ sum_by (cost_at d) (inside t)
+pub costs_alike : (t : Tree) (c d : NamesChange) → ((x : List ℕ) → Contains (names_in t) x → IsAlikeAt c d x) → sum_by (cost_at c) (inside t) ≡ sum_by (cost_at d) (inside t)
 costs_alike t c d h = sums_alike (λ x. IsAlikeAt c d x) (cost_at c) (cost_at d) (λ u k. cost_alike u c d k) t h
 
 one_sized : (p : RuleModel) {r s : Outcome} → r ≡ s → operation_size p (arguments (r ∷ [])) ≡ operation_size p (arguments (s ∷ []))
@@ -219,12 +219,12 @@ size_alike (Scan f k r) a b h = one_sized (right_rule (function1.Scan f k)) (eva
 size_alike (Outer f l r) a b h = two_sized (both_rule (function2.Outer f)) (eval_alike l a b (in_left _ (names_in l) (names_in r) h)) (eval_alike r a b (in_right _ (names_in l) (names_in r) h))
 size_alike (Inner f g l r) a b h = two_sized (both_rule (function2.Inner f g)) (eval_alike l a b (in_left _ (names_in l) (names_in r) h)) (eval_alike r a b (in_right _ (names_in l) (names_in r) h))
 
-node_cost_alike : (is_new : Bool) (t : Tree) (c d : Change) → ((x : List ℕ) → Contains (names_in t) x → IsAlikeAt c d x) → node_cost_at is_new c t ≡ node_cost_at is_new d t
+node_cost_alike : (is_new : Bool) (t : Tree) (c d : NamesChange) → ((x : List ℕ) → Contains (names_in t) x → IsAlikeAt c d x) → node_cost_at is_new c t ≡ node_cost_at is_new d t
 node_cost_alike true t c d h = size_alike t c.new d.new (λ x o. (h x o).new)
 node_cost_alike false t c d h = cost_alike t c d h
 
 -- a tree, new or not, costs the same where the names in it showed, show and changed the same
-pub tree_cost_alike : (is_new : Bool) (t : Tree) (c d : Change) → ((x : List ℕ) → Contains (names_in t) x → IsAlikeAt c d x) → tree_cost is_new c t ≡ tree_cost is_new d t
+pub tree_cost_alike : (is_new : Bool) (t : Tree) (c d : NamesChange) → ((x : List ℕ) → Contains (names_in t) x → IsAlikeAt c d x) → tree_cost is_new c t ≡ tree_cost is_new d t
 tree_cost_alike is_new t c d h = subtree_sums_alike (λ x. IsAlikeAt c d x) (node_cost_at is_new c) (node_cost_at is_new d) (λ u k. node_cost_alike is_new u c d k) t h
 
 -- arrays of which nothing changed
@@ -246,18 +246,18 @@ same_in_front : (d : Delta) (ds : List Delta) → d ≡ Same → list_all is_sam
 same_in_front d ds e h = subst (λ (x : Delta). list_all is_same (x ∷ ds) ≡ true) (sym e) h
 
 -- a tree of which nothing changes, and no node in which costs anything
-abbrev IsUnchanged : Change → Tree → List Tree → Type 0
+abbrev IsUnchanged : NamesChange → Tree → List Tree → Type 0
 IsUnchanged c t ts = (change c t ≡ Same) × (sum_by (cost_at c) ts ≡ 0)
 
 -- so is one that applies a function to such trees
-unchanged_before : (c : Change) (f : Function1) (r t : Tree) → change c t ≡ operation_delta (right_rule f) (arguments (eval r c.new ∷ [])) (change c r ∷ []) (eval t c.old)
+unchanged_before : (c : NamesChange) (f : Function1) (r t : Tree) → change c t ≡ operation_delta (right_rule f) (arguments (eval r c.new ∷ [])) (change c r ∷ []) (eval t c.old)
     → cost_at c t ≡ operation_cost (right_rule f) (arguments (eval r c.new ∷ [])) (change c r ∷ []) (eval t c.old) → IsUnchanged c r (inside r) → IsUnchanged c t (inside r ++ t ∷ [])
 unchanged_before c f r t delta cost right =
     let here = operation_unchanged (right_rule f) (arguments (eval r c.new ∷ [])) (change c r ∷ []) (eval t c.old) (same_in_front (change c r) [] right.0 refl) in
     let free = cost ∙ here.1 in
     (delta ∙ here.0, sum_by_push (cost_at c) (inside r) t ∙ (λ i. right.1 i + free i))
 
-unchanged_between : (c : Change) (f : Function2) (l r t : Tree) → change c t ≡ operation_delta (both_rule f) (arguments (eval l c.new ∷ eval r c.new ∷ [])) (change c l ∷ change c r ∷ []) (eval t c.old)
+unchanged_between : (c : NamesChange) (f : Function2) (l r t : Tree) → change c t ≡ operation_delta (both_rule f) (arguments (eval l c.new ∷ eval r c.new ∷ [])) (change c l ∷ change c r ∷ []) (eval t c.old)
     → cost_at c t ≡ operation_cost (both_rule f) (arguments (eval l c.new ∷ eval r c.new ∷ [])) (change c l ∷ change c r ∷ []) (eval t c.old) → IsUnchanged c l (inside l) → IsUnchanged c r (inside r)
     → IsUnchanged c t (inside l ++ (inside r ++ t ∷ []))
 unchanged_between c f l r t delta cost left right =
@@ -268,7 +268,7 @@ unchanged_between c f l r t delta cost left right =
 
 mutual
   -- nothing changed of the names in a tree: then it does not change either, and no node in it costs anything
-  pub unchanged_costs_nothing : (t : Tree) (c : Change) → ((x : List ℕ) → Contains (names_in t) x → c.delta x ≡ Same) → (change c t ≡ Same) × (sum_by (cost_at c) (inside t) ≡ 0)
+  pub unchanged_costs_nothing : (t : Tree) (c : NamesChange) → ((x : List ℕ) → Contains (names_in t) x → c.delta x ≡ Same) → (change c t ≡ Same) × (sum_by (cost_at c) (inside t) ≡ 0)
   unchanged_costs_nothing (Const l) c h = (refl, refl)
   unchanged_costs_nothing (Name x) c h = (h x (Contains-push [] x), refl)
   unchanged_costs_nothing (Monad f r) c h = unchanged_before c (function1.Monad f) r (Monad f r) refl refl (unchanged_costs_nothing r c h)
@@ -287,7 +287,7 @@ mutual
   unchanged_costs_nothing (Inner f g l r) c h =
       unchanged_between c (function2.Inner f g) l r (Inner f g l r) refl refl (unchanged_costs_nothing l c (in_left _ (names_in l) (names_in r) h)) (unchanged_costs_nothing r c (in_right _ (names_in l) (names_in r) h))
 
-  pub unchanged_positions_cost_nothing : (ps : Positions) (c : Change) → ((x : List ℕ) → Contains (names_in_positions ps) x → c.delta x ≡ Same)
+  pub unchanged_positions_cost_nothing : (ps : Positions) (c : NamesChange) → ((x : List ℕ) → Contains (names_in_positions ps) x → c.delta x ≡ Same)
       → (list_all is_same (changes c ps) ≡ true) × (sum_by (cost_at c) (inside_positions ps) ≡ 0)
   unchanged_positions_cost_nothing NoPositions c h = (refl, refl)
   unchanged_positions_cost_nothing (Empty ps) c h = unchanged_positions_cost_nothing ps c h
@@ -297,7 +297,7 @@ mutual
       (same_in_front (change c e) (changes c ps) first.0 others.0, sum_by-append (cost_at c) (inside e) (inside_positions ps) ∙ (λ i. first.1 i + others.1 i))
 
 -- so it costs nothing with the tree itself
-pub unchanged_tree_costs_nothing : (t : Tree) (c : Change) → ((x : List ℕ) → Contains (names_in t) x → c.delta x ≡ Same) → tree_cost false c t ≡ 0
+pub unchanged_tree_costs_nothing : (t : Tree) (c : NamesChange) → ((x : List ℕ) → Contains (names_in t) x → c.delta x ≡ Same) → tree_cost false c t ≡ 0
 unchanged_tree_costs_nothing (Name x) c h = refl
 unchanged_tree_costs_nothing (Const l) c h = refl
 unchanged_tree_costs_nothing (Monad f r) c h = (unchanged_costs_nothing (Monad f r) c h).1

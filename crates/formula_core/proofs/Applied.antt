@@ -7,7 +7,7 @@ use Rattle.apl_expr.specs.declared.functions.Function1.TheVariants as function1
 use Rattle.apl_expr.specs.declared.functions.Function2.{Function2}
 use Rattle.apl_expr.specs.declared.functions.Function2.TheVariants as function2
 use Rattle.arrays_core.specs.Outcomes.{Outcome}
-use Rattle.formula_core.specs.Changes.{Change, arguments, change, cost_at, operation_cost, operation_delta, operation_size, tree_size}
+use Rattle.formula_core.specs.Changes.{NamesChange, arguments, change, cost_at, operation_cost, operation_delta, operation_size, tree_size}
 use Rattle.formula_core.specs.Formulas.{is_operation}
 use Rattle.formula_core.specs.Joins.{least_joins, least_joins_of, most_joins, most_joins_of}
 use Rattle.formula_core.specs.Meaning.{applied1, applied2, eval, names_in}
@@ -60,22 +60,22 @@ operation_between (function2.Outer f) a b = refl
 operation_between (function2.Inner f g) a b = refl
 
 -- its change, what that costs, and how many places its result has
-pub change_before : (c : Change) (f : Function1) (b : Tree) → change c (before_argument f b) ≡ operation_delta (right_rule f) (arguments (eval b c.new ∷ [])) (change c b ∷ []) (eval (before_argument f b) c.old)
+pub change_before : (c : NamesChange) (f : Function1) (b : Tree) → change c (before_argument f b) ≡ operation_delta (right_rule f) (arguments (eval b c.new ∷ [])) (change c b ∷ []) (eval (before_argument f b) c.old)
 change_before c (function1.Monad f) b = refl
 change_before c (function1.Reduce f k) b = refl
 change_before c (function1.Scan f k) b = refl
 
-pub change_between : (c : Change) (f : Function2) (a b : Tree) → change c (between_arguments f a b) ≡ operation_delta (both_rule f) (arguments (eval a c.new ∷ eval b c.new ∷ [])) (change c a ∷ change c b ∷ []) (eval (between_arguments f a b) c.old)
+pub change_between : (c : NamesChange) (f : Function2) (a b : Tree) → change c (between_arguments f a b) ≡ operation_delta (both_rule f) (arguments (eval a c.new ∷ eval b c.new ∷ [])) (change c a ∷ change c b ∷ []) (eval (between_arguments f a b) c.old)
 change_between c (function2.Dyad f) a b = refl
 change_between c (function2.Outer f) a b = refl
 change_between c (function2.Inner f g) a b = refl
 
-pub cost_before : (c : Change) (f : Function1) (b : Tree) → cost_at c (before_argument f b) ≡ operation_cost (right_rule f) (arguments (eval b c.new ∷ [])) (change c b ∷ []) (eval (before_argument f b) c.old)
+pub cost_before : (c : NamesChange) (f : Function1) (b : Tree) → cost_at c (before_argument f b) ≡ operation_cost (right_rule f) (arguments (eval b c.new ∷ [])) (change c b ∷ []) (eval (before_argument f b) c.old)
 cost_before c (function1.Monad f) b = refl
 cost_before c (function1.Reduce f k) b = refl
 cost_before c (function1.Scan f k) b = refl
 
-pub cost_between : (c : Change) (f : Function2) (a b : Tree) → cost_at c (between_arguments f a b) ≡ operation_cost (both_rule f) (arguments (eval a c.new ∷ eval b c.new ∷ [])) (change c a ∷ change c b ∷ []) (eval (between_arguments f a b) c.old)
+pub cost_between : (c : NamesChange) (f : Function2) (a b : Tree) → cost_at c (between_arguments f a b) ≡ operation_cost (both_rule f) (arguments (eval a c.new ∷ eval b c.new ∷ [])) (change c a ∷ change c b ∷ []) (eval (between_arguments f a b) c.old)
 cost_between c (function2.Dyad f) a b = refl
 cost_between c (function2.Outer f) a b = refl
 cost_between c (function2.Inner f g) a b = refl
@@ -101,22 +101,22 @@ summed_between names (function2.Dyad f) a b = refl
 summed_between names (function2.Outer f) a b = refl
 summed_between names (function2.Inner f g) a b = refl
 
-pub most_before : (is_new : Bool) (c : Change) (f : Function1) (b : Tree) → most_joins is_new c (before_argument f b) ≡ option_map_or (λ fold. most_joins_of fold (eval b c.new) (node_change is_new c b) (eval (before_argument f b) c.old) (node_cost_at is_new c (before_argument f b))) (total_of f) 0
+pub most_before : (is_new : Bool) (c : NamesChange) (f : Function1) (b : Tree) → most_joins is_new c (before_argument f b) ≡ option_map_or (λ fold. most_joins_of fold (eval b c.new) (node_change is_new c b) (eval (before_argument f b) c.old) (node_cost_at is_new c (before_argument f b))) (total_of f) 0
 most_before is_new c (function1.Monad f) b = refl
 most_before is_new c (function1.Reduce f k) b = refl
 most_before is_new c (function1.Scan f k) b = refl
 
-pub most_between : (is_new : Bool) (c : Change) (f : Function2) (a b : Tree) → most_joins is_new c (between_arguments f a b) ≡ 0
+pub most_between : (is_new : Bool) (c : NamesChange) (f : Function2) (a b : Tree) → most_joins is_new c (between_arguments f a b) ≡ 0
 most_between is_new c (function2.Dyad f) a b = refl
 most_between is_new c (function2.Outer f) a b = refl
 most_between is_new c (function2.Inner f g) a b = refl
 
-pub least_before : (is_new : Bool) (c : Change) (f : Function1) (b : Tree) → least_joins is_new c (before_argument f b) ≡ option_map_or (λ fold. least_joins_of fold (eval b c.new) (node_change is_new c b) (eval (before_argument f b) c.old) (node_cost_at is_new c (before_argument f b))) (total_of f) 0
+pub least_before : (is_new : Bool) (c : NamesChange) (f : Function1) (b : Tree) → least_joins is_new c (before_argument f b) ≡ option_map_or (λ fold. least_joins_of fold (eval b c.new) (node_change is_new c b) (eval (before_argument f b) c.old) (node_cost_at is_new c (before_argument f b))) (total_of f) 0
 least_before is_new c (function1.Monad f) b = refl
 least_before is_new c (function1.Reduce f k) b = refl
 least_before is_new c (function1.Scan f k) b = refl
 
-pub least_between : (is_new : Bool) (c : Change) (f : Function2) (a b : Tree) → least_joins is_new c (between_arguments f a b) ≡ 0
+pub least_between : (is_new : Bool) (c : NamesChange) (f : Function2) (a b : Tree) → least_joins is_new c (between_arguments f a b) ≡ 0
 least_between is_new c (function2.Dyad f) a b = refl
 least_between is_new c (function2.Outer f) a b = refl
 least_between is_new c (function2.Inner f g) a b = refl

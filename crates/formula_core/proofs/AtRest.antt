@@ -14,7 +14,7 @@ use Rattle.formula_core.specs.declared.input.Input.{Input}
 use Rattle.arrays_core.specs.Outcomes.{Outcome}
 use Rattle.formula_core.specs.Meaning.{eval, names_in}
 use Rattle.formula_core.specs.Tables.{subtrees}
-use Rattle.formula_core.specs.Changes.{Change, at_rest}
+use Rattle.formula_core.specs.Changes.{NamesChange, at_rest}
 use Rattle.formula_core.specs.Inputs.{IsInput}
 use Rattle.formula_core.specs.Formulas.{FormulaValue, root_result}
 use Rattle.formula_core.specs.Holdings.{Holding, holding_at, not_worked_out, adopted}
@@ -22,7 +22,7 @@ use Rattle.formula_core.specs.Plans.{PlanValue, AreInputs, IsNameSound, IsTold, 
 use Rattle.formula_core.proofs.Rooted.{before_root, root_last}
 
 -- the inputs of further names
-pub inputs_more : (c : Change) (names : List (List ℕ)) (inputs : List Input) (x : List ℕ) (i : Input) → AreInputs c names inputs → IsInput (c.new x) (c.delta x) i → AreInputs c (names ++ x ∷ []) (inputs ++ i ∷ [])
+pub inputs_more : (c : NamesChange) (names : List (List ℕ)) (inputs : List Input) (x : List ℕ) (i : Input) → AreInputs c names inputs → IsInput (c.new x) (c.delta x) i → AreInputs c (names ++ x ∷ []) (inputs ++ i ∷ [])
 inputs_more c [] [] x i are is = (is, tt)
 inputs_more c [] (j ∷ inputs) x i are is = absurd are
 inputs_more c (y ∷ names) [] x i are is = absurd are
@@ -59,6 +59,6 @@ pub planned_result : (f : FormulaValue) (names : List ℕ → Outcome) (p : Plan
 planned_result f names p held planned is = held_result f.tree names held (is ∙ planned.right)
 
 -- what a plan is for every change that the inputs tell, it is where nothing changed
-pub planned_at_rest : (f : FormulaValue) (names : List ℕ → Outcome) (inputs : List Input) (r : Result PlanValue AllocError) → IsTold f (at_rest names) inputs → IfOk r (λ p. (c : Change) → IsTold f c inputs → IsPlanned f c p) → IfOk r (λ p. IsPlanned f (at_rest names) p)
+pub planned_at_rest : (f : FormulaValue) (names : List ℕ → Outcome) (inputs : List Input) (r : Result PlanValue AllocError) → IsTold f (at_rest names) inputs → IfOk r (λ p. (c : NamesChange) → IsTold f c inputs → IsPlanned f c p) → IfOk r (λ p. IsPlanned f (at_rest names) p)
 planned_at_rest f names inputs (Ok p) told planned = planned (at_rest names) told
 planned_at_rest f names inputs (Err e) told planned = tt

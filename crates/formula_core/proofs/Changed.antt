@@ -41,7 +41,7 @@ use Rattle.selection_fns.specs.Laws.Index.{length-selectors}
 use Rattle.arrays_core.specs.Outcomes.{Outcome, given}
 use Rattle.formula_core.specs.Meaning.{eval, eval_positions, applied1, applied2, in_front, empty_in_front, indexed}
 use Rattle.formula_core.specs.Rules.{right_rule, both_rule}
-use Rattle.formula_core.specs.Changes.{Change, argument_in_front, arguments, result_of, paired, operation_delta, written, values_of, change, changes, FitsIn, FitsNow, IsChanged, IsTreeChanged}
+use Rattle.formula_core.specs.Changes.{NamesChange, argument_in_front, arguments, result_of, paired, operation_delta, written, values_of, change, changes, FitsIn, FitsNow, IsChanged, IsTreeChanged}
 use Rattle.formula_core.proofs.Applied.{change_before, change_between, eval_before, eval_between}
 use Rattle.formula_core.proofs.Covering.{rules_cover, rules_grow}
 use Rattle.formula_core.proofs.Fitting.{fit_now, axis_lies}
@@ -293,7 +293,7 @@ two_selectors (function2.Dyad dyadic.Decode) = refl
 two_selectors (function2.Outer f) = refl
 two_selectors (function2.Inner f g) = refl
 
-written_many : (c : Change) (ps : Positions) → length (changes c ps) ≡ count_written (written ps)
+written_many : (c : NamesChange) (ps : Positions) → length (changes c ps) ≡ count_written (written ps)
 written_many c NoPositions = refl
 written_many c (Empty ps) = written_many c ps
 written_many c (Filled e ps) = ap suc (written_many c ps)
@@ -307,25 +307,25 @@ operation_changed p law growing os ds ns old new sound all count was is =
     subst (λ (o : Outcome). (applied (operation_delta p (arguments ns) ds o) o ≡ new) × FitsIn (operation_delta p (arguments ns) ds o) o) was
     (operation_becomes p law growing os ds ns all count (arguments ns) refl ∙ is, operation_fits p law growing os ds ns all count held (arguments ns) refl)
 
-changed_so : (c : Change) (t : Tree) (d : Delta) → change c t ≡ d → (applied d (eval t c.old) ≡ eval t c.new) × FitsIn d (eval t c.old) → IsTreeChanged c t
+changed_so : (c : NamesChange) (t : Tree) (d : Delta) → change c t ≡ d → (applied d (eval t c.old) ≡ eval t c.new) × FitsIn d (eval t c.old) → IsTreeChanged c t
 changed_so c t d is h = record { right = ap (λ x. applied x (eval t c.old)) is ∙ h.0; fit = subst (λ (x : Delta). FitsIn x (eval t c.old)) (sym is) h.1 }
 
 -- the change of an operation makes of what it gave what it gives, where that of each argument does
-pub monad_changed : (c : Change) (f : Function1) (b : Tree) → IfOk (eval (before_argument f b) c.old) IsArray → IsChanged (eval b c.old) (change c b) (eval b c.new) → IsTreeChanged c (before_argument f b)
+pub monad_changed : (c : NamesChange) (f : Function1) (b : Tree) → IfOk (eval (before_argument f b) c.old) IsArray → IsChanged (eval b c.old) (change c b) (eval b c.new) → IsTreeChanged c (before_argument f b)
 monad_changed c f b sound right =
     let t = before_argument f b in
     let h = operation_changed (right_rule f) (rules_cover.of_right f) (rules_grow.of_right f) (eval b c.old ∷ []) (change c b ∷ []) (eval b c.new ∷ []) (eval t c.old) (eval t c.new) sound
     (right, tt) (one_selector f) (monad_meant f (eval b c.old) ∙ sym (eval_before c.old f b)) (monad_meant f (eval b c.new) ∙ sym (eval_before c.new f b)) in
     changed_so c t _ (change_before c f b) h
 
-pub dyad_changed : (c : Change) (f : Function2) (a b : Tree) → IfOk (eval (between_arguments f a b) c.old) IsArray → IsChanged (eval a c.old) (change c a) (eval a c.new) → IsChanged (eval b c.old) (change c b) (eval b c.new) → IsTreeChanged c (between_arguments f a b)
+pub dyad_changed : (c : NamesChange) (f : Function2) (a b : Tree) → IfOk (eval (between_arguments f a b) c.old) IsArray → IsChanged (eval a c.old) (change c a) (eval a c.new) → IsChanged (eval b c.old) (change c b) (eval b c.new) → IsTreeChanged c (between_arguments f a b)
 dyad_changed c f a b sound left right =
     let t = between_arguments f a b in
     let h = operation_changed (both_rule f) (rules_cover.of_both f) (rules_grow.of_both f) (eval a c.old ∷ eval b c.old ∷ []) (change c a ∷ change c b ∷ []) (eval a c.new ∷ eval b c.new ∷ []) (eval t c.old) (eval t c.new) sound
     (left, (right, tt)) (two_selectors f) (dyad_meant f (eval a c.old) (eval b c.old) ∙ sym (eval_between c.old f a b)) (dyad_meant f (eval a c.new) (eval b c.new) ∙ sym (eval_between c.new f a b)) in
     changed_so c t _ (change_between c f a b) h
 
-pub index_changed : (c : Change) (a : Tree) (ps : Positions) → IfOk (eval (Index a ps) c.old) IsArray → IsChanged (eval a c.old) (change c a) (eval a c.new) → AllChanged (values_of ps c.old) (changes c ps) (values_of ps c.new) → IsTreeChanged c (Index a ps)
+pub index_changed : (c : NamesChange) (a : Tree) (ps : Positions) → IfOk (eval (Index a ps) c.old) IsArray → IsChanged (eval a c.old) (change c a) (eval a c.new) → AllChanged (values_of ps c.old) (changes c ps) (values_of ps c.new) → IsTreeChanged c (Index a ps)
 index_changed c a ps sound array positions =
     let ws = written ps in
     let h = operation_changed (index_rule ws) (rules_cover.of_positions ws) (rules_grow.of_positions ws) (eval a c.old ∷ values_of ps c.old) (change c a ∷ changes c ps) (eval a c.new ∷ values_of ps c.new) (eval (Index a ps) c.old) (eval (Index a ps) c.new) sound

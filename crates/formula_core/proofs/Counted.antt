@@ -21,11 +21,11 @@ use Rattle.change_core.specs.Meters.{ticked}
 use Rattle.change_core.specs.RuleModels.{RuleModel, form_size}
 use Rattle.arrays_core.specs.Outcomes.{given, Outcome}
 use Rattle.selection_fns.specs.Index.{Position, index_rule}
-use Rattle.formula_core.specs.declared.evaluation.Operand.{Operand}
+use Rattle.formula_core.specs.declared.evaluation.Evaluated.{Evaluated}
 use Rattle.formula_core.specs.Changes.{at_rest, arguments, operation_size, result_of, tree_size, values_of, written}
 use Rattle.formula_core.specs.Counts.{cost_in, cost_in_positions, AreItemsCounted, ArePositionsCounted, IsCounted, IsTreeCounted}
 use Rattle.formula_core.specs.Meaning.{applied1, applied2, eval, eval_positions, in_front, of_right, of_both}
-use Rattle.formula_core.specs.Operands.{array_in, outcome_of}
+use Rattle.formula_core.specs.Evaluated.{array_in, outcome_of}
 use Rattle.formula_core.specs.Plans.{tree_cost}
 use Rattle.formula_core.specs.Rules.{right_rule, both_rule}
 use Rattle.formula_core.specs.Tables.{inside, inside_positions}
@@ -66,7 +66,7 @@ meant_items : (p : RuleModel) (r : Result (List ArrayValue) Fault) (o : Outcome)
 meant_items p r o is h = ap items_in (sym is) ∙ operation_items p r (ap is_ok is ∙ h)
 
 -- what one function counts
-most_items : (o : Outcome) (cost before after : ℕ) (gives : Result Operand Fault) → outcome_of gives ≡ o → (is_ok o ≡ true → items_in o ≡ cost) → AreItemsCounted gives before after → after ≤ before + cost
+most_items : (o : Outcome) (cost before after : ℕ) (gives : Result Evaluated Fault) → outcome_of gives ≡ o → (is_ok o ≡ true → items_in o ≡ cost) → AreItemsCounted gives before after → after ≤ before + cost
 unfolding items_in
 most_items o cost before after (Ok x) is sized items =
     let all = sized (ap is_ok (sym is)) in
@@ -74,7 +74,7 @@ most_items o cost before after (Ok x) is sized items =
     omega (arith, all, own, items)
 most_items o cost before after (Err e) is sized same = omega (arith, same)
 
-least_items : (o : Outcome) (cost before after : ℕ) (gives : Result Operand Fault) → outcome_of gives ≡ o → (is_ok o ≡ true → items_in o ≡ cost) → AreItemsCounted gives before after → is_ok o ≡ true → ticked before cost ≤ after
+least_items : (o : Outcome) (cost before after : ℕ) (gives : Result Evaluated Fault) → outcome_of gives ≡ o → (is_ok o ≡ true → items_in o ≡ cost) → AreItemsCounted gives before after → is_ok o ≡ true → ticked before cost ≤ after
 unfolding items_in
 least_items o cost before after (Ok x) is sized items h =
     let all = sized h in
@@ -91,7 +91,7 @@ record AreCounted (first second own before after : ℕ) (Given : Type 0) : Type 
   pub most : after ≤ before + ((first + second) + own)
   pub least : Given → ticked before ((first + second) + own) ≤ after
 
-two_counted : {A B : Type 0} (o : Outcome) (one two own before now then_now after : ℕ) (First Second : Type 0) (first : A) (second : B) (gives : Result Operand Fault) → IsCounted one First before now (Ok first) → IsCounted two Second now then_now (Ok second)
+two_counted : {A B : Type 0} (o : Outcome) (one two own before now then_now after : ℕ) (First Second : Type 0) (first : A) (second : B) (gives : Result Evaluated Fault) → IsCounted one First before now (Ok first) → IsCounted two Second now then_now (Ok second)
     → outcome_of gives ≡ o → (is_ok o ≡ true → items_in o ≡ own) → (is_ok o ≡ true → First) → (is_ok o ≡ true → Second) → AreItemsCounted gives then_now after → AreCounted one two own before after (IsOk o)
 two_counted o one two own before now then_now after First Second first second gives h k is sized f s items = record {
   most = omega (arith, h.most, k.most, most_items o own then_now after gives is sized items);
@@ -117,7 +117,7 @@ module _ (names : List ℕ → Outcome) where
   literal_counted l before = record { most = omega arith; least = λ g. omega arith }
 
   -- a function of one argument
-  pub monad_counted : {A B : Type 0} (f : Function1) (b : Tree) (before now after : ℕ) (right : A) (gives : Result Operand Fault) (told : B) → IsTreeCounted names b before now (Ok right) → outcome_of gives ≡ eval (before_argument f b) names
+  pub monad_counted : {A B : Type 0} (f : Function1) (b : Tree) (before now after : ℕ) (right : A) (gives : Result Evaluated Fault) (told : B) → IsTreeCounted names b before now (Ok right) → outcome_of gives ≡ eval (before_argument f b) names
       → AreItemsCounted gives now after → IsTreeCounted names (before_argument f b) before after (Ok told)
   monad_counted f b before now after right gives told first is items =
       let t = before_argument f b in
@@ -131,16 +131,16 @@ module _ (names : List ℕ → Outcome) where
       }
 
   -- what it is answered, and what that counts
-  pub monad_given : (f : Function1) (b : Tree) (right : Outcome) (r : Result (Result Operand Fault) AllocError) → right ≡ eval b names → IfOk r (λ o. outcome_of o ≡ applied1 f right) → IfOk r (λ o. outcome_of o ≡ eval (before_argument f b) names)
+  pub monad_given : (f : Function1) (b : Tree) (right : Outcome) (r : Result (Result Evaluated Fault) AllocError) → right ≡ eval b names → IfOk r (λ o. outcome_of o ≡ applied1 f right) → IfOk r (λ o. outcome_of o ≡ eval (before_argument f b) names)
   monad_given f b right (Ok gives) is given = given ∙ (ap (applied1 f) is ∙ sym (eval_before names f b))
   monad_given f b right (Err e) is given = tt
 
-  pub monad_answered : {A : Type 0} (f : Function1) (b : Tree) (before now after : ℕ) (right : A) (r : Result (Result Operand Fault) AllocError) → IsTreeCounted names b before now (Ok right)
+  pub monad_answered : {A : Type 0} (f : Function1) (b : Tree) (before now after : ℕ) (right : A) (r : Result (Result Evaluated Fault) AllocError) → IsTreeCounted names b before now (Ok right)
       → IfOk r (λ o. outcome_of o ≡ eval (before_argument f b) names) → IfOk r (λ o. AreItemsCounted o now after) → OnErr r (after ≡ now) → IsTreeCounted names (before_argument f b) before after r
   monad_answered f b before now after right (Ok gives) first is items same = monad_counted f b before now after right gives gives first is items
   monad_answered f b before now after right (Err e) first is items same = record { most = omega (arith, first.most, same, monad_cost f b); least = tt }
 
-  pub dyad_counted : {A B D : Type 0} (f : Function2) (a b : Tree) (before now then_now after : ℕ) (right : A) (left : B) (gives : Result Operand Fault) (told : D) → IsTreeCounted names b before now (Ok right)
+  pub dyad_counted : {A B D : Type 0} (f : Function2) (a b : Tree) (before now then_now after : ℕ) (right : A) (left : B) (gives : Result Evaluated Fault) (told : D) → IsTreeCounted names b before now (Ok right)
       → IsTreeCounted names a now then_now (Ok left) → outcome_of gives ≡ eval (between_arguments f a b) names → AreItemsCounted gives then_now after
       → IsTreeCounted names (between_arguments f a b) before after (Ok told)
   dyad_counted f a b before now then_now after right left gives told h k is items =
@@ -152,7 +152,7 @@ module _ (names : List ℕ → Outcome) where
       (λ g. first_given (eval b names) (λ y. and_then (eval a names) (λ x. given (of_both f x y))) (gives_all g)) (λ g. second_given (eval b names) (eval a names) (λ y x. given (of_both f x y)) (gives_all g)) items in
       record { most = subst (λ n. after ≤ before + n) (sym (dyad_cost f a b)) all.most; least = λ g. subst (λ n. ticked before n ≤ after) (sym (dyad_cost f a b)) (all.least g) }
 
-  pub index_counted : {A B D : Type 0} (a : Tree) (ps : Positions) (before now then_now after : ℕ) (positions : A) (operand : B) (gives : Result Operand Fault) (told : D) → ArePositionsCounted names ps before now (Ok positions)
+  pub index_counted : {A B D : Type 0} (a : Tree) (ps : Positions) (before now then_now after : ℕ) (positions : A) (operand : B) (gives : Result Evaluated Fault) (told : D) → ArePositionsCounted names ps before now (Ok positions)
       → IsTreeCounted names a now then_now (Ok operand) → outcome_of gives ≡ eval (Index a ps) names → AreItemsCounted gives then_now after
       → IsTreeCounted names (Index a ps) before after (Ok told)
   index_counted a ps before now then_now after positions operand gives told h k is items =

@@ -5,8 +5,8 @@ use Rattle.apl_expr.specs.declared.expr.Expr.{Expr}
 use Rattle.apl_expr.specs.Trees.{tree_of, position_of, positions_of}
 use Rattle.arrays_core.specs.declared.fault.Fault.{Fault}
 use Rattle.selection_fns.specs.Index.{Position, count_written, written_positions}
-use Rattle.formula_core.specs.declared.evaluation.Operand.{Operand}
-use Rattle.formula_core.specs.Operands.{array_in, position_in, written_arrays}
+use Rattle.formula_core.specs.declared.evaluation.Evaluated.{Evaluated}
+use Rattle.formula_core.specs.Evaluated.{array_in, position_in, written_arrays}
 use Rattle.arrays_core.specs.Outcomes.{Outcome}
 use Rattle.formula_core.specs.Meaning.{eval, eval_positions, in_front, empty_in_front, names_in, names_in_positions}
 
@@ -29,12 +29,12 @@ pub value_empty : (names : List ℕ → Outcome) (ps : List (Option Expr)) (k : 
 value_empty names ps k below is = rw (drop_more ps k None below, is) refl
 
 -- which positions are written and the arrays of those make the positions again
-pub written_again : (ps : List (Option Operand)) → written_positions (map is_some ps) (written_arrays ps) ≡ map position_in ps
+pub written_again : (ps : List (Option Evaluated)) → written_positions (map is_some ps) (written_arrays ps) ≡ map position_in ps
 written_again [] = refl
 written_again (Some o ∷ ps) = ap (λ (qs : List Position). Some (array_in o) ∷ qs) (written_again ps)
 written_again (None ∷ ps) = ap (λ (qs : List Position). None ∷ qs) (written_again ps)
 
-pub written_counted : (ps : List (Option Operand)) → length (written_arrays ps) ≡ count_written (map is_some ps)
+pub written_counted : (ps : List (Option Evaluated)) → length (written_arrays ps) ≡ count_written (map is_some ps)
 written_counted [] = refl
 written_counted (Some o ∷ ps) = ap (λ n. suc n) (written_counted ps)
 written_counted (None ∷ ps) = written_counted ps

@@ -25,14 +25,14 @@ use Rattle.formula_core.specs.declared.input.Input.{Input}
 use Rattle.formula_core.specs.declared.stage.Stage.{Stage}
 use Rattle.formula_core.specs.declared.table.Node.TheVariants as node
 use Rattle.formula_core.specs.declared.table.Operand.{Operand}
-use Rattle.formula_core.specs.Changes.{Change, FitsIn, arguments, change, cost_at, operation_cost, operation_size}
+use Rattle.formula_core.specs.Changes.{NamesChange, FitsIn, arguments, change, cost_at, operation_cost, operation_size}
 use Rattle.formula_core.specs.Inputs.{IsInput, delta_of, shown}
 use Rattle.formula_core.specs.Joins.{had_trees, has_trees_for, least_joins, least_joins_of, most_joins, most_joins_of}
 use Rattle.formula_core.specs.Meaning.{eval}
 use Rattle.arrays_core.specs.Outcomes.{Outcome}
 use Rattle.formula_core.specs.Plans.{node_change, node_cost_at}
 use Rattle.formula_core.specs.Rules.{right_rule}
-use Rattle.formula_core.specs.Stages.{AreTotalsJoined, IsJoined, IsKeptBy, IsReady, IsStaged}
+use Rattle.formula_core.specs.Stages.{AreTotalsJoined, IsJoined, IsKeptBy, GivesItsTree, IsStaged}
 use Rattle.formula_core.specs.Sums.{AreSumsKept, WereSumsKept, summed_in, total_of}
 use Rattle.formula_core.specs.Tables.{IsOperand, tree_of_operand}
 use Rattle.formula_core.proofs.Applied.{cost_before, least_before, most_before, size_before, summed_before}
@@ -58,7 +58,7 @@ grown_beside fold t a kept (Ok b) fit is keeps = let same : grown_by b t.items �
 
 -- where the argument of a total is patched or grew, the sums of its lines are kept if these are long enough, or were
 pub kept_well : (s : Stage) (f : Function1) (b : Operand) → IsOperand (length s.inputs.now) (length s.changes.now) b → (kept : Option SummedValue) → IsKeptBy s (node.Monad f b) kept → (i : Input)
-    → ((c : Change) → (names : List (List ℕ)) → (trees : List Tree) → IsStaged c names trees s → IsReady s.is_new c (tree_of_operand names trees b) i)
+    → ((c : NamesChange) → (names : List (List ℕ)) → (trees : List Tree) → IsStaged c names trees s → GivesItsTree s.is_new c (tree_of_operand names trees b) i)
     → (fold : Reduce) → total_of f ≡ Some fold → AreSumsKept fold (shown i) (delta_of i) kept
 kept_well s f b within kept keeps i ready fold total = record {
   changed = λ p a patch now.
@@ -69,7 +69,7 @@ kept_well s f b within kept keeps i ready fold total = record {
       grown_beside fold t a kept old (subst (λ (d : Delta). FitsIn d old) grown was.fit) (ap (λ (d : Delta). applied d old) (sym grown) ∙ (was.becomes ∙ now)) was.keeps;
 }
   where
-    c : Change
+    c : NamesChange
     c = keeps.0
 
     names : List (List ℕ)
@@ -93,7 +93,7 @@ ok_all : (r : Result (Delta × ℕ) AllocError) (P : Delta × ℕ → Type 0) �
 ok_all (Ok s) P h = h s
 ok_all (Err e) P h = tt
 
-pub unjoined : (is_new : Bool) (c : Change) (t : Tree) (before after : ℕ) (r : Result (Delta × ℕ) AllocError) → after ≡ before → most_joins is_new c t ≡ 0 → least_joins is_new c t ≡ 0 → IsJoined is_new c t before after r
+pub unjoined : (is_new : Bool) (c : NamesChange) (t : Tree) (before after : ℕ) (r : Result (Delta × ℕ) AllocError) → after ≡ before → most_joins is_new c t ≡ 0 → least_joins is_new c t ≡ 0 → IsJoined is_new c t before after r
 unjoined is_new c t before after r same most least = record {
   most = omega (arith, same);
   least = ok_all r (λ s. is_error s.0 ≡ false → ticked before (least_joins is_new c t) ≤ after) (λ s sound. omega (arith, same, least));
@@ -132,7 +132,7 @@ module _ (fold : Reduce) (count : Outcome → Delta → Outcome → ℕ → ℕ)
   new_same (Err x) d other h k held gave n m e = counts.error x d other held gave n m
 
   -- the count of a total by its argument as it is taken is that of its tree
-  counted_same : (is_new : Bool) (c : Change) (f : Function1) (b : Tree) (i : Input) (held : Outcome) → IsReady is_new c b i → (is_new ≡ false → held ≡ eval (before_argument f b) c.old) → right_rule f ≡ total_rule fold
+  counted_same : (is_new : Bool) (c : NamesChange) (f : Function1) (b : Tree) (i : Input) (held : Outcome) → GivesItsTree is_new c b i → (is_new ≡ false → held ≡ eval (before_argument f b) c.old) → right_rule f ≡ total_rule fold
       → count (shown i) (delta_of i) held (operation_cost (total_rule fold) (arguments (shown i ∷ [])) (delta_of i ∷ []) held) ≡ count (eval b c.new) (node_change is_new c b) (eval (before_argument f b) c.old) (node_cost_at is_new c (before_argument f b))
   counted_same true c f b i held ready holds rule =
       let shows = ready.shows refl in
@@ -150,10 +150,10 @@ module _ (fold : Reduce) (count : Outcome → Delta → Outcome → ℕ → ℕ)
       held_same (eval b c.new) (change c b) i input held (eval (before_argument f b) c.old) (holds refl) _ _ cost
 
 -- a count of joins for the node of a tree, if it sums up lines along an axis
-abbrev counted_for : (Reduce → Outcome → Delta → Outcome → ℕ → ℕ) → (is_new : Bool) → Change → Function1 → Tree → Option Reduce → ℕ
+abbrev counted_for : (Reduce → Outcome → Delta → Outcome → ℕ → ℕ) → (is_new : Bool) → NamesChange → Function1 → Tree → Option Reduce → ℕ
 counted_for count is_new c f b o = option_map_or (λ fold. count fold (eval b c.new) (node_change is_new c b) (eval (before_argument f b) c.old) (node_cost_at is_new c (before_argument f b))) o 0
 
-pub monad_joined : (is_new : Bool) (c : Change) (f : Function1) (b : Tree) (right : Input) (held : Outcome) (before after : ℕ) (r : Result (Delta × ℕ) AllocError) → IsReady is_new c b right
+pub monad_joined : (is_new : Bool) (c : NamesChange) (f : Function1) (b : Tree) (right : Input) (held : Outcome) (before after : ℕ) (r : Result (Delta × ℕ) AllocError) → GivesItsTree is_new c b right
     → (is_new ≡ false → held ≡ eval (before_argument f b) c.old) → ((fold : Reduce) → total_of f ≡ Some fold → AreTotalsJoined fold right held before after r) → (total_of f ≡ None → after ≡ before)
     → IsJoined is_new c (before_argument f b) before after r
 monad_joined is_new c f b right held before after r ready holds joined none = by (total_of f) refl

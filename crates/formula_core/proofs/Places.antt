@@ -21,7 +21,7 @@ use Rattle.formula_core.specs.declared.input.Input.TheVariants.{Good}
 use Rattle.formula_core.specs.declared.kept.Kept.{Kept}
 use Rattle.formula_core.specs.declared.stage.Stage.{Stage}
 use Rattle.formula_core.specs.declared.table.Node.{Node}
-use Rattle.formula_core.specs.Changes.{Change, FitsIn}
+use Rattle.formula_core.specs.Changes.{NamesChange, FitsIn}
 use Rattle.formula_core.specs.Holdings.{Holding, holdings_of, not_worked_out, place_change}
 use Rattle.formula_core.specs.Inputs.{IsOperationChange}
 use Rattle.formula_core.specs.Joins.{least_joins}
@@ -55,7 +55,7 @@ refreshed_between rule a b d e held before after r h = record { delta = h.delta;
 unsummed : (names : List (List ℕ)) (trees : List Tree) (n : Node) → totalled n ≡ None → (shows : List ℕ → Outcome) → summed_at shows (tree_of_node names trees n) ≡ None
 unsummed names trees n is shows = totalled_summed names trees n shows ∙ ap (summed_by shows names trees) is
 
-module _ (c : Change) (names : List (List ℕ)) (trees : List Tree) (s : Stage) (staged : IsStaged c names trees s) (below : length s.changes.now < length s.nodes.now)
+module _ (c : NamesChange) (names : List (List ℕ)) (trees : List Tree) (s : Stage) (staged : IsStaged c names trees s) (below : length s.changes.now < length s.nodes.now)
     (k : Kept) (is : get_or s.nodes.now (length s.changes.now) k ≡ k) (old : s.is_new ≡ false) where
   -- what the next node held
   pub held_result : k.result ≡ eval (tree_of_node names trees k.node) c.old

@@ -18,7 +18,7 @@ use Rattle.formula_core.specs.declared.table.Node.{Node}
 use Rattle.formula_core.specs.Meaning.{eval, names_in}
 use Rattle.arrays_core.specs.Outcomes.{Outcome}
 use Rattle.formula_core.specs.Tables.{subtrees, tree_at, tree_of_node, trees_after, IsNode, IsTable}
-use Rattle.formula_core.specs.Changes.{Change, FitsIn}
+use Rattle.formula_core.specs.Changes.{NamesChange, FitsIn}
 use Rattle.formula_core.specs.Holdings.{Holding, holding, holding_at, holdings_of, nodes_of, not_worked_out, no_change, taking, adopted}
 use Rattle.formula_core.specs.Formulas.{FormulaValue, IsTableOf, new_formula, root_of}
 use Rattle.formula_core.specs.Plans.{PlanValue, node_change, node_cost_at, IsPlanOf, IsTold, IsPlanned}
@@ -28,7 +28,7 @@ use Rattle.formula_core.proofs.Steps.{inputs_long, change_fits}
 use Rattle.formula_core.proofs.Tabled.{trees_long}
 
 -- the node that comes next
-module _ (c : Change) (names : List (List ℕ)) (trees : List Tree) (s : Stage) (staged : IsStaged c names trees s) (below : length s.changes.now < length s.nodes.now)
+module _ (c : NamesChange) (names : List (List ℕ)) (trees : List Tree) (s : Stage) (staged : IsStaged c names trees s) (below : length s.changes.now < length s.nodes.now)
     (k : Kept) (is : get_or s.nodes.now (length s.changes.now) k ≡ k) where
   abbrev place : ℕ
   place = length s.changes.now
@@ -104,7 +104,7 @@ module _ (f : FormulaValue) (names : List (List ℕ)) (nodes : List Kept) (table
       (tree_next names (nodes_of nodes) table.table k (omega (arith, below, length-map nodes (λ (x : Kept). x.node))) n.node
       (get_or-map (λ (x : Kept). x.node) nodes k n n.node below ∙ ap (λ (x : Kept). x.node) is))
 
-  pub staged_by : (c : Change) (inputs : List Input) → IsTold f c inputs → (changes : List NodeChange) (cost : ℕ) → IsBegun f c changes cost
+  pub staged_by : (c : NamesChange) (inputs : List Input) → IsTold f c inputs → (changes : List NodeChange) (cost : ℕ) → IsBegun f c changes cost
       → (s : Stage) → s.is_new ≡ f.is_new → s.inputs.now ≡ inputs → s.nodes.now ≡ nodes → s.changes.now ≡ changes → IsStaged c (names_in f.tree) (subtrees f.tree) s
   staged_by c inputs told changes cost begun s is_new inputs_are nodes_are changes_are =
       let holdings : holdings_of s.nodes.now ≡ f.nodes = ap holdings_of nodes_are ∙ held in
@@ -126,7 +126,7 @@ module _ (f : FormulaValue) (names : List (List ℕ)) (nodes : List Kept) (table
       }
 
   -- what comes next of the nodes comes next of the formula
-  pub stepped_by : (c : Change) (inputs : List Input) → IsTold f c inputs → (changes : List NodeChange) (cost : ℕ) → IsBegun f c changes cost
+  pub stepped_by : (c : NamesChange) (inputs : List Input) → IsTold f c inputs → (changes : List NodeChange) (cost : ℕ) → IsBegun f c changes cost
       → (s : Stage) → s.is_new ≡ f.is_new → s.inputs.now ≡ inputs → s.nodes.now ≡ nodes → s.changes.now ≡ changes → (d : NodeChange) (items : ℕ) (before after : MeterValue)
       → ((ns : List (List ℕ)) (ts : List Tree) → IsStaged c ns ts s → IsNodeStep s.is_new c (tree_at ts (length s.changes.now)) (get_or (holdings_of s.nodes.now) (length s.changes.now) not_worked_out) d items before after)
       → IsNodeStep f.is_new c (tree_at (subtrees f.tree) (length changes)) (get_or f.nodes (length changes) not_worked_out) d items before after
@@ -137,7 +137,7 @@ module _ (f : FormulaValue) (names : List (List ℕ)) (nodes : List Kept) (table
       (step (names_in f.tree) (subtrees f.tree) (staged_by c inputs told changes cost begun s is_new inputs_are nodes_are changes_are))))
 
 -- one more node is done
-pub begun_more : (f : FormulaValue) (c : Change) (changes new : List NodeChange) (d : NodeChange) (cost items now : ℕ) → IsBegun f c changes cost → length changes < length f.nodes → new ≡ changes ++ d ∷ []
+pub begun_more : (f : FormulaValue) (c : NamesChange) (changes new : List NodeChange) (d : NodeChange) (cost items now : ℕ) → IsBegun f c changes cost → length changes < length f.nodes → new ≡ changes ++ d ∷ []
     → now ≡ ticked cost items → items ≡ node_cost_at f.is_new c (tree_at (subtrees f.tree) (length changes))
     → IsDone f.is_new c (tree_at (subtrees f.tree) (length changes)) (get_or f.nodes (length changes) not_worked_out) d → IsBegun f c new now
 begun_more f c changes new d cost items now begun below is sum costs done =
@@ -159,11 +159,11 @@ begun_more f c changes new d cost items now begun below is sum costs done =
     }
 
 -- nothing is done yet
-pub begun_none : (f : FormulaValue) (c : Change) → length f.nodes ≡ length (subtrees f.tree) → IsBegun f c [] 0
+pub begun_none : (f : FormulaValue) (c : NamesChange) → length f.nodes ≡ length (subtrees f.tree) → IsBegun f c [] 0
 begun_none f c known = record { known = known; few = omega arith; done = λ k below. absurd (omega (arith, below)); costs = refl }
 
 -- all nodes are done
-all_changes : (is_new : Bool) (c : Change) (trees : List Tree) (held : List Holding) (changes : List NodeChange) → length changes ≡ length trees → length held ≡ length trees
+all_changes : (is_new : Bool) (c : NamesChange) (trees : List Tree) (held : List Holding) (changes : List NodeChange) → length changes ≡ length trees → length held ≡ length trees
     → ((k : ℕ) → k < length changes → IsDone is_new c (tree_at trees k) (get_or held k not_worked_out) (get_or changes k no_change))
     → (map (λ d. d.delta) changes ≡ map (node_change is_new c) trees) × (adopted changes held ≡ map (holding_at c.new) trees)
 all_changes is_new c [] [] [] long many done = (refl, refl)
@@ -178,7 +178,7 @@ all_changes is_new c [] [] (d ∷ changes) long many done = absurd (omega (arith
 all_changes is_new c (u ∷ trees) [] changes long many done = absurd (omega (arith, many))
 all_changes is_new c (u ∷ trees) (h ∷ held) [] long many done = absurd (omega (arith, long))
 
-pub planned_at_end : (f : FormulaValue) (c : Change) (p : PlanValue) → IsBegun f c p.changes p.cost → length p.changes ≡ length f.nodes → IsPlanned f c p
+pub planned_at_end : (f : FormulaValue) (c : NamesChange) (p : PlanValue) → IsBegun f c p.changes p.cost → length p.changes ≡ length f.nodes → IsPlanned f c p
 planned_at_end f c p begun all =
     let done = all_changes f.is_new c (subtrees f.tree) f.nodes p.changes (all ∙ begun.known) begun.known begun.done in
     record {
@@ -187,7 +187,7 @@ planned_at_end f c p begun all =
       cost = begun.costs ∙ ap (λ ts. ticked 0 (sum_by (node_cost_at f.is_new c) ts)) (ap (λ k. take k (subtrees f.tree)) (all ∙ begun.known) ∙ take_all (length (subtrees f.tree)) (subtrees f.tree) (omega arith));
     }
 
-pub plan_of : (f : FormulaValue) (c : Change) (p : PlanValue) → IsBegun f c p.changes p.cost → length p.changes ≡ length f.nodes → IsPlanOf f p
+pub plan_of : (f : FormulaValue) (c : NamesChange) (p : PlanValue) → IsBegun f c p.changes p.cost → length p.changes ≡ length f.nodes → IsPlanOf f p
 plan_of f c p begun all = record { each = all; fit = λ k below. (begun.done k below).fit }
 
 -- a formula that was not worked out yet

@@ -13,7 +13,7 @@ use Rattle.formula_core.specs.declared.input.Input.{Input}
 use Rattle.formula_core.specs.declared.kept.NodeChange.{NodeChange}
 use Rattle.formula_core.specs.declared.table.Node.{Node}
 use Rattle.formula_core.specs.declared.table.Node.TheVariants as node
-use Rattle.formula_core.specs.Changes.{Change}
+use Rattle.formula_core.specs.Changes.{NamesChange}
 use Rattle.formula_core.specs.Formulas.{FormulaValue, is_operation, operations}
 use Rattle.formula_core.specs.Plans.{PlanValue, node_change, node_cost_at, tree_cost, IsComputed, IsTold}
 use Rattle.formula_core.specs.Progress.{operations_among, IsAtOperation, IsPlannedTo}
@@ -84,7 +84,7 @@ leaf_alone (Outer f a b) plain = absurd (false≢true (sym plain ∙ inside_appl
 leaf_alone (Inner f g a b) plain = absurd (false≢true (sym plain ∙ inside_apply (Inner f g a b) 0 (Const (Numbers [])) (some_node (Inner f g a b))))
 
 -- a literal and a name cost nothing
-pub free : (is_new : Bool) (c : Change) (t : Tree) → is_operation t ≡ false → 0 ≡ node_cost_at is_new c t
+pub free : (is_new : Bool) (c : NamesChange) (t : Tree) → is_operation t ≡ false → 0 ≡ node_cost_at is_new c t
 free true c (Const l) plain = refl
 free false c (Const l) plain = refl
 free true c (Name x) plain = refl
@@ -154,7 +154,7 @@ longer f changes new one = by (cases_lt (length changes) (length new))
     by (inr back) = absurd (omega (arith, one, front_within (λ u. cond (is_operation u) 1 0) (subtrees f.tree) (Const (Numbers [])) (length new) (length changes) back))
 
 -- what the nodes so far cost
-module _ (is_new : Bool) (c : Change) (t : Tree) where
+module _ (is_new : Bool) (c : NamesChange) (t : Tree) where
   pub cost_more : (k m start before after : ℕ) → k < length (subtrees t) → k < m → before ≤ start + sum_by (node_cost_at is_new c) (take k (subtrees t)) → after ≤ before + node_cost_at is_new c (tree_at (subtrees t) k)
       → after ≤ start + sum_by (node_cost_at is_new c) (take m (subtrees t))
   cost_more k m start before after below more first then = omega (arith, first, then, front_more (node_cost_at is_new c) (subtrees t) (Const (Numbers [])) k m below more)
@@ -163,13 +163,13 @@ module _ (is_new : Bool) (c : Change) (t : Tree) where
   cost_within k start now h = omega (arith, h, sum_by-take-le (node_cost_at is_new c) (subtrees t) k)
 
 -- the next node has its change
-pub more_of : (f : FormulaValue) (c : Change) (inputs : List Input) (old changes new : List NodeChange) (cost items : ℕ) (before after : MeterValue) → changes ≡ old
-    → ((x : Change) → IsTold f x inputs → (k : ℕ) → IsBegun f x changes k → IsOneMore f x changes new items before after)
+pub more_of : (f : FormulaValue) (c : NamesChange) (inputs : List Input) (old changes new : List NodeChange) (cost items : ℕ) (before after : MeterValue) → changes ≡ old
+    → ((x : NamesChange) → IsTold f x inputs → (k : ℕ) → IsBegun f x changes k → IsOneMore f x changes new items before after)
     → IsTold f c inputs → IsBegun f c old cost → IsOneMore f c old new items before after
 more_of f c inputs old changes new cost items before after is more told begun =
     subst (λ (ds : List NodeChange). IsOneMore f c ds new items before after) is (more c told cost (subst (λ (ds : List NodeChange). IsBegun f c ds cost) (sym is) begun))
 
-module _ (f : FormulaValue) (c : Change) (p : PlanValue) (new : List NodeChange) (items : ℕ) (before after : MeterValue)
+module _ (f : FormulaValue) (c : NamesChange) (p : PlanValue) (new : List NodeChange) (items : ℕ) (before after : MeterValue)
     (left : operations_among f p.changes < operations f.tree) (planned : IsPlannedTo f c p) (more : IsOneMore f c p.changes new items before after) where
   below : length p.changes < length f.nodes
   below = node_left f p.changes left planned.begun.known
@@ -191,7 +191,7 @@ counted_by : (failed : Bool) (start cost own after : ℕ) → (failed ≡ true �
 counted_by true start cost own after free least most is = let none = free refl in omega (arith, most, none, is)
 counted_by false start cost own after free least most is = let all = least refl in omega (arith, most, all, is)
 
-pub counted_whole : (is_new : Bool) (c : Change) (t : Tree) (d : Delta) (start items none own after : ℕ) → d ≡ node_change is_new c t → IsComputed is_new c t → items ≡ node_cost_at is_new c t
+pub counted_whole : (is_new : Bool) (c : NamesChange) (t : Tree) (d : Delta) (start items none own after : ℕ) → d ≡ node_change is_new c t → IsComputed is_new c t → items ≡ node_cost_at is_new c t
     → own ≤ none + node_cost_at is_new c t → (is_error d ≡ false → ticked none items ≤ own) → none ≡ 0 → after ≡ ticked start own → after ≡ ticked start (node_cost_at is_new c t)
 counted_whole is_new c t d start items none own after is computed costs most least zero_is counted =
     counted_by (is_error d) start (node_cost_at is_new c t) own after

@@ -13,7 +13,7 @@ use Rattle.formula_core.specs.declared.table.Node.TheVariants as node
 use Rattle.formula_core.specs.Meaning.{names_in}
 use Rattle.formula_core.specs.Tables.{inside, inside_positions, subtrees, tree_at, tree_of_node, tree_of_operand, trees_after, applies, IsNode, IsTable, IsLowered}
 use Rattle.formula_core.specs.declared.kept.Kept.{Kept}
-use Rattle.formula_core.specs.Holdings.{Holding, holding, holdings_of, nodes_of, not_worked_out, AreNew}
+use Rattle.formula_core.specs.Holdings.{Holding, holding, holdings_of, nodes_of, not_worked_out, AreNotWorkedOut}
 use Rattle.formula_core.specs.Formulas.{root_of, IsTableOf, is_operation, operations}
 use Rattle.formula_core.proofs.Applied.{operation_before, operation_between}
 use Rattle.formula_core.proofs.Tabled.{trees_long, trees_more, table_more, at_last}
@@ -75,14 +75,14 @@ rooted_node names nodes (Inner f g a b) k l = table_made names nodes (Inner f g 
 pub nodes_pushed : (old new : List Kept) (k : Kept) (n : Node) → new ≡ old ++ k ∷ [] → k.node ≡ n → nodes_of new ≡ nodes_of old ++ n ∷ []
 nodes_pushed old new k n is node_is = ap nodes_of is ∙ (map-append (λ (x : Kept). x.node) old (k ∷ []) ∙ ap (λ (m : Node). nodes_of old ++ m ∷ []) node_is)
 
-pub none_worked_out : (nodes : List Kept) → nodes ≡ [] → AreNew nodes
-none_worked_out nodes none = subst AreNew (sym none) (All-nil (λ (k : Kept). holding k ≡ not_worked_out))
+pub none_worked_out : (nodes : List Kept) → nodes ≡ [] → AreNotWorkedOut nodes
+none_worked_out nodes none = subst AreNotWorkedOut (sym none) (All-nil (λ (k : Kept). holding k ≡ not_worked_out))
 
-pub new_pushed : (old new : List Kept) (k : Kept) → new ≡ old ++ k ∷ [] → holding k ≡ not_worked_out → AreNew old → AreNew new
-new_pushed old new k is one all = subst AreNew (sym is) (All-push (λ (x : Kept). holding x ≡ not_worked_out) old k all one)
+pub new_pushed : (old new : List Kept) (k : Kept) → new ≡ old ++ k ∷ [] → holding k ≡ not_worked_out → AreNotWorkedOut old → AreNotWorkedOut new
+new_pushed old new k is one all = subst AreNotWorkedOut (sym is) (All-push (λ (x : Kept). holding x ≡ not_worked_out) old k all one)
 
 -- what new nodes hold
-pub new_holdings : (nodes : List Kept) → AreNew nodes → holdings_of nodes ≡ map (λ (n : Node). not_worked_out) (nodes_of nodes)
+pub new_holdings : (nodes : List Kept) → AreNotWorkedOut nodes → holdings_of nodes ≡ map (λ (n : Node). not_worked_out) (nodes_of nodes)
 new_holdings [] all = refl
 new_holdings (k ∷ nodes) all =
     ap (λ (h : Holding). h ∷ holdings_of nodes) (All-head (λ (x : Kept). holding x ≡ not_worked_out) k nodes all)

@@ -20,9 +20,9 @@ use Rattle.formula_core.specs.declared.input.Input.TheVariants.{Good, Bad}
 use Rattle.arrays_core.specs.Outcomes.{Outcome}
 use Rattle.formula_core.specs.Meaning.{eval}
 use Rattle.formula_core.specs.Rules.{right_rule, both_rule}
-use Rattle.formula_core.specs.Changes.{Change, arguments, result_of, paired, operation_delta, operation_cost, operation_size, written, values_of, change, changes, cost_at, tree_size}
+use Rattle.formula_core.specs.Changes.{NamesChange, arguments, result_of, paired, operation_delta, operation_cost, operation_size, written, values_of, change, changes, cost_at, tree_size}
 use Rattle.formula_core.specs.Inputs.{shown, stays, delta_of, written_inputs, AllHaveFit, IsInput, IsOperationChange}
-use Rattle.formula_core.specs.Stages.{IsReady, AreReady, IsStep}
+use Rattle.formula_core.specs.Stages.{GivesItsTree, GiveTheirTrees, IsStep}
 use Rattle.formula_core.proofs.Applied.{change_before, change_between, cost_before, cost_between, eval_before, eval_between, size_before, size_between}
 use Rattle.formula_core.proofs.Changed.{all_arrays, monad_meant, dyad_meant, indexing_meant}
 
@@ -81,7 +81,7 @@ module _ (p : RuleModel) (os : List Outcome) (ds : List Delta) (is : List Input)
   cost_stepped = ap (λ xs. operation_cost p (arguments xs) (map delta_of is) held) (all_shown os ds is all) ∙ cost_by (arguments os) refl
 
 -- an operation's step where the formula holds results
-pub held_step : (p : RuleModel) (c : Change) (t : Tree) (os : List Outcome) (ds : List Delta) (is : List Input) (held : Outcome) (before after : ℕ) (r : Result (Delta × ℕ) AllocError) → AllInputs os ds is
+pub held_step : (p : RuleModel) (c : NamesChange) (t : Tree) (os : List Outcome) (ds : List Delta) (is : List Input) (held : Outcome) (before after : ℕ) (r : Result (Delta × ℕ) AllocError) → AllInputs os ds is
     → change c t ≡ operation_delta p (arguments os) ds held → cost_at c t ≡ operation_cost p (arguments os) ds held → IsOperationChange p is held before after r → IsStep false c t before after r
 held_step p c t os ds is held before after r all changed costs made = record {
   delta = subst (λ (x : Delta). IfOk r (λ s. s.0 ≡ x)) (delta_stepped p os ds is all held ∙ sym changed) made.delta;
@@ -128,7 +128,7 @@ whole_all p os (i ∷ is) held shows new = whole_by p (arguments (map shown (i �
     (λ arrays given. whole_count arrays (i ∷ is) (all_arrays (map shown (i ∷ is)) arrays given))
 
 -- an operation's step where the formula was not worked out yet
-pub new_step : (p : RuleModel) (c : Change) (t : Tree) (os : List Outcome) (is : List Input) (held : Outcome) (before after : ℕ) (r : Result (Delta × ℕ) AllocError) → map shown is ≡ os → BeginsAnew is
+pub new_step : (p : RuleModel) (c : NamesChange) (t : Tree) (os : List Outcome) (is : List Input) (held : Outcome) (before after : ℕ) (r : Result (Delta × ℕ) AllocError) → map shown is ≡ os → BeginsAnew is
     → result_of p (arguments os) ≡ eval t c.new → tree_size c.new t ≡ operation_size p (arguments os) → IsOperationChange p is held before after r → IsStep true c t before after r
 new_step p c t os is held before after r shows new meant sized made =
     let whole = whole_all p os is held shows new in
@@ -142,7 +142,7 @@ new_step p c t os is held before after r shows new meant sized made =
       rises = made.rises;
     }
 
-pub monad_step : (is_new : Bool) (c : Change) (f : Function1) (b : Tree) (right : Input) (held : Outcome) (before after : ℕ) (r : Result (Delta × ℕ) AllocError) → IsReady is_new c b right → (is_new ≡ false → held ≡ eval (before_argument f b) c.old)
+pub monad_step : (is_new : Bool) (c : NamesChange) (f : Function1) (b : Tree) (right : Input) (held : Outcome) (before after : ℕ) (r : Result (Delta × ℕ) AllocError) → GivesItsTree is_new c b right → (is_new ≡ false → held ≡ eval (before_argument f b) c.old)
     → IsOperationChange (right_rule f) (right ∷ []) held before after r → IsStep is_new c (before_argument f b) before after r
 monad_step true c f b right held before after r ready holds made =
     let shows = ready.shows refl in
@@ -152,7 +152,7 @@ monad_step false c f b right held before after r ready holds made =
     (change_before c f b ∙ ap (operation_delta (right_rule f) (arguments (eval b c.new ∷ [])) (change c b ∷ [])) (sym (holds refl)))
     (cost_before c f b ∙ ap (operation_cost (right_rule f) (arguments (eval b c.new ∷ [])) (change c b ∷ [])) (sym (holds refl))) made
 
-pub dyad_step : (is_new : Bool) (c : Change) (f : Function2) (a b : Tree) (left right : Input) (held : Outcome) (before after : ℕ) (r : Result (Delta × ℕ) AllocError) → IsReady is_new c a left → IsReady is_new c b right
+pub dyad_step : (is_new : Bool) (c : NamesChange) (f : Function2) (a b : Tree) (left right : Input) (held : Outcome) (before after : ℕ) (r : Result (Delta × ℕ) AllocError) → GivesItsTree is_new c a left → GivesItsTree is_new c b right
     → (is_new ≡ false → held ≡ eval (between_arguments f a b) c.old) → IsOperationChange (both_rule f) (left ∷ right ∷ []) held before after r → IsStep is_new c (between_arguments f a b) before after r
 dyad_step true c f a b left right held before after r l k holds made =
     let shows = l.shows refl in
@@ -164,7 +164,7 @@ dyad_step false c f a b left right held before after r l k holds made =
     (cost_between c f a b ∙ ap (operation_cost (both_rule f) (arguments (eval a c.new ∷ eval b c.new ∷ [])) (change c a ∷ change c b ∷ [])) (sym (holds refl))) made
 
 -- the positions of an index
-ready_inputs : (c : Change) (ts : List (Option Tree)) (is : List (Option Input)) → AreReady false c ts is → AllInputs (values_of (positions_of ts) c.new) (changes c (positions_of ts)) (written_inputs is)
+ready_inputs : (c : NamesChange) (ts : List (Option Tree)) (is : List (Option Input)) → GiveTheirTrees false c ts is → AllInputs (values_of (positions_of ts) c.new) (changes c (positions_of ts)) (written_inputs is)
 ready_inputs c [] [] h = tt
 ready_inputs c (None ∷ ts) (None ∷ is) h = ready_inputs c ts is h
 ready_inputs c (Some t ∷ ts) (Some i ∷ is) h = (h.0.is refl, ready_inputs c ts is h.1)
@@ -174,7 +174,7 @@ ready_inputs c (None ∷ ts) (Some i ∷ is) h = absurd h
 ready_inputs c (Some t ∷ ts) [] h = absurd h
 ready_inputs c (Some t ∷ ts) (None ∷ is) h = absurd h
 
-ready_shown : (c : Change) (ts : List (Option Tree)) (is : List (Option Input)) → AreReady true c ts is → map shown (written_inputs is) ≡ values_of (positions_of ts) c.new
+ready_shown : (c : NamesChange) (ts : List (Option Tree)) (is : List (Option Input)) → GiveTheirTrees true c ts is → map shown (written_inputs is) ≡ values_of (positions_of ts) c.new
 ready_shown c [] [] h = refl
 ready_shown c (None ∷ ts) (None ∷ is) h = ready_shown c ts is h
 ready_shown c (Some t ∷ ts) (Some i ∷ is) h = let here = h.0.shows refl in let rest = ready_shown c ts is h.1 in λ k. here k ∷ rest k
@@ -184,7 +184,7 @@ ready_shown c (None ∷ ts) (Some i ∷ is) h = absurd h
 ready_shown c (Some t ∷ ts) [] h = absurd h
 ready_shown c (Some t ∷ ts) (None ∷ is) h = absurd h
 
-ready_written : (is_new : Bool) (c : Change) (ts : List (Option Tree)) (is : List (Option Input)) → AreReady is_new c ts is → map is_some is ≡ written (positions_of ts)
+ready_written : (is_new : Bool) (c : NamesChange) (ts : List (Option Tree)) (is : List (Option Input)) → GiveTheirTrees is_new c ts is → map is_some is ≡ written (positions_of ts)
 ready_written is_new c [] [] h = refl
 ready_written is_new c (None ∷ ts) (None ∷ is) h = ap (λ ws. false ∷ ws) (ready_written is_new c ts is h)
 ready_written is_new c (Some t ∷ ts) (Some i ∷ is) h = ap (λ ws. true ∷ ws) (ready_written is_new c ts is h.1)
@@ -195,7 +195,7 @@ ready_written is_new c (Some t ∷ ts) [] h = absurd h
 ready_written is_new c (Some t ∷ ts) (None ∷ is) h = absurd h
 
 -- one more position, written or not
-pub ready_more : (is_new : Bool) (c : Change) (ts : List (Option Tree)) (is : List (Option Input)) (t : Option Tree) (i : Option Input) → AreReady is_new c ts is → AreReady is_new c (t ∷ []) (i ∷ []) → AreReady is_new c (ts ++ t ∷ []) (is ++ i ∷ [])
+pub ready_more : (is_new : Bool) (c : NamesChange) (ts : List (Option Tree)) (is : List (Option Input)) (t : Option Tree) (i : Option Input) → GiveTheirTrees is_new c ts is → GiveTheirTrees is_new c (t ∷ []) (i ∷ []) → GiveTheirTrees is_new c (ts ++ t ∷ []) (is ++ i ∷ [])
 ready_more is_new c [] [] t i h one = one
 ready_more is_new c (None ∷ ts) (None ∷ is) t i h one = ready_more is_new c ts is t i h one
 ready_more is_new c (Some u ∷ ts) (Some j ∷ is) t i h one = (h.0, ready_more is_new c ts is t i h.1 one)
@@ -210,8 +210,8 @@ fit_more [] i h one = one
 fit_more (None ∷ is) i h one = fit_more is i h one
 fit_more (Some j ∷ is) i h one = (h.0, fit_more is i h.1 one)
 
-index_by : (is_new : Bool) (c : Change) (a : Tree) (ts : List (Option Tree)) (array : Input) (positions : List (Option Input)) (held : Outcome) (before after : ℕ) (r : Result (Delta × ℕ) AllocError)
-    → IsReady is_new c a array → AreReady is_new c ts positions → (is_new ≡ false → held ≡ eval (Index a (positions_of ts)) c.old)
+index_by : (is_new : Bool) (c : NamesChange) (a : Tree) (ts : List (Option Tree)) (array : Input) (positions : List (Option Input)) (held : Outcome) (before after : ℕ) (r : Result (Delta × ℕ) AllocError)
+    → GivesItsTree is_new c a array → GiveTheirTrees is_new c ts positions → (is_new ≡ false → held ≡ eval (Index a (positions_of ts)) c.old)
     → IsOperationChange (index_rule (written (positions_of ts))) (array ∷ written_inputs positions) held before after r → IsStep is_new c (Index a (positions_of ts)) before after r
 index_by true c a ts array positions held before after r ready all holds made =
     let ps = positions_of ts in
@@ -224,8 +224,8 @@ index_by false c a ts array positions held before after r ready all holds made =
     (ap (operation_delta (index_rule (written ps)) (arguments (eval a c.new ∷ values_of ps c.new)) (change c a ∷ changes c ps)) (sym (holds refl)))
     (ap (operation_cost (index_rule (written ps)) (arguments (eval a c.new ∷ values_of ps c.new)) (change c a ∷ changes c ps)) (sym (holds refl))) made
 
-pub index_step : (is_new : Bool) (c : Change) (a : Tree) (ts : List (Option Tree)) (array : Input) (positions : List (Option Input)) (held : Outcome) (before after : ℕ) (r : Result (Delta × ℕ) AllocError)
-    → IsReady is_new c a array → AreReady is_new c ts positions → (is_new ≡ false → held ≡ eval (Index a (positions_of ts)) c.old)
+pub index_step : (is_new : Bool) (c : NamesChange) (a : Tree) (ts : List (Option Tree)) (array : Input) (positions : List (Option Input)) (held : Outcome) (before after : ℕ) (r : Result (Delta × ℕ) AllocError)
+    → GivesItsTree is_new c a array → GiveTheirTrees is_new c ts positions → (is_new ≡ false → held ≡ eval (Index a (positions_of ts)) c.old)
     → IsOperationChange (index_rule (map is_some positions)) (array ∷ written_inputs positions) held before after r → IsStep is_new c (Index a (positions_of ts)) before after r
 index_step is_new c a ts array positions held before after r ready all holds made =
     index_by is_new c a ts array positions held before after r ready all holds

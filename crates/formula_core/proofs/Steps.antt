@@ -22,12 +22,12 @@ use Rattle.formula_core.specs.declared.table.Node.TheVariants as node
 use Rattle.formula_core.specs.Meaning.{eval}
 use Rattle.arrays_core.specs.Outcomes.{Outcome, fault}
 use Rattle.formula_core.specs.Tables.{tree_at, tree_of_operand, tree_of_node, IsOperand, AreOperands, IsNode}
-use Rattle.formula_core.specs.Changes.{Change, change, changes, values_of, FitsIn, FitsNow, IsChanged, IsNameChanged, IsTreeChanged}
+use Rattle.formula_core.specs.Changes.{NamesChange, change, changes, values_of, FitsIn, FitsNow, IsChanged, IsNameChanged, IsTreeChanged}
 use Rattle.formula_core.specs.Inputs.{shown, HasFit, IsAllOrNothing, IsInput}
 use Rattle.formula_core.specs.Holdings.{Holding, holding_at, holdings_of, not_worked_out, no_change}
 use Rattle.formula_core.specs.Plans.{node_change, AreInputs}
 use Rattle.formula_core.specs.Rules.{with_change}
-use Rattle.formula_core.specs.Stages.{IsStaged, IsTaken, IsLiteralChange, AreReady, IsStep}
+use Rattle.formula_core.specs.Stages.{IsStaged, IsTaken, IsLiteralChange, GiveTheirTrees, IsStep}
 use Rattle.formula_core.specs.Formulas.{is_operation}
 use Rattle.formula_core.proofs.Fitting.{fit_now}
 use Rattle.formula_core.proofs.LiteralArrays.{literal_is_array}
@@ -40,13 +40,13 @@ input_fits now d (Good array delta) h fit = subst (λ (e : Delta). FitsNow e (Ok
 input_fits now d (Bad f changed) h fit = tt
 
 -- the inputs, one for each name
-pub inputs_long : (c : Change) (names : List (List ℕ)) (inputs : List Input) → AreInputs c names inputs → length inputs ≡ length names
+pub inputs_long : (c : NamesChange) (names : List (List ℕ)) (inputs : List Input) → AreInputs c names inputs → length inputs ≡ length names
 inputs_long c [] [] h = refl
 inputs_long c (x ∷ names) (i ∷ inputs) h = ap suc (inputs_long c names inputs h.1)
 inputs_long c [] (i ∷ inputs) h = absurd h
 inputs_long c (x ∷ names) [] h = absurd h
 
-pub input_at : (c : Change) (names : List (List ℕ)) (inputs : List Input) → AreInputs c names inputs → (k : ℕ) (e : Input) → k < length inputs → IsInput (c.new (get_or names k [])) (c.delta (get_or names k [])) (get_or inputs k e)
+pub input_at : (c : NamesChange) (names : List (List ℕ)) (inputs : List Input) → AreInputs c names inputs → (k : ℕ) (e : Input) → k < length inputs → IsInput (c.new (get_or names k [])) (c.delta (get_or names k [])) (get_or inputs k e)
 input_at c [] [] h k e below = absurd (omega (arith, below))
 input_at c (x ∷ names) (i ∷ inputs) h zero e below = h.0
 input_at c (x ∷ names) (i ∷ inputs) h (suc k) e below = input_at c names inputs h.1 k e (omega (arith, below))
@@ -56,7 +56,7 @@ input_at c (x ∷ names) [] h k e below = absurd h
 pub name_there : (names : List (List ℕ)) (k : ℕ) → k < length names → Contains names (get_or names k [])
 name_there names k below = (k, below, get_or_default names k (get_or names k []) [] below)
 
-module _ (c : Change) (names : List (List ℕ)) (trees : List Tree) (s : Stage) (staged : IsStaged c names trees s) where
+module _ (c : NamesChange) (names : List (List ℕ)) (trees : List Tree) (s : Stage) (staged : IsStaged c names trees s) where
   known_name : (k : ℕ) → k < length s.inputs.now → Contains names (get_or names k [])
   known_name k below = name_there names k (omega (arith, below, inputs_long c names s.inputs.now staged.tell))
 
@@ -152,11 +152,11 @@ operand_within names place (None ∷ os) h (suc k) o below is = operand_within n
 operand_within names place (Some p ∷ os) h (suc k) o below is = operand_within names place os h.1 k o (omega (arith, below)) is
 
 -- one more position of an index
-pub position_ready : (is_new : Bool) (c : Change) (f : Option Operand → Option Tree) (os : List (Option Operand)) (k : ℕ) (x : Option Operand) (is : List (Option Input)) (i : Option Input) → k < length os → get_or os k None ≡ x
-    → AreReady is_new c (map f (take k os)) is → AreReady is_new c (f x ∷ []) (i ∷ []) → AreReady is_new c (map f (take (k + 1) os)) (is ++ i ∷ [])
+pub position_ready : (is_new : Bool) (c : NamesChange) (f : Option Operand → Option Tree) (os : List (Option Operand)) (k : ℕ) (x : Option Operand) (is : List (Option Input)) (i : Option Input) → k < length os → get_or os k None ≡ x
+    → GiveTheirTrees is_new c (map f (take k os)) is → GiveTheirTrees is_new c (f x ∷ []) (i ∷ []) → GiveTheirTrees is_new c (map f (take (k + 1) os)) (is ++ i ∷ [])
 position_ready is_new c f os k x is i below at h one =
-    subst (λ (ts : List (Option Tree)). AreReady is_new c ts (is ++ i ∷ [])) (sym (map_more f os k None below))
-    (ready_more is_new c (map f (take k os)) is (f (get_or os k None)) i h (subst (λ (o : Option Operand). AreReady is_new c (f o ∷ []) (i ∷ [])) (sym at) one))
+    subst (λ (ts : List (Option Tree)). GiveTheirTrees is_new c ts (is ++ i ∷ [])) (sym (map_more f os k None below))
+    (ready_more is_new c (map f (take k os)) is (f (get_or os k None)) i h (subst (λ (o : Option Operand). GiveTheirTrees is_new c (f o ∷ []) (i ∷ [])) (sym at) one))
 
 -- the change of a name that is the whole tree
 whole_name : (old now : Outcome) (d : Delta) → IsAllOrNothing d → is_same d ≡ false → applied d old ≡ now → d ≡ Whole now
@@ -166,7 +166,7 @@ whole_name old now (Grown t) none same is = absurd none
 whole_name old now (Whole r) none same is = ap (λ o. Whole o) is
 
 -- a step of a node that applies no function costs nothing
-free_step : (is_new : Bool) (c : Change) (t : Tree) (meter : ℕ) (d : Delta) → d ≡ node_change is_new c t → is_operation t ≡ false → IsStep is_new c t meter meter (Ok (d, 0))
+free_step : (is_new : Bool) (c : NamesChange) (t : Tree) (meter : ℕ) (d : Delta) → d ≡ node_change is_new c t → is_operation t ≡ false → IsStep is_new c t meter meter (Ok (d, 0))
 free_step true c (Const l) meter d is none = record { delta = is; cost = refl; ticks = omega arith; least = λ _. omega arith; rises = omega arith }
 free_step true c (Name x) meter d is none = record { delta = is; cost = refl; ticks = omega arith; least = λ _. omega arith; rises = omega arith }
 free_step false c (Const l) meter d is none = record { delta = is; cost = refl; ticks = omega arith; least = λ _. omega arith; rises = omega arith }
@@ -179,7 +179,7 @@ free_step is_new c (Scan f k b) meter d is none = absurd (false≢true (sym none
 free_step is_new c (Outer f a b) meter d is none = absurd (false≢true (sym none))
 free_step is_new c (Inner f g a b) meter d is none = absurd (false≢true (sym none))
 
-pub leaf_step : {X : Type 0} (is_new : Bool) (c : Change) (t : Tree) (meter : ℕ) (d : Delta) (r : Result ℕ AllocError) → OnOk r X → (X → d ≡ node_change is_new c t) → IfOk r (λ n. n ≡ 0) → is_operation t ≡ false
+pub leaf_step : {X : Type 0} (is_new : Bool) (c : NamesChange) (t : Tree) (meter : ℕ) (d : Delta) (r : Result ℕ AllocError) → OnOk r X → (X → d ≡ node_change is_new c t) → IfOk r (λ n. n ≡ 0) → is_operation t ≡ false
     → IsStep is_new c t meter meter (with_change d r)
 leaf_step is_new c t meter d (Ok n) told is nothing none = subst (λ (k : ℕ). IsStep is_new c t meter meter (Ok (d, k))) (sym nothing) (free_step is_new c t meter d (is told) none)
 leaf_step is_new c t meter d (Err e) told is nothing none = record { delta = tt; cost = tt; ticks = omega arith; least = tt; rises = omega arith }

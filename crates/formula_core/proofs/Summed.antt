@@ -32,9 +32,9 @@ use Rattle.formula_core.specs.declared.table.Node.TheVariants as node
 use Rattle.arrays_core.specs.Outcomes.{Outcome}
 use Rattle.formula_core.specs.Meaning.{eval}
 use Rattle.formula_core.specs.Tables.{tree_of_operand, tree_of_node, IsOperand, IsNode}
-use Rattle.formula_core.specs.Changes.{Change, change, FitsIn}
+use Rattle.formula_core.specs.Changes.{NamesChange, change, FitsIn}
 use Rattle.formula_core.specs.Inputs.{shown, delta_of, IsInput}
-use Rattle.formula_core.specs.Stages.{IsStaged, IsReady, IsKeptBy, IsMadeBy, IsSumsStep}
+use Rattle.formula_core.specs.Stages.{IsStaged, GivesItsTree, IsKeptBy, IsMadeBy, IsSumsStep}
 use Rattle.formula_core.specs.Sums.{summed_in, summed_at, total_of, totalled, WasGrown, WasPatched, WasSummed, AreNewSums, IsSumsDelta, IsSummedFor}
 use Rattle.formula_core.proofs.Applied.{summed_before, summed_between}
 use Rattle.formula_core.proofs.Steps.{operand_changed}
@@ -160,8 +160,8 @@ follows old now d (Bad f false) input is fit other = record {
   fit = tt;
 }
 
-module _ (fold : Reduce) (c : Change) (names : List (List ℕ)) (trees : List Tree) (s : Stage) (staged : IsStaged c names trees s) (o : Operand) (within : IsOperand (length s.inputs.now) (length s.changes.now) o)
-    (i : Input) (ready : IsReady s.is_new c (tree_of_operand names trees o) i) (kept : Option SummedValue) (holds : s.is_new ≡ false → kept ≡ summed_in fold (eval (tree_of_operand names trees o) c.old)) where
+module _ (fold : Reduce) (c : NamesChange) (names : List (List ℕ)) (trees : List Tree) (s : Stage) (staged : IsStaged c names trees s) (o : Operand) (within : IsOperand (length s.inputs.now) (length s.changes.now) o)
+    (i : Input) (ready : GivesItsTree s.is_new c (tree_of_operand names trees o) i) (kept : Option SummedValue) (holds : s.is_new ≡ false → kept ≡ summed_in fold (eval (tree_of_operand names trees o) c.old)) where
   pub was_summed : is_whole (delta_of i) ≡ false → WasSummed fold (shown i) (delta_of i) kept (eval (tree_of_operand names trees o) c.old)
   was_summed other = by s.is_new refl
     where
@@ -214,8 +214,8 @@ totalled_within names place (node.Dyad f a b) fold o h is = absurd (let no : ⊥
 totalled_within names place (node.Index a ps) fold o h is = absurd (let no : ⊥ = cc in no)
 
 -- the step of the sums of a total
-pub sums_step : (c : Change) (names : List (List ℕ)) (trees : List Tree) (s : Stage) → IsStaged c names trees s → (n : Node) → IsNode (length s.inputs.now) (length s.changes.now) n → (fold : Reduce) (o : Operand) → totalled n ≡ Some (fold, o)
-    → (i : Input) → IsReady s.is_new c (tree_of_operand names trees o) i → (kept : Option SummedValue) → (s.is_new ≡ false → kept ≡ summed_at c.old (tree_of_node names trees n))
+pub sums_step : (c : NamesChange) (names : List (List ℕ)) (trees : List Tree) (s : Stage) → IsStaged c names trees s → (n : Node) → IsNode (length s.inputs.now) (length s.changes.now) n → (fold : Reduce) (o : Operand) → totalled n ≡ Some (fold, o)
+    → (i : Input) → GivesItsTree s.is_new c (tree_of_operand names trees o) i → (kept : Option SummedValue) → (s.is_new ≡ false → kept ≡ summed_at c.old (tree_of_node names trees n))
     → (d : SumsDelta) → IsSumsDelta fold (shown i) (delta_of i) kept d → IsSumsStep c (tree_of_node names trees n) kept d
 sums_step c names trees s staged n within fold o is i ready kept holds d delta =
     let at : (shows : List ℕ → Outcome) → summed_at shows (tree_of_node names trees n) ≡ summed_in fold (eval (tree_of_operand names trees o) shows) =
@@ -230,7 +230,7 @@ sums_step c names trees s staged n within fold o is i ready kept holds d delta =
 
 -- the sums that a total keeps are those of what its argument was
 pub kept_for : (s : Stage) (f : _) (b : Operand) → IsOperand (length s.inputs.now) (length s.changes.now) b → (kept : Option SummedValue) → IsKeptBy s (node.Monad f b) kept → (i : Input)
-    → ((c : Change) → (names : List (List ℕ)) → (trees : List Tree) → IsStaged c names trees s → IsReady s.is_new c (tree_of_operand names trees b) i)
+    → ((c : NamesChange) → (names : List (List ℕ)) → (trees : List Tree) → IsStaged c names trees s → GivesItsTree s.is_new c (tree_of_operand names trees b) i)
     → (fold : Reduce) → total_of f ≡ Some fold → IsSummedFor fold (shown i) (delta_of i) kept
 kept_for s f b within kept keeps i ready fold total = record {
   changed = λ p value patch some.
@@ -251,7 +251,7 @@ kept_for s f b within kept keeps i ready fold total = record {
       };
 }
   where
-    c : Change
+    c : NamesChange
     c = keeps.0
 
     names : List (List ℕ)
@@ -270,13 +270,13 @@ kept_for s f b within kept keeps i ready fold total = record {
     held was = keeps.1.1.1.1 was ∙ summed_before c.old f (tree_of_operand names trees b) ∙ ap (λ (k : Option Reduce). option_map_or (λ x. summed_in x old) k None) total
 
 -- an operand shows what its tree gives
-shows_tree : (is_new : Bool) (c : Change) (t : Tree) (i : Input) → IsReady is_new c t i → shown i ≡ eval t c.new
+shows_tree : (is_new : Bool) (c : NamesChange) (t : Tree) (i : Input) → GivesItsTree is_new c t i → shown i ≡ eval t c.new
 shows_tree true c t i ready = ready.shows refl
 shows_tree false c t i ready = (ready.is refl).is
 
 -- the sums that are made anew for a total are those of what its argument is
 pub made_for : (s : Stage) (f : _) (b : Operand) (made : SumsDelta) → IsMadeBy s (node.Monad f b) made → (i : Input)
-    → ((c : Change) → (names : List (List ℕ)) → (trees : List Tree) → IsStaged c names trees s → IsReady s.is_new c (tree_of_operand names trees b) i)
+    → ((c : NamesChange) → (names : List (List ℕ)) → (trees : List Tree) → IsStaged c names trees s → GivesItsTree s.is_new c (tree_of_operand names trees b) i)
     → (fold : Reduce) → total_of f ≡ Some fold → AreNewSums fold (shown i) made
 made_for s f b made by i ready fold total = λ sums is.
     let c = by.0 in

@@ -14,7 +14,7 @@ use Rattle.operator_fns.specs.declared.reduce.Reduce.{Reduce}
 use Rattle.index_region.specs.declared.delta.Delta.{Delta}
 use Rattle.sum_rules.specs.LineSums.{length_along}
 use Rattle.formula_core.specs.declared.kept.NodeChange.{NodeChange}
-use Rattle.formula_core.specs.Changes.{Change}
+use Rattle.formula_core.specs.Changes.{NamesChange}
 use Rattle.formula_core.specs.Formulas.{FormulaValue, is_operation}
 use Rattle.formula_core.specs.Joins.{has_trees_for, least_joins, least_joins_of, most_joins, tree_joins, tree_least_joins}
 use Rattle.formula_core.specs.Meaning.{eval}
@@ -52,7 +52,7 @@ module _ {X : Type 0} (p : X → Bool) (g : X → ℕ) (plain : (x : X) → p x 
       omega (arith, rest, sum_by-cons g x (take m xs), sum_by-cons g x (take k xs))
 
 -- a literal and a name join none
-plain_joins : (is_new : Bool) (c : Change) (t : Tree) → is_operation t ≡ false → least_joins is_new c t ≡ 0
+plain_joins : (is_new : Bool) (c : NamesChange) (t : Tree) → is_operation t ≡ false → least_joins is_new c t ≡ 0
 plain_joins is_new c (Const l) plain = refl
 plain_joins is_new c (Name x) plain = refl
 plain_joins is_new c (Monad f b) plain = absurd (false≢true (sym plain))
@@ -80,7 +80,7 @@ none_along : (o : Option Reduce) (right : Outcome) (d : Delta) (held : Outcome) 
 none_along None right d held n none = refl
 none_along (Some fold) right d held n none = none_of fold right d held n none
 
-costless : (is_new : Bool) (c : Change) (t : Tree) → node_cost_at is_new c t ≡ 0 → least_joins is_new c t ≡ 0
+costless : (is_new : Bool) (c : NamesChange) (t : Tree) → node_cost_at is_new c t ≡ 0 → least_joins is_new c t ≡ 0
 costless is_new c (Const l) none = refl
 costless is_new c (Name x) none = refl
 costless is_new c (Monad f b) none = refl
@@ -96,7 +96,7 @@ joined_by : (failed : Bool) (start least own after : ℕ) → (failed ≡ true �
 joined_by true start least own after free joins is = let none = free refl in omega (arith, none, is)
 joined_by false start least own after free joins is = let all = joins refl in omega (arith, all, is)
 
-pub joined_whole : (is_new : Bool) (c : Change) (t : Tree) (d : Delta) (start none own after : ℕ) → d ≡ node_change is_new c t → IsComputed is_new c t → (is_error d ≡ false → ticked none (least_joins is_new c t) ≤ own) → none ≡ 0
+pub joined_whole : (is_new : Bool) (c : NamesChange) (t : Tree) (d : Delta) (start none own after : ℕ) → d ≡ node_change is_new c t → IsComputed is_new c t → (is_error d ≡ false → ticked none (least_joins is_new c t) ≤ own) → none ≡ 0
     → after ≡ ticked start own → ticked start (least_joins is_new c t) ≤ after
 joined_whole is_new c t d start none own after is computed joins zero_is counted =
     joined_by (is_error d) start (least_joins is_new c t) own after
@@ -104,7 +104,7 @@ joined_whole is_new c t d start none own after is computed joins zero_is counted
     (λ sound. let all = joins sound in omega (arith, all, zero_is)) counted
 
 -- what the nodes so far have joined
-module _ (is_new : Bool) (c : Change) (t : Tree) where
+module _ (is_new : Bool) (c : NamesChange) (t : Tree) where
   pub joins_more : (k m start before after : ℕ) → k < length (subtrees t) → k < m → before ≤ start + sum_by (most_joins is_new c) (take k (subtrees t)) → after ≤ before + most_joins is_new c (tree_at (subtrees t) k)
       → after ≤ start + sum_by (most_joins is_new c) (take m (subtrees t))
   joins_more k m start before after below more first next = omega (arith, first, next, front_more (most_joins is_new c) (subtrees t) (Const (Numbers [])) k m below more)
@@ -113,7 +113,7 @@ module _ (is_new : Bool) (c : Change) (t : Tree) where
   joins_within k start now h = omega (arith, h, sum_by-take-le (most_joins is_new c) (subtrees t) k)
 
 -- before the first operation none
-pub none_joined : (f : FormulaValue) (c : Change) (changes : List NodeChange) (start : ℕ) → operations_among f changes ≡ 0 → ticked start (sum_by (least_joins f.is_new c) (take (length changes) (subtrees f.tree))) ≤ start
+pub none_joined : (f : FormulaValue) (c : NamesChange) (changes : List NodeChange) (start : ℕ) → operations_among f changes ≡ 0 → ticked start (sum_by (least_joins f.is_new c) (take (length changes) (subtrees f.tree))) ≤ start
 none_joined f c changes start none =
     let free = none_counted is_operation (least_joins f.is_new c) (plain_joins f.is_new c) (take (length changes) (subtrees f.tree)) none in
     omega (arith, free)
@@ -122,7 +122,7 @@ none_joined f c changes start none =
 further : (start before after sum one more : ℕ) → ticked start sum ≤ before → ticked before one ≤ after → more ≡ sum + one → ticked start more ≤ after
 further start before after sum one more first next is = omega (arith, first, next, is)
 
-pub joined_on : (f : FormulaValue) (c : Change) (changes new : List NodeChange) (start before after : ℕ) → IsAtOperation f changes → length changes < length f.nodes → length f.nodes ≡ length (subtrees f.tree)
+pub joined_on : (f : FormulaValue) (c : NamesChange) (changes new : List NodeChange) (start before after : ℕ) → IsAtOperation f changes → length changes < length f.nodes → length f.nodes ≡ length (subtrees f.tree)
     → operations_among f new ≡ operations_among f changes + 1 → ticked start (sum_by (least_joins f.is_new c) (take (length changes) (subtrees f.tree))) ≤ before
     → ticked before (least_joins f.is_new c (tree_at (subtrees f.tree) (length changes))) ≤ after → ticked start (sum_by (least_joins f.is_new c) (take (length new) (subtrees f.tree))) ≤ after
 joined_on f c changes new start before after at under known one first next =
@@ -137,7 +137,7 @@ joined_on f c changes new start before after at under known one first next =
     further start before after (sum_by least (take k trees)) (least (tree_at trees k)) (sum_by least (take (length new) trees)) first next (omega (arith, none, step))
 
 -- all nodes
-pub joined_all : (f : FormulaValue) (c : Change) (changes : List NodeChange) (start now : ℕ) → length changes ≡ length (subtrees f.tree)
+pub joined_all : (f : FormulaValue) (c : NamesChange) (changes : List NodeChange) (start now : ℕ) → length changes ≡ length (subtrees f.tree)
     → ticked start (sum_by (least_joins f.is_new c) (take (length changes) (subtrees f.tree))) ≤ now → ticked start (tree_least_joins f.is_new c f.tree) ≤ now
 joined_all f c changes start now all h =
     let whole : take (length changes) (subtrees f.tree) ≡ subtrees f.tree = take_all (length changes) (subtrees f.tree) (omega (arith, all)) in

@@ -25,13 +25,13 @@ use Rattle.formula_core.specs.Meaning.{eval}
 use Rattle.formula_core.specs.Rules.{right_rule, both_rule}
 
 -- what each name shows before and after, and what changed of it
-pub record Change : Type 0 where
+pub record NamesChange : Type 0 where
   pub old : List ℕ → Outcome
   pub new : List ℕ → Outcome
   pub delta : List ℕ → Delta
 
 -- the names show these, and nothing changed of them
-abbrev pub at_rest : (List ℕ → Outcome) → Change
+abbrev pub at_rest : (List ℕ → Outcome) → NamesChange
 at_rest names = record { old = names; new = names; delta = λ x. Same }
 
 -- an argument before the others, whose error comes before its own
@@ -79,7 +79,7 @@ values_of (Filled e ps) names = eval e names ∷ values_of ps names
 
 abbrev mutual
   -- what changes of the result of a tree
-  pub change : Change → Tree → Delta
+  pub change : NamesChange → Tree → Delta
   change c (Const l) = Same
   change c (Name x) = c.delta x
   change c (Monad f b) = operation_delta (right_rule (function1.Monad f)) (arguments (eval b c.new ∷ [])) (change c b ∷ []) (eval (Monad f b) c.old)
@@ -90,13 +90,13 @@ abbrev mutual
   change c (Outer f a b) = operation_delta (both_rule (function2.Outer f)) (arguments (eval a c.new ∷ eval b c.new ∷ [])) (change c a ∷ change c b ∷ []) (eval (Outer f a b) c.old)
   change c (Inner f g a b) = operation_delta (both_rule (function2.Inner f g)) (arguments (eval a c.new ∷ eval b c.new ∷ [])) (change c a ∷ change c b ∷ []) (eval (Inner f g a b) c.old)
 
-  pub changes : Change → Positions → List Delta
+  pub changes : NamesChange → Positions → List Delta
   changes c NoPositions = []
   changes c (Empty ps) = changes c ps
   changes c (Filled e ps) = change c e ∷ changes c ps
 
 -- what the change of the node of a tree costs
-abbrev pub cost_at : Change → Tree → ℕ
+abbrev pub cost_at : NamesChange → Tree → ℕ
 cost_at c (Const l) = 0
 cost_at c (Name x) = 0
 cost_at c (Monad f b) = operation_cost (right_rule (function1.Monad f)) (arguments (eval b c.new ∷ [])) (change c b ∷ []) (eval (Monad f b) c.old)
@@ -161,12 +161,12 @@ pub record IsChanged (old : Outcome) (d : Delta) (new : Outcome) : Type 0 where
   pub sound_new : IfOk new IsArray
 
 -- what a name showed, with its change, is what it shows
-pub record IsNameChanged (c : Change) (x : List ℕ) : Type 0 where
+pub record IsNameChanged (c : NamesChange) (x : List ℕ) : Type 0 where
   pub right : applied (c.delta x) (c.old x) ≡ c.new x
   pub fit : FitsIn (c.delta x) (c.old x)
 
 -- so is what a tree gave
-pub record IsTreeChanged (c : Change) (t : Tree) : Type 0 where
+pub record IsTreeChanged (c : NamesChange) (t : Tree) : Type 0 where
   pub right : applied (change c t) (eval t c.old) ≡ eval t c.new
   pub fit : FitsIn (change c t) (eval t c.old)
 

@@ -6,10 +6,10 @@ use Rattle.apl_expr.specs.Trees.{Tree, Positions}
 use Rattle.arrays_core.specs.Shapes.{size}
 use Rattle.arrays_core.specs.declared.fault.Fault.{Fault}
 use Rattle.change_core.specs.Meters.{ticked}
-use Rattle.formula_core.specs.declared.evaluation.Operand.{Operand}
+use Rattle.formula_core.specs.declared.evaluation.Evaluated.{Evaluated}
 use Rattle.formula_core.specs.Changes.{tree_size}
 use Rattle.formula_core.specs.Meaning.{eval, eval_positions}
-use Rattle.formula_core.specs.Operands.{array_in}
+use Rattle.formula_core.specs.Evaluated.{array_in}
 use Rattle.arrays_core.specs.Outcomes.{Outcome}
 use Rattle.formula_core.specs.Tables.{inside, inside_positions}
 
@@ -35,5 +35,5 @@ abbrev pub ArePositionsCounted : {A : Type 0} → (List ℕ → Outcome) → Pos
 ArePositionsCounted names ps before after r = IsCounted (cost_in_positions names ps) (IsOk (eval_positions ps names)) before after r
 
 -- the items of what a function gave are counted, and nothing is where it failed
-abbrev pub AreItemsCounted : Result Operand Fault → (before after : ℕ) → Type 0
+abbrev pub AreItemsCounted : Result Evaluated Fault → (before after : ℕ) → Type 0
 AreItemsCounted gives before after = MatchResult gives (λ operand. after ≡ ticked before (size (array_in operand).shape)) (λ fault. after ≡ before)

@@ -42,8 +42,8 @@ abbrev pub nodes_of : List Kept → List Node
 nodes_of nodes = map (λ k. k.node) nodes
 
 -- none of these was worked out yet
-abbrev pub AreNew : List Kept → Type 0
-AreNew nodes = All (λ k. holding k ≡ not_worked_out) nodes
+abbrev pub AreNotWorkedOut : List Kept → Type 0
+AreNotWorkedOut nodes = All (λ k. holding k ≡ not_worked_out) nodes
 
 -- nothing changes of a node
 abbrev pub no_change : NodeChange

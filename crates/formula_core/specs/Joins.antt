@@ -13,7 +13,7 @@ use Rattle.index_region.specs.declared.delta.Delta.{Delta}
 use Rattle.index_region.specs.declared.delta.Delta.TheVariants.{Grown}
 use Rattle.sum_rules.specs.LineSums.{length_along, most_without_tree}
 use Rattle.sum_rules.specs.Totals.{new_items, is_narrow}
-use Rattle.formula_core.specs.Changes.{Change}
+use Rattle.formula_core.specs.Changes.{NamesChange}
 use Rattle.formula_core.specs.Meaning.{eval}
 use Rattle.arrays_core.specs.Outcomes.{Outcome}
 use Rattle.formula_core.specs.Plans.{node_change, node_cost_at}
@@ -46,7 +46,7 @@ least_joins_of fold (Ok a) d held totals = if has_trees_for fold a d held then (
 least_joins_of fold (Err e) d held totals = 0
 
 -- how many are joined at most for the change of the node of a tree: for totals along an axis those, for any other node none
-abbrev pub most_joins : (is_new : Bool) → Change → Tree → ℕ
+abbrev pub most_joins : (is_new : Bool) → NamesChange → Tree → ℕ
 most_joins is_new c (Const l) = 0
 most_joins is_new c (Name x) = 0
 most_joins is_new c (Monad f b) = 0
@@ -58,7 +58,7 @@ most_joins is_new c (Outer f a b) = 0
 most_joins is_new c (Inner f g a b) = 0
 
 -- how many at least where no item of it fails
-abbrev pub least_joins : (is_new : Bool) → Change → Tree → ℕ
+abbrev pub least_joins : (is_new : Bool) → NamesChange → Tree → ℕ
 least_joins is_new c (Const l) = 0
 least_joins is_new c (Name x) = 0
 least_joins is_new c (Monad f b) = 0
@@ -70,9 +70,9 @@ least_joins is_new c (Outer f a b) = 0
 least_joins is_new c (Inner f g a b) = 0
 
 -- how many at most for the change of a tree with all in it
-abbrev pub tree_joins : (is_new : Bool) → Change → Tree → ℕ
+abbrev pub tree_joins : (is_new : Bool) → NamesChange → Tree → ℕ
 tree_joins is_new c t = sum_by (most_joins is_new c) (subtrees t)
 
 -- how many at least where no item of any node in it fails
-abbrev pub tree_least_joins : (is_new : Bool) → Change → Tree → ℕ
+abbrev pub tree_least_joins : (is_new : Bool) → NamesChange → Tree → ℕ
 tree_least_joins is_new c t = sum_by (least_joins is_new c) (subtrees t)

@@ -12,7 +12,7 @@ pub mod Holdings
 pub mod Plans
 pub mod Joins
 -- What proofs and bodies use.
-pub mod Operands
+pub mod Evaluated
 pub mod Counts
 pub mod Stages
 pub mod Progress

@@ -2,7 +2,7 @@
 use Rattle.std.specs.Prelude.{◌≡◌, ◌<◌, ℕ, List, true, length, take}
 use Rattle.std.specs.List.{count_by}
 use Rattle.formula_core.specs.declared.kept.NodeChange.{NodeChange}
-use Rattle.formula_core.specs.Changes.{Change}
+use Rattle.formula_core.specs.Changes.{NamesChange}
 use Rattle.formula_core.specs.Formulas.{FormulaValue, is_operation}
 use Rattle.formula_core.specs.Plans.{PlanValue}
 use Rattle.formula_core.specs.Stages.{IsBegun}
@@ -17,6 +17,6 @@ abbrev pub IsAtOperation : FormulaValue → List NodeChange → Type 0
 IsAtOperation f changes = length changes < length f.nodes → is_operation (tree_at (subtrees f.tree) (length changes)) ≡ true
 
 -- the nodes that have a change are done as the names changed, and an operation comes next, if any node does
-pub record IsPlannedTo (f : FormulaValue) (c : Change) (p : PlanValue) : Type 0 where
+pub record IsPlannedTo (f : FormulaValue) (c : NamesChange) (p : PlanValue) : Type 0 where
   pub begun : IsBegun f c p.changes p.cost
   pub next : IsAtOperation f p.changes

@@ -23,7 +23,7 @@ use Rattle.arrays_core.specs.Outcomes.{Outcome, fault, given}
 use Rattle.formula_core.specs.Tables.{tree_at, tree_of_node, trees_after, subtrees, IsTable}
 use Rattle.formula_core.specs.Holdings.{Holding, holding_at, holdings_of, nodes_of, not_worked_out, no_change, taking, IsFit}
 use Rattle.formula_core.specs.Formulas.{FormulaValue}
-use Rattle.formula_core.specs.Changes.{Change, change, arguments, operation_cost, IsNameChanged}
+use Rattle.formula_core.specs.Changes.{NamesChange, change, arguments, operation_cost, IsNameChanged}
 use Rattle.formula_core.specs.Inputs.{shown, delta_of, IsInput}
 use Rattle.formula_core.specs.Joins.{most_joins_of, least_joins_of, most_joins, least_joins}
 use Rattle.formula_core.specs.Plans.{node_change, node_cost_at, AreInputs, IsNameSound}
@@ -34,7 +34,7 @@ use Rattle.formula_core.specs.declared.table.Node.{Node}
 use Rattle.formula_core.specs.declared.kept.NodeChange.{NodeChange}
 
 -- what the node of a tree held, with its change, is what the tree gives now; the results are arrays or errors
-pub record IsDone (is_new : Bool) (c : Change) (t : Tree) (held : Holding) (d : NodeChange) : Type 0 where
+pub record IsDone (is_new : Bool) (c : NamesChange) (t : Tree) (held : Holding) (d : NodeChange) : Type 0 where
   pub is : d.delta ≡ node_change is_new c t
   pub right : taking d held ≡ holding_at c.new t
   pub fit : IsFit d held
@@ -42,7 +42,7 @@ pub record IsDone (is_new : Bool) (c : Change) (t : Tree) (held : Holding) (d : 
   pub sound_new : IfOk (eval t c.new) IsArray
 
 -- the change of the node of a tree, what it costs, and how far the meter rises by it
-pub record IsNodeStep (is_new : Bool) (c : Change) (t : Tree) (held : Holding) (d : NodeChange) (items : ℕ) (before after : MeterValue) : Type 0 where
+pub record IsNodeStep (is_new : Bool) (c : NamesChange) (t : Tree) (held : Holding) (d : NodeChange) (items : ℕ) (before after : MeterValue) : Type 0 where
   pub done : IsDone is_new c t held d
   pub cost : items ≡ node_cost_at is_new c t
   pub ticks : after.ticks ≤ before.ticks + node_cost_at is_new c t
@@ -51,7 +51,7 @@ pub record IsNodeStep (is_new : Bool) (c : Change) (t : Tree) (held : Holding) (
   pub joined : is_error d.delta ≡ false → ticked before.joins (least_joins is_new c t) ≤ after.joins
 
 -- the names changed so, the nodes are those of these trees and held what they gave, and each that has a change is done
-pub record IsStaged (c : Change) (names : List (List ℕ)) (trees : List Tree) (s : Stage) : Type 0 where
+pub record IsStaged (c : NamesChange) (names : List (List ℕ)) (trees : List Tree) (s : Stage) : Type 0 where
   pub tell : AreInputs c names s.inputs.now
   pub changed : (x : List ℕ) → Contains names x → IsNameChanged c x
   pub sound : (x : List ℕ) → Contains names x → IsNameSound c x
@@ -64,18 +64,18 @@ pub record IsStaged (c : Change) (names : List (List ℕ)) (trees : List Tree) (
 
 -- so it is for some change
 abbrev pub StagedBy : Stage → Type 0
-StagedBy s = (c : Change) × ((names : List (List ℕ)) × ((trees : List Tree) × IsStaged c names trees s))
+StagedBy s = (c : NamesChange) × ((names : List (List ℕ)) × ((trees : List Tree) × IsStaged c names trees s))
 
 -- the sums that a node keeps are those of what its argument was
 abbrev pub IsKeptBy : Stage → Node → Option SummedValue → Type 0
-IsKeptBy s n kept = (c : Change) × ((names : List (List ℕ)) × ((trees : List Tree) × (IsStaged c names trees s × (s.is_new ≡ false → kept ≡ summed_at c.old (tree_of_node names trees n)))))
+IsKeptBy s n kept = (c : NamesChange) × ((names : List (List ℕ)) × ((trees : List Tree) × (IsStaged c names trees s × (s.is_new ≡ false → kept ≡ summed_at c.old (tree_of_node names trees n)))))
 
 -- sums that are made anew for a node are those of what its argument is now
 abbrev pub IsMadeBy : Stage → Node → SumsDelta → Type 0
-IsMadeBy s n made = (c : Change) × ((names : List (List ℕ)) × ((trees : List Tree) × (IsStaged c names trees s × ((sums : Option SummedValue) → made ≡ Whole sums → sums ≡ summed_at c.new (tree_of_node names trees n)))))
+IsMadeBy s n made = (c : NamesChange) × ((names : List (List ℕ)) × ((trees : List Tree) × (IsStaged c names trees s × ((sums : Option SummedValue) → made ≡ Whole sums → sums ≡ summed_at c.new (tree_of_node names trees n)))))
 
 -- the change of the sums that the node of a tree keeps makes of them those of what its argument is now
-pub record IsSumsStep (c : Change) (t : Tree) (kept : Option SummedValue) (s : SumsDelta) : Type 0 where
+pub record IsSumsStep (c : NamesChange) (t : Tree) (kept : Option SummedValue) (s : SumsDelta) : Type 0 where
   pub right : resummed s kept ≡ summed_at c.new t
   pub fit : FitsInSums s kept
 
@@ -91,20 +91,20 @@ IsTaken inputs held changes of_literals (operand.Name k) i = i ≡ get_or inputs
 IsTaken inputs held changes of_literals (operand.Node k) i = IsInput (applied (get_or changes k no_change).delta (get_or held k not_worked_out).result) (get_or changes k no_change).delta i
 
 -- an operand gives what its tree does; in a new formula it counts as new
-pub record IsReady (is_new : Bool) (c : Change) (t : Tree) (i : Input) : Type 0 where
+pub record GivesItsTree (is_new : Bool) (c : NamesChange) (t : Tree) (i : Input) : Type 0 where
   pub is : is_new ≡ false → IsInput (eval t c.new) (change c t) i
   pub shows : is_new ≡ true → shown i ≡ eval t c.new
   pub anew : is_new ≡ true → is_whole (delta_of i) ≡ true
 
 -- so does each position of an index that is written
-abbrev pub AreReady : Bool → Change → List (Option Tree) → List (Option Input) → Type 0
-AreReady is_new c [] [] = Unit {0}
-AreReady is_new c (None ∷ ts) (None ∷ is) = AreReady is_new c ts is
-AreReady is_new c (Some t ∷ ts) (Some i ∷ is) = IsReady is_new c t i × AreReady is_new c ts is
-AreReady is_new c _ _ = ⊥
+abbrev pub GiveTheirTrees : Bool → NamesChange → List (Option Tree) → List (Option Input) → Type 0
+GiveTheirTrees is_new c [] [] = Unit {0}
+GiveTheirTrees is_new c (None ∷ ts) (None ∷ is) = GiveTheirTrees is_new c ts is
+GiveTheirTrees is_new c (Some t ∷ ts) (Some i ∷ is) = GivesItsTree is_new c t i × GiveTheirTrees is_new c ts is
+GiveTheirTrees is_new c _ _ = ⊥
 
 -- the change of the node of a tree, what it costs, and how far the meter rises by it
-pub record IsStep (is_new : Bool) (c : Change) (t : Tree) (before after : ℕ) (r : Result (Delta × ℕ) AllocError) : Type 0 where
+pub record IsStep (is_new : Bool) (c : NamesChange) (t : Tree) (before after : ℕ) (r : Result (Delta × ℕ) AllocError) : Type 0 where
   pub delta : IfOk r (λ s. s.0 ≡ node_change is_new c t)
   pub cost : IfOk r (λ s. s.1 ≡ node_cost_at is_new c t)
   pub ticks : after ≤ before + node_cost_at is_new c t
@@ -112,14 +112,14 @@ pub record IsStep (is_new : Bool) (c : Change) (t : Tree) (before after : ℕ) (
   pub rises : before ≤ after
 
 -- the nodes are those of the formula's tree, those that have a change are done, and this is what they cost
-pub record IsBegun (f : FormulaValue) (c : Change) (changes : List NodeChange) (cost : ℕ) : Type 0 where
+pub record IsBegun (f : FormulaValue) (c : NamesChange) (changes : List NodeChange) (cost : ℕ) : Type 0 where
   pub known : length f.nodes ≡ length (subtrees f.tree)
   pub few : length changes ≤ length f.nodes
   pub done : (k : ℕ) → k < length changes → IsDone f.is_new c (tree_at (subtrees f.tree) k) (get_or f.nodes k not_worked_out) (get_or changes k no_change)
   pub costs : cost ≡ ticked 0 (sum_by (node_cost_at f.is_new c) (take (length changes) (subtrees f.tree)))
 
 -- so the next node of the formula has its change, behind those of the nodes before it
-pub record IsOneMore (f : FormulaValue) (c : Change) (changes new : List NodeChange) (items : ℕ) (before after : MeterValue) : Type 0 where
+pub record IsOneMore (f : FormulaValue) (c : NamesChange) (changes new : List NodeChange) (items : ℕ) (before after : MeterValue) : Type 0 where
   pub change : NodeChange
   pub pushed : new ≡ changes ++ change ∷ []
   pub step : IsNodeStep f.is_new c (tree_at (subtrees f.tree) (length changes)) (get_or f.nodes (length changes) not_worked_out) change items before after
@@ -130,6 +130,6 @@ pub record AreTotalsJoined (fold : Reduce) (right : Input) (held : Outcome) (bef
   pub least : IfOk r (λ s. is_error s.0 ≡ false → ticked before (least_joins_of fold (shown right) (delta_of right) held (operation_cost (total_rule fold) (arguments (shown right ∷ [])) (delta_of right ∷ []) held)) ≤ after)
 
 -- how many for the change of the node of a tree
-pub record IsJoined (is_new : Bool) (c : Change) (t : Tree) (before after : ℕ) (r : Result (Delta × ℕ) AllocError) : Type 0 where
+pub record IsJoined (is_new : Bool) (c : NamesChange) (t : Tree) (before after : ℕ) (r : Result (Delta × ℕ) AllocError) : Type 0 where
   pub most : after ≤ before + most_joins is_new c t
   pub least : IfOk r (λ s. is_error s.0 ≡ false → ticked before (least_joins is_new c t) ≤ after)

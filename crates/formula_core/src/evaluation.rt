@@ -18,7 +18,7 @@ ghost use Rattle.formula_core.specs.Outcomes.{read, error_in};
 ghost use Rattle.formula_core.specs.Counts.{AreItemsCounted, ArePositionsCounted, IsTreeCounted};
 ghost use Rattle.formula_core.specs.Inputs.{IsInput};
 ghost use Rattle.formula_core.specs.Plans.{tree_cost, AreInputs, IsNameSound};
-ghost use Rattle.formula_core.specs.Operands.{outcome_of, array_in, position_in, positions_in, written_arrays};
+ghost use Rattle.formula_core.specs.Evaluated.{outcome_of, array_in, position_in, positions_in, written_arrays};
 ghost use Rattle.formula_core.specs.Meaning.{eval, eval_positions, applied1, applied2, indexed};
 
 use crate::application::{of_both, of_right};
@@ -53,21 +53,21 @@ pub trait Shows {
 
 /// An argument: an array that a name lends, or one that was made on the way.
 #[derive(Drop)]
-pub(crate) enum Operand<'a> {
+pub(crate) enum Evaluated<'a> {
     /// An array that a name shows.
     Lent(&'a Array),
     /// An array that a literal or a function gave.
     Made(Array),
 }
 
-impl<'a> Operand<'a> {
+impl<'a> Evaluated<'a> {
     /// The array that it stands for.
     fn array(&self) -> &Array
         ensures { result.now ≡ array_in self.now }
     {
         match self {
-            Operand::Lent(array) => array,
-            Operand::Made(array) => array,
+            Evaluated::Lent(array) => array,
+            Evaluated::Made(array) => array,
         }
     }
 
@@ -76,8 +76,8 @@ impl<'a> Operand<'a> {
         ensures { IfOk result (λ array. array ≡ array_in self.entry) }
     {
         match self {
-            Operand::Lent(array) => array.copy(),
-            Operand::Made(array) => Ok(array),
+            Evaluated::Lent(array) => array.copy(),
+            Evaluated::Made(array) => Ok(array),
         }
     }
 }
@@ -123,14 +123,14 @@ fn argument<'a, S: Shows>(
     tree: &Expr,
     names: &'a S,
     meter: &mut Meter,
-) -> Result<Result<Operand<'a>, Fault>, AllocError>
+) -> Result<Result<Evaluated<'a>, Fault>, AllocError>
     ensures value { IfOk result (λ operand. outcome_of operand ≡ eval (tree_of tree.now) (S.shows names.entry.now)) }
     ensures counted { IsTreeCounted (S.shows names.entry.now) (tree_of tree.now) meter.old.ticks meter.new.ticks result }
 {
     match tree {
         Expr::Const(literal) => made(array_of(alloc, literal)),
         Expr::Name(name) => match names.result_of(*name) {
-            Ok(array) => Ok(Ok(Operand::Lent(array))),
+            Ok(array) => Ok(Ok(Evaluated::Lent(array))),
             Err(fault) => Ok(Err(fault)),
         },
         Expr::Monad(function, right) => before(
@@ -182,7 +182,7 @@ fn before<'a, S: Shows>(
     right: &Expr,
     names: &'a S,
     meter: &mut Meter,
-) -> Result<Result<Operand<'a>, Fault>, AllocError>
+) -> Result<Result<Evaluated<'a>, Fault>, AllocError>
     ensures value { IfOk result (λ operand. outcome_of operand ≡ eval (before_argument function (tree_of right.now)) (S.shows names.entry.now)) }
     ensures counted { IsTreeCounted (S.shows names.entry.now) (before_argument function (tree_of right.now)) meter.old.ticks meter.new.ticks result }
 {
@@ -200,7 +200,7 @@ fn between<'a, S: Shows>(
     sides: &Sides,
     names: &'a S,
     meter: &mut Meter,
-) -> Result<Result<Operand<'a>, Fault>, AllocError>
+) -> Result<Result<Evaluated<'a>, Fault>, AllocError>
     ensures value { IfOk result (λ operand. outcome_of operand ≡ eval (between_arguments function (tree_of sides.now.left) (tree_of sides.now.right)) (S.shows names.entry.now)) }
     ensures counted { IsTreeCounted (S.shows names.entry.now) (between_arguments function (tree_of sides.now.left) (tree_of sides.now.right)) meter.old.ticks meter.new.ticks result }
 {
@@ -262,7 +262,7 @@ fn position_operands<'a, S: Shows>(
     positions: &[Option<Expr>],
     names: &'a S,
     meter: &mut Meter,
-) -> Result<Result<Vec<Option<Operand<'a>>>, Fault>, AllocError>
+) -> Result<Result<Vec<Option<Evaluated<'a>>>, Fault>, AllocError>
     ensures values { IfOk result (λ operands. positions_in operands ≡ eval_positions (positions_of (map position_of positions.now)) (S.shows names.entry.now)) }
     ensures counted { ArePositionsCounted (S.shows names.entry.now) (positions_of (map position_of positions.now)) meter.old.ticks meter.new.ticks result }
 {
@@ -281,7 +281,10 @@ fn position_operands<'a, S: Shows>(
 }
 
 /// What a function gave, whose items are counted; an error has none.
-fn counted<'a>(given: Result<Operand<'a>, Fault>, meter: &mut Meter) -> Result<Operand<'a>, Fault>
+fn counted<'a>(
+    given: Result<Evaluated<'a>, Fault>,
+    meter: &mut Meter,
+) -> Result<Evaluated<'a>, Fault>
     ensures same { result ≡ given.entry }
     ensures items { AreItemsCounted given.entry meter.old.ticks meter.new.ticks }
 {
@@ -295,14 +298,14 @@ fn counted<'a>(given: Result<Operand<'a>, Fault>, meter: &mut Meter) -> Result<O
 fn apply_monad<'a>(
     alloc: Global,
     function: Function1,
-    right: Result<Operand<'a>, Fault>,
-) -> Result<Result<Operand<'a>, Fault>, AllocError>
+    right: Result<Evaluated<'a>, Fault>,
+) -> Result<Result<Evaluated<'a>, Fault>, AllocError>
     ensures { IfOk result (λ operand. outcome_of operand ≡ applied1 function (outcome_of right.entry)) }
 {
     match right {
         Ok(right) => {
             let outcome = of_right(alloc, function, right.array())?;
-            Ok(as_operand(outcome))
+            Ok(as_evaluated(outcome))
         }
         Err(fault) => Ok(Err(fault)),
     }
@@ -312,16 +315,16 @@ fn apply_monad<'a>(
 fn apply_dyad<'a>(
     alloc: Global,
     function: Function2,
-    left: Result<Operand<'a>, Fault>,
-    right: Result<Operand<'a>, Fault>,
-) -> Result<Result<Operand<'a>, Fault>, AllocError>
+    left: Result<Evaluated<'a>, Fault>,
+    right: Result<Evaluated<'a>, Fault>,
+) -> Result<Result<Evaluated<'a>, Fault>, AllocError>
     ensures { IfOk result (λ operand. outcome_of operand ≡ applied2 function (outcome_of right.entry) (outcome_of left.entry)) }
 {
     match right {
         Ok(right) => match left {
             Ok(left) => {
                 let outcome = of_both(alloc, function, left.array(), right.array())?;
-                Ok(as_operand(outcome))
+                Ok(as_evaluated(outcome))
             }
             Err(fault) => Ok(Err(fault)),
         },
@@ -333,9 +336,9 @@ fn apply_dyad<'a>(
 fn apply_to_number<'a>(
     alloc: Global,
     function: Scalar2,
-    left: Result<Operand<'a>, Fault>,
+    left: Result<Evaluated<'a>, Fault>,
     right: i64,
-) -> Result<Result<Operand<'a>, Fault>, AllocError>
+) -> Result<Result<Evaluated<'a>, Fault>, AllocError>
     ensures { IfOk result (λ operand. outcome_of operand ≡ applied2 (Dyad (Scalar function)) (Ok (scalar_of right)) (outcome_of left.entry)) }
 {
     match left {
@@ -349,8 +352,8 @@ fn apply_number_to<'a>(
     alloc: Global,
     function: Scalar2,
     left: i64,
-    right: Result<Operand<'a>, Fault>,
-) -> Result<Result<Operand<'a>, Fault>, AllocError>
+    right: Result<Evaluated<'a>, Fault>,
+) -> Result<Result<Evaluated<'a>, Fault>, AllocError>
     ensures { IfOk result (λ operand. outcome_of operand ≡ applied2 (Dyad (Scalar function)) (outcome_of right.entry) (Ok (scalar_of left))) }
 {
     match right {
@@ -362,9 +365,9 @@ fn apply_number_to<'a>(
 /// The items of the operand at the indices of the positions, or the positions' error, or the operand's.
 fn apply_index<'a>(
     alloc: Global,
-    operand: Result<Operand<'a>, Fault>,
-    positions: Result<Vec<Option<Operand<'a>>>, Fault>,
-) -> Result<Result<Operand<'a>, Fault>, AllocError>
+    operand: Result<Evaluated<'a>, Fault>,
+    positions: Result<Vec<Option<Evaluated<'a>>>, Fault>,
+) -> Result<Result<Evaluated<'a>, Fault>, AllocError>
     ensures { IfOk result (λ made. outcome_of made ≡ indexed (positions_in positions.entry) (outcome_of operand.entry)) }
 {
     match positions {
@@ -381,7 +384,7 @@ fn apply_index<'a>(
 fn of_positions(
     alloc: Global,
     array: &Array,
-    positions: &[Option<Operand>],
+    positions: &[Option<Evaluated>],
 ) -> Result<Array, ApplyFault>
     ensures { IsAnswerTo (index_whole array.now (map position_in positions.now)) result }
 {
@@ -397,7 +400,7 @@ fn of_positions(
 fn arguments_of<'a>(
     alloc: Global,
     array: &'a Array,
-    positions: &'a [Option<Operand>],
+    positions: &'a [Option<Evaluated>],
 ) -> Result<Vec<Seen<'a>>, AllocError>
     ensures { IfOk result (λ args. args.items ≡ array.now ∷ written_arrays positions.now) }
 {
@@ -412,19 +415,19 @@ fn arguments_of<'a>(
 }
 
 /// What a function gave, as an argument of the next one. Its error has no origin yet.
-fn made<'a>(applied: Result<Array, ApplyFault>) -> Result<Result<Operand<'a>, Fault>, AllocError>
+fn made<'a>(applied: Result<Array, ApplyFault>) -> Result<Result<Evaluated<'a>, Fault>, AllocError>
     ensures { (wanted : Result ArrayValue AKind) → IsAnswerTo wanted applied → IfOk result (λ operand. outcome_of operand ≡ given wanted) }
 {
     let outcome = outcome(applied)?;
-    Ok(as_operand(outcome))
+    Ok(as_evaluated(outcome))
 }
 
 /// An array that was made, as an argument, or the error in its place.
-fn as_operand<'a>(outcome: Result<Array, Fault>) -> Result<Operand<'a>, Fault>
+fn as_evaluated<'a>(outcome: Result<Array, Fault>) -> Result<Evaluated<'a>, Fault>
     ensures { outcome_of result ≡ outcome }
 {
     match outcome {
-        Ok(array) => Ok(Operand::Made(array)),
+        Ok(array) => Ok(Evaluated::Made(array)),
         Err(fault) => Err(fault),
     }
 }

@@ -8,8 +8,8 @@ ghost use Rattle.index_region.specs.Boxes.{box_size};
 ghost use Rattle.index_region.specs.declared.delta.Delta.TheVariants.{Same};
 ghost use Rattle.formula_core.specs.Outcomes.{read};
 ghost use Rattle.formula_core.specs.Meaning.{eval, names_in};
-ghost use Rattle.formula_core.specs.Changes.{Change, at_rest};
-ghost use Rattle.formula_core.specs.Holdings.{nodes_of, not_worked_out, place_change, adopted, AreNew};
+ghost use Rattle.formula_core.specs.Changes.{NamesChange, at_rest};
+ghost use Rattle.formula_core.specs.Holdings.{nodes_of, not_worked_out, place_change, adopted, AreNotWorkedOut};
 ghost use Rattle.formula_core.specs.Formulas.{new_formula, root_result, operations, IsHeld, IsTableOf};
 ghost use Rattle.formula_core.specs.Joins.{most_joins, least_joins, tree_joins, tree_least_joins};
 ghost use Rattle.formula_core.specs.Plans.{tree_cost, node_cost_at, IsComputed, AllComputed, IsPlanOf, IsTold, IsPlanned};
@@ -146,15 +146,15 @@ impl Formula {
     /// has binary digits.
     #[inline(always)]
     pub fn plan(&self, inputs: &[Input], meter: &mut Meter) -> Result<Plan, AllocError>
-        requires { (c : Change) × IsTold self.now c inputs.now }
+        requires { (c : NamesChange) × IsTold self.now c inputs.now }
         ensures of { IfOk result (IsPlanOf self.now) }
-        ensures planned { IfOk result (λ p. (c : Change) → IsTold self.now c inputs.now → IsPlanned self.now c p) }
-        ensures ticks { (c : Change) → IsTold self.now c inputs.now → meter.new.ticks ≤ meter.old.ticks + tree_cost self.now.is_new c self.now.tree }
-        ensures exact { OnOk result ((c : Change) → IsTold self.now c inputs.now → AllComputed self.now.is_new c self.now.tree → meter.new.ticks ≡ ticked meter.old.ticks (tree_cost self.now.is_new c self.now.tree)) }
+        ensures planned { IfOk result (λ p. (c : NamesChange) → IsTold self.now c inputs.now → IsPlanned self.now c p) }
+        ensures ticks { (c : NamesChange) → IsTold self.now c inputs.now → meter.new.ticks ≤ meter.old.ticks + tree_cost self.now.is_new c self.now.tree }
+        ensures exact { OnOk result ((c : NamesChange) → IsTold self.now c inputs.now → AllComputed self.now.is_new c self.now.tree → meter.new.ticks ≡ ticked meter.old.ticks (tree_cost self.now.is_new c self.now.tree)) }
         ensures rises { meter.old.ticks ≤ meter.new.ticks }
-        ensures joins { (c : Change) → IsTold self.now c inputs.now → meter.new.joins ≤ meter.old.joins + tree_joins self.now.is_new c self.now.tree }
-        ensures joined { OnOk result ((c : Change) → IsTold self.now c inputs.now → AllComputed self.now.is_new c self.now.tree → ticked meter.old.joins (tree_least_joins self.now.is_new c self.now.tree) ≤ meter.new.joins) }
-        ensures still { self.now.is_new ≡ false → (c : Change) → IsTold self.now c inputs.now → ((x : List ℕ) → Contains (names_in self.now.tree) x → c.delta x ≡ Same) → meter.new.ticks ≡ meter.old.ticks }
+        ensures joins { (c : NamesChange) → IsTold self.now c inputs.now → meter.new.joins ≤ meter.old.joins + tree_joins self.now.is_new c self.now.tree }
+        ensures joined { OnOk result ((c : NamesChange) → IsTold self.now c inputs.now → AllComputed self.now.is_new c self.now.tree → ticked meter.old.joins (tree_least_joins self.now.is_new c self.now.tree) ≤ meter.new.joins) }
+        ensures still { self.now.is_new ≡ false → (c : NamesChange) → IsTold self.now c inputs.now → ((x : List ℕ) → Contains (names_in self.now.tree) x → c.delta x ≡ Same) → meter.new.ticks ≡ meter.old.ticks }
     {
         let mut plan = self.start(inputs)?;
         while !self.is_whole(&plan) {
@@ -176,10 +176,10 @@ impl Formula {
     /// are as for `plan`.
     #[inline(always)]
     pub fn start(&self, inputs: &[Input]) -> Result<Plan, AllocError>
-        requires { (c : Change) × IsTold self.now c inputs.now }
+        requires { (c : NamesChange) × IsTold self.now c inputs.now }
         ensures none { IfOk result (λ p. operations_among self.now p.changes ≡ 0) }
         ensures cost { IfOk result (λ p. p.cost ≡ 0) }
-        ensures planned { IfOk result (λ p. (c : Change) → IsTold self.now c inputs.now → IsPlannedTo self.now c p) }
+        ensures planned { IfOk result (λ p. (c : NamesChange) → IsTold self.now c inputs.now → IsPlannedTo self.now c p) }
     {
         let mut plan = Plan {
             changes: room_for_changes(self.alloc, &self.room, self.nodes.len())?,
@@ -202,19 +202,19 @@ impl Formula {
         meter: &mut Meter,
     ) -> Result<(), AllocError>
         requires left { operations_among self.now plan.old.changes < operations self.now.tree }
-        requires planned { (c : Change) × (IsTold self.now c inputs.now × IsPlannedTo self.now c plan.old) }
+        requires planned { (c : NamesChange) × (IsTold self.now c inputs.now × IsPlannedTo self.now c plan.old) }
         ensures one { OnOk result (operations_among self.now plan.new.changes ≡ operations_among self.now plan.old.changes + 1) }
-        ensures planned { OnOk result ((c : Change) → IsTold self.now c inputs.now → IsPlannedTo self.now c plan.old → IsPlannedTo self.now c plan.new) }
-        ensures ticks { OnOk result ((c : Change) → IsTold self.now c inputs.now → IsPlannedTo self.now c plan.old
+        ensures planned { OnOk result ((c : NamesChange) → IsTold self.now c inputs.now → IsPlannedTo self.now c plan.old → IsPlannedTo self.now c plan.new) }
+        ensures ticks { OnOk result ((c : NamesChange) → IsTold self.now c inputs.now → IsPlannedTo self.now c plan.old
             → meter.new.ticks ≤ meter.old.ticks + node_cost_at self.now.is_new c (tree_at (subtrees self.now.tree) (length plan.old.changes))) }
-        ensures exact { OnOk result ((c : Change) → IsTold self.now c inputs.now → IsPlannedTo self.now c plan.old → IsComputed self.now.is_new c (tree_at (subtrees self.now.tree) (length plan.old.changes))
+        ensures exact { OnOk result ((c : NamesChange) → IsTold self.now c inputs.now → IsPlannedTo self.now c plan.old → IsComputed self.now.is_new c (tree_at (subtrees self.now.tree) (length plan.old.changes))
             → meter.new.ticks ≡ ticked meter.old.ticks (node_cost_at self.now.is_new c (tree_at (subtrees self.now.tree) (length plan.old.changes)))) }
         ensures rises { meter.old.ticks ≤ meter.new.ticks }
-        ensures cost { OnOk result ((c : Change) → IsTold self.now c inputs.now → IsPlannedTo self.now c plan.old
+        ensures cost { OnOk result ((c : NamesChange) → IsTold self.now c inputs.now → IsPlannedTo self.now c plan.old
             → plan.new.cost ≡ ticked plan.old.cost (node_cost_at self.now.is_new c (tree_at (subtrees self.now.tree) (length plan.old.changes)))) }
-        ensures joins { OnOk result ((c : Change) → IsTold self.now c inputs.now → IsPlannedTo self.now c plan.old
+        ensures joins { OnOk result ((c : NamesChange) → IsTold self.now c inputs.now → IsPlannedTo self.now c plan.old
             → meter.new.joins ≤ meter.old.joins + most_joins self.now.is_new c (tree_at (subtrees self.now.tree) (length plan.old.changes))) }
-        ensures joined { OnOk result ((c : Change) → IsTold self.now c inputs.now → IsPlannedTo self.now c plan.old → IsComputed self.now.is_new c (tree_at (subtrees self.now.tree) (length plan.old.changes))
+        ensures joined { OnOk result ((c : NamesChange) → IsTold self.now c inputs.now → IsPlannedTo self.now c plan.old → IsComputed self.now.is_new c (tree_at (subtrees self.now.tree) (length plan.old.changes))
             → ticked meter.old.joins (least_joins self.now.is_new c (tree_at (subtrees self.now.tree) (length plan.old.changes))) ≤ meter.new.joins) }
         ensures err { OnErr result (plan.new ≡ plan.old) }
         ensures err_meter { OnErr result (meter.new ≡ meter.old) }
@@ -235,8 +235,8 @@ impl Formula {
         meter: &mut Meter,
     ) -> Result<u32, AllocError>
         requires below { length changes.old.items < length self.now.nodes }
-        requires begun { (c : Change) × (IsTold self.now c inputs.now × ((cost : ℕ) × IsBegun self.now c changes.old.items cost)) }
-        ensures more { IfOk result (λ n. (c : Change) → IsTold self.now c inputs.now → (cost : ℕ) → IsBegun self.now c changes.old.items cost
+        requires begun { (c : NamesChange) × (IsTold self.now c inputs.now × ((cost : ℕ) × IsBegun self.now c changes.old.items cost)) }
+        ensures more { IfOk result (λ n. (c : NamesChange) → IsTold self.now c inputs.now → (cost : ℕ) → IsBegun self.now c changes.old.items cost
             → IsOneMore self.now c changes.old.items changes.new.items n meter.old meter.new) }
         ensures err { OnErr result (changes.new.items ≡ changes.old.items) }
     {
@@ -256,8 +256,8 @@ impl Formula {
         meter: &mut Meter,
     ) -> Result<u32, AllocError>
         requires below { length changes.old.items < length self.now.nodes }
-        requires begun { (c : Change) × (IsTold self.now c inputs.now × ((cost : ℕ) × IsBegun self.now c changes.old.items cost)) }
-        ensures more { IfOk result (λ n. (c : Change) → IsTold self.now c inputs.now → (cost : ℕ) → IsBegun self.now c changes.old.items cost
+        requires begun { (c : NamesChange) × (IsTold self.now c inputs.now × ((cost : ℕ) × IsBegun self.now c changes.old.items cost)) }
+        ensures more { IfOk result (λ n. (c : NamesChange) → IsTold self.now c inputs.now → (cost : ℕ) → IsBegun self.now c changes.old.items cost
             → IsOneMore self.now c changes.old.items changes.new.items n meter.old meter.new) }
         ensures err { OnErr result (changes.new.items ≡ changes.old.items) }
     {
@@ -285,9 +285,9 @@ impl Formula {
         meter: &mut Meter,
     ) -> Option<OnePlace>
         requires below { length changes.now < length self.now.nodes }
-        requires begun { (c : Change) × (IsTold self.now c inputs.now × ((cost : ℕ) × IsBegun self.now c changes.now cost)) }
+        requires begun { (c : NamesChange) × (IsTold self.now c inputs.now × ((cost : ℕ) × IsBegun self.now c changes.now cost)) }
         ensures one { IfSome result (λ p. box_size p.region ≡ 1) }
-        ensures step { IfSome result (λ p. (c : Change) → IsTold self.now c inputs.now → (cost : ℕ) → IsBegun self.now c changes.now cost
+        ensures step { IfSome result (λ p. (c : NamesChange) → IsTold self.now c inputs.now → (cost : ℕ) → IsBegun self.now c changes.now cost
             → IsNodeStep self.now.is_new c (tree_at (subtrees self.now.tree) (length changes.now)) (get_or self.now.nodes (length changes.now) not_worked_out)
             (place_change p) 1 meter.old meter.new) }
         ensures none { IsNone result → meter.new ≡ meter.old }
@@ -375,7 +375,7 @@ fn lower_whole(
     requires names { names.old.items ≡ [] }
     requires nodes { nodes.old.items ≡ [] }
     ensures table { OnOk result (IsTableOf names.new.items (nodes_of nodes.new.items) (tree_of tree.now)) }
-    ensures anew { OnOk result (AreNew nodes.new.items) }
+    ensures anew { OnOk result (AreNotWorkedOut nodes.new.items) }
 {
     match lower(alloc, names, nodes, tree)? {
         Operand::Node(_) => {}

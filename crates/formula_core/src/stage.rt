@@ -7,7 +7,7 @@ ghost use Rattle.change_core.specs.Meters.{ticked};
 ghost use Rattle.index_region.specs.Boxes.{box_size};
 ghost use Rattle.change_rules.specs.Nodes.{delta_of_place};
 ghost use Rattle.formula_core.specs.Meaning.{eval};
-ghost use Rattle.formula_core.specs.Changes.{Change, IsNameChanged};
+ghost use Rattle.formula_core.specs.Changes.{NamesChange, IsNameChanged};
 ghost use Rattle.arrays_core.specs.declared.item.Kind.TheVariants.{Value};
 ghost use Rattle.arrays_core.specs.Outcomes.{fault};
 ghost use Rattle.formula_core.specs.declared.input.Input.TheVariants.{Bad};
@@ -16,7 +16,7 @@ ghost use Rattle.formula_core.specs.Holdings.{holdings_of, not_worked_out, place
 ghost use Rattle.formula_core.specs.Joins.{least_joins};
 ghost use Rattle.formula_core.specs.Plans.{node_change};
 ghost use Rattle.formula_core.specs.Rules.{with_change};
-ghost use Rattle.formula_core.specs.Stages.{IsStaged, StagedBy, IsKeptBy, IsMadeBy, IsTaken, IsReady, AreReady, IsStep, IsJoined, IsNodeStep, IsSumsStep, IsLiteralChange};
+ghost use Rattle.formula_core.specs.Stages.{IsStaged, StagedBy, IsKeptBy, IsMadeBy, IsTaken, GivesItsTree, GiveTheirTrees, IsStep, IsJoined, IsNodeStep, IsSumsStep, IsLiteralChange};
 ghost use Rattle.formula_core.specs.Sums.{summed_at, totalled};
 ghost use Rattle.formula_core.specs.Tables.{IsOperand, AreOperands, IsNode, tree_at, tree_of_index, tree_of_operand, tree_of_node};
 
@@ -59,7 +59,7 @@ impl<'a> Stage<'a> {
         requires staged { StagedBy self.now }
         requires literals { IsLiteralChange self.now.is_new self.now.of_literals.now }
         ensures fit { HasFit result }
-        ensures ready { (c : Change) → (names : List (List ℕ)) → (trees : List Tree) → IsStaged c names trees self.now → IsReady self.now.is_new c (tree_of_operand names trees operand.now) result }
+        ensures ready { (c : NamesChange) → (names : List (List ℕ)) → (trees : List Tree) → IsStaged c names trees self.now → GivesItsTree self.now.is_new c (tree_of_operand names trees operand.now) result }
     {
         let input = self.taken(operand);
         if self.is_new {
@@ -92,8 +92,8 @@ impl<'a> Stage<'a> {
         requires staged { StagedBy self.now }
         requires literals { IsLiteralChange self.now.is_new self.now.of_literals.now }
         ensures fit { IfOk result (λ positions. AllHaveFit positions.items) }
-        ensures ready { IfOk result (λ positions. (c : Change) → (names : List (List ℕ)) → (trees : List Tree) → IsStaged c names trees self.now
-            → AreReady self.now.is_new c (map (option_map (tree_of_operand names trees)) operands.now) positions.items) }
+        ensures ready { IfOk result (λ positions. (c : NamesChange) → (names : List (List ℕ)) → (trees : List Tree) → IsStaged c names trees self.now
+            → GiveTheirTrees self.now.is_new c (map (option_map (tree_of_operand names trees)) operands.now) positions.items) }
     {
         let mut positions = SmallVec::new(self.alloc);
         for operand in operands {
@@ -119,10 +119,10 @@ impl<'a> Stage<'a> {
         requires old { self.now.is_new ≡ false }
         requires literals { IsLiteralChange self.now.is_new self.now.of_literals.now }
         ensures one { IfSome result (λ p. box_size p.region ≡ 1) }
-        ensures step { IfSome result (λ p. (c : Change) → (names : List (List ℕ)) → (trees : List Tree) → IsStaged c names trees self.now → held.now ≡ eval (tree_of_node names trees node.now) c.old
+        ensures step { IfSome result (λ p. (c : NamesChange) → (names : List (List ℕ)) → (trees : List Tree) → IsStaged c names trees self.now → held.now ≡ eval (tree_of_node names trees node.now) c.old
             → IsStep self.now.is_new c (tree_of_node names trees node.now) meter.old.ticks meter.new.ticks (Ok (delta_of_place p, 1))) }
         ensures unsummed { IfSome result (λ p. totalled node.now ≡ None) }
-        ensures unjoined { IfSome result (λ p. (c : Change) → (names : List (List ℕ)) → (trees : List Tree) → least_joins self.now.is_new c (tree_of_node names trees node.now) ≡ 0) }
+        ensures unjoined { IfSome result (λ p. (c : NamesChange) → (names : List (List ℕ)) → (trees : List Tree) → least_joins self.now.is_new c (tree_of_node names trees node.now) ≡ 0) }
         ensures ticks { IfSome result (λ p. meter.new.ticks ≡ ticked meter.old.ticks 1) }
         ensures joins { meter.new.joins ≡ meter.old.joins }
         ensures none { IsNone result → meter.new ≡ meter.old }
@@ -156,7 +156,7 @@ impl<'a> Stage<'a> {
         requires staged { StagedBy self.now }
         requires literals { IsLiteralChange self.now.is_new self.now.of_literals.now }
         ensures one { IfSome result (λ p. box_size p.region ≡ 1) }
-        ensures step { IfSome result (λ p. (c : Change) → (names : List (List ℕ)) → (trees : List Tree) → IsStaged c names trees self.now
+        ensures step { IfSome result (λ p. (c : NamesChange) → (names : List (List ℕ)) → (trees : List Tree) → IsStaged c names trees self.now
             → IsNodeStep self.now.is_new c (tree_at trees (length self.now.changes.now)) (get_or (holdings_of self.now.nodes.now) (length self.now.changes.now) not_worked_out)
             (place_change p) 1 meter.old meter.new) }
         ensures none { IsNone result → meter.new ≡ meter.old }
@@ -172,7 +172,7 @@ impl<'a> Stage<'a> {
         requires below { length self.now.changes.now < length self.now.nodes.now }
         requires staged { StagedBy self.now }
         requires literals { IsLiteralChange self.now.is_new self.now.of_literals.now }
-        ensures { IfOk result (λ n. (c : Change) → (names : List (List ℕ)) → (trees : List Tree) → IsStaged c names trees self.now
+        ensures { IfOk result (λ n. (c : NamesChange) → (names : List (List ℕ)) → (trees : List Tree) → IsStaged c names trees self.now
             → IsNodeStep self.now.is_new c (tree_at trees (length self.now.changes.now)) (get_or (holdings_of self.now.nodes.now) (length self.now.changes.now) not_worked_out)
             change.new n meter.old meter.new) }
     {
@@ -202,10 +202,10 @@ impl<'a> Stage<'a> {
         requires kept { IsKeptBy self.now node.now kept.now }
         requires made { IsMadeBy self.now node.now made.now }
         requires literals { IsLiteralChange self.now.is_new self.now.of_literals.now }
-        ensures step { (c : Change) → (names : List (List ℕ)) → (trees : List Tree) → IsStaged c names trees self.now
+        ensures step { (c : NamesChange) → (names : List (List ℕ)) → (trees : List Tree) → IsStaged c names trees self.now
             → (self.now.is_new ≡ false → held.now ≡ eval (tree_of_node names trees node.now) c.old)
             → IsStep self.now.is_new c (tree_of_node names trees node.now) meter.old.ticks meter.new.ticks (with_change change.new result) }
-        ensures joins { (c : Change) → (names : List (List ℕ)) → (trees : List Tree) → IsStaged c names trees self.now
+        ensures joins { (c : NamesChange) → (names : List (List ℕ)) → (trees : List Tree) → IsStaged c names trees self.now
             → (self.now.is_new ≡ false → held.now ≡ eval (tree_of_node names trees node.now) c.old)
             → IsJoined self.now.is_new c (tree_of_node names trees node.now) meter.old.joins meter.new.joins (with_change change.new result) }
     {
@@ -244,7 +244,7 @@ impl<'a> Stage<'a> {
         requires positions { AreOperands (length self.now.inputs.now) (length self.now.changes.now) positions.now }
         requires staged { StagedBy self.now }
         requires literals { IsLiteralChange self.now.is_new self.now.of_literals.now }
-        ensures step { (c : Change) → (names : List (List ℕ)) → (trees : List Tree) → IsStaged c names trees self.now
+        ensures step { (c : NamesChange) → (names : List (List ℕ)) → (trees : List Tree) → IsStaged c names trees self.now
             → (self.now.is_new ≡ false → held.now ≡ eval (tree_of_index names trees array.now positions.now) c.old)
             → IsStep self.now.is_new c (tree_of_index names trees array.now positions.now) meter.old.ticks meter.new.ticks (with_change change.new result) }
         ensures joins { meter.new.joins ≡ meter.old.joins }
@@ -259,7 +259,7 @@ impl<'a> Stage<'a> {
         requires node { IsNode (length self.now.inputs.now) (length self.now.changes.now) node.now }
         requires staged { StagedBy self.now }
         requires literals { IsLiteralChange self.now.is_new self.now.of_literals.now }
-        ensures { IfOk result (λ s. (c : Change) → (names : List (List ℕ)) → (trees : List Tree) → IsStaged c names trees self.now
+        ensures { IfOk result (λ s. (c : NamesChange) → (names : List (List ℕ)) → (trees : List Tree) → IsStaged c names trees self.now
             → (self.now.is_new ≡ false → kept.now ≡ summed_at c.old (tree_of_node names trees node.now)) → IsSumsStep c (tree_of_node names trees node.now) kept.now s) }
     {
         match node.totalled() {
@@ -274,7 +274,7 @@ impl<'a> Stage<'a> {
     #[inline(never)]
     fn change_of_literal(&self, constant: &Constant, change: &mut Delta) -> Result<u32, AllocError>
         requires { IsLiteralChange self.now.is_new self.now.of_literals.now }
-        ensures change { OnOk result ((c : Change) → change.new ≡ node_change self.now.is_new c (Const constant.now)) }
+        ensures change { OnOk result ((c : NamesChange) → change.new ≡ node_change self.now.is_new c (Const constant.now)) }
         ensures free { IfOk result (λ n. n ≡ 0) }
     {
         if !self.is_new {
@@ -289,7 +289,7 @@ impl<'a> Stage<'a> {
     #[inline(never)]
     fn change_of_name(&self, place: usize, change: &mut Delta) -> Result<u32, AllocError>
         requires { place < length self.now.inputs.now }
-        ensures change { OnOk result ((c : Change) → (x : List ℕ) → IsInput (c.new x) (c.delta x) (get_or self.now.inputs.now place (Bad (fault Value) false)) → IsNameChanged c x
+        ensures change { OnOk result ((c : NamesChange) → (x : List ℕ) → IsInput (c.new x) (c.delta x) (get_or self.now.inputs.now place (Bad (fault Value) false)) → IsNameChanged c x
             → change.new ≡ node_change self.now.is_new c (Name x)) }
         ensures free { IfOk result (λ n. n ≡ 0) }
     {
@@ -300,7 +300,7 @@ impl<'a> Stage<'a> {
 
     /// What changes of a name that is the whole expression: what changed of the name, and in a new formula it is new.
     fn delta_of_name(&self, input: &Input) -> Result<Delta, AllocError>
-        ensures { IfOk result (λ d. (c : Change) → (x : List ℕ) → IsInput (c.new x) (c.delta x) input.now → IsNameChanged c x → d ≡ node_change self.now.is_new c (Name x)) }
+        ensures { IfOk result (λ d. (c : NamesChange) → (x : List ℕ) → IsInput (c.new x) (c.delta x) input.now → IsNameChanged c x → d ≡ node_change self.now.is_new c (Name x)) }
     {
         if self.is_new {
             return Ok(Delta::Whole(input.copy()?));

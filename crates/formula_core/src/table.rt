@@ -3,7 +3,7 @@
 ghost use Rattle.std.specs.Prelude.{◌≡◌, ◌++◌, [], ◌∷◌, length, map, option_map, IfOk, OnOk};
 ghost use Rattle.apl_expr.specs.Trees.{tree_of, position_of, positions_of, between_arguments};
 ghost use Rattle.formula_core.specs.declared.table.Operand.TheVariants.{Node as NodeAt};
-ghost use Rattle.formula_core.specs.Holdings.{nodes_of, AreNew};
+ghost use Rattle.formula_core.specs.Holdings.{nodes_of, AreNotWorkedOut};
 ghost use Rattle.formula_core.specs.Sums.{totalled};
 ghost use Rattle.formula_core.specs.Tables.{IsLowered, ArePositionsLowered, applies};
 
@@ -70,7 +70,7 @@ pub(crate) fn lower(
     tree: &Expr,
 ) -> Result<Operand, AllocError>
     ensures lowered { IfOk result (λ operand. IsLowered names.old.items names.new.items (nodes_of nodes.old.items) (nodes_of nodes.new.items) (tree_of tree.now) operand) }
-    ensures anew { OnOk result (AreNew nodes.old.items → AreNew nodes.new.items) }
+    ensures anew { OnOk result (AreNotWorkedOut nodes.old.items → AreNotWorkedOut nodes.new.items) }
 {
     match tree {
         Expr::Const(literal) => {
@@ -126,7 +126,7 @@ fn lower_between(
     function: Function2,
     sides: &Sides,
 ) -> Result<Operand, AllocError>
-    ensures anew { OnOk result (AreNew nodes.old.items → AreNew nodes.new.items) }
+    ensures anew { OnOk result (AreNotWorkedOut nodes.old.items → AreNotWorkedOut nodes.new.items) }
     ensures lowered { IfOk result (λ operand. IsLowered names.old.items names.new.items (nodes_of nodes.old.items) (nodes_of nodes.new.items) (between_arguments function (tree_of sides.now.left) (tree_of sides.now.right)) operand) }
 {
     let left = lower(alloc, names, nodes, &sides.left)?;
@@ -143,7 +143,7 @@ fn lower_positions(
     nodes: &mut Vec<Kept>,
     positions: &[Option<Expr>],
 ) -> Result<Vec<Option<Operand>>, AllocError>
-    ensures anew { OnOk result (AreNew nodes.old.items → AreNew nodes.new.items) }
+    ensures anew { OnOk result (AreNotWorkedOut nodes.old.items → AreNotWorkedOut nodes.new.items) }
     ensures lowered { IfOk result (λ operands. ArePositionsLowered names.old.items names.new.items (nodes_of nodes.old.items) (nodes_of nodes.new.items) (map position_of positions.now) operands.items) }
 {
     let mut operands = Vec::new(alloc);
@@ -222,7 +222,7 @@ fn room_within(positions: &[Option<Expr>]) -> Room {
 fn push(nodes: &mut Vec<Kept>, node: Node) -> Result<Operand, AllocError>
     ensures nodes { OnOk result (nodes_of nodes.new.items ≡ nodes_of nodes.old.items ++ node ∷ []) }
     ensures place { IfOk result (λ operand. operand ≡ NodeAt (length (nodes_of nodes.old.items))) }
-    ensures anew { OnOk result (AreNew nodes.old.items → AreNew nodes.new.items) }
+    ensures anew { OnOk result (AreNotWorkedOut nodes.old.items → AreNotWorkedOut nodes.new.items) }
 {
     let place = nodes.len();
     nodes.push(Kept::new(node))?;

@@ -61,7 +61,7 @@ module _ (old new : Names) (name : List ℕ) (own : Delta) where
   delta_apart order o q apart = delta_is order o q ∙ cond-false _ _ _ apart
 
   module _ (found : List (List ℕ)) (closed : Follows (λ a b. Refers new b a) (λ x. ⊥) found) (named : Contains found name) where
-    unreached_by : (c : formula.Change) (q : List ℕ) (b : Option Binding) → binding new q ≡ b → (Contains found q → ⊥) → ((x : List ℕ) → (Contains found x → ⊥) → c.delta x ≡ Same) → delta_by q b c ≡ Same
+    unreached_by : (c : formula.NamesChange) (q : List ℕ) (b : Option Binding) → binding new q ≡ b → (Contains found q → ⊥) → ((x : List ℕ) → (Contains found x → ⊥) → c.delta x ≡ Same) → delta_by q b c ≡ Same
     unreached_by c q None is none same = refl
     unreached_by c q (Some (Data a)) is none same = refl
     unreached_by c q (Some (Formula t)) is none same = ap (origin_delta q) (unchanged_costs_nothing t c (λ x o. same x (apart_from_found new name found closed named q x none (t, is, o)))).0

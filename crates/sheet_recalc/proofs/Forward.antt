@@ -10,7 +10,7 @@ use Rattle.std.proofs.lemmas.List.Sums.{sum_by_push}
 use Rattle.std.proofs.Math.Seq.{get_or-append_seam}
 use Rattle.change_core.specs.Meters.{ticked}
 use Rattle.dep_order.specs.Users.{HasNothing}
-use Rattle.formula_core.specs.Changes.{Change}
+use Rattle.formula_core.specs.Changes.{NamesChange}
 use Rattle.formula_core.specs.Formulas.{FormulaValue, operations}
 use Rattle.formula_core.specs.Plans.{PlanValue, node_cost_at, tree_cost, IsComputed, AllComputed, IsPlanOf, IsPlanned as IsFormulaPlanned}
 use Rattle.formula_core.specs.Progress.{operations_among, IsPlannedTo}
@@ -55,7 +55,7 @@ none_in es none q = by (lookup (bytes_eq q) es) refl
     by (Some v) is = none q v is
 
 module _ (o : Outline) where
-  abbrev c : Change
+  abbrev c : NamesChange
   c = proposed_change o
 
   abbrev new : Names

@@ -26,7 +26,7 @@ use Rattle.arrays_core.specs.Outcomes.{Outcome, fault}
 use Rattle.formula_core.specs.Meaning.{eval, names_in}
 use Rattle.formula_core.specs.Tables.{subtrees}
 use Rattle.formula_core.specs.Formulas.{FormulaValue, root_result}
-use Rattle.formula_core.specs.Changes.{Change, FitsIn, IsNameChanged}
+use Rattle.formula_core.specs.Changes.{NamesChange, FitsIn, IsNameChanged}
 use Rattle.formula_core.specs.declared.kept.NodeChange.{NodeChange}
 use Rattle.formula_core.specs.Holdings.{Holding, holding_at, not_worked_out, no_change, taking, adopted}
 use Rattle.formula_core.specs.Inputs.{IsInput, IsAllOrNothing}
@@ -128,7 +128,7 @@ adopted_at (d ∷ ds) (h ∷ hs) zero long = refl
 adopted_at (d ∷ ds) (h ∷ hs) (suc k) long = adopted_at ds hs k (omega (arith, long))
 
 -- a plan has a change for each tree that has a node, and the last is that of the tree
-module _ (f : FormulaValue) (c : Change) (p : PlanValue) (planned : IsPlanned f c p) where
+module _ (f : FormulaValue) (c : NamesChange) (p : PlanValue) (planned : IsPlanned f c p) where
   pub each_changed : length p.changes ≡ length (subtrees f.tree)
   each_changed = sym (length-map p.changes (λ (d : NodeChange). d.delta)) ∙ (ap (λ (ds : List Delta). length ds) planned.changes ∙ length-map (subtrees f.tree) (node_change f.is_new c))
 
@@ -166,7 +166,7 @@ module _ (o : Outline) where
   abbrev new : Names
   new = proposed_names o
 
-  abbrev c : Change
+  abbrev c : NamesChange
   c = proposed_change o
 
   -- what a name's entry is then, and what it is bound to
@@ -418,7 +418,7 @@ plan_now o q p f plan held =
     subst (λ (g : FormulaValue). IsPlanOf g p × IsPlanned g (proposed_change o) p) same (plan.of, plan.planned)
 
 -- the inputs of further names
-pub inputs_more : (c : Change) (names : List (List ℕ)) (inputs : List Input) (x : List ℕ) (i : Input) → AreInputs c names inputs → IsInput (c.new x) (c.delta x) i → AreInputs c (names ++ x ∷ []) (inputs ++ i ∷ [])
+pub inputs_more : (c : NamesChange) (names : List (List ℕ)) (inputs : List Input) (x : List ℕ) (i : Input) → AreInputs c names inputs → IsInput (c.new x) (c.delta x) i → AreInputs c (names ++ x ∷ []) (inputs ++ i ∷ [])
 inputs_more c [] [] x i are is = (is, tt)
 inputs_more c [] (j ∷ inputs) x i are is = absurd are
 inputs_more c (y ∷ names) [] x i are is = absurd are
@@ -436,12 +436,12 @@ of_two P x z one two = all_more P (x ∷ []) z (of_one P x one) two
 -- the plan that a formula makes of itself is one of the name
 module _ (o : Outline) where
   pub plan_made : (q : List ℕ) (f : FormulaValue) → entry_of o q ≡ Some (entry.Formula f) → (inputs : List Input) (r : Result PlanValue AllocError)
-      → IsTold f (proposed_change o) inputs → IfOk r (IsPlanOf f) → IfOk r (λ p. (c : Change) → IsTold f c inputs → IsPlanned f c p) → IfOk r (IsPlanAt o q)
+      → IsTold f (proposed_change o) inputs → IfOk r (IsPlanOf f) → IfOk r (λ p. (c : NamesChange) → IsTold f c inputs → IsPlanned f c p) → IfOk r (IsPlanAt o q)
   plan_made q f held inputs (Err e) told fits planned = tt
   plan_made q f held inputs (Ok p) told fits planned = record { formula = f; held = held; of = fits; planned = planned (proposed_change o) told }
 
   pub plan_costs : IsProposed o → (q : List ℕ) (f : FormulaValue) → entry_of o q ≡ Some (entry.Formula f) → (inputs : List Input) (r : Result PlanValue AllocError)
-      → IsTold f (proposed_change o) inputs → IfOk r (λ p. (c : Change) → IsTold f c inputs → IsPlanned f c p)
+      → IsTold f (proposed_change o) inputs → IfOk r (λ p. (c : NamesChange) → IsTold f c inputs → IsPlanned f c p)
       → IfOk r (λ p. p.cost ≡ ticked 0 (name_cost o.name (proposed_change o) (proposed_names o) q))
   plan_costs ready q f held inputs (Err e) told planned = tt
   plan_costs ready q f held inputs (Ok p) told planned = (planned (proposed_change o) told).cost ∙ ap (ticked 0) (formula_cost o ready q f held)

@@ -60,7 +60,7 @@ whole_ticks s change p h none =
       most = subst (λ n. p.ticks ≤ n) cost ready.few;
       all = λ good.
           let same = subst (λ (name : List ℕ). NoItemFails name (proposed_change (outline_for s.tables p)) new) (sym h.name_is)
-          (subst (λ (c : formula.Change). NoItemFails (changed_name change) c new) (sym h.makes) good) in
+          (subst (λ (c : formula.NamesChange). NoItemFails (changed_name change) c new) (sym h.makes) good) in
           ready.whole same ∙ cost;
     }
 
@@ -110,4 +110,4 @@ step_cost s change p h cut =
     let new = names_after s.tables p in
     let k = h.begun.untold cut in
     let named = subst (λ (name : List ℕ). IsNodeCost name (proposed_change (outline_for s.tables p)) new k.0) h.name_is k.1 in
-    (k.0, record { new = new; accepts = h.accepts; node = subst (λ (c : formula.Change). IsNodeCost (changed_name change) c new k.0) h.makes named }, k.2)
+    (k.0, record { new = new; accepts = h.accepts; node = subst (λ (c : formula.NamesChange). IsNodeCost (changed_name change) c new k.0) h.makes named }, k.2)

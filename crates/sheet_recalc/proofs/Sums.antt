@@ -97,7 +97,7 @@ module _ {X : Type 0} (f : List ℕ × X → ℕ) where
       omega (arith, first, rest, parts, here)
 
 -- `found` are the name and all that reach it
-module _ (new : Names) (name : List ℕ) (c : formula.Change) (found : List (List ℕ)) (closed : Follows (λ a b. Refers new b a) (λ x. ⊥) found) (named : Contains found name)
+module _ (new : Names) (name : List ℕ) (c : formula.NamesChange) (found : List (List ℕ)) (closed : Follows (λ a b. Refers new b a) (λ x. ⊥) found) (named : Contains found name)
     (unreached : (q : List ℕ) → (Contains found q → ⊥) → c.delta q ≡ Same) where
   -- a name that is not found costs nothing
   pub costs_nothing : (q : List ℕ) (b : Binding) → binding new q ≡ Some b → (Contains found q → ⊥) → binding_cost name c (q, b) ≡ 0

@@ -21,8 +21,8 @@ abbrev pub index_of_numbers : List ℤ → List ℕ
 index_of_numbers positions = map index_of_number positions
 
 -- an index lies on an axis of this length
-abbrev pub is_on_axis : ℕ → ℕ → Bool
-is_on_axis axis index = nat_le 1 index && nat_le index axis
+abbrev pub lies_on_axis : ℕ → ℕ → Bool
+lies_on_axis axis index = nat_le 1 index && nat_le index axis
 
 -- the items of a literal
 abbrev pub literal_items : Literal → List Item

@@ -56,12 +56,12 @@ origin_delta name (Whole r) = Whole (with_origin name r)
 origin_delta name d = d
 
 -- what changed of a name by its formula, where the names in it changed so
-abbrev pub delta_by : List ℕ → Option Binding → formula.Change → Delta
+abbrev pub delta_by : List ℕ → Option Binding → formula.NamesChange → Delta
 delta_by name (Some (Formula t)) c = origin_delta name (formula.change c t)
 delta_by name b c = Same
 
 -- what names showed and show, with what changed of them
-abbrev pub names_change : Names → Names → (List ℕ → Delta) → formula.Change
+abbrev pub names_change : Names → Names → (List ℕ → Delta) → formula.NamesChange
 names_change old new delta = record { old = val old; new = val new; delta = delta }
 
 -- what changed of a name, worked out to a depth, where this is what changed of the name that the change is about
@@ -74,20 +74,20 @@ abbrev pub name_delta : Names → Names → List ℕ → Delta → List ℕ → 
 name_delta old new name own q = delta_at (length new) old new name own q
 
 -- what a change makes of each name
-abbrev pub sheet_change : Names → Names → List ℕ → Delta → formula.Change
+abbrev pub sheet_change : Names → Names → List ℕ → Delta → formula.NamesChange
 sheet_change old new name own = names_change old new (name_delta old new name own)
 
 -- what it costs at one name; the formula of the name that the change is about is new
-abbrev pub binding_cost : List ℕ → formula.Change → List ℕ × Binding → ℕ
+abbrev pub binding_cost : List ℕ → formula.NamesChange → List ℕ × Binding → ℕ
 binding_cost name c (q, Data a) = 0
 binding_cost name c (q, Formula t) = tree_cost (bytes_eq q name) c t
 
 -- and at all names
-abbrev pub formulas_cost : List ℕ → formula.Change → Names → ℕ
+abbrev pub formulas_cost : List ℕ → formula.NamesChange → Names → ℕ
 formulas_cost name c names = sum_by (binding_cost name c) names
 
 -- the names as they are, of which nothing changed
-abbrev pub names_at_rest : Names → formula.Change
+abbrev pub names_at_rest : Names → formula.NamesChange
 names_at_rest names = names_change names names (λ q. Same)
 
 -- what working out the expression of stored data costs: it counts as a new formula
@@ -96,7 +96,7 @@ expression_cost old (Store n t) = tree_cost true (names_at_rest old) t
 expression_cost old change = 0
 
 -- what a change makes of each name that takes old to new
-abbrev pub asked_change : Names → SheetChange → Names → formula.Change
+abbrev pub asked_change : Names → SheetChange → Names → formula.NamesChange
 asked_change old change new = sheet_change old new (changed_name change) (own_delta change new)
 
 -- and what it costs
@@ -108,7 +108,7 @@ abbrev pub HasCost : Names → SheetChange → Names → ℕ → Type 0
 HasCost old change new cost = cost ≡ ticked 0 (change_cost old change new)
 
 -- no item fails of those that the formulas of the names compute, where the change makes this of each and is about this name
-abbrev pub NoItemFails : List ℕ → formula.Change → Names → Type 0
+abbrev pub NoItemFails : List ℕ → formula.NamesChange → Names → Type 0
 NoItemFails name c names = (q : List ℕ) (t : Tree) → binding names q ≡ Some (Formula t) → AllComputed (bytes_eq q name) c t
 
 -- so many items were computed in the change: no more than it costs, and as many where none of them fails
@@ -137,7 +137,7 @@ pub record IsStepCount (names : Names) (name : List ℕ) (steps : ℕ) : Type 0 
   pub steps_are : steps ≡ sum_by (functions_in names) found
 
 -- some one node of the formulas costs so much: the node at this place of the tree that this name is bound to
-pub record IsNodeCost (name : List ℕ) (c : formula.Change) (names : Names) (cost : ℕ) : Type 0 where
+pub record IsNodeCost (name : List ℕ) (c : formula.NamesChange) (names : Names) (cost : ℕ) : Type 0 where
   pub at : List ℕ
   pub tree : Tree
   pub bound : binding names at ≡ Some (Formula tree)

@@ -89,7 +89,7 @@ pub record IsAhead (a : Ahead) : Type 0 where
   pub unchanged : a.unchanged.now ≡ Same
 
 -- what the change costs at a name
-abbrev pub name_cost : List ℕ → formula.Change → Names → List ℕ → ℕ
+abbrev pub name_cost : List ℕ → formula.NamesChange → Names → List ℕ → ℕ
 name_cost name c names q = option_map_or (λ b. binding_cost name c (q, b)) (binding names q) 0
 
 -- and at all of these
@@ -112,7 +112,7 @@ abbrev pub functions_at : Outline → List ℕ → ℕ
 functions_at o q = functions_in (proposed_names o) q
 
 -- what the nodes so far of a plan of a formula cost
-abbrev pub spent_by : FormulaValue → formula.Change → formula_plan.PlanValue → ℕ
+abbrev pub spent_by : FormulaValue → formula.NamesChange → formula_plan.PlanValue → ℕ
 spent_by f c p = sum_by (formula_plan.node_cost_at f.is_new c) (take (length p.changes) (subtrees f.tree))
 
 -- a plan of the formula of the last of these names is on its way: so many of its functions are applied, and its nodes so far cost so much; where

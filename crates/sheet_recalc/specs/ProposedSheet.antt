@@ -82,7 +82,7 @@ proposed_delta name names (proposed.Formula f) = Whole (val names name)
 proposed_delta name names proposed.Removed = Whole (val names name)
 
 -- what the change makes of each name
-abbrev pub proposed_change : Outline → formula.Change
+abbrev pub proposed_change : Outline → formula.NamesChange
 proposed_change o = sheet_change (names_of o.entries) (proposed_names o) o.name (proposed_delta o.name (proposed_names o) o.proposal)
 
 -- what it costs at all names

@@ -9,7 +9,7 @@ ghost use Rattle.index_region.specs.Patches.{FitsPatch, patched};
 ghost use Rattle.index_region.specs.declared.delta.Delta.TheVariants.{Patch as IsPatched};
 ghost use Rattle.sheet_recalc.specs.Names.{binding, Data};
 ghost use Rattle.sheet_recalc.specs.Entries.{names_of, HasData};
-ghost use Rattle.sheet_recalc.specs.Cells.{cell_put, index_of_number, index_of_numbers, is_on_axis, literal_items, item_put, IsDataAnswer, IsOnlyItem};
+ghost use Rattle.sheet_recalc.specs.Cells.{cell_put, index_of_number, index_of_numbers, lies_on_axis, literal_items, item_put, IsDataAnswer, IsOnlyItem};
 ghost use Rattle.sheet_recalc.specs.Costs.{cell_patch, cell_delta};
 
 use crate::entry::Entry;
@@ -126,8 +126,8 @@ fn index_of(shape: &Shape, positions: &[i64]) -> Option<Shape>
 
 /// A position as an index, where it lies on an axis of this length.
 fn index_on_axis(number: i64, axis: u32) -> Option<u32>
-    ensures { MatchOption result (is_on_axis axis (index_of_number number) ≡ false)
-        (λ index. (index ≡ index_of_number number) × (is_on_axis axis (index_of_number number) ≡ true)) }
+    ensures { MatchOption result (lies_on_axis axis (index_of_number number) ≡ false)
+        (λ index. (index ≡ index_of_number number) × (lies_on_axis axis (index_of_number number) ≡ true)) }
 {
     if number < 1 || number > i64::from(axis) {
         return None;

@@ -4,7 +4,7 @@ use Rattle.arrays_core.specs.Arrays.{ArrayValue, IsArray}
 use Rattle.index_region.specs.declared.delta.Delta.{Delta}
 use Rattle.change_rules.specs.Currency.{applied}
 use Rattle.formula_core.specs.declared.input.Input.{Input}
-use Rattle.formula_core.specs.Changes.{Change, FitsIn}
+use Rattle.formula_core.specs.Changes.{NamesChange, FitsIn}
 use Rattle.formula_core.specs.Formulas.{FormulaValue, IsHeld}
 use Rattle.formula_core.specs.Inputs.{IsInput}
 use Rattle.formula_core.specs.Meaning.{names_in}
@@ -13,7 +13,7 @@ use Rattle.formula_core.specs.Plans.{PlanValue, AreInputs, IsTold, IsPlanned}
 
 -- an array before and after, and what changed of it
 module _ (a b : ArrayValue) (d : Delta) (becomes : applied d (Ok a) ≡ Ok b) (fit : FitsIn d (Ok a)) (sound_a : IsArray a) (sound_b : IsArray b) where
-  abbrev pub one_change : Change
+  abbrev pub one_change : NamesChange
   one_change = record { old = λ x. Ok a; new = λ x. Ok b; delta = λ x. d }
 
   one_input : (names : List (List ℕ)) (i : Input) → length names ≡ 1 → IsInput (Ok b) d i → AreInputs one_change names (i ∷ [])

@@ -10,7 +10,7 @@ use Rattle.apl_expr.proofs.Rows.{tree_index}
 use Rattle.selection_fns.specs.Index.{Position}
 use Rattle.arrays_core.specs.declared.fault.Fault.{Fault}
 use Rattle.formula_core.specs.Counts.{cost_in, cost_in_positions, ArePositionsCounted, IsTreeCounted}
-use Rattle.formula_core.specs.Operands.{outcome_of, position_in, positions_in}
+use Rattle.formula_core.specs.Evaluated.{outcome_of, position_in, positions_in}
 use Rattle.arrays_core.specs.Outcomes.{Outcome}
 use Rattle.formula_core.specs.Meaning.{eval, eval_positions, applied1, applied2, indexed}
 use Rattle.formula_core.proofs.Applied.{eval_before, eval_between}

@@ -1,10 +1,10 @@
 use Rattle.std.proofs.Common.{◌∙◌, sym}
 use Rattle.arrays_core.specs.Outcomes.{given}
-use Rattle.formula_core.specs.Operands.{outcome_of}
+use Rattle.formula_core.specs.Evaluated.{outcome_of}
 use Rattle.formula_core.specs.Meaning.{of_both, applied2}
 use Rattle.formula_core.proofs.evaluation.apply_dyad.Goals as goal
 
 pub returns-in-Ok-left : goal.returns-in-Ok-left
 returns-in-Ok-left c =
     let f = c.args.function in
-    c.as_operand.ensures ∙ c.in_ok-outcome-in-Ok-left.ensures ∙ (λ i. given (of_both f (c.array.ensures i) (c.array-in-Ok-left.ensures i))) ∙ sym (λ i. applied2 f (outcome_of (c.in-Ok.is i)) (outcome_of (c.in-Ok-left.is i)))
+    c.as_evaluated.ensures ∙ c.in_ok-outcome-in-Ok-left.ensures ∙ (λ i. given (of_both f (c.array.ensures i) (c.array-in-Ok-left.ensures i))) ∙ sym (λ i. applied2 f (outcome_of (c.in-Ok.is i)) (outcome_of (c.in-Ok-left.is i)))

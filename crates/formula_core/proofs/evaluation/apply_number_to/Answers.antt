@@ -4,7 +4,7 @@ use Rattle.apl_expr.specs.declared.expr.Dyadic.TheVariants.{Scalar}
 use Rattle.apl_expr.specs.declared.functions.Function2.TheVariants.{Dyad}
 use Rattle.arrays_core.specs.Arrays.{IsAnswerTo, ArrayValue, scalar_of}
 use Rattle.scalar_fns.specs.ScalarExtension.{dyadic_on_arrays}
-use Rattle.formula_core.specs.Operands.{outcome_of, array_in}
+use Rattle.formula_core.specs.Evaluated.{outcome_of, array_in}
 use Rattle.formula_core.specs.Meaning.{of_both, applied2}
 use Rattle.formula_core.proofs.evaluation.apply_number_to.Goals as goal
 

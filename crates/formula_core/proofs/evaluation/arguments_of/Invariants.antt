@@ -1,5 +1,5 @@
 use Rattle.std.proofs.Common.{◌≡◌, ◌∷◌, ◌++◌, drop}
-use Rattle.formula_core.specs.Operands.{written_arrays}
+use Rattle.formula_core.specs.Evaluated.{written_arrays}
 use Rattle.formula_core.proofs.evaluation.arguments_of.Given as goal
 
 abbrev pub invariant-loop-position : goal.invariant-loop-position

@@ -1,11 +1,11 @@
 use Rattle.std.proofs.Common.{take, map}
 use Rattle.apl_expr.specs.Trees.{position_of}
-use Rattle.formula_core.specs.Holdings.{nodes_of, AreNew}
+use Rattle.formula_core.specs.Holdings.{nodes_of, AreNotWorkedOut}
 use Rattle.formula_core.specs.Tables.{ArePositionsLowered}
 use Rattle.formula_core.proofs.table.+lower.Given as goal
 
 abbrev pub invariant-lower_positions-loop-position : goal.invariant-lower_positions-loop-position
 invariant-lower_positions-loop-position l = record {
   lowered : ArePositionsLowered l.fn.names.items l.names.items (nodes_of l.fn.nodes.items) (nodes_of l.nodes.items) (map position_of (take l.position-index l.positions)) l.operands.items;
-  anew : AreNew l.fn.nodes.items → AreNew l.nodes.items;
+  anew : AreNotWorkedOut l.fn.nodes.items → AreNotWorkedOut l.nodes.items;
 }

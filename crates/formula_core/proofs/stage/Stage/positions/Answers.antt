@@ -3,7 +3,7 @@ use Rattle.std.specs.Option.{option_map}
 use Rattle.std.proofs.lemmas.List.{get_or_default}
 use Rattle.formula_core.specs.declared.input.Input.{Input}
 use Rattle.formula_core.specs.Inputs.{AllHaveFit}
-use Rattle.formula_core.specs.Stages.{AreReady}
+use Rattle.formula_core.specs.Stages.{GiveTheirTrees}
 use Rattle.formula_core.specs.Tables.{tree_of_operand}
 use Rattle.formula_core.proofs.Steps.{operand_within, position_ready}
 use Rattle.formula_core.proofs.Stepping.{fit_more}
@@ -29,7 +29,7 @@ loop-operand-preserved c =
           record {
             fit = subst AllHaveFit (sym more) (fit_more before (Some w.operand.result) c.loop-operand.invariant.fit (w.operand.ensures.fit, tt));
             ready = λ change names trees staged.
-                subst (λ (is : List (Option Input)). AreReady s.is_new change (map (option_map (tree_of_operand names trees)) (take (k + 1) os)) is) (sym more)
+                subst (λ (is : List (Option Input)). GiveTheirTrees s.is_new change (map (option_map (tree_of_operand names trees)) (take (k + 1) os)) is) (sym more)
                 (position_ready s.is_new change (option_map (tree_of_operand names trees)) os k (Some w.in-Some.operand) before (Some w.operand.result) c.loop-operand-test.true (here ∙ w.in-Some.is)
                 (c.loop-operand.invariant.ready change names trees staged) (w.operand.ensures.ready change names trees staged, tt));
           }
@@ -38,7 +38,7 @@ loop-operand-preserved c =
           record {
             fit = subst AllHaveFit (sym more) (fit_more before None c.loop-operand.invariant.fit tt);
             ready = λ change names trees staged.
-                subst (λ (is : List (Option Input)). AreReady s.is_new change (map (option_map (tree_of_operand names trees)) (take (k + 1) os)) is) (sym more)
+                subst (λ (is : List (Option Input)). GiveTheirTrees s.is_new change (map (option_map (tree_of_operand names trees)) (take (k + 1) os)) is) (sym more)
                 (position_ready s.is_new change (option_map (tree_of_operand names trees)) os k None before None c.loop-operand-test.true (here ∙ w.in-None.is) (c.loop-operand.invariant.ready change names trees staged) tt);
           }
     ]

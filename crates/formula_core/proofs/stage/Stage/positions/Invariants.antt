@@ -1,14 +1,14 @@
 use Rattle.std.proofs.Common.{ℕ, List, map, take}
 use Rattle.std.specs.Option.{option_map}
 use Rattle.apl_expr.specs.Trees.{Tree}
-use Rattle.formula_core.specs.Changes.{Change}
+use Rattle.formula_core.specs.Changes.{NamesChange}
 use Rattle.formula_core.specs.Inputs.{AllHaveFit}
-use Rattle.formula_core.specs.Stages.{IsStaged, AreReady}
+use Rattle.formula_core.specs.Stages.{IsStaged, GiveTheirTrees}
 use Rattle.formula_core.specs.Tables.{tree_of_operand}
 use Rattle.formula_core.proofs.stage.Stage.positions.Given as goal
 
 abbrev pub invariant-loop-operand : goal.invariant-loop-operand
 invariant-loop-operand l = record {
   fit : AllHaveFit l.positions.items;
-  ready : (c : Change) → (names : List (List ℕ)) → (trees : List Tree) → IsStaged c names trees l.fn.self → AreReady l.fn.self.is_new c (map (option_map (tree_of_operand names trees)) (take l.operand-index l.fn.operands)) l.positions.items;
+  ready : (c : NamesChange) → (names : List (List ℕ)) → (trees : List Tree) → IsStaged c names trees l.fn.self → GiveTheirTrees l.fn.self.is_new c (map (option_map (tree_of_operand names trees)) (take l.operand-index l.fn.operands)) l.positions.items;
 }

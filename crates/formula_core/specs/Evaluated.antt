@@ -4,32 +4,32 @@ use Rattle.std.specs.Global.{Vec}
 use Rattle.selection_fns.specs.Index.{Position}
 use Rattle.arrays_core.specs.Arrays.{ArrayValue}
 use Rattle.arrays_core.specs.declared.fault.Fault.{Fault}
-use Rattle.formula_core.specs.declared.evaluation.Operand.{Operand}
-use Rattle.formula_core.specs.declared.evaluation.Operand.TheVariants.{Lent, Made}
+use Rattle.formula_core.specs.declared.evaluation.Evaluated.{Evaluated}
+use Rattle.formula_core.specs.declared.evaluation.Evaluated.TheVariants.{Lent, Made}
 use Rattle.arrays_core.specs.Outcomes.{Outcome}
 
 -- the array of an operand
-abbrev pub array_in : Operand → ArrayValue
+abbrev pub array_in : Evaluated → ArrayValue
 array_in (Lent a) = a.now
 array_in (Made a) = a
 
 -- the same, or the error in its place
-abbrev pub outcome_of : Result Operand Fault → Outcome
+abbrev pub outcome_of : Result Evaluated Fault → Outcome
 outcome_of (Ok o) = Ok (array_in o)
 outcome_of (Err e) = Err e
 
 -- a position of an index: the array of its operand, where it is written
-abbrev pub position_in : Option Operand → Position
+abbrev pub position_in : Option Evaluated → Position
 position_in None = None
 position_in (Some o) = Some (array_in o)
 
 -- the arrays of the positions that are written, in their order
-abbrev pub written_arrays : List (Option Operand) → List ArrayValue
+abbrev pub written_arrays : List (Option Evaluated) → List ArrayValue
 written_arrays [] = []
 written_arrays (Some o ∷ positions) = array_in o ∷ written_arrays positions
 written_arrays (None ∷ positions) = written_arrays positions
 
 -- the same for all positions of an index, or the error in their place
-abbrev pub positions_in : Result (Vec (Option Operand)) Fault → Result (List Position) Fault
+abbrev pub positions_in : Result (Vec (Option Evaluated)) Fault → Result (List Position) Fault
 positions_in (Ok operands) = Ok (map position_in operands.items)
 positions_in (Err e) = Err e
