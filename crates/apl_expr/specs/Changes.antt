@@ -20,7 +20,7 @@ IsChangeOf ts (Err Syntax) = IsNoChange ts
 IsChangeOf ts (Err Limit) = (m : Meaning) × IsChange ts m × HasTree IsTooLarge m
 IsChangeOf ts (Err NoMemory) = Unit {0}
 
--- the same where the change was put in the place of a command
+-- as IsChangeOf, where the change was put in the place of a command
 abbrev pub IsChangeIn : {T : Type 0} → List Lexeme → Result T ParseFault → Command → Type 0
 IsChangeIn ts (Ok x) there = (c : Change) × (there ≡ command.Change c) × IsChangeOf ts (Ok c)
 IsChangeIn ts (Err e) there = IsChangeOf ts (Err e)

@@ -94,14 +94,14 @@ EditSteps (Err Syntax) o = o ≡ None
 EditSteps (Err Limit) o = ⊥
 EditSteps (Err NoMemory) o = Unit {0}
 
--- the same for the whole
+-- the cell and the literal of all tokens, or what is wrong with them
 abbrev pub EditGives : Result (SmallVec ℤ × literal.Literal) ParseFault → Option Written → Type 0
 EditGives (Ok w) o = (o ≡ Some (Write w.0.items (literal_of w.1))) × IsTrue (is_plain w.1)
 EditGives (Err Syntax) o = o ≡ None
 EditGives (Err Limit) o = ⊥
 EditGives (Err NoMemory) o = Unit {0}
 
--- the same for a literal alone
+-- the literal of all tokens, or what is wrong with them
 abbrev pub LiteralGives : Result literal.Literal ParseFault → Option Written → Type 0
 LiteralGives (Ok l) o = (o ≡ Some (Write [] (literal_of l))) × IsTrue (is_plain l)
 LiteralGives (Err Syntax) o = o ≡ None

@@ -42,7 +42,7 @@ folded_by c (Number n) = None
 folded_by c (Characters cs) = None
 folded_by c (Named n) = None
 
--- the same with the axis that comes after them
+-- the fold of the sign c by this lexeme, with the axis that comes after them
 abbrev folded_along_by : ℕ → Lexeme → List Lexeme → Option Function1
 folded_along_by c (Sign d) ts = option_and_then (folded_along_of c d) (axis_in ts)
 folded_along_by c (Number n) ts = None
@@ -54,7 +54,7 @@ abbrev pub fold_in : ℕ → List Lexeme → Option Function1
 fold_in c [] = None
 fold_in c (t ∷ ts) = folded_by c t
 
--- the same with an axis
+-- the fold that the sign begins, with the axis that comes after it
 abbrev pub fold_along_in : ℕ → List Lexeme → Option Function1
 fold_along_in c [] = None
 fold_along_in c (t ∷ ts) = folded_along_by c t ts
@@ -63,7 +63,7 @@ fold_along_in c (t ∷ ts) = folded_along_by c t ts
 abbrev pub monadic_along_in : ℕ → List Lexeme → Option Function1
 monadic_along_in c ts = option_and_then (monadic_along_of c) (axis_in ts)
 
--- the same between two arguments
+-- the function between two arguments that the sign is with an axis after it
 abbrev pub dyadic_along_in : ℕ → List Lexeme → Option Function2
 dyadic_along_in c ts = option_and_then (dyadic_along_of c) (axis_in ts)
 
@@ -90,7 +90,7 @@ product_or_less c None ts = fold_along_or_less c (fold_along_in c ts) ts
 abbrev pub function_at : ℕ → List Lexeme → Function
 function_at c ts = if stands_alone c then function None None 0 else product_or_less c (product_in c ts) ts
 
--- the same for any lexeme: what is no sign is no function
+-- the function that a lexeme begins: what is no sign is no function
 abbrev pub function_from : Lexeme → List Lexeme → Function
 function_from (Sign c) ts = function_at c ts
 function_from (Number n) ts = function None None 0

@@ -5,7 +5,7 @@ ghost use Rattle.std.specs.Prelude.{◌≡◌, ◌≤◌, Some, List, [], ◌∷
 ghost use Rattle.apl_tokens.specs.Lexemes.{Lexeme, Number, lexeme, lexemes};
 ghost use Rattle.apl_expr.specs.Grammar.{IsWrittenOperand, IsTreeOf};
 ghost use Rattle.apl_expr.specs.Limits.{most_height};
-ghost use Rattle.apl_expr.specs.Machine.{first, settle, position_ended, closed, skipped, ends_position, begin, next, after_reference, step, finish, run, state, Index, Inside, Nothing, Position, Strand};
+ghost use Rattle.apl_expr.specs.Machine.{first, settle, position_ended, closed, skipped, ends_position, first_of_position, after_operand, after_reference, read_token, finish, run, state, Index, Inside, Nothing, Position, Strand};
 ghost use Rattle.apl_expr.specs.Parsing.{stack, reading_of, Settles, Steps, Gives, IsParsed};
 ghost use Rattle.apl_expr.specs.Symbols.{indexed_of};
 ghost use Rattle.apl_expr.specs.Trees.{is_plain_position, tree_of, position_of};
@@ -216,13 +216,13 @@ fn ends_position(sign: char) -> bool
 
 /// Reads a token, or the function that it begins, where a position of an index is to begin.
 #[inline(always)]
-fn begin(
+fn first_of_position(
     alloc: Global,
     token: &Token,
     function: Function,
     waiting: &mut Waitings,
 ) -> Result<Reading, ParseFault>
-    ensures { Steps result waiting.new.items (begin (lexeme token.now) function (stack waiting.old.items)) }
+    ensures { Steps result waiting.new.items (first_of_position (lexeme token.now) function (stack waiting.old.items)) }
 {
     match token {
         Token::Mark(sign) if ends_position(*sign) => skipped(alloc, *sign, waiting),
@@ -232,14 +232,14 @@ fn begin(
 
 /// Reads a token, or the function that it begins, after an operand.
 #[inline(always)]
-fn next(
+fn after_operand(
     alloc: Global,
     token: &Token,
     function: Function,
     operand: Plain,
     waiting: &mut Waitings,
 ) -> Result<Reading, ParseFault>
-    ensures { Steps result waiting.new.items (next (lexeme token.now) function (stack waiting.old.items) (tree_of operand.expr)) }
+    ensures { Steps result waiting.new.items (after_operand (lexeme token.now) function (stack waiting.old.items) (tree_of operand.expr)) }
 {
     let Token::Mark(sign) = token else {
         return Err(ParseFault::Syntax);
@@ -273,7 +273,7 @@ fn after_reference(
             waiting.push(Waiting::Inside(Bracket::Index(index)))?;
             Ok(Reading::Position)
         }
-        _ => next(alloc, token, function, operand, waiting),
+        _ => after_operand(alloc, token, function, operand, waiting),
     }
 }
 
@@ -289,23 +289,23 @@ fn strand(alloc: Global, first: i64, second: i64) -> Result<Reading, ParseFault>
 
 /// Reads a token, or the function that it begins.
 #[inline(always)]
-fn step(
+fn read_token(
     alloc: Global,
     token: &Token,
     function: Function,
     reading: Reading,
     waiting: &mut Waitings,
 ) -> Result<Reading, ParseFault>
-    ensures { Steps result waiting.new.items (step (lexeme token.now) function (stack waiting.old.items) (reading_of reading)) }
+    ensures { Steps result waiting.new.items (read_token (lexeme token.now) function (stack waiting.old.items) (reading_of reading)) }
 {
     match reading {
         Reading::Nothing => first(alloc, token, function, waiting),
-        Reading::Position => begin(alloc, token, function, waiting),
+        Reading::Position => first_of_position(alloc, token, function, waiting),
         Reading::Number(number) => match token {
             Token::Num(n) => strand(alloc, number, *n),
             _ => {
                 let literal = Plain::constant(Literal::Num(number));
-                next(alloc, token, function, literal, waiting)
+                after_operand(alloc, token, function, literal, waiting)
             }
         },
         Reading::Strand(mut numbers) => match token {
@@ -315,10 +315,10 @@ fn step(
             }
             _ => {
                 let literal = Plain::constant(literal(numbers));
-                next(alloc, token, function, literal, waiting)
+                after_operand(alloc, token, function, literal, waiting)
             }
         },
-        Reading::Whole(operand) => next(alloc, token, function, operand, waiting),
+        Reading::Whole(operand) => after_operand(alloc, token, function, operand, waiting),
         Reading::Reference(operand) => after_reference(alloc, token, function, operand, waiting),
     }
 }
@@ -349,7 +349,7 @@ fn tree(alloc: Global, tokens: &[Spanned]) -> Result<Plain, ParseFault>
     let mut rest = tokens;
     while let Some((first, after)) = rest.split_first() {
         let function = function_from(&first.token, after);
-        reading = step(alloc, &first.token, function, reading, &mut waiting)?;
+        reading = read_token(alloc, &first.token, function, reading, &mut waiting)?;
         rest = &after[function.more..];
     }
     finish(alloc, reading, &mut waiting)

@@ -1,6 +1,6 @@
 //! The scanner: it reads the characters of a line from left to right, once.
 
-ghost use Rattle.std.specs.Prelude.{◌≡◌, ◌+◌, ◌≤◌, ◌<◌, ◌^◌, ℕ, List, [], ◌∷◌, ◌++◌, Ok, length, IfOk};
+ghost use Rattle.std.specs.Prelude.{◌+◌, ◌≤◌, ◌<◌, ◌^◌, ℕ, List, [], ◌∷◌, ◌++◌, Ok, length, IfOk};
 ghost use Rattle.std.specs.Char.{len_utf8};
 ghost use Rattle.std.specs.Str.{chars};
 ghost use Rattle.apl_tokens.specs.Lexemes.{lexeme};
@@ -165,34 +165,17 @@ fn turn(
         Scan::Comment => Ok(Scan::Comment),
         Scan::Minus(minus) if c.is_ascii_digit() => Ok(Scan::Digits(minus.start, true, at)),
         Scan::Minus(minus) => Err(TokenFault::Syntax(minus)),
-        Scan::Digits(start, is_negative, first) => {
-            if c.is_ascii_digit() {
-                return Ok(Scan::Digits(start, is_negative, first));
-            }
-            if joins_number(c) {
-                return Err(TokenFault::Syntax(Span { start, end: at }));
-            }
-            then_begun(
-                alloc,
-                text,
-                at,
-                c,
-                Scan::Digits(start, is_negative, first),
-                out,
-            )
+        Scan::Digits(start, is_negative, first) if c.is_ascii_digit() => {
+            Ok(Scan::Digits(start, is_negative, first))
         }
-        Scan::Letters(start) => {
-            if is_name_part(c) {
-                return Ok(Scan::Letters(start));
-            }
-            then_begun(alloc, text, at, c, Scan::Letters(start), out)
+        Scan::Digits(start, _, _) if joins_number(c) => {
+            Err(TokenFault::Syntax(Span { start, end: at }))
         }
+        Scan::Letters(start) if is_name_part(c) => Ok(Scan::Letters(start)),
         Scan::Quoted(start, chars) if c == '\'' => Ok(Scan::Quote(start, chars)),
         Scan::Quoted(start, chars) => quoted(start, chars, c),
         Scan::Quote(start, chars) if c == '\'' => quoted(start, chars, c),
-        Scan::Quote(start, chars) => {
-            then_begun(alloc, text, at, c, Scan::Quote(start, chars), out)
-        }
+        ended => then_begun(alloc, text, at, c, ended, out),
     }
 }
 

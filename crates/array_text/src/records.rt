@@ -1,6 +1,6 @@
 //! Reads the records of a file one after the other.
 
-ghost use Rattle.std.specs.Prelude.{◌≡◌, List, Some, IfOk};
+ghost use Rattle.std.specs.Prelude.{List, Some, IfOk};
 ghost use Rattle.csv.specs.Records.{fields_of};
 ghost use Rattle.array_text.specs.Tables.{Fields, records_of};
 ghost use Rattle.array_text.specs.Reading.{AreLeft, IsNext};

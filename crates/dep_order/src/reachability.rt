@@ -1,5 +1,5 @@
 //! What depends on a node.
-ghost use Rattle.std.specs.Prelude.{◌≡◌, ℕ, ◌<◌, ◌⊎◌, ◌↔◌, length, IfOk, IfSome, IfNone, nat_eq};
+ghost use Rattle.std.specs.Prelude.{◌≡◌, ℕ, ◌<◌, length, IfOk, IfSome, IfNone, nat_eq};
 ghost use Rattle.std.specs.List.{Contains, IsDistinct};
 ghost use Rattle.dep_order.specs.TopologicalOrder.{Points, IsPlaced, IsUnplaced, IsHit};
 ghost use Rattle.dep_order.specs.Reachability.{Reaches};

@@ -1,8 +1,8 @@
 //! Orders and cycles.
-ghost use Rattle.std.specs.Prelude.{◌≡◌, ℕ, ◌<◌, ◌≤◌, length, slice_index, slice_index_or, [], Some, IfOk, IfErr, IfSome, IfNone, IsTrue, false, true, get_or, MatchOption};
+ghost use Rattle.std.specs.Prelude.{◌≡◌, ℕ, ◌<◌, length, slice_index, Some, IfOk, IfErr, IfSome, IfNone, false, true, MatchOption};
 ghost use Rattle.std.specs.List.{Contains};
 ghost use Rattle.dep_order.specs.TopologicalOrder.{IsOrder, Points, IsPlaced, IsUnplaced, IsStuck, IsCycleOf};
-ghost use Rattle.dep_order.specs.Reachability.{IsCycle, IsAcyclic};
+ghost use Rattle.dep_order.specs.Reachability.{IsCycle};
 ghost use Rattle.dep_order.specs.declared.topological_order.OrderFault.TheVariants.{NoMemory};
 
 use crate::graph::Graph;

@@ -1,5 +1,5 @@
 //! Who refers to whom, kept from change to change: what a change of a node reaches is found by this table, and no other node is looked at.
-ghost use Rattle.std.specs.Prelude.{◌≡◌, ◌≤◌, ◌⊎◌, ◌↔◌, List, [], ◌∷◌, OnOk, OnErr, MatchBool, MatchOption, filter, length, not, vec_capacity};
+ghost use Rattle.std.specs.Prelude.{◌≡◌, ◌≤◌, ◌⊎◌, ◌↔◌, List, [], ◌∷◌, OnOk, MatchBool, MatchOption, filter, length, not, vec_capacity};
 ghost use Rattle.std.specs.List.{Contains, IsDistinct};
 ghost use Rattle.std.specs.Map.{keys_of};
 ghost use Rattle.dep_order.specs.Reachability.{Reaches};

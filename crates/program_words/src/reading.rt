@@ -1,7 +1,7 @@
 //! What the words ask for.
 
-ghost use Rattle.std.specs.Prelude.{◌≡◌, true, IfOk, IfErr, OnOk, [], Some, is_some, codes, option_map, string_bytes};
-ghost use Rattle.clap.specs.Words.{found_of, first_of, fault_of, kind_of, rows_of, subcommand_of, subcommand_rows_of, takes, IsAmong};
+ghost use Rattle.std.specs.Prelude.{◌≡◌, true, IfOk, IfErr, OnOk, [], Some, codes, option_map, string_bytes};
+ghost use Rattle.clap.specs.Words.{found_of, first_of, fault_of, kind_of, rows_of, subcommand_of, subcommand_rows_of, takes};
 ghost use Rattle.clap.specs.Walk.{texts};
 ghost use Rattle.program_words.specs.Program.{aplsheet};
 ghost use Rattle.program_words.specs.Asked.{HasBadName, HasNoName, IsNotBadWords, IsNotText, IsRefusalOf, AsksForTable, Means};

@@ -5,7 +5,7 @@ use Rattle.std.proofs.lemmas.Bool.{false≢true}
 use Rattle.sheet_recalc.specs.Changes.{SheetChange}
 use Rattle.sheet_recalc.specs.declared.refusal.Refusal.TheVariants as why
 use Rattle.sheet_desk.specs.Desk.{SlotValue, DeskValue, Event, Plain, Answer, Done, Left, Shown, Refused, stale, IsRefused, IsEvent}
-use Rattle.sheet_desk.specs.Laws.{told_of_slot, AreAlike, names_cycle, IsSameAnswer}
+use Rattle.sheet_desk.specs.Histories.{told_of_slot, AreAlike, names_cycle, IsSameAnswer}
 use Rattle.sheet_desk.proofs.OneAnswer.{one_answer}
 use Rattle.sheet_cli.specs.Answer.{OpenChange, State, open_change, state_of, as_stale, IsChangeAnswered, accepted, refused, IsPrintedFor, IsAsked}
 

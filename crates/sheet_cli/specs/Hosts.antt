@@ -44,7 +44,7 @@ IsOpenedAs Closed left = ⊥
 IsOpenedAs (Broken bytes) left = left ≡ Some bytes
 IsOpenedAs (Whole bytes) left = left ≡ Some bytes
 
--- the same of the file of a path
+-- the host has a file of this path, and reads it whole
 abbrev pub ReadsFile : HostValue → Text → List ℕ → Type 0
 ReadsFile host path bytes = IfSome (host.file path) (λ file. IsWhole file bytes)
 

@@ -35,7 +35,7 @@ pub record Standing : Type 0 where
   pub tally : Tally
   pub state : State
 
--- the same from its parts
+-- such a standing, of its parts
 abbrev pub standing : List ℕ → Tally → State → Standing
 standing kept tally state = record { kept = kept; tally = tally; state = state }
 

@@ -1,5 +1,5 @@
 //! The line that has not ended yet.
-ghost use Rattle.std.specs.Prelude.{◌≡◌, ◌≤◌, List, ℕ, [], ◌++◌, take, length, IfOk, vec_len, vec_capacity};
+ghost use Rattle.std.specs.Prelude.{◌≡◌, ◌≤◌, List, ℕ, [], ◌++◌, take, IfOk, vec_len, vec_capacity};
 ghost use Rattle.sheet_cli.specs.Progress.{most_kept};
 
 use crate::answer::LONGEST_LINE;

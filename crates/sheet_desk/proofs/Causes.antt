@@ -13,7 +13,7 @@ use Rattle.sheet_recalc.specs.Changes.{SheetChange, Define, Store, Put, SetCell,
 use Rattle.sheet_recalc.specs.declared.refusal.Refusal.{Refusal}
 use Rattle.sheet_recalc.specs.declared.refusal.Refusal.TheVariants as why
 use Rattle.sheet_desk.specs.Desk.{Refused}
-use Rattle.sheet_desk.specs.Laws.{names_cycle, IsSameAnswer}
+use Rattle.sheet_desk.specs.Histories.{names_cycle, IsSameAnswer}
 
 full_with_room : (names : Names) (name : List ℕ) → HasRoomForName names name → IsFullFor names name → ⊥
 full_with_room names name room full =

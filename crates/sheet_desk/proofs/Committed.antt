@@ -7,7 +7,7 @@ use Rattle.sheet_recalc.specs.Meaning.{val}
 use Rattle.sheet_recalc.specs.Changes.{SheetChange, Accepts}
 use Rattle.sheet_desk.specs.Slots.{with_slot}
 use Rattle.sheet_desk.specs.Desk.{DeskValue, SlotValue, Event, Open, Step, Commit, Drop, Plain, Show, Answer, Done, Left, Shown, Refused, stale, with_held, IsEvent, IsMade, IsStepped}
-use Rattle.sheet_desk.specs.Laws.{open_changes, the_change, made_by, opened_after, committed, AreAccepted, NamesAreOfChangesCommitted, ShowsAreOfChangesCommitted}
+use Rattle.sheet_desk.specs.Histories.{open_changes, the_change, made_by, opened_after, committed, AreAccepted, NamesAreOfChangesCommitted, ShowsAreOfChangesCommitted}
 use Rattle.sheet_desk.proofs.Slotted.{slot_in-map, with_slot-map}
 use Rattle.sheet_desk.proofs.Placed.{with_slot_same}
 use Rattle.sheet_desk.proofs.Spent.{accepts_one}

@@ -10,7 +10,7 @@ use Rattle.sheet_recalc.specs.declared.refusal.Refusal.{Refusal}
 use Rattle.sheet_recalc.specs.declared.refusal.Refusal.TheVariants as why
 use Rattle.sheet_desk.specs.Slots.{slot_in, with_slot}
 use Rattle.sheet_desk.specs.Desk.{DeskValue, SlotValue, Event, Open, Step, Commit, Drop, Plain, Show, Answer, Done, Left, Shown, Refused, steps_told, stale, held_in, with_held, open_refusal, step_refusal, commit_refusal, drop_refusal, slot_refusal, RefusesThen, IsOpened, IsStepped, IsMade, IsCommitted, IsEvent}
-use Rattle.sheet_desk.specs.Laws.{told_of_slot, AreAlike, IsSameAnswer, EachEventHasOneAnswer}
+use Rattle.sheet_desk.specs.Histories.{told_of_slot, AreAlike, IsSameAnswer, EachEventHasOneAnswer}
 use Rattle.sheet_desk.proofs.Slotted.{slot_in-map, with_slot-map}
 use Rattle.sheet_desk.proofs.Spent.{accepts_one}
 use Rattle.sheet_desk.proofs.Counted.{count_one}

@@ -2,6 +2,6 @@
 pub mod Slots
 pub mod Desk
 pub mod Asked
-pub mod Laws
+pub mod Histories
 -- What proofs and bodies use.
 pub mod Held

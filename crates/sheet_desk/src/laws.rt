@@ -1,5 +1,5 @@
 //! What follows from the definitions alone.
-ghost use Rattle.sheet_desk.specs.Laws.{EachEventHasOneAnswer, NamesAreOfChangesCommitted, ShowsAreOfChangesCommitted, StaleWhereChanged};
+ghost use Rattle.sheet_desk.specs.Histories.{EachEventHasOneAnswer, NamesAreOfChangesCommitted, ShowsAreOfChangesCommitted, StaleWhereChanged};
 
 /// After any events the names are those that the changes make of them which were committed, plain ones and commits, in their order.
 pub fn names_are_of_changes_committed()

@@ -48,7 +48,7 @@ monad_again one.Ceiling = refl
 monad_again one.Floor = refl
 monad_again one.Not = refl
 
--- the same for scalar functions of two arguments
+-- all scalar functions of two arguments; each is read again
 abbrev dyads : List Scalar2
 dyads =
     two.Plus ∷ two.Minus ∷ two.Times ∷ two.Divide ∷ two.Power ∷

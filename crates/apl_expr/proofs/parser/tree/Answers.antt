@@ -15,7 +15,7 @@ loop-first-init c = ap (λ ws. run 0 (lexemes c.args.tokens.now) (Some (state (s
 pub returns-in_err-reading : goal.returns-in_err-reading
 returns-in_err-reading c =
     let p = err_from_is_err_and c.from_residual.result c.from_residual.ensures.1 in
-    let given = failed c.loop-first.rest.now c.in-Some.first.now c.in-Some.after.now c.in-Some.ensures.cases.0 c.function_from-function.result c.function_from-function.ensures.is (stack c.loop-first.waiting.items) (reading_of c.loop-first.reading) _ c.loop-first.invariant c.in_err-reading.field-0.0 c.step.new.waiting.items c.in_err-reading.ensures in
+    let given = failed c.loop-first.rest.now c.in-Some.first.now c.in-Some.after.now c.in-Some.ensures.cases.0 c.function_from-function.result c.function_from-function.ensures.is (stack c.loop-first.waiting.items) (reading_of c.loop-first.reading) _ c.loop-first.invariant c.in_err-reading.field-0.0 c.read_token.new.waiting.items c.in_err-reading.ensures in
     subst (λ (r : Result Plain ParseFault). Gives r (run 0 (lexemes c.args.tokens.now) (Some (state [] Nothing)))) (sym (p.1 ∙ ap (λ (e : ParseFault). Err e) p.2)) given
 
 pub loop-first-smaller : goal.loop-first-smaller
