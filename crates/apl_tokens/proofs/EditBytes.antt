@@ -13,7 +13,12 @@ use Rattle.apl_tokens.specs.Lexemes.{Lexeme, Number, Named, Sign}
 use Rattle.apl_tokens.specs.Characters.{is_letter, is_name_part, joins_number, sign_of, decimal_from, signed, fits_number}
 use Rattle.apl_tokens.specs.Scans.{spanned, Ends, IsRun, stop, more, IsNumber, plain, minus, Scans, done, blank, sign, number, word}
 use Rattle.apl_tokens.specs.NumberEdits.{Says, position_lexemes, edit_lexemes, number_lexemes, row_lexemes}
-use Rattle.apl_tokens.specs.Reading.{ReadsBefore, Reads, EndsNumber, EndsName, minus_bytes, GoesOn, open_positions}
+use Rattle.apl_tokens.specs.Reading.{ReadsBefore, Reads, EndsNumber, EndsName, minus_bytes, GoesOn}
+
+-- the positions, each with `;` after it
+abbrev pub open_positions : List ℤ → List Lexeme
+open_positions [] = []
+open_positions (p ∷ ps) = Number p ∷ Sign semicolon ∷ open_positions ps
 
 -- bytes of ASCII are characters
 ascii_front : (xs us : List ℕ) → IsAscii xs → chars (xs ++ us) ≡ xs ++ chars us

@@ -2,8 +2,7 @@
 use Rattle.std.specs.Prelude.{ℕ, ℤ, Bool, true, false, List, [], ◌∷◌, ◌++◌}
 use Rattle.std.specs.Char.{is_ascii_digit}
 use Rattle.std.specs.Str.{chars}
-use Rattle.apl_tokens.specs.Signs.{semicolon}
-use Rattle.apl_tokens.specs.Lexemes.{Lexeme, Number, Sign}
+use Rattle.apl_tokens.specs.Lexemes.{Lexeme}
 use Rattle.apl_tokens.specs.Characters.{is_name_part, joins_number}
 use Rattle.apl_tokens.specs.Scans.{Ends}
 use Rattle.apl_tokens.specs.NumberEdits.{Says, number_lexemes}
@@ -27,11 +26,6 @@ EndsNumber cs = Ends is_ascii_digit cs × Ends joins_number cs
 -- behind bytes that say the numbers ms the bytes us go on, up to vs, so that they say the numbers ns
 abbrev pub GoesOn : (us : List ℕ) → (ms : List ℤ) → (vs : List ℕ) → (ns : List ℤ) → Type 0
 GoesOn us ms vs ns = (bs : List ℕ) → ReadsBefore EndsNumber bs us (number_lexemes ms) → ReadsBefore EndsNumber bs vs (number_lexemes ns)
-
--- the positions, each with `;` after it
-abbrev pub open_positions : List ℤ → List Lexeme
-open_positions [] = []
-open_positions (p ∷ ps) = Number p ∷ Sign semicolon ∷ open_positions ps
 
 -- the bytes of a high minus, where there is one
 abbrev pub minus_bytes : Bool → List ℕ

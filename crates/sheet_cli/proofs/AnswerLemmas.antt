@@ -8,8 +8,8 @@ use Rattle.sheet_cli.specs.Lines.{longest_line, strip_cr, ended_lines, last_line
 use Rattle.sheet_cli.specs.Answer.{State, IsTextAnswer, IsAnswer, too_long, not_text, of_text}
 use Rattle.std.specs.Str.{IsUtf8, chars}
 use Rattle.sheet_cli.specs.Answers.{IsFlaggedAnswer, Answers, no_lines, line_first, Answered, LinesHaveOneAnswer, IsOnlyAnswer}
-use Rattle.sheet_cli.specs.Progress.{most_kept, next_stripped, line_after, count_of, AnswersLine}
-use Rattle.sheet_cli.proofs.Cuts.{long_enough, kept_line}
+use Rattle.sheet_cli.specs.Progress.{most_kept, line_after, count_of, AnswersLine}
+use Rattle.sheet_cli.proofs.Cuts.{next_stripped, long_enough, kept_line}
 use Rattle.sheet_cli.proofs.OneAnswer.{line_one}
 
 -- a line of so many bytes is too long without its CR

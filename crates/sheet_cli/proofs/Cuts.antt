@@ -6,7 +6,12 @@ use Rattle.std.proofs.lemmas.Bool.{and_parts, eqb-true, cases_lt, cond_both}
 use Rattle.std.proofs.lemmas.List.{take_all, take_more, length-take}
 use Rattle.std.proofs.Math.Seq.{take-append-add}
 use Rattle.sheet_cli.specs.Lines.{strip_bom, onto_first, ended_lines, onto_last, last_line, line_if_any, lines_of, longest_line}
-use Rattle.sheet_cli.specs.Progress.{most_kept, first_stripped, next_stripped, line_after}
+use Rattle.sheet_cli.specs.Progress.{most_kept, first_stripped, line_after}
+
+-- the line that stands after these, without a byte order mark where it is the first
+unfoldable pub next_stripped : List (List ℕ) → List ℕ → List ℕ
+next_stripped [] line = strip_bom line
+next_stripped (first ∷ lines) line = line
 
 -- an LF ends the last line
 pub ended_lines-lf : (xs : List ℕ) → ended_lines (xs ++ 10 ∷ []) ≡ ended_lines xs ++ last_line xs ∷ []

@@ -7,8 +7,8 @@ use Rattle.sheet_cli.specs.Lines.{ended_lines, last_line, lines_of, whole_lines_
 use Rattle.sheet_cli.specs.Answer.{State}
 use Rattle.sheet_cli.specs.Answers.{StoppedAt}
 use Rattle.sheet_cli.specs.Run.{Completes, BreaksOff, IsCut}
-use Rattle.sheet_cli.specs.Progress.{most_kept, first_stripped, next_stripped, line_after, AnswersLine, Standing, standing, IsMidway, Feeds, StopsIn, Finishes, StopsAtEnd}
-use Rattle.sheet_cli.proofs.Cuts.{ended_lines-lf, last_line-lf, ended_lines-piece, last_line-piece, take-piece, ended_lines-bom, first_stripped-push, first_stripped-append, length-first_stripped, ended_lines-append, kept_empty, line_if_any-none, line_if_any-some, lines_of-is, kept_line}
+use Rattle.sheet_cli.specs.Progress.{most_kept, first_stripped, line_after, AnswersLine, Standing, standing, IsMidway, Feeds, StopsIn, Finishes, StopsAtEnd}
+use Rattle.sheet_cli.proofs.Cuts.{next_stripped, ended_lines-lf, last_line-lf, ended_lines-piece, last_line-piece, take-piece, ended_lines-bom, first_stripped-push, first_stripped-append, length-first_stripped, ended_lines-append, kept_empty, line_if_any-none, line_if_any-some, lines_of-is, kept_line}
 use Rattle.sheet_cli.proofs.Devices.{Appends-none, Appends-more, Consumes-none, Consumes-more, Consumes-keeps}
 use Rattle.sheet_cli.proofs.AnswerLemmas.{AnswersLine-kept, Answered-push, Answered-none, only_answer}
 

@@ -14,11 +14,6 @@ unfoldable pub first_stripped : List (List ℕ) → List (List ℕ)
 first_stripped [] = []
 first_stripped (line ∷ lines) = strip_bom line ∷ lines
 
--- the line that stands after these, without a byte order mark where it is the first
-unfoldable pub next_stripped : List (List ℕ) → List ℕ → List ℕ
-next_stripped [] line = strip_bom line
-next_stripped (first ∷ lines) line = line
-
 -- the line that is answered when n lines are: the first loses a byte order mark
 abbrev pub line_after : ℕ → List ℕ → List ℕ
 line_after zero line = strip_bom line

@@ -11,7 +11,7 @@ ghost use Rattle.sheet_cli.specs.Printed.{printed_bytes};
 
 use crate::count_line::CountLine;
 use crate::printed::Printed;
-use crate::queries::{list_names, show, table};
+use crate::queries::{list_names, show, shown_table};
 use crate::refusals::{count_text, outcome_text};
 use apl_expr::{Command, Expr, LineFault, line_into};
 use apl_tokens::Spanned;
@@ -117,7 +117,7 @@ fn carry_out(alloc: Global, desk: &mut Desk, command: Command) -> Result<Printed
         Command::Show(expr) => shown(alloc, desk.sheet(), &expr),
         Command::Names => Ok(Printed::Made(list_names(alloc, desk.sheet())?)),
         Command::Cost => Ok(Printed::Count(CountLine::new(desk.sheet().last_cost()))),
-        Command::Csv(name) => table(alloc, desk.sheet(), name),
+        Command::Csv(name) => shown_table(alloc, desk.sheet(), name),
         Command::Open(number, change) => count_text(
             alloc,
             desk.open(number, Box::into_inner(change)),

@@ -44,7 +44,7 @@ pub(crate) fn list_names(alloc: Global, sheet: &Sheet) -> Result<String, AllocEr
 }
 
 /// What a name shows as a table, or why it is none.
-pub(crate) fn table(alloc: Global, sheet: &Sheet, name: Name) -> Result<Printed, AllocError>
+pub(crate) fn shown_table(alloc: Global, sheet: &Sheet, name: Name) -> Result<Printed, AllocError>
     ensures { IfOk result (λ text. printed_bytes text ≡ shown_table (binding sheet.now.names name) (val sheet.now.names name)) }
 {
     match sheet.value(name) {

@@ -3,9 +3,9 @@ use Rattle.std.specs.List.{Contains}
 use Rattle.std.proofs.lemmas.List.{length-set, get_or_default, take_rest}
 use Rattle.std.proofs.lemmas.Result.{IfOk-weaker}
 use Rattle.dep_order.specs.TopologicalOrder.{Points, IsUnplaced}
-use Rattle.dep_order.specs.Reachability.{IsCycle, IsChainTo}
+use Rattle.dep_order.specs.Reachability.{IsCycle}
 use Rattle.dep_order.proofs.Marks.{IsSome-from_none, apart, now_listed}
-use Rattle.dep_order.proofs.Chains.{IsChainTo-push, cycle_from}
+use Rattle.dep_order.proofs.Chains.{IsChainTo, IsChainTo-push, cycle_from}
 use Rattle.dep_order.proofs.topological_order.cycle.Goals as goal
 
 pub unwrap-node-requires : goal.unwrap-node-requires
