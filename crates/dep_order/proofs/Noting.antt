@@ -8,7 +8,7 @@ use Rattle.std.specs.Option.{unwrap_or, option_map}
 use Rattle.std.proofs.lemmas.Bool.{false≢true}
 use Rattle.std.proofs.lemmas.List.{take_more}
 use Rattle.std.proofs.lemmas.List.Elements.{Contains-append_left, Contains-append_right, Contains-append_cases}
-use Rattle.dep_order.specs.Users.{Uses, users_of, IsExact, HasRoomFor, IsReady, IsReadyFor, EndsWith, HasNoEmptyBut, HasRoom}
+use Rattle.dep_order.specs.Users.{Uses, users_of, IsExact, HasRoomFor, IsReady, IsReadyFor, EndsWith, HasNoEmptyBut, TakesOneMore}
 use Rattle.dep_order.proofs.Following.{contains_here, contains_there, contains_one, contains_cases, contains_none}
 
 -- a table that stays as it is
@@ -87,21 +87,21 @@ module _ {N : Type 0} (eq : N → N → Bool) (laws : IsEquivalence eq) (exact :
     pub same_lists : list.items ≡ users_of eq before reference → (b : N) → users_of eq after b ≡ users_of eq before b
     same_lists is b = cases_node (users_of eq after b ≡ users_of eq before b) reference b (λ e. own_users b e ∙ (is ∙ ap (users_of eq before) (sym e))) (λ apart. other_users b apart)
 
-    pub room_written : HasRoom list → (references : List N) → HasRoomFor eq before references → HasRoomFor eq after references
-    room_written some references room b c = cases_node ((s : Vec N S) × (lookup (eq b) after ≡ Some s) × HasRoom s) reference b
+    pub room_written : TakesOneMore list → (references : List N) → HasRoomFor eq before references → HasRoomFor eq after references
+    room_written some references room b c = cases_node ((s : Vec N S) × (lookup (eq b) after ≡ Some s) × TakesOneMore s) reference b
         (λ e. (list, own b e, some))
         (λ apart. let r = room b c in (r.0, other b apart ∙ r.1, r.2))
 
-    pub room_here : HasRoom list → HasRoomFor eq after (reference ∷ [])
+    pub room_here : TakesOneMore list → HasRoomFor eq after (reference ∷ [])
     room_here some b c = (list, own b (contains_one reference b c), some)
 
-    pub room_kept : (old : Vec N S) → lookup (eq reference) before ≡ Some old → (HasRoom old → HasRoom list) → (references : List N) → HasRoomFor eq before references → HasRoomFor eq after references
-    room_kept old found more references room b c = cases_node ((s : Vec N S) × (lookup (eq b) after ≡ Some s) × HasRoom s) reference b
+    pub room_kept : (old : Vec N S) → lookup (eq reference) before ≡ Some old → (TakesOneMore old → TakesOneMore list) → (references : List N) → HasRoomFor eq before references → HasRoomFor eq after references
+    room_kept old found more references room b c = cases_node ((s : Vec N S) × (lookup (eq b) after ≡ Some s) × TakesOneMore s) reference b
         (λ e.
         let r = room b c in
         let same : Some r.0 ≡ Some old = sym r.1 ∙ (ap (λ y. lookup (eq y) before) e ∙ found) in
         let this : r.0 ≡ old = cc in
-        (list, own b e, more (subst (λ (s : Vec N S). HasRoom s) this r.2)))
+        (list, own b e, more (subst (λ (s : Vec N S). TakesOneMore s) this r.2)))
         (λ apart. let r = room b c in (r.0, other b apart ∙ r.1, r.2))
 
     pub ready_written : (node : N) → EndsWith list.items node → (references : List N) → IsReadyFor eq before node references → IsReadyFor eq after node references

@@ -3,7 +3,7 @@ use Rattle.std.specs.Prelude.{◌≡◌, ◌+◌, ◌≤◌, ◌<◌, ◌⊎◌,
 use Rattle.std.specs.Map.{lookup}
 use Rattle.std.specs.List.{Contains}
 use Rattle.indexmap.specs.IndexMap.{IndexMap, spare}
-use Rattle.dep_order.specs.Users.{users_of, HasRoom}
+use Rattle.dep_order.specs.Users.{users_of, TakesOneMore}
 
 -- so many entries find room in a map that has so many and room for so many more, or in a larger one that is brought along and empty
 abbrev pub FindRoom : {K V S : Type 0} → (more count room : ℕ) → Option (IndexMap K V S) → Type 0
@@ -17,7 +17,7 @@ pub record IsLarger {N S : Type 0} (s : Vec N S) (those : List N) : Type 0 where
 
 -- the node has its list, with room for one more
 abbrev pub HasRoomAt : {N S : Type 0} → (N → N → Bool) → List (N × Vec N S) → N → Type 0
-HasRoomAt {N} {S} eq table b = (s : Vec N S) × (lookup (eq b) table ≡ Some s) × HasRoom s
+HasRoomAt {N} {S} eq table b = (s : Vec N S) × (lookup (eq b) table ≡ Some s) × TakesOneMore s
 
 -- the lists are those that a table lacks for one more user of each of these nodes
 pub record AreListsFor {N S : Type 0} (eq : N → N → Bool) (table : List (N × Vec N S)) (references : List N) (lists : List (N × Vec N S)) : Type 0 where

@@ -27,8 +27,8 @@ abbrev pub EachFollowsUsers : {N S : Type 0} → (N → N → Bool) → List (N 
 EachFollowsUsers eq table found = Follows (λ a b. Uses eq table b a) (λ x. ⊥) found
 
 -- a list has room for one more
-abbrev pub HasRoom : {N S : Type 0} → Vec N S → Type 0
-HasRoom those = length those.items < vec_capacity those
+abbrev pub TakesOneMore : {N S : Type 0} → Vec N S → Type 0
+TakesOneMore those = length those.items < vec_capacity those
 
 -- this node is the last of them
 abbrev pub EndsWith : {N : Type 0} → List N → N → Type 0
@@ -36,11 +36,11 @@ EndsWith {N} nodes node = (before : List N) × (nodes ≡ before ++ node ∷ [])
 
 -- the list has room for one more, or ends with the node
 abbrev pub IsReady : {N S : Type 0} → Vec N S → N → Type 0
-IsReady those node = HasRoom those ⊎ EndsWith those.items node
+IsReady those node = TakesOneMore those ⊎ EndsWith those.items node
 
 -- each of these has its list, with room for one more
 abbrev pub HasRoomFor : {N S : Type 0} → (N → N → Bool) → List (N × Vec N S) → List N → Type 0
-HasRoomFor {N} {S} eq table references = (b : N) → Contains references b → (s : Vec N S) × (lookup (eq b) table ≡ Some s) × HasRoom s
+HasRoomFor {N} {S} eq table references = (b : N) → Contains references b → (s : Vec N S) × (lookup (eq b) table ≡ Some s) × TakesOneMore s
 
 -- each of these has its list, with room for one more or with the node at its end
 abbrev pub IsReadyFor : {N S : Type 0} → (N → N → Bool) → List (N × Vec N S) → N → List N → Type 0

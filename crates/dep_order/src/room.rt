@@ -3,7 +3,7 @@
 ghost use Rattle.std.specs.Prelude.{◌≡◌, ◌+◌, ◌^◌, ◌≤◌, ◌<◌, ◌↔◌, ◌++◌, List, [], ◌∷◌, IsTrue, IfOk, OnOk, MatchOption, length};
 ghost use Rattle.std.specs.List.{Contains};
 ghost use Rattle.indexmap.specs.IndexMap.{spare};
-ghost use Rattle.dep_order.specs.Users.{Uses, users_of, IsExact, HasRoomFor, HasNoEmptyBut, HasRoom};
+ghost use Rattle.dep_order.specs.Users.{Uses, users_of, IsExact, HasRoomFor, HasNoEmptyBut, TakesOneMore};
 ghost use Rattle.dep_order.specs.Room.{FindRoom, IsLarger, AreListsFor, HasRoomAt};
 
 use crate::users::Users;
@@ -172,7 +172,7 @@ fn give_list<N: Eq + Hash + Copy>(users: &mut Users<N>, node: N, list: Vec<N>)
 fn take_place<N: Drop>(those: &mut Vec<N>, mut larger: Vec<N>)
     requires { IsLarger larger those.old.items }
     ensures nodes { those.new.items ≡ those.old.items }
-    ensures room { HasRoom those.new }
+    ensures room { TakesOneMore those.new }
 {
     larger.append(those).unwrap();
     *those = larger;

@@ -1,6 +1,6 @@
 use Rattle.std.proofs.Common.{◌≡◌, ◌∙◌, sym, ap, subst, Some, IsSome, refl, List, arith, inl, length}
 use Rattle.std.specs.Map.{lookup}
-use Rattle.dep_order.specs.Users.{HasRoom}
+use Rattle.dep_order.specs.Users.{TakesOneMore}
 use Rattle.dep_order.specs.Room.{IsLarger}
 use Rattle.dep_order.proofs.Noting.{room_here, room_written, same_lists, used_written, written_over}
 use Rattle.dep_order.proofs.Roomed.{listed, unlisted}
@@ -56,7 +56,7 @@ returns-in-None-clause-own g c =
     let change = written_over g.N.PartialEq.eq c.get_mut.follows.lender-at-none.entries es c.insert.new.self.entries c.args.node larger (ap (λ m. m.entries) c.get_mut.follows.holds-at-none) updates.0 in
     let list = unlisted g.N.PartialEq.eq g.met.N.Eq.laws c.requires.exact es c.args.node (sym c.in-None.ensures.value) in
     let was = ap (λ (ks : List _). length ks) list in
-    let some : HasRoom larger = omega (arith, c.requires.larger.room, was, ap (λ (ks : List _). length ks) c.requires.larger.empty) in
+    let some : TakesOneMore larger = omega (arith, c.requires.larger.room, was, ap (λ (ks : List _). length ks) c.requires.larger.empty) in
     room_here g.N.PartialEq.eq g.met.N.Eq.laws c.requires.exact es c.insert.new.self.entries c.args.node larger change some
 
 pub returns-in-None-clause-kept : goal.returns-in-None-clause-kept
@@ -67,7 +67,7 @@ returns-in-None-clause-kept g c =
     let change = written_over g.N.PartialEq.eq c.get_mut.follows.lender-at-none.entries es c.insert.new.self.entries c.args.node larger (ap (λ m. m.entries) c.get_mut.follows.holds-at-none) updates.0 in
     let list = unlisted g.N.PartialEq.eq g.met.N.Eq.laws c.requires.exact es c.args.node (sym c.in-None.ensures.value) in
     let was = ap (λ (ks : List _). length ks) list in
-    let some : HasRoom larger = omega (arith, c.requires.larger.room, was, ap (λ (ks : List _). length ks) c.requires.larger.empty) in
+    let some : TakesOneMore larger = omega (arith, c.requires.larger.room, was, ap (λ (ks : List _). length ks) c.requires.larger.empty) in
     room_written g.N.PartialEq.eq g.met.N.Eq.laws c.requires.exact es c.insert.new.self.entries c.args.node larger change some
 
 pub returns-in-None-clause-stay : goal.returns-in-None-clause-stay

@@ -1,7 +1,7 @@
 use Rattle.std.proofs.Common.{◌≡◌, sym, ap, subst, Some, IsSome, refl, List, inl, arith}
 use Rattle.std.specs.Prelude.{Vec}
 use Rattle.std.specs.Map.{lookup}
-use Rattle.dep_order.specs.Users.{HasRoomFor, HasRoom}
+use Rattle.dep_order.specs.Users.{HasRoomFor, TakesOneMore}
 use Rattle.dep_order.proofs.Noting.{forget_uses, room_kept, used_written}
 use Rattle.dep_order.proofs.users.forget.Goals as goal
 
@@ -19,7 +19,7 @@ returns-in-Some-clause-room g c =
     let list = c.take_out.new.those in
     let wrote = c.get_mut.follows.holds list in
     let found : lookup (g.N.PartialEq.eq c.args.reference) es ≡ Some c.in-Some.those.now = sym c.in-Some.ensures.value in
-    let more = λ (room : HasRoom c.in-Some.those.now). let still : HasRoom list = omega (arith, room, c.take_out.ensures.room, c.take_out.ensures.fewer) in still in
+    let more = λ (room : TakesOneMore c.in-Some.those.now). let still : TakesOneMore list = omega (arith, room, c.take_out.ensures.room, c.take_out.ensures.fewer) in still in
     room_kept g.N.PartialEq.eq g.met.N.Eq.laws c.requires es (c.get_mut.follows.lender list).entries c.args.reference list (wrote.3 (subst (λ o. IsSome o) (sym found) refl)).0 c.in-Some.those.now found more
 
 pub returns-in_default-clause-room : goal.returns-in_default-clause-room
