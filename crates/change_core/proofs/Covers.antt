@@ -10,7 +10,7 @@ use Rattle.change_core.specs.declared.reach.Reach.{Reach}
 use Rattle.change_core.specs.declared.reach.Reach.TheVariants.{Anew}
 use Rattle.change_core.proofs.Regions.{HasFit, bounded-fits, bounded-within, join_fits, join_unmoved}
 use Rattle.index_region.specs.Answers.{IsPlaceOf}
-use Rattle.change_core.specs.Laws.{Agrees, AllAgree, AllCovered, ArgumentChange, Covered, Each, IsTight, ReachCovers, ReachLies, blank, frames, gathered, moves, news, olds}
+use Rattle.change_core.specs.Tightness.{Agrees, AllAgree, AllCovered, ArgumentChange, Covered, Each, IsTight, ReachCovers, ReachLies, blank, frames, gathered, moves, news, olds}
 use Rattle.change_core.specs.Reaches.{Fits, LiesInResult, as_reach, bounded, changed, changed_by, is_anew, is_moved, is_reached, reach_by}
 use Rattle.change_core.specs.RuleModels.{RuleModel, Use}
 use Rattle.index_region.specs.Boxes.{Interval, fits, is_within}

@@ -14,7 +14,7 @@ use Rattle.index_region.specs.Checks.{Form, form_of}
 use Rattle.index_region.specs.Axes.{places_along}
 use Rattle.arrays_core.specs.Growth.{one_longer, grown_by, FitsGrowth}
 use Rattle.change_core.specs.Growth.{IsGrown, AllGrew, Extends, IsGrowing, one_grows, two_grow, never, growing}
-use Rattle.change_core.specs.Laws.{IsTight}
+use Rattle.change_core.specs.Tightness.{IsTight}
 use Rattle.change_core.specs.RuleModels.{Growth, RuleModel, Use}
 use Rattle.change_core.specs.Sourced.{one_rule, two_rule}
 

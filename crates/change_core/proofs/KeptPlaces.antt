@@ -7,7 +7,7 @@ use Rattle.arrays_core.specs.declared.item.Kind.{Kind}
 use Rattle.index_region.specs.Boxes.{Interval, fits, join_boxes, met, unless_empty}
 use Rattle.index_region.specs.Checks.{Form}
 use Rattle.arrays_core.specs.Shapes.{IsWithinLimits}
-use Rattle.change_core.specs.Laws.{Each}
+use Rattle.change_core.specs.Tightness.{Each}
 use Rattle.change_core.specs.declared.reach.Reach.TheVariants.{Inside}
 use Rattle.change_core.specs.Reaches.{AllFit, bounded, changed, is_anew, as_reach, reach_by, reach_of, only_at}
 use Rattle.change_core.specs.RuleModels.{Use, RuleModel, KeepsPlaces, shape_at, box_at}

@@ -8,7 +8,7 @@ use Rattle.arrays_core.specs.declared.item.Kind.{Kind}
 use Rattle.arrays_core.specs.Arrays.{ArrayValue, IsArray, item_if_there}
 use Rattle.arrays_core.specs.Items.{fill}
 use Rattle.arrays_core.specs.Shapes.{is_index_of}
-use Rattle.change_core.specs.Laws.{AllCovered, Covered, Each, IsTight, blank, framed, frames, gathered}
+use Rattle.change_core.specs.Tightness.{AllCovered, Covered, Each, IsTight, blank, framed, frames, gathered}
 use Rattle.change_core.specs.Reaches.{is_moved}
 use Rattle.change_core.specs.RuleModels.{Use}
 use Rattle.change_core.specs.Sourced.{Spread, left_of, left_used, one_rule, one_sourced, other, right_of, right_used, two_rule, two_sourced, uses_of_one, uses_of_two}

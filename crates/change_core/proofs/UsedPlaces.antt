@@ -7,7 +7,7 @@ use Rattle.arrays_core.specs.Shapes.{is_index_of, size, places_before, index_aft
 use Rattle.arrays_core.proofs.Shapes.{places_below}
 use Rattle.arrays_core.proofs.Order.{places_before-index_after}
 use Rattle.index_region.proofs.Least.{within-whole, cover-within}
-use Rattle.change_core.specs.Laws.{Covered}
+use Rattle.change_core.specs.Tightness.{Covered}
 use Rattle.change_core.specs.Places.{by_place, cover_in, first_hit, first_of_box, last_hit, last_of_box, lies_in, searched}
 use Rattle.change_core.specs.Reaches.{is_moved}
 use Rattle.change_core.specs.Ways.{IsSound}

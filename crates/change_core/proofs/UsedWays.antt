@@ -3,7 +3,7 @@ use Rattle.std.proofs.Common.{◌≡◌, ℕ, suc, zero, ◌+◌, ◌≤◌, ◌
 use Rattle.std.specs.List.{range_with_len}
 use Rattle.std.proofs.lemmas.Bool.{and_parts, leb-true, ltb-true, ltb-false, eqb-true, false≢true, cases_Bool, cond-true, cond-false, and_from, le-leb}
 use Rattle.arrays_core.specs.Shapes.{is_index_of}
-use Rattle.change_core.specs.Laws.{Covered, Each}
+use Rattle.change_core.specs.Tightness.{Covered, Each}
 use Rattle.change_core.specs.Reaches.{is_moved}
 use Rattle.change_core.specs.RuleModels.{Use}
 use Rattle.change_core.specs.Ways.{Axis, IsSound, across, alike, along, back, by_axes, everywhere, front, images, lengths, lines, meet_at, meets, on_box, permuted, read_all, scalar_by_axes, sources, then_by, unread}

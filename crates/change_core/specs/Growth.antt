@@ -6,7 +6,7 @@ use Rattle.arrays_core.specs.Shapes.{is_index_of}
 use Rattle.index_region.specs.Boxes.{Interval}
 use Rattle.arrays_core.specs.Growth.{FitsGrowth, grown_by, one_longer}
 use Rattle.index_region.specs.Checks.{Form}
-use Rattle.change_core.specs.Laws.{Each}
+use Rattle.change_core.specs.Tightness.{Each}
 use Rattle.change_core.specs.Reaches.{bounded}
 use Rattle.change_core.specs.RuleModels.{Growth, RuleModel}
 

@@ -1,7 +1,7 @@
 -- What public contracts mean.
 pub mod RuleModels
 pub mod Reaches
-pub mod Laws
+pub mod Tightness
 pub mod Meters
 pub mod Growth
 pub mod Parts

@@ -6,7 +6,7 @@ ghost use Rattle.arrays_core.specs.Shapes.{IsWithinLimits};
 ghost use Rattle.index_region.specs.Boxes.{fits};
 ghost use Rattle.index_region.specs.Checks.{whole, form_of};
 ghost use Rattle.change_core.specs.RuleModels.{Use, FitsAt, HasShape, KeepsPlaces, box_at};
-ghost use Rattle.change_core.specs.Laws.{IsTight};
+ghost use Rattle.change_core.specs.Tightness.{IsTight};
 ghost use Rattle.change_core.specs.Growth.{IsGrowing, never};
 ghost use Rattle.change_core.specs.Parts.{HoldsItems, items_in};
 

@@ -5,7 +5,7 @@ ghost use Rattle.arrays_core.specs.Limits.{most_axes};
 ghost use Rattle.index_region.specs.Boxes.{join_boxes};
 ghost use Rattle.change_core.specs.Reaches.{bounded, as_reach};
 ghost use Rattle.change_core.specs.Growth.{last_place};
-ghost use Rattle.change_core.specs.Laws.{ReachCovers, ReachLies};
+ghost use Rattle.change_core.specs.Tightness.{ReachCovers, ReachLies};
 
 use crate::rule::Rule;
 use index_region::{IndexBox, Intervals};

@@ -22,7 +22,7 @@ pub trait Rule {
     ghost use Rattle.change_core.specs.Reaches.{AllFit, reach_of};
     ghost use Rattle.change_core.specs.Meters.{ticked};
     ghost use Rattle.change_core.specs.Parts.{HoldsItems, items_in};
-    ghost use Rattle.change_core.specs.Laws.{IsTight};
+    ghost use Rattle.change_core.specs.Tightness.{IsTight};
     ghost use Rattle.change_core.specs.Growth.{IsGrowing};
 
     /// Its checks, its items, and how its results use its arguments.

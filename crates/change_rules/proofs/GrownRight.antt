@@ -18,7 +18,7 @@ use Rattle.index_region.specs.Checks.{Form, form_of, whole}
 use Rattle.arrays_core.specs.Growth.{grown_by, one_longer}
 use Rattle.index_region.specs.Tails.{TailValue}
 use Rattle.change_core.specs.Growth.{AllGrew, IsGrowing, last_interval, last_place}
-use Rattle.change_core.specs.Laws.{Each}
+use Rattle.change_core.specs.Tightness.{Each}
 use Rattle.change_core.specs.Parts.{items_in}
 use Rattle.change_core.specs.RuleModels.{RuleModel}
 use Rattle.change_core.proofs.Regions.{HasFit, bounded-fits}

@@ -9,7 +9,7 @@ use Rattle.arrays_core.specs.Outcomes.{Outcome}
 use Rattle.index_region.specs.declared.delta.Delta.{Delta}
 use Rattle.index_region.specs.Boxes.{Interval, box_size, fits}
 use Rattle.index_region.specs.Checks.{Form, form_of}
-use Rattle.change_core.specs.Laws.{Each}
+use Rattle.change_core.specs.Tightness.{Each}
 use Rattle.change_core.specs.declared.reach.Reach.TheVariants.{Inside}
 use Rattle.change_core.specs.Parts.{items_in}
 use Rattle.change_core.specs.Reaches.{AllFit, only_at, reach_of}

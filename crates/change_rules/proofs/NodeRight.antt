@@ -7,7 +7,7 @@ use Rattle.arrays_core.specs.Arrays.{IsArray}
 use Rattle.index_region.specs.Boxes.{Interval}
 use Rattle.index_region.specs.declared.delta.Delta.{Delta}
 use Rattle.change_core.specs.Growth.{AllGrew, IsGrowing}
-use Rattle.change_core.specs.Laws.{Each, ReachCovers}
+use Rattle.change_core.specs.Tightness.{Each, ReachCovers}
 use Rattle.change_core.specs.Reaches.{AllFit, LiesInResult, reach_of}
 use Rattle.change_core.specs.RuleModels.{RuleModel}
 use Rattle.change_rules.specs.Currency.{BringsUpToDate, HasAxis, IsEvaluation, applied}

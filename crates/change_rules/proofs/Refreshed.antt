@@ -17,7 +17,7 @@ use Rattle.change_core.specs.declared.reach.Reach.TheVariants.{Unmoved, Inside, 
 use Rattle.change_core.proofs.Collected.{along, collected}
 use Rattle.change_core.proofs.UsedWays.{within-whole}
 use Rattle.index_region.specs.Answers.{IsPlaceOf}
-use Rattle.change_core.specs.Laws.{Each, ReachCovers, AllAgree, ArgumentChange, Covers, moves, news, olds}
+use Rattle.change_core.specs.Tightness.{Each, ReachCovers, AllAgree, ArgumentChange, Covers, moves, news, olds}
 use Rattle.change_core.specs.Reaches.{AllFit, LiesInResult, reach_of, is_moved, is_reached}
 use Rattle.change_rules.proofs.PatchRight.{error_right, patch_right}
 use Rattle.change_rules.proofs.Walked.{array_of, walked, walked_is, walked_delta, walked_delta_is}

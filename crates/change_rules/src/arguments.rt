@@ -4,7 +4,7 @@ ghost use Rattle.std.specs.Prelude.{◌≡◌, IfOk, is_ok, not, ◌||◌};
 ghost use Rattle.change_rules.specs.Nodes.{views, moved, moved_by, all_same, starts_anew, is_whole, is_grown, is_grown_at_most, all_patched_at_most, marks};
 ghost use Rattle.std.specs.List.{list_all, list_any};
 ghost use Rattle.arrays_core.specs.Arrays.{IsArray};
-ghost use Rattle.change_core.specs.Laws.{Each};
+ghost use Rattle.change_core.specs.Tightness.{Each};
 
 use arrays_core::{Array, Fault};
 use index_region::{Delta, IndexBox, Seen};

@@ -7,7 +7,7 @@ ghost use Rattle.arrays_core.specs.declared.item.ItemType.{ItemType as TypeOfIte
 ghost use Rattle.index_region.specs.Boxes.{box_size};
 ghost use Rattle.index_region.specs.Checks.{form_of};
 ghost use Rattle.change_core.specs.Growth.{last_place};
-ghost use Rattle.change_core.specs.Laws.{Each};
+ghost use Rattle.change_core.specs.Tightness.{Each};
 ghost use Rattle.change_core.specs.Reaches.{AllFit};
 ghost use Rattle.change_core.specs.Meters.{ticked, most_ticks};
 ghost use Rattle.change_core.specs.RuleModels.{form_size};

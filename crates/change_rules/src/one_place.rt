@@ -5,7 +5,7 @@ ghost use Rattle.std.specs.List.{list_all};
 ghost use Rattle.arrays_core.specs.Arrays.{IsArray};
 ghost use Rattle.index_region.specs.Boxes.{box_size, fits};
 ghost use Rattle.index_region.specs.Checks.{Form};
-ghost use Rattle.change_core.specs.Laws.{Each};
+ghost use Rattle.change_core.specs.Tightness.{Each};
 ghost use Rattle.change_core.specs.Meters.{ticked};
 ghost use Rattle.change_core.specs.Parts.{items_in};
 ghost use Rattle.change_core.specs.Reaches.{AllFit, only_at};

@@ -27,7 +27,7 @@ use Rattle.index_region.specs.Checks.{Form, whole}
 use Rattle.index_region.specs.Patches.{PatchValue, FitsPatch, patched}
 use Rattle.index_region.specs.Tails.{TailValue, FitsTail}
 use Rattle.change_core.specs.Growth.{IsGrowing, last_place}
-use Rattle.change_core.specs.Laws.{ReachCovers, Each}
+use Rattle.change_core.specs.Tightness.{ReachCovers, Each}
 use Rattle.change_core.specs.Reaches.{AllFit}
 use Rattle.change_core.specs.RuleModels.{RuleModel}
 use Rattle.change_core.proofs.Covers.{reaches_inside}

@@ -6,7 +6,7 @@ use Rattle.apl_expr.specs.declared.functions.Function2.{Function2}
 use Rattle.apl_expr.specs.declared.expr.Dyadic.TheVariants as dyadic
 use Rattle.apl_expr.specs.declared.functions.Function2.TheVariants as function2
 use Rattle.change_core.specs.Growth.{IsGrowing}
-use Rattle.change_core.specs.Laws.{IsTight}
+use Rattle.change_core.specs.Tightness.{IsTight}
 use Rattle.change_core.proofs.Covers.{covers}
 use Rattle.change_core.proofs.Growing.{never_grows}
 use Rattle.scalar_fns.specs.Laws.EachMonadic.{each_monadic_tight}

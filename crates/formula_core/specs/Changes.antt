@@ -14,7 +14,7 @@ use Rattle.index_region.specs.declared.delta.Delta.TheVariants.{Same, Patch, Gro
 use Rattle.index_region.specs.Patches.{FitsPatch}
 use Rattle.index_region.specs.Tails.{TailValue, FitsTail}
 use Rattle.change_core.specs.Growth.{IsGrowing}
-use Rattle.change_core.specs.Laws.{ReachCovers}
+use Rattle.change_core.specs.Tightness.{ReachCovers}
 use Rattle.change_core.specs.RuleModels.{RuleModel, form_size}
 use Rattle.change_rules.specs.Currency.{applied}
 use Rattle.change_rules.specs.Nodes.{Argument, is_same, node_delta, node_cost}

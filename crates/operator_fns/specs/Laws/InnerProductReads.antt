@@ -16,7 +16,7 @@ use Rattle.scalar_fns.specs.ScalarExtension.{extended}
 use Rattle.index_region.specs.Answers.{IsPlaceOf}
 use Rattle.index_region.specs.Boxes.{Interval, is_within, whole_of}
 use Rattle.index_region.specs.Checks.{Form}
-use Rattle.change_core.specs.Laws.{Covered, Each}
+use Rattle.change_core.specs.Tightness.{Covered, Each}
 use Rattle.change_core.specs.Sourced.{other}
 use Rattle.change_core.proofs.UsedWays.{back-onto, each_all, each_map, front-onto}
 use Rattle.operator_fns.specs.InnerProduct.{all_or_last_error, column_length, inner_form, inner_item, inner_length, row_length, row_rank, column_use, extended_line, row_use}

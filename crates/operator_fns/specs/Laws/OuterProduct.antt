@@ -8,7 +8,7 @@ use Rattle.function_names.specs.declared.scalar.Scalar2.{Scalar2}
 use Rattle.scalar_fns.specs.Items.{dyadic_on_items}
 use Rattle.index_region.specs.Checks.{Form}
 use Rattle.index_region.proofs.Passing.{limited_gives}
-use Rattle.change_core.specs.Laws.{IsTight, Covered}
+use Rattle.change_core.specs.Tightness.{IsTight, Covered}
 use Rattle.change_core.specs.Sourced.{other}
 use Rattle.change_core.specs.Ways.{front, back}
 use Rattle.change_core.proofs.Growing.{tight_growing}

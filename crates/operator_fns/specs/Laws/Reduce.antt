@@ -11,7 +11,7 @@ use Rattle.function_names.specs.declared.along.Along.{Along}
 use Rattle.function_names.specs.Axes.{axis_at}
 use Rattle.index_region.specs.Axes.{places_along}
 use Rattle.index_region.specs.Boxes.{Interval, fits, is_within}
-use Rattle.change_core.specs.Laws.{IsTight, Covered, Each}
+use Rattle.change_core.specs.Tightness.{IsTight, Covered, Each}
 use Rattle.change_core.specs.Sourced.{other}
 use Rattle.change_core.proofs.Growing.{tight_growing}
 use Rattle.change_core.proofs.Sourced.{one_tight}

@@ -12,7 +12,7 @@ use Rattle.function_names.specs.declared.scalar.Scalar2.{Scalar2}
 use Rattle.function_names.specs.declared.along.Along.{Along}
 use Rattle.function_names.specs.Axes.{axis_at}
 use Rattle.index_region.specs.Axes.{places_along}
-use Rattle.change_core.specs.Laws.{IsTight, Covered}
+use Rattle.change_core.specs.Tightness.{IsTight, Covered}
 use Rattle.change_core.specs.Sourced.{other}
 use Rattle.change_core.proofs.Growing.{tight_growing}
 use Rattle.change_core.proofs.Sourced.{one_tight}

@@ -12,7 +12,7 @@ use Rattle.scalar_fns.specs.ScalarExtension.{common, for_shape}
 use Rattle.scalar_fns.specs.Laws.Extension.{Extends, common_extends}
 use Rattle.index_region.specs.Boxes.{Interval, is_within, whole_of}
 use Rattle.index_region.specs.Checks.{Form, form_of}
-use Rattle.change_core.specs.Laws.{Covered, IsTight}
+use Rattle.change_core.specs.Tightness.{Covered, IsTight}
 use Rattle.change_core.proofs.Growing.{tight_growing}
 use Rattle.change_core.proofs.Sourced.{two_tight}
 use Rattle.change_core.proofs.UsedWays.{within-whole}

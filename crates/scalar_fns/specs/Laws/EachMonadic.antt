@@ -5,7 +5,7 @@ use Rattle.arrays_core.specs.Shapes.{is_index_of}
 use Rattle.function_names.specs.declared.scalar.Scalar1.{Scalar1}
 use Rattle.scalar_fns.specs.Items.{monadic_on_item}
 use Rattle.index_region.specs.Checks.{Form, form_of}
-use Rattle.change_core.specs.Laws.{IsTight}
+use Rattle.change_core.specs.Tightness.{IsTight}
 use Rattle.change_core.specs.Sourced.{other}
 use Rattle.change_core.proofs.Growing.{tight_growing}
 use Rattle.change_core.proofs.Sourced.{one_tight}

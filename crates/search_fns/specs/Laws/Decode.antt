@@ -16,7 +16,7 @@ use Rattle.index_region.specs.Axes.{places_along}
 use Rattle.index_region.specs.Boxes.{is_within}
 use Rattle.index_region.specs.Checks.{Form}
 use Rattle.index_region.proofs.Passing.{gives, limited_gives}
-use Rattle.change_core.specs.Laws.{Covered, Each, IsTight}
+use Rattle.change_core.specs.Tightness.{Covered, Each, IsTight}
 use Rattle.change_core.specs.Sourced.{other}
 use Rattle.change_core.specs.Ways.{everywhere}
 use Rattle.change_core.proofs.Sourced.{two_arrays_tight}

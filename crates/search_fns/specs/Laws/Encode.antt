@@ -14,7 +14,7 @@ use Rattle.scalar_fns.specs.Numbers.{residue}
 use Rattle.index_region.specs.Arguments.{counts_as_numbers, is_list, number_of, numbers}
 use Rattle.index_region.specs.Checks.{Form}
 use Rattle.index_region.proofs.Passing.{gives, limited_gives}
-use Rattle.change_core.specs.Laws.{Covered, IsTight}
+use Rattle.change_core.specs.Tightness.{Covered, IsTight}
 use Rattle.change_core.specs.Sourced.{other}
 use Rattle.change_core.specs.Ways.{back}
 use Rattle.change_core.proofs.Sourced.{two_arrays_tight}

@@ -8,7 +8,7 @@ use Rattle.arrays_core.specs.Shapes.{indices, is_index_of}
 use Rattle.scalar_fns.specs.Numbers.{truth}
 use Rattle.index_region.specs.Checks.{Form}
 use Rattle.index_region.proofs.Passing.{limited_gives}
-use Rattle.change_core.specs.Laws.{IsTight}
+use Rattle.change_core.specs.Tightness.{IsTight}
 use Rattle.change_core.specs.Sourced.{other}
 use Rattle.change_core.specs.Ways.{alike, everywhere}
 use Rattle.change_core.proofs.Sourced.{two_arrays_tight}

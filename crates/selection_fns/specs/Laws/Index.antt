@@ -12,7 +12,7 @@ use Rattle.index_region.specs.Boxes.{Interval, is_within, whole_of}
 use Rattle.index_region.specs.Checks.{Form, check, form_of, limited}
 use Rattle.index_region.specs.Sources.{Place, item_from}
 use Rattle.index_region.proofs.Passing.{gives, limited_gives}
-use Rattle.change_core.specs.Laws.{AllCovered, IsTight, blank, frames, gathered}
+use Rattle.change_core.specs.Tightness.{AllCovered, IsTight, blank, frames, gathered}
 use Rattle.change_core.specs.Places.{lies_in}
 use Rattle.change_core.specs.Reaches.{is_moved}
 use Rattle.change_core.proofs.Sourced.{item_from_same_one}

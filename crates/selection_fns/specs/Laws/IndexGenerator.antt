@@ -2,7 +2,7 @@
 use Rattle.std.proofs.Common.{◌≡◌, ℕ, List, [], ◌∷◌, length, true, ap, arith, Ok, IsOk}
 use Rattle.arrays_core.specs.Arrays.{ArrayValue, IsArray}
 use Rattle.arrays_core.specs.Shapes.{is_index_of}
-use Rattle.change_core.specs.Laws.{AllCovered, Each, IsTight, frames, gathered}
+use Rattle.change_core.specs.Tightness.{AllCovered, Each, IsTight, frames, gathered}
 use Rattle.change_core.specs.Sourced.{uses_of_one}
 use Rattle.change_core.specs.Ways.{unread}
 use Rattle.change_core.proofs.UsedWays.{unread-covered}

@@ -12,7 +12,7 @@ use Rattle.function_names.specs.Axes.{axis_at}
 use Rattle.index_region.specs.Axes.{places_along}
 use Rattle.index_region.specs.Boxes.{Interval, is_within}
 use Rattle.index_region.specs.Checks.{Form}
-use Rattle.change_core.specs.Laws.{Covered, IsTight}
+use Rattle.change_core.specs.Tightness.{Covered, IsTight}
 use Rattle.change_core.specs.Reaches.{is_moved}
 use Rattle.change_core.specs.Sourced.{right_used}
 use Rattle.change_core.proofs.Sourced.{selected_sourced-tight}

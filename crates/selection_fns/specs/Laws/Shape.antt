@@ -1,6 +1,6 @@
 -- The law of shape.
 use Rattle.std.proofs.Common.{refl}
-use Rattle.change_core.specs.Laws.{IsTight}
+use Rattle.change_core.specs.Tightness.{IsTight}
 use Rattle.change_core.specs.Ways.{unread}
 use Rattle.change_core.proofs.Sourced.{one_tight}
 use Rattle.change_core.proofs.UsedWays.{unread-covered}

@@ -13,7 +13,7 @@ use Rattle.function_names.specs.Axes.{is_axis, axis_at}
 use Rattle.index_region.specs.Boxes.{Interval, is_within, fits, whole_of}
 use Rattle.index_region.specs.Checks.{check, limited}
 use Rattle.index_region.specs.Sources.{Source, Place}
-use Rattle.change_core.specs.Laws.{IsTight, Covered, Each}
+use Rattle.change_core.specs.Tightness.{IsTight, Covered, Each}
 use Rattle.change_core.specs.Reaches.{is_moved}
 use Rattle.change_core.specs.Sourced.{left_of, right_of, left_used, right_used, other}
 use Rattle.change_core.proofs.Sourced.{two_sourced-tight}

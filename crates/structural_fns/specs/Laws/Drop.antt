@@ -6,7 +6,7 @@ use Rattle.arrays_core.specs.Shapes.{is_index_of}
 use Rattle.index_region.specs.Arguments.{numbers}
 use Rattle.index_region.specs.Boxes.{is_within}
 use Rattle.index_region.specs.Checks.{Form}
-use Rattle.change_core.specs.Laws.{IsTight, Covered, Each}
+use Rattle.change_core.specs.Tightness.{IsTight, Covered, Each}
 use Rattle.change_core.specs.Sourced.{right_used}
 use Rattle.change_core.specs.Ways.{IsSound, lengths, sources}
 use Rattle.change_core.proofs.Sourced.{selected_sourced-tight}

@@ -1,7 +1,7 @@
 -- All that changes of A⍉B lies in its box.
 use Rattle.std.proofs.Common.{◌≡◌, ℕ, ◌-◌, List, [], ◌∷◌, map, get_or, refl, ap, subst, true}
 use Rattle.index_region.specs.Boxes.{is_within}
-use Rattle.change_core.specs.Laws.{Each, IsTight}
+use Rattle.change_core.specs.Tightness.{Each, IsTight}
 use Rattle.change_core.specs.Reaches.{is_moved}
 use Rattle.change_core.proofs.Sourced.{selected_sourced-tight}
 use Rattle.change_core.proofs.UsedWays.{permuted-covered}

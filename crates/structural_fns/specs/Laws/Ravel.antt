@@ -6,7 +6,7 @@ use Rattle.arrays_core.specs.Shapes.{size, places_before, index_after, is_index_
 use Rattle.index_region.specs.Boxes.{Interval, is_within}
 use Rattle.index_region.specs.Checks.{Form}
 use Rattle.index_region.proofs.Passing.{limited_gives}
-use Rattle.change_core.specs.Laws.{IsTight, Covered}
+use Rattle.change_core.specs.Tightness.{IsTight, Covered}
 use Rattle.change_core.specs.Places.{first_of_box, last_of_box}
 use Rattle.change_core.specs.Sourced.{left_used}
 use Rattle.change_core.proofs.Sourced.{one_sourced-tight}

@@ -6,7 +6,7 @@ use Rattle.index_region.specs.Arguments.{is_list, has_items, counts_as_numbers, 
 use Rattle.index_region.specs.Boxes.{is_within}
 use Rattle.index_region.specs.Checks.{Form}
 use Rattle.index_region.proofs.Passing.{gives, limited_gives}
-use Rattle.change_core.specs.Laws.{IsTight, Covered}
+use Rattle.change_core.specs.Tightness.{IsTight, Covered}
 use Rattle.change_core.specs.Reaches.{is_moved}
 use Rattle.change_core.specs.Sourced.{right_used}
 use Rattle.change_core.proofs.Sourced.{selected_sourced-tight}

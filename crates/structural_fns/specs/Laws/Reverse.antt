@@ -3,7 +3,7 @@ use Rattle.std.proofs.Common.{length, refl, arith}
 use Rattle.function_names.specs.declared.along.Along.{Along}
 use Rattle.function_names.specs.Axes.{axis_at}
 use Rattle.index_region.specs.Axes.{places_along}
-use Rattle.change_core.specs.Laws.{IsTight}
+use Rattle.change_core.specs.Tightness.{IsTight}
 use Rattle.change_core.proofs.Sourced.{one_sourced-tight}
 use Rattle.change_core.proofs.UsedWays.{within-set}
 use Rattle.structural_fns.specs.Reverse.{reverse_form, reverse_source, reversed, reverse_box, reverse_rule}

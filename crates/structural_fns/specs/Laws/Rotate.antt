@@ -16,7 +16,7 @@ use Rattle.index_region.specs.Boxes.{Interval, is_within}
 use Rattle.index_region.specs.Checks.{Form}
 use Rattle.index_region.specs.Sources.{Place, item_from}
 use Rattle.index_region.proofs.Passing.{passed}
-use Rattle.change_core.specs.Laws.{Covered, Each, IsTight}
+use Rattle.change_core.specs.Tightness.{Covered, Each, IsTight}
 use Rattle.change_core.specs.Reaches.{is_moved}
 use Rattle.change_core.specs.Sourced.{other, right_used}
 use Rattle.change_core.proofs.Sourced.{item_from_same, two_arrays_tight}

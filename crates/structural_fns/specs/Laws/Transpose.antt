@@ -4,7 +4,7 @@ use Rattle.std.proofs.lemmas.Bool.{and_parts, and_from, false≢true}
 use Rattle.std.proofs.lemmas.List.{reverse-reverse}
 use mathlib.Core.List.{reverse_aux}
 use Rattle.index_region.specs.Boxes.{Interval, is_within}
-use Rattle.change_core.specs.Laws.{IsTight}
+use Rattle.change_core.specs.Tightness.{IsTight}
 use Rattle.change_core.proofs.Sourced.{one_sourced-tight}
 use Rattle.structural_fns.specs.Transpose.{transpose_form, transpose_source, transpose_box, transpose_rule}
 
