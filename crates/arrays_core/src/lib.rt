@@ -19,6 +19,6 @@ pub use room::{Room, copied, is_same_room, put_behind, repeated, room_between, r
 pub use rule::{ItemRule, RowRule, collect, collect_rows};
 pub use shape::{
     LONGEST_AXIS, MOST_AXES, MOST_PLACES, Shape, advance, append_axes, index_in_row,
-    index_of_position, is_index_of, is_within_limits, law_of_row_major_order, position, shape_of,
-    size, with_axis, without_axis,
+    index_of_position, is_index_of, is_within_limits, law_of_row_major_order, places_before,
+    position, shape_of, size, with_axis, without_axis,
 };

@@ -16,7 +16,7 @@ ghost use Rattle.selection_fns.specs.Index.{written_positions, count_written, of
 use crate::index_places::places_of;
 use arrays_core::{
     ApplyFault, Array, ArrayBuilder, Item, ItemType, Kind, MOST_AXES, Shape, append_axes,
-    index_in_row, position, size,
+    index_in_row, places_before, position, size,
 };
 use index_region::{Primitive, RowPrimitive, Seen, Source, apply_rows, item_from, limited};
 use smallvec::SmallVec;
@@ -224,7 +224,7 @@ fn indices_in_row<'p>(indices: &'p Seen, row: &[u32], count: u32) -> Option<&'p 
     let numbers = indices.numbers()?;
     let own = &row[row.len() + 1 - axes.len()..];
     let first = index_in_row(*axes.allocator(), own, 1);
-    let before = (position(axes, first.as_slice()) - 1) as usize;
+    let before = places_before(axes, first.as_slice()) as usize;
     Some(&numbers[before..before + count as usize])
 }
 

@@ -21,7 +21,7 @@ use crate::kept::kept_numbers;
 use crate::numbers::numbers_of;
 use arrays_core::{
     ApplyFault, Array, ArrayBuilder, Item, ItemRule, ItemType, Kind, RowRule, Shape, collect_rows,
-    index_in_row, position, shape_of,
+    index_in_row, places_before, shape_of,
 };
 use index_region::{Along, Primitive, Seen, Source, item_from, limited};
 use std::alloc::{AllocError, Global};
@@ -568,7 +568,7 @@ impl<'a, 'b, 'c> RowRule for CopyRule<'a, 'b, 'c> {
         let axes = array.shape();
         let first = index_in_row(*axes.allocator(), row, 1);
         let at = self.index_of(first.as_slice());
-        let place = position(axes, at.as_slice()) - 1;
+        let place = places_before(axes, at.as_slice());
         if self.replicate.along.axis_at(axes.len() as u32) == row.len() {
             array.extend_places(items, place - self.before[0], self.before)
         } else {

@@ -19,8 +19,8 @@ ghost use Rattle.structural_fns.specs.Laws.Catenate.{catenate_tight};
 
 use crate::even_steps::extend_evenly;
 use arrays_core::{
-    ApplyFault, Array, ArrayBuilder, Item, ItemType, Kind, Shape, index_in_row, position, shape_of,
-    with_axis, without_axis,
+    ApplyFault, Array, ArrayBuilder, Item, ItemType, Kind, Shape, index_in_row, places_before,
+    shape_of, with_axis, without_axis,
 };
 use change_core::Announced;
 use index_region::{
@@ -187,7 +187,7 @@ fn place_in_side(side: &Seen, axis: usize, skipped: u32, row: &[u32], i: u32) ->
     let index = index_in_row(*shape.allocator(), row, i);
     let along = index[axis].saturating_sub(skipped);
     let at = in_side(side, row.len() + 1, axis, index.as_slice(), along);
-    position(shape, at.as_slice()) - 1
+    places_before(shape, at.as_slice())
 }
 
 /// Puts the items of a part of a row that comes from one side behind the others: `kept` places after `before` ones.

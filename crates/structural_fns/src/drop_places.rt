@@ -18,7 +18,7 @@ ghost use Rattle.structural_fns.specs.Laws.Drop.{drop_tight};
 use crate::axis_counts::{check_axis_counts, counted_box, counted_shape, uncounted};
 use crate::limits::MOST_AXES;
 use arrays_core::{
-    ApplyFault, Array, ArrayBuilder, Item, ItemType, Kind, Shape, index_in_row, position, size,
+    ApplyFault, Array, ArrayBuilder, Item, ItemType, Kind, Shape, index_in_row, places_before, size,
 };
 use change_core::Announced;
 use index_region::{
@@ -178,7 +178,7 @@ impl RowPrimitive for DropPlaces {
         let shape = array.shape();
         let first = index_in_row(*shape.allocator(), row, 1);
         let at = self.place_of(counts, array, first.as_slice());
-        array.extend_run(items, position(shape, at.as_slice()) - 1, count)
+        array.extend_run(items, places_before(shape, at.as_slice()), count)
     }
 }
 

@@ -19,7 +19,7 @@ ghost use Rattle.structural_fns.specs.Laws.DyadicTranspose.{transpose_by_tight};
 use crate::even_steps::extend_evenly;
 use crate::limits::MOST_AXES;
 use arrays_core::{
-    ApplyFault, Array, ArrayBuilder, Item, ItemType, Kind, Shape, index_in_row, position,
+    ApplyFault, Array, ArrayBuilder, Item, ItemType, Kind, Shape, index_in_row, places_before,
 };
 use change_core::Announced;
 use index_region::{
@@ -186,7 +186,7 @@ impl DyadicTranspose {
         let shape = array.shape();
         let index = index_in_row(*shape.allocator(), row, index);
         let at = gathered(*shape.allocator(), axes, index.as_slice());
-        position(shape, at.as_slice()) - 1
+        places_before(shape, at.as_slice())
     }
 
     /// The array whose axes have gone to those that are named.

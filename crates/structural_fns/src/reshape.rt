@@ -14,7 +14,7 @@ ghost use Rattle.structural_fns.specs.Laws.Reshape.{reshape_tight};
 use crate::magnitudes::magnitudes;
 use crate::places::places_of;
 use arrays_core::{
-    ApplyFault, Array, ArrayBuilder, Item, ItemType, Kind, Shape, index_of_position, position,
+    ApplyFault, Array, ArrayBuilder, Item, ItemType, Kind, Shape, index_of_position, places_before,
     shape_of, size,
 };
 use change_core::Announced;
@@ -32,7 +32,7 @@ fn source_in(shape: &Shape, array: &Seen, index: &[u32]) -> Source
     if places == 0 {
         return Source::Fill;
     }
-    let before = position(shape, index) - 1;
+    let before = places_before(shape, index);
     let at = index_of_position(array.shape(), before % places + 1);
     Source::Place { arg: 1, at }
 }

@@ -15,7 +15,8 @@ ghost use Rattle.structural_fns.specs.Reverse.{reverse_form, reverse_source, rev
 ghost use Rattle.structural_fns.specs.Laws.Reverse.{reverse_tight};
 
 use arrays_core::{
-    ApplyFault, Array, ArrayBuilder, Item, ItemType, Kind, Shape, index_in_row, position, shape_of,
+    ApplyFault, Array, ArrayBuilder, Item, ItemType, Kind, Shape, index_in_row, places_before,
+    shape_of,
 };
 use change_core::Announced;
 use index_region::{
@@ -129,7 +130,7 @@ impl RowPrimitive for Reverse {
         let shape = array.shape();
         let first = index_in_row(*shape.allocator(), row, 1);
         let at = self.place_of(array, first.as_slice());
-        let place = position(shape, at.as_slice()) - 1;
+        let place = places_before(shape, at.as_slice());
         if self.along.axis_at(shape.len() as u32) == row.len() {
             array.extend_back(items, place, count)
         } else {

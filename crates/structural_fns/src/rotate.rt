@@ -17,8 +17,8 @@ ghost use Rattle.structural_fns.specs.Rotate.{lines_checked, rotate_form, rotati
 ghost use Rattle.structural_fns.specs.Laws.Rotate.{rotate_tight};
 
 use arrays_core::{
-    ApplyFault, Array, ArrayBuilder, Item, ItemType, Kind, Shape, index_in_row, position, shape_of,
-    without_axis,
+    ApplyFault, Array, ArrayBuilder, Item, ItemType, Kind, Shape, index_in_row, places_before,
+    position, shape_of, without_axis,
 };
 use change_core::Announced;
 use index_region::{
@@ -156,7 +156,7 @@ impl Rotate {
         let shape = array.shape();
         let first = index_in_row(*shape.allocator(), row, 1);
         let at = self.place_of(amounts, array, first.as_slice());
-        let place = position(shape, at.as_slice()) - 1;
+        let place = places_before(shape, at.as_slice());
         let before = at[row.len()] - 1;
         array.extend_run(items, place, count - before)?;
         array.extend_run(items, place - before, before)
@@ -180,7 +180,7 @@ impl Rotate {
         let shape = array.shape();
         let first = index_in_row(*shape.allocator(), row, 1);
         let at = self.place_of(amounts, array, first.as_slice());
-        array.extend_run(items, position(shape, at.as_slice()) - 1, count)
+        array.extend_run(items, places_before(shape, at.as_slice()), count)
     }
 
     /// Puts a row behind the items one by one: across lines, each may have an amount of its own.

@@ -21,7 +21,7 @@ use crate::axis_counts::{check_axis_counts, counted_box, counted_shape, uncounte
 use crate::magnitudes::magnitudes;
 use arrays_core::{
     ApplyFault, Array, ArrayBuilder, Item, ItemType, Kind, Shape, index_in_row, is_index_of,
-    position,
+    places_before,
 };
 use change_core::Announced;
 use index_region::{
@@ -136,7 +136,7 @@ impl Take {
         let first = index_in_row(*array.shape().allocator(), row, before + 1);
         match self.source(counts, array, first.as_slice()) {
             Source::Place { at, .. } => {
-                array.extend_run(items, position(array.shape(), at.as_slice()) - 1, kept)
+                array.extend_run(items, places_before(array.shape(), at.as_slice()), kept)
             }
             Source::Fill => items.extend_with(array.item_type().fill(), kept),
         }

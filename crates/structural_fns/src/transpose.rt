@@ -12,7 +12,7 @@ ghost use Rattle.structural_fns.specs.Laws.Transpose.{transpose_tight};
 
 use crate::even_steps::extend_evenly;
 use arrays_core::{
-    ApplyFault, Array, ArrayBuilder, Item, ItemType, Kind, Shape, index_in_row, position, size,
+    ApplyFault, Array, ArrayBuilder, Item, ItemType, Kind, Shape, index_in_row, places_before, size,
 };
 use change_core::Announced;
 use index_region::{
@@ -105,7 +105,7 @@ impl RowPrimitive for Transpose {
         let shape = array.shape();
         let index = index_in_row(*shape.allocator(), row, 1);
         let at = from_last(*shape.allocator(), index.as_slice());
-        let first = position(shape, at.as_slice()) - 1;
+        let first = places_before(shape, at.as_slice());
         let step = size(&shape.as_slice()[1..]);
         extend_evenly(array, first, step, count, items)
     }

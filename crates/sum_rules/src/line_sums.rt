@@ -14,7 +14,7 @@ ghost use Rattle.sum_rules.specs.LineSums.{length_along, line_length, line_step,
 ghost use Rattle.sum_rules.specs.NewLines.{FitsSums, FitsTrees, trees_grown};
 
 use crate::new_lines::{Growth, NewLines};
-use arrays_core::{Array, Item, ItemType, Shape, position, shape_of, size};
+use arrays_core::{Array, Item, ItemType, Shape, places_before, shape_of, size};
 use fold_trees::FoldTrees;
 use index_region::{Along, Patch, Seen};
 use operator_fns::Reduce;
@@ -124,7 +124,7 @@ fn write_into(shape: &Shape, trees: &mut FoldTrees, patch: &Patch)
     let region = patch.region();
     let mut index = region.index_at(0);
     for before in 0..region.size() {
-        let place = position(shape, index.as_slice()) - 1;
+        let place = places_before(shape, index.as_slice());
         set_item(trees, place as usize, patch.item(index.as_slice()));
         region.advance(&mut index);
     }

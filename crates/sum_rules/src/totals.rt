@@ -28,7 +28,7 @@ ghost use Rattle.sum_rules.specs.Totals.{total_rule, longer_totals, StoodFor, St
 use crate::line_sums::length_along;
 use crate::line_totals::{LineTotals, TreeALine};
 use arrays_core::{
-    ApplyFault, Array, Fault, Item, ItemType, Kind, Shape, outcome, position, shape_of,
+    ApplyFault, Array, Fault, Item, ItemType, Kind, Shape, outcome, places_before, shape_of,
 };
 use change_core::{Meter, Reach, Rule};
 use change_rules::refresh_with_cost;
@@ -90,7 +90,7 @@ fn line_total<S: LineTotals>(
 {
     // The type of the items says that the patch has one item for each place.
     let _one_item_a_place = patch.item_type();
-    let place = position(shape, index) - 1;
+    let place = places_before(shape, index);
     let item = patch.item(index);
     let (total, joins) = total_with(sums, place as usize, item);
     meter.tick();

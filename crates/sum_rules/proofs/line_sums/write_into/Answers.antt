@@ -39,8 +39,8 @@ loop-before-init c = record {
   at = λ _. c.index_at-index.ensures ∙ ap (λ (r : List Interval). walk_at r 0) c.region-region.ensures;
 }
 
-pub position-place-requires-clause-in_range : goal.position-place-requires-clause-in_range
-position-place-requires-clause-in_range c =
+pub places_before-place-requires-clause-in_range : goal.places_before-place-requires-clause-in_range
+places_before-place-requires-clause-in_range c =
     let p = c.args.patch.now in
     let below : c.loop-before.before < box_size p.region =
     subst (λ (r : List Interval). c.loop-before.before < box_size r) c.region-region.ensures (omega (arith, c.loop-before-test.true, c.size-before-end.ensures)) in
@@ -65,7 +65,7 @@ loop-before-preserved c =
     let here = c.loop-before.invariant.at below in
     let index : c.as_slice.result.now ≡ walk_at p.region before = c.as_slice.ensures.is ∙ here in
     let counted : places_before shape c.as_slice.result.now ≡ places_before shape (walk_at p.region before) = ap (places_before shape) index in
-    let place : c.position-place.result - 1 ≡ places_before shape (walk_at p.region before) = omega (arith, c.position-place.ensures.is, counted) in
+    let place : c.places_before-place.result ≡ places_before shape (walk_at p.region before) = omega (arith, c.places_before-place.ensures.is, counted) in
     let item : c.item.result ≡ get_or p.items before (fill p.item_type) =
     c.item.ensures.is
     ∙ ap (λ (i : List ℕ). get_or p.items (box_offset p.region i) (fill p.item_type)) (c.as_slice-in-loop-before.ensures.is ∙ here)
@@ -105,4 +105,4 @@ pub set_item-requires-clause-place : goal.set_item-requires-clause-place
 set_item-requires-clause-place c =
     let numbers = c.loop-before.trees.lines.numbers in
     let long = sym (length-map numbers (λ (z : ℤ). Num z)) ∙ c.loop-before.invariant.written.long in
-    omega (arith, long, c.position-place.ensures.low, c.position-place.ensures.high)
+    omega (arith, long, c.places_before-place.ensures.below)

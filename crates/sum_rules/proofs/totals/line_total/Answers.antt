@@ -8,8 +8,8 @@ use Rattle.sum_rules.proofs.KeptSums.{along_axis}
 use Rattle.sum_rules.proofs.ChangedLines.{place_on, total_on}
 use Rattle.sum_rules.proofs.totals.line_total.Goals as goal
 
-pub position-place-requires-clause-in_range : goal.position-place-requires-clause-in_range
-position-place-requires-clause-in_range g c = fits_within c.args.patch.now.region c.args.shape.now.items c.args.index.now c.requires.fit.inside c.requires.inside
+pub places_before-place-requires-clause-in_range : goal.places_before-place-requires-clause-in_range
+places_before-place-requires-clause-in_range g c = fits_within c.args.patch.now.region c.args.shape.now.items c.args.index.now c.requires.fit.inside c.requires.inside
 
 pub total_with-total-requires : goal.total_with-total-requires
 total_with-total-requires g c =
@@ -17,15 +17,15 @@ total_with-total-requires g c =
     let t = g.S.LineTotals.trees c.args.sums.now in
     let axis = axis_at (length shape) c.args.fold.along in
     let there = place_on axis t (array_of shape t.numbers) c.args.patch.now c.requires.lines c.requires.fit c.requires.one c.item_type-one_item_a_place.ensures.sound c.args.index.now c.requires.inside in
-    omega (arith, there, c.position-place.ensures.is)
+    omega (arith, there, c.places_before-place.ensures.is)
 
 pub returns-clause-total : goal.returns-clause-total
 returns-clause-total g c =
     let shape = c.args.shape.now.items in
     let t = g.S.LineTotals.trees c.args.sums.now in
     let axis = axis_at (length shape) c.args.fold.along in
-    let place : c.position-place.result - 1 ≡ places_before shape c.args.index.now = omega (arith, c.position-place.ensures.is) in
-    let total = total_on axis t (array_of shape t.numbers) c.args.patch.now c.requires.lines c.requires.fit c.requires.one c.item_type-one_item_a_place.ensures.sound c.args.index.now c.requires.inside c.args.fold.function (g.S.LineTotals.function c.args.sums.now) c.requires.function (c.position-place.result - 1) c.item-item.result place c.item-item.ensures.is in
+    let place : c.places_before-place.result ≡ places_before shape c.args.index.now = omega (arith, c.places_before-place.ensures.is) in
+    let total = total_on axis t (array_of shape t.numbers) c.args.patch.now c.requires.lines c.requires.fit c.requires.one c.item_type-one_item_a_place.ensures.sound c.args.index.now c.requires.inside c.args.fold.function (g.S.LineTotals.function c.args.sums.now) c.requires.function (c.places_before-place.result) c.item-item.result place c.item-item.ensures.is in
     c.total_with-total.ensures.total ∙ sym total
 
 pub returns-clause-joins : goal.returns-clause-joins

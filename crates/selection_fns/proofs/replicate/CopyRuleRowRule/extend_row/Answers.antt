@@ -41,8 +41,8 @@ overflow_sub-place-then-axis_at-row c =
     let last : k ≡ length row = c.if-axis_at-row.true in
     let at : c.index_of-at.result.items ≡ copied along a b self.shape.now.items before row count k r 1 =
     first_copied along a b self.shape.now.items before row count k r c.index_of-at.result.items (rw (c.as_slice.ensures, c.index_in_row-first.ensures.is) at c.index_of-at.ensures.is) in
-    let place : c.position-place.result ≡ places_before b.shape (copied along a b self.shape.now.items before row count k r 1) + 1 =
-    rw (c.shape-axes.ensures.is, c.as_slice-2.ensures, at) at c.position-place.ensures.is in
+    let place : c.places_before-place.result ≡ places_before b.shape (copied along a b self.shape.now.items before row count k r 1) =
+    rw (c.shape-axes.ensures.is, c.as_slice-2.ensures, at) at c.places_before-place.ensures.is in
     let front = first_before along a b self.shape.now.items before row count k r last in
     omega (arith, place)
 
@@ -62,8 +62,8 @@ extend_places-requires-clause-inside c = λ j h.
     let last : k ≡ length row = c.if-axis_at-row.true in
     let at : c.index_of-at.result.items ≡ copied along a b self.shape.now.items before row count k r 1 =
     first_copied along a b self.shape.now.items before row count k r c.index_of-at.result.items (rw (c.as_slice.ensures, c.index_in_row-first.ensures.is) at c.index_of-at.ensures.is) in
-    let place : c.position-place.result ≡ places_before b.shape (copied along a b self.shape.now.items before row count k r 1) + 1 =
-    rw (c.shape-axes.ensures.is, c.as_slice-2.ensures, at) at c.position-place.ensures.is in
+    let place : c.places_before-place.result ≡ places_before b.shape (copied along a b self.shape.now.items before row count k r 1) =
+    rw (c.shape-axes.ensures.is, c.as_slice-2.ensures, at) at c.places_before-place.ensures.is in
     let fits = last_fits along a b self.shape.now.items before row count k r last c.shape-axes.ensures.sound j h in
     omega (arith, place)
 
@@ -83,11 +83,11 @@ returns-then-axis_at-row-clause-items c =
     let last : k ≡ length row = c.if-axis_at-row.true in
     let at : c.index_of-at.result.items ≡ copied along a b self.shape.now.items before row count k r 1 =
     first_copied along a b self.shape.now.items before row count k r c.index_of-at.result.items (rw (c.as_slice.ensures, c.index_in_row-first.ensures.is) at c.index_of-at.ensures.is) in
-    let place : c.position-place.result ≡ places_before b.shape (copied along a b self.shape.now.items before row count k r 1) + 1 =
-    rw (c.shape-axes.ensures.is, c.as_slice-2.ensures, at) at c.position-place.ensures.is in
+    let place : c.places_before-place.result ≡ places_before b.shape (copied along a b self.shape.now.items before row count k r 1) =
+    rw (c.shape-axes.ensures.is, c.as_slice-2.ensures, at) at c.places_before-place.ensures.is in
     let many = as_many along a b self.shape.now.items before row count k r last in
     row_put c.extend_places.result c.args.items.now.items c.extend_places.new.items.items (λ i. replicate_item along a b (row ++ i ∷ []))
-    (λ j. get_or b.items (c.position-place.result - 1 - get_or before 0 0 + get_or before j 0) (fill b.item_type)) count
+    (λ j. get_or b.items (c.places_before-place.result - get_or before 0 0 + get_or before j 0) (fill b.item_type)) count
     (λ j h. last_item along a b self.shape.now.items before row count k r last j h ∙ ap (λ m. Ok (get_or b.items m (fill b.item_type))) (omega (arith, place)))
     (rw many at c.extend_places.ensures.items)
 
@@ -107,8 +107,8 @@ extend_run-requires-clause-inside c =
     let other : k < length row = before_last along a b self.shape.now.items before row count k r c.if-axis_at-row.false in
     let at : c.index_of-at.result.items ≡ copied along a b self.shape.now.items before row count k r 1 =
     first_copied along a b self.shape.now.items before row count k r c.index_of-at.result.items (rw (c.as_slice.ensures, c.index_in_row-first.ensures.is) at c.index_of-at.ensures.is) in
-    let place : c.position-place.result ≡ places_before b.shape (copied along a b self.shape.now.items before row count k r 1) + 1 =
-    rw (c.shape-axes.ensures.is, c.as_slice-2.ensures, at) at c.position-place.ensures.is in
+    let place : c.places_before-place.result ≡ places_before b.shape (copied along a b self.shape.now.items before row count k r 1) =
+    rw (c.shape-axes.ensures.is, c.as_slice-2.ensures, at) at c.places_before-place.ensures.is in
     let fits = other_fits along a b self.shape.now.items before row count k r other c.shape-axes.ensures.sound in
     omega (arith, place)
 
@@ -128,9 +128,9 @@ returns-clause-items c =
     let other : k < length row = before_last along a b self.shape.now.items before row count k r c.if-axis_at-row.false in
     let at : c.index_of-at.result.items ≡ copied along a b self.shape.now.items before row count k r 1 =
     first_copied along a b self.shape.now.items before row count k r c.index_of-at.result.items (rw (c.as_slice.ensures, c.index_in_row-first.ensures.is) at c.index_of-at.ensures.is) in
-    let place : c.position-place.result ≡ places_before b.shape (copied along a b self.shape.now.items before row count k r 1) + 1 =
-    rw (c.shape-axes.ensures.is, c.as_slice-2.ensures, at) at c.position-place.ensures.is in
+    let place : c.places_before-place.result ≡ places_before b.shape (copied along a b self.shape.now.items before row count k r 1) =
+    rw (c.shape-axes.ensures.is, c.as_slice-2.ensures, at) at c.places_before-place.ensures.is in
     row_put c.extend_run.result c.args.items.now.items c.extend_run.new.items.items (λ i. replicate_item along a b (row ++ i ∷ []))
-    (λ j. get_or b.items (c.position-place.result - 1 + j) (fill b.item_type)) count
+    (λ j. get_or b.items (c.places_before-place.result + j) (fill b.item_type)) count
     (λ j h. other_item along a b self.shape.now.items before row count k r other j h ∙ ap (λ m. Ok (get_or b.items m (fill b.item_type))) (omega (arith, place)))
     c.extend_run.ensures.items

@@ -10,13 +10,13 @@ gathered-at-requires c =
     let long = entries_long c.args.axes.now c.args.array.now (c.args.row.now ++ c.args.index ∷ []) c.requires.place in
     omega (arith, long, c.shape-shape.ensures.sound.within.rank)
 
-pub position-requires-clause-in_range : goal.position-requires-clause-in_range
-position-requires-clause-in_range c =
+pub places_before-requires-clause-in_range : goal.places_before-requires-clause-in_range
+places_before-requires-clause-in_range c =
     rw (c.shape-shape.ensures.is, c.as_slice-2.ensures, c.gathered-at.ensures.is, c.as_slice.ensures, c.index_in_row-index.ensures.is)
     (gathered_inside c.args.axes.now c.args.array.now (c.args.row.now ++ c.args.index ∷ []) c.requires.place)
 
 pub returns-clause-is : goal.returns-clause-is
 returns-clause-is c =
-    let place : c.position.result ≡ places_before c.args.array.now.shape (gathered (axes_to c.args.axes.now) (c.args.row.now ++ c.args.index ∷ [])) + 1 =
-    rw (c.shape-shape.ensures.is, c.as_slice-2.ensures, c.gathered-at.ensures.is, c.as_slice.ensures, c.index_in_row-index.ensures.is) at c.position.ensures.is in
+    let place : c.places_before.result ≡ places_before c.args.array.now.shape (gathered (axes_to c.args.axes.now) (c.args.row.now ++ c.args.index ∷ [])) =
+    rw (c.shape-shape.ensures.is, c.as_slice-2.ensures, c.gathered-at.ensures.is, c.as_slice.ensures, c.index_in_row-index.ensures.is) at c.places_before.ensures.is in
     omega (arith, place)

@@ -20,8 +20,8 @@ extend_back-requires-clause-low c =
     let one = one_argument c.args.args.now b c.requires.arguments c.index-args-0.is in
     let known : IsRowIn (reverse_form along b) row c.args.count c.args.items.now.item_type = rw one at c.requires.row in
     let ranked : c.axis_at.result ≡ axis_at (length b.shape) along = c.axis_at.ensures.is ∙ ap (λ n. axis_at n along) (c.len.ensures.value ∙ ap length c.shape-shape.ensures.is) in
-    let place : c.position-place.result ≡ places_before b.shape (at_index along b row c.args.count c.args.items.now.item_type known 1) + 1 =
-    rw (c.shape-shape.ensures.is, c.as_slice-2.ensures, c.place_of-at.ensures.is, c.as_slice.ensures, c.index_in_row-first.ensures.is) at c.position-place.ensures.is in
+    let place : c.places_before-place.result ≡ places_before b.shape (at_index along b row c.args.count c.args.items.now.item_type known 1) =
+    rw (c.shape-shape.ensures.is, c.as_slice-2.ensures, c.place_of-at.ensures.is, c.as_slice.ensures, c.index_in_row-first.ensures.is) at c.places_before-place.ensures.is in
     let last : axis_at (length b.shape) along ≡ length row = sym ranked ∙ c.if-axis_at-row.true in
     let low = last_low along b row c.args.count c.args.items.now.item_type known last in
     omega arith
@@ -34,13 +34,13 @@ returns-then-axis_at-row-clause-items c =
     let one = one_argument c.args.args.now b c.requires.arguments c.index-args-0.is in
     let known : IsRowIn (reverse_form along b) row c.args.count c.args.items.now.item_type = rw one at c.requires.row in
     let ranked : c.axis_at.result ≡ axis_at (length b.shape) along = c.axis_at.ensures.is ∙ ap (λ n. axis_at n along) (c.len.ensures.value ∙ ap length c.shape-shape.ensures.is) in
-    let place : c.position-place.result ≡ places_before b.shape (at_index along b row c.args.count c.args.items.now.item_type known 1) + 1 =
-    rw (c.shape-shape.ensures.is, c.as_slice-2.ensures, c.place_of-at.ensures.is, c.as_slice.ensures, c.index_in_row-first.ensures.is) at c.position-place.ensures.is in
+    let place : c.places_before-place.result ≡ places_before b.shape (at_index along b row c.args.count c.args.items.now.item_type known 1) =
+    rw (c.shape-shape.ensures.is, c.as_slice-2.ensures, c.place_of-at.ensures.is, c.as_slice.ensures, c.index_in_row-first.ensures.is) at c.places_before-place.ensures.is in
     let last : axis_at (length b.shape) along ≡ length row = sym ranked ∙ c.if-axis_at-row.true in
     let new = c.extend_back.new.items.items in
     on_ok_weaker c.extend_back.result
     (λ e. subst (λ xs. with_row c.args.items.now.items (λ i. of_one_argument (λ x. reverse_item along x (row ++ i ∷ [])) xs) c.args.count ≡ Ok new) (sym one) e)
-    (row_put c.extend_back.result c.args.items.now.items new (λ i. reverse_item along b (row ++ i ∷ [])) (λ k. get_or b.items (c.position-place.result - 1 - k) (fill b.item_type)) c.args.count
+    (row_put c.extend_back.result c.args.items.now.items new (λ i. reverse_item along b (row ++ i ∷ [])) (λ k. get_or b.items (c.places_before-place.result - k) (fill b.item_type)) c.args.count
     (λ j h. last_item along b row c.args.count c.args.items.now.item_type known last j h ∙ ap (λ k. Ok (get_or b.items k (fill b.item_type))) (omega arith))
     c.extend_back.ensures.items)
 
@@ -52,8 +52,8 @@ extend_run-requires-clause-inside c =
     let one = one_argument c.args.args.now b c.requires.arguments c.index-args-0.is in
     let known : IsRowIn (reverse_form along b) row c.args.count c.args.items.now.item_type = rw one at c.requires.row in
     let ranked : c.axis_at.result ≡ axis_at (length b.shape) along = c.axis_at.ensures.is ∙ ap (λ n. axis_at n along) (c.len.ensures.value ∙ ap length c.shape-shape.ensures.is) in
-    let place : c.position-place.result ≡ places_before b.shape (at_index along b row c.args.count c.args.items.now.item_type known 1) + 1 =
-    rw (c.shape-shape.ensures.is, c.as_slice-2.ensures, c.place_of-at.ensures.is, c.as_slice.ensures, c.index_in_row-first.ensures.is) at c.position-place.ensures.is in
+    let place : c.places_before-place.result ≡ places_before b.shape (at_index along b row c.args.count c.args.items.now.item_type known 1) =
+    rw (c.shape-shape.ensures.is, c.as_slice-2.ensures, c.place_of-at.ensures.is, c.as_slice.ensures, c.index_in_row-first.ensures.is) at c.places_before-place.ensures.is in
     let other : axis_at (length b.shape) along < length row = below_last along b row c.args.count c.args.items.now.item_type known c.axis_at.result ranked c.if-axis_at-row.false in
     let fits = other_fits along b row c.args.count c.args.items.now.item_type known other c.shape-shape.ensures.sound in
     omega arith
@@ -66,12 +66,12 @@ returns-clause-items c =
     let one = one_argument c.args.args.now b c.requires.arguments c.index-args-0.is in
     let known : IsRowIn (reverse_form along b) row c.args.count c.args.items.now.item_type = rw one at c.requires.row in
     let ranked : c.axis_at.result ≡ axis_at (length b.shape) along = c.axis_at.ensures.is ∙ ap (λ n. axis_at n along) (c.len.ensures.value ∙ ap length c.shape-shape.ensures.is) in
-    let place : c.position-place.result ≡ places_before b.shape (at_index along b row c.args.count c.args.items.now.item_type known 1) + 1 =
-    rw (c.shape-shape.ensures.is, c.as_slice-2.ensures, c.place_of-at.ensures.is, c.as_slice.ensures, c.index_in_row-first.ensures.is) at c.position-place.ensures.is in
+    let place : c.places_before-place.result ≡ places_before b.shape (at_index along b row c.args.count c.args.items.now.item_type known 1) =
+    rw (c.shape-shape.ensures.is, c.as_slice-2.ensures, c.place_of-at.ensures.is, c.as_slice.ensures, c.index_in_row-first.ensures.is) at c.places_before-place.ensures.is in
     let other : axis_at (length b.shape) along < length row = below_last along b row c.args.count c.args.items.now.item_type known c.axis_at.result ranked c.if-axis_at-row.false in
     let new = c.extend_run.new.items.items in
     on_ok_weaker c.extend_run.result
     (λ e. subst (λ xs. with_row c.args.items.now.items (λ i. of_one_argument (λ x. reverse_item along x (row ++ i ∷ [])) xs) c.args.count ≡ Ok new) (sym one) e)
-    (row_put c.extend_run.result c.args.items.now.items new (λ i. reverse_item along b (row ++ i ∷ [])) (λ k. get_or b.items (c.position-place.result - 1 + k) (fill b.item_type)) c.args.count
+    (row_put c.extend_run.result c.args.items.now.items new (λ i. reverse_item along b (row ++ i ∷ [])) (λ k. get_or b.items (c.places_before-place.result + k) (fill b.item_type)) c.args.count
     (λ j h. other_item along b row c.args.count c.args.items.now.item_type known other j h ∙ ap (λ k. Ok (get_or b.items k (fill b.item_type))) (omega arith))
     c.extend_run.ensures.items)

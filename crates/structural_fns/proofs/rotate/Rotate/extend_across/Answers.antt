@@ -16,8 +16,8 @@ extend_run-requires-clause-inside c =
     let a = c.args.amounts.now in
     let b = c.args.array.now in
     let row = c.args.row.now in
-    let place : c.position.result ≡ places_before b.shape (at_index along a b row c.args.count c.args.items.now.item_type c.requires.row 1) + 1 =
-    rw (c.shape-shape.ensures.is, c.as_slice-2.ensures, c.place_of-at.ensures.is, c.as_slice.ensures, c.index_in_row-first.ensures.is) at c.position.ensures.is in
+    let place : c.places_before.result ≡ places_before b.shape (at_index along a b row c.args.count c.args.items.now.item_type c.requires.row 1) =
+    rw (c.shape-shape.ensures.is, c.as_slice-2.ensures, c.place_of-at.ensures.is, c.as_slice.ensures, c.index_in_row-first.ensures.is) at c.places_before.ensures.is in
     let fits = other_fits along a b row c.args.count c.args.items.now.item_type c.requires.row c.requires.other c.requires.one c.shape-shape.ensures.sound in
     omega arith
 
@@ -27,9 +27,9 @@ returns-clause-items c =
     let a = c.args.amounts.now in
     let b = c.args.array.now in
     let row = c.args.row.now in
-    let place : c.position.result ≡ places_before b.shape (at_index along a b row c.args.count c.args.items.now.item_type c.requires.row 1) + 1 =
-    rw (c.shape-shape.ensures.is, c.as_slice-2.ensures, c.place_of-at.ensures.is, c.as_slice.ensures, c.index_in_row-first.ensures.is) at c.position.ensures.is in
+    let place : c.places_before.result ≡ places_before b.shape (at_index along a b row c.args.count c.args.items.now.item_type c.requires.row 1) =
+    rw (c.shape-shape.ensures.is, c.as_slice-2.ensures, c.place_of-at.ensures.is, c.as_slice.ensures, c.index_in_row-first.ensures.is) at c.places_before.ensures.is in
     row_put c.extend_run.result c.args.items.now.items c.extend_run.new.items.items (λ i. rotate_item along a b (row ++ i ∷ []))
-    (λ k. get_or b.items (c.position.result - 1 + k) (fill b.item_type)) c.args.count
+    (λ k. get_or b.items (c.places_before.result + k) (fill b.item_type)) c.args.count
     (λ j h. other_item along a b row c.args.count c.args.items.now.item_type c.requires.row c.requires.other c.requires.one j h ∙ ap (λ k. Ok (get_or b.items k (fill b.item_type))) (omega arith))
     c.extend_run.ensures.items

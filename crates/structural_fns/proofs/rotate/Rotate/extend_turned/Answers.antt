@@ -14,8 +14,8 @@ overflow_sub-count c =
     let a = c.args.amounts.now in
     let b = c.args.array.now in
     let row = c.args.row.now in
-    let place : c.position-place.result ≡ places_before b.shape (at_index along a b row c.args.count c.args.items.now.item_type c.requires.row 1) + 1 =
-    rw (c.shape-shape.ensures.is, c.as_slice-2.ensures, c.place_of-at.ensures.is, c.as_slice.ensures, c.index_in_row-first.ensures.is) at c.position-place.ensures.is in
+    let place : c.places_before-place.result ≡ places_before b.shape (at_index along a b row c.args.count c.args.items.now.item_type c.requires.row 1) =
+    rw (c.shape-shape.ensures.is, c.as_slice-2.ensures, c.place_of-at.ensures.is, c.as_slice.ensures, c.index_in_row-first.ensures.is) at c.places_before-place.ensures.is in
     let turn : get_or c.deref.result.now (length row) 0 ≡ from along a b row c.args.count c.args.items.now.item_type c.requires.row c.requires.last =
     ap (λ xs. get_or xs (length row) 0) (c.deref.ensures ∙ rw (c.as_slice.ensures, c.index_in_row-first.ensures.is) at c.place_of-at.ensures.is ∙ at_last along a b row c.args.count c.args.items.now.item_type c.requires.row c.requires.last 1) ∙ get_last row (from along a b row c.args.count c.args.items.now.item_type c.requires.row c.requires.last) 0 in
     let low = from_low along a b row c.args.count c.args.items.now.item_type c.requires.row c.requires.last in
@@ -29,8 +29,8 @@ extend_run-requires-clause-typed c =
     let a = c.args.amounts.now in
     let b = c.args.array.now in
     let row = c.args.row.now in
-    let place : c.position-place.result ≡ places_before b.shape (at_index along a b row c.args.count c.args.items.now.item_type c.requires.row 1) + 1 =
-    rw (c.shape-shape.ensures.is, c.as_slice-2.ensures, c.place_of-at.ensures.is, c.as_slice.ensures, c.index_in_row-first.ensures.is) at c.position-place.ensures.is in
+    let place : c.places_before-place.result ≡ places_before b.shape (at_index along a b row c.args.count c.args.items.now.item_type c.requires.row 1) =
+    rw (c.shape-shape.ensures.is, c.as_slice-2.ensures, c.place_of-at.ensures.is, c.as_slice.ensures, c.index_in_row-first.ensures.is) at c.places_before-place.ensures.is in
     let turn : get_or c.deref.result.now (length row) 0 ≡ from along a b row c.args.count c.args.items.now.item_type c.requires.row c.requires.last =
     ap (λ xs. get_or xs (length row) 0) (c.deref.ensures ∙ rw (c.as_slice.ensures, c.index_in_row-first.ensures.is) at c.place_of-at.ensures.is ∙ at_last along a b row c.args.count c.args.items.now.item_type c.requires.row c.requires.last 1) ∙ get_last row (from along a b row c.args.count c.args.items.now.item_type c.requires.row c.requires.last) 0 in
     let low = from_low along a b row c.args.count c.args.items.now.item_type c.requires.row c.requires.last in
@@ -44,8 +44,8 @@ extend_run-requires-clause-inside c =
     let a = c.args.amounts.now in
     let b = c.args.array.now in
     let row = c.args.row.now in
-    let place : c.position-place.result ≡ places_before b.shape (at_index along a b row c.args.count c.args.items.now.item_type c.requires.row 1) + 1 =
-    rw (c.shape-shape.ensures.is, c.as_slice-2.ensures, c.place_of-at.ensures.is, c.as_slice.ensures, c.index_in_row-first.ensures.is) at c.position-place.ensures.is in
+    let place : c.places_before-place.result ≡ places_before b.shape (at_index along a b row c.args.count c.args.items.now.item_type c.requires.row 1) =
+    rw (c.shape-shape.ensures.is, c.as_slice-2.ensures, c.place_of-at.ensures.is, c.as_slice.ensures, c.index_in_row-first.ensures.is) at c.places_before-place.ensures.is in
     let turn : get_or c.deref.result.now (length row) 0 ≡ from along a b row c.args.count c.args.items.now.item_type c.requires.row c.requires.last =
     ap (λ xs. get_or xs (length row) 0) (c.deref.ensures ∙ rw (c.as_slice.ensures, c.index_in_row-first.ensures.is) at c.place_of-at.ensures.is ∙ at_last along a b row c.args.count c.args.items.now.item_type c.requires.row c.requires.last 1) ∙ get_last row (from along a b row c.args.count c.args.items.now.item_type c.requires.row c.requires.last) 0 in
     let low = from_low along a b row c.args.count c.args.items.now.item_type c.requires.row c.requires.last in
@@ -54,14 +54,14 @@ extend_run-requires-clause-inside c =
     let fits = end_fits along a b row c.args.count c.args.items.now.item_type c.requires.row c.requires.last c.shape-shape.ensures.sound in
     omega arith
 
-pub overflow_sub-place-2 : goal.overflow_sub-place-2
-overflow_sub-place-2 c =
+pub overflow_sub-place : goal.overflow_sub-place
+overflow_sub-place c =
     let along = c.args.self.along in
     let a = c.args.amounts.now in
     let b = c.args.array.now in
     let row = c.args.row.now in
-    let place : c.position-place.result ≡ places_before b.shape (at_index along a b row c.args.count c.args.items.now.item_type c.requires.row 1) + 1 =
-    rw (c.shape-shape.ensures.is, c.as_slice-2.ensures, c.place_of-at.ensures.is, c.as_slice.ensures, c.index_in_row-first.ensures.is) at c.position-place.ensures.is in
+    let place : c.places_before-place.result ≡ places_before b.shape (at_index along a b row c.args.count c.args.items.now.item_type c.requires.row 1) =
+    rw (c.shape-shape.ensures.is, c.as_slice-2.ensures, c.place_of-at.ensures.is, c.as_slice.ensures, c.index_in_row-first.ensures.is) at c.places_before-place.ensures.is in
     let turn : get_or c.deref.result.now (length row) 0 ≡ from along a b row c.args.count c.args.items.now.item_type c.requires.row c.requires.last =
     ap (λ xs. get_or xs (length row) 0) (c.deref.ensures ∙ rw (c.as_slice.ensures, c.index_in_row-first.ensures.is) at c.place_of-at.ensures.is ∙ at_last along a b row c.args.count c.args.items.now.item_type c.requires.row c.requires.last 1) ∙ get_last row (from along a b row c.args.count c.args.items.now.item_type c.requires.row c.requires.last) 0 in
     let low = from_low along a b row c.args.count c.args.items.now.item_type c.requires.row c.requires.last in
@@ -75,8 +75,8 @@ extend_run-requires-2-clause-typed c =
     let a = c.args.amounts.now in
     let b = c.args.array.now in
     let row = c.args.row.now in
-    let place : c.position-place.result ≡ places_before b.shape (at_index along a b row c.args.count c.args.items.now.item_type c.requires.row 1) + 1 =
-    rw (c.shape-shape.ensures.is, c.as_slice-2.ensures, c.place_of-at.ensures.is, c.as_slice.ensures, c.index_in_row-first.ensures.is) at c.position-place.ensures.is in
+    let place : c.places_before-place.result ≡ places_before b.shape (at_index along a b row c.args.count c.args.items.now.item_type c.requires.row 1) =
+    rw (c.shape-shape.ensures.is, c.as_slice-2.ensures, c.place_of-at.ensures.is, c.as_slice.ensures, c.index_in_row-first.ensures.is) at c.places_before-place.ensures.is in
     let turn : get_or c.deref.result.now (length row) 0 ≡ from along a b row c.args.count c.args.items.now.item_type c.requires.row c.requires.last =
     ap (λ xs. get_or xs (length row) 0) (c.deref.ensures ∙ rw (c.as_slice.ensures, c.index_in_row-first.ensures.is) at c.place_of-at.ensures.is ∙ at_last along a b row c.args.count c.args.items.now.item_type c.requires.row c.requires.last 1) ∙ get_last row (from along a b row c.args.count c.args.items.now.item_type c.requires.row c.requires.last) 0 in
     let low = from_low along a b row c.args.count c.args.items.now.item_type c.requires.row c.requires.last in
@@ -90,8 +90,8 @@ extend_run-requires-2-clause-inside c =
     let a = c.args.amounts.now in
     let b = c.args.array.now in
     let row = c.args.row.now in
-    let place : c.position-place.result ≡ places_before b.shape (at_index along a b row c.args.count c.args.items.now.item_type c.requires.row 1) + 1 =
-    rw (c.shape-shape.ensures.is, c.as_slice-2.ensures, c.place_of-at.ensures.is, c.as_slice.ensures, c.index_in_row-first.ensures.is) at c.position-place.ensures.is in
+    let place : c.places_before-place.result ≡ places_before b.shape (at_index along a b row c.args.count c.args.items.now.item_type c.requires.row 1) =
+    rw (c.shape-shape.ensures.is, c.as_slice-2.ensures, c.place_of-at.ensures.is, c.as_slice.ensures, c.index_in_row-first.ensures.is) at c.places_before-place.ensures.is in
     let turn : get_or c.deref.result.now (length row) 0 ≡ from along a b row c.args.count c.args.items.now.item_type c.requires.row c.requires.last =
     ap (λ xs. get_or xs (length row) 0) (c.deref.ensures ∙ rw (c.as_slice.ensures, c.index_in_row-first.ensures.is) at c.place_of-at.ensures.is ∙ at_last along a b row c.args.count c.args.items.now.item_type c.requires.row c.requires.last 1) ∙ get_last row (from along a b row c.args.count c.args.items.now.item_type c.requires.row c.requires.last) 0 in
     let low = from_low along a b row c.args.count c.args.items.now.item_type c.requires.row c.requires.last in
@@ -106,8 +106,8 @@ returns-clause-items c =
     let a = c.args.amounts.now in
     let b = c.args.array.now in
     let row = c.args.row.now in
-    let place : c.position-place.result ≡ places_before b.shape (at_index along a b row c.args.count c.args.items.now.item_type c.requires.row 1) + 1 =
-    rw (c.shape-shape.ensures.is, c.as_slice-2.ensures, c.place_of-at.ensures.is, c.as_slice.ensures, c.index_in_row-first.ensures.is) at c.position-place.ensures.is in
+    let place : c.places_before-place.result ≡ places_before b.shape (at_index along a b row c.args.count c.args.items.now.item_type c.requires.row 1) =
+    rw (c.shape-shape.ensures.is, c.as_slice-2.ensures, c.place_of-at.ensures.is, c.as_slice.ensures, c.index_in_row-first.ensures.is) at c.places_before-place.ensures.is in
     let turn : get_or c.deref.result.now (length row) 0 ≡ from along a b row c.args.count c.args.items.now.item_type c.requires.row c.requires.last =
     ap (λ xs. get_or xs (length row) 0) (c.deref.ensures ∙ rw (c.as_slice.ensures, c.index_in_row-first.ensures.is) at c.place_of-at.ensures.is ∙ at_last along a b row c.args.count c.args.items.now.item_type c.requires.row c.requires.last 1) ∙ get_last row (from along a b row c.args.count c.args.items.now.item_type c.requires.row c.requires.last) 0 in
     let low = from_low along a b row c.args.count c.args.items.now.item_type c.requires.row c.requires.last in
@@ -117,12 +117,12 @@ returns-clause-items c =
     let old = c.args.items.now.items in
     let before : ℕ = get_or c.deref.result.now (length row) 0 - 1 in
     let same : before ≡ from along a b row c.args.count c.args.items.now.item_type c.requires.row c.requires.last - 1 = omega arith in
-    let f = λ (k : ℕ). get_or b.items (c.position-place.result - 1 + k) (fill b.item_type) in
+    let f = λ (k : ℕ). get_or b.items (c.places_before-place.result + k) (fill b.item_type) in
     let each : (j : ℕ) → j < c.args.count - before → rule (0 + j + 1) ≡ Ok (f j) = λ j h.
     end_item along a b row c.args.count c.args.items.now.item_type c.requires.row c.requires.last j (omega arith) ∙ ap (λ k. Ok (get_or b.items k (fill b.item_type))) (omega arith) in
     let begun : with_row old rule (c.args.count - before) ≡ Ok c.extend_run.new.items.items =
     with_row_more old old rule f 0 (c.args.count - before) (c.args.count - before) (omega arith) each (with_row_none old rule) ∙ ap (λ xs. Ok xs) (sym c.in_ok-extend_run.ensures.items) in
     row_put_more c.extend_run-2.result old c.extend_run.new.items.items c.extend_run-2.new.items.items rule
-    (λ k. get_or b.items (c.position-place.result - 1 - before + k) (fill b.item_type)) (c.args.count - before) before c.args.count (omega arith)
+    (λ k. get_or b.items (c.places_before-place.result - before + k) (fill b.item_type)) (c.args.count - before) before c.args.count (omega arith)
     (λ j h. ap (λ m. rule (c.args.count - m + j + 1)) same ∙ begin_item along a b row c.args.count c.args.items.now.item_type c.requires.row c.requires.last j (omega arith) ∙ ap (λ k. Ok (get_or b.items k (fill b.item_type))) (omega arith))
     begun c.extend_run-2.ensures.items

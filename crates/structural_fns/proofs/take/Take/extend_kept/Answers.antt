@@ -22,8 +22,8 @@ extend_run-requires-clause-inside c =
     let from : Place c.in-Place.arg c.in-Place.at.items ≡ take_source a b (row ++ (before + 1) ∷ []) = rw (c.as_slice.ensures, c.index_in_row-first.ensures.is) at c.in-Place.ensures.is in
     let source = source_there _ c.in-Place.arg c.in-Place.at.items (uncounted b (at_index a b row long.axes long.counts (before + 1))) from in
     let place = first_place a b row long.axes long.counts before c.args.kept c.requires.axis source.there in
-    let position : c.position.result ≡ places_before b.shape (uncounted b (at_index a b row long.axes long.counts (before + 1))) + 1 =
-    rw (c.shape-in-Place.ensures.is, c.as_slice-in-Place.ensures, source.is) at c.position.ensures.is in
+    let begins : c.places_before.result ≡ places_before b.shape (uncounted b (at_index a b row long.axes long.counts (before + 1))) =
+    rw (c.shape-in-Place.ensures.is, c.as_slice-in-Place.ensures, source.is) at c.places_before.ensures.is in
     let inside = kept_inside a b row long.axes long.counts before c.args.kept c.requires.axis c.requires.some c.shape.ensures.sound source.there in
     omega arith
 
@@ -37,11 +37,11 @@ returns-in-Place-clause-items c =
     let from : Place c.in-Place.arg c.in-Place.at.items ≡ take_source a b (row ++ (before + 1) ∷ []) = rw (c.as_slice.ensures, c.index_in_row-first.ensures.is) at c.in-Place.ensures.is in
     let source = source_there _ c.in-Place.arg c.in-Place.at.items (uncounted b (at_index a b row long.axes long.counts (before + 1))) from in
     let place = first_place a b row long.axes long.counts before c.args.kept c.requires.axis source.there in
-    let position : c.position.result ≡ places_before b.shape (uncounted b (at_index a b row long.axes long.counts (before + 1))) + 1 =
-    rw (c.shape-in-Place.ensures.is, c.as_slice-in-Place.ensures, source.is) at c.position.ensures.is in
+    let begins : c.places_before.result ≡ places_before b.shape (uncounted b (at_index a b row long.axes long.counts (before + 1))) =
+    rw (c.shape-in-Place.ensures.is, c.as_slice-in-Place.ensures, source.is) at c.places_before.ensures.is in
     let old = c.args.items.now.items in
     let rule = λ (i : ℕ). take_item a b (row ++ (before + i) ∷ []) in
-    let f = λ (k : ℕ). get_or b.items (c.position.result - 1 + k) (fill b.item_type) in
+    let f = λ (k : ℕ). get_or b.items (c.places_before.result + k) (fill b.item_type) in
     let each : (j : ℕ) → j < c.args.kept → rule (0 + j + 1) ≡ Ok (f j) = λ j h.
     kept_item a b row long.axes long.counts before c.args.kept c.requires.axis j h source.there ∙ ap (λ k. Ok (get_or b.items k (fill b.item_type))) (omega arith) in
     on_ok_weaker c.extend_run.result (λ e. with_row_more old old rule f 0 c.args.kept c.args.kept (omega arith) each (with_row_none old rule) ∙ ap (λ xs. Ok xs) (sym e)) c.extend_run.ensures.items
