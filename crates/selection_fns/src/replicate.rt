@@ -502,20 +502,21 @@ impl Replicate {
             let picked = array.picked(before.as_slice(), &shape)?;
             return Ok(picked);
         }
-        let rule = CopyRule {
+        let copies = CopyFunction {
             replicate: self,
             counts,
             array,
             before: before.as_slice(),
             shape: &shape,
         };
-        collect_rows(alloc, &rule, item_type, &shape)
+        collect_rows(alloc, &copies, item_type, &shape)
     }
 }
 
-/// The copies of an array's places, where the checks have passed, and how many places come before that of each.
+/// The function that gives the items and rows of the copies of an array's places, where the checks have passed, and how many places come before
+/// that of each.
 #[derive(Drop)]
-struct CopyRule<'a, 'b, 'c> {
+struct CopyFunction<'a, 'b, 'c> {
     replicate: Replicate,
     counts: &'a Seen<'b>,
     array: &'a Seen<'c>,
@@ -528,7 +529,7 @@ struct CopyRule<'a, 'b, 'c> {
     ghost rank: { 1 < length array.now.shape },
 }
 
-impl<'a, 'b, 'c> CopyRule<'a, 'b, 'c> {
+impl<'a, 'b, 'c> CopyFunction<'a, 'b, 'c> {
     /// The index list of the array itself, of one of the result.
     fn index_of(&self, index: &[u32]) -> Shape
         requires { IsTrue (is_index_of self.now.shape.now.items index.now) }
@@ -542,7 +543,7 @@ impl<'a, 'b, 'c> CopyRule<'a, 'b, 'c> {
     }
 }
 
-impl<'a, 'b, 'c> ItemRule for CopyRule<'a, 'b, 'c> {
+impl<'a, 'b, 'c> ItemRule for CopyFunction<'a, 'b, 'c> {
     ghost result_shape = { λ r. r.shape.now.items };
 
     ghost result_type = { λ r. r.array.now.item_type };
@@ -557,7 +558,7 @@ impl<'a, 'b, 'c> ItemRule for CopyRule<'a, 'b, 'c> {
     }
 }
 
-impl<'a, 'b, 'c> RowRule for CopyRule<'a, 'b, 'c> {
+impl<'a, 'b, 'c> RowRule for CopyFunction<'a, 'b, 'c> {
     fn extend_row(
         &self,
         row: &[u32],

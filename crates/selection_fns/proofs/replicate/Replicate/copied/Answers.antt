@@ -31,8 +31,8 @@ before_each_copy-requires-clause-total c =
     let place = exchanged_there along b.shape (sum (times c.args.counts.now (places_along b.shape (axis_at (max 1 (length b.shape)) along)))) known.axis in
     rw (axis, c.deref.ensures, known.shaped, places) place.is
 
-pub invariant_of-rule : goal.invariant_of-rule
-invariant_of-rule c =
+pub invariant_of-copies : goal.invariant_of-copies
+invariant_of-copies c =
     let along = c.args.self.along in
     let a = c.args.counts.now in
     let b = c.args.array.now in

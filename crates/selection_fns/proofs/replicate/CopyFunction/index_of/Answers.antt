@@ -6,7 +6,7 @@ use Rattle.selection_fns.specs.Replicate.{times, copied_place}
 use Rattle.selection_fns.proofs.Copies.{copy_facts, copy_source}
 use Rattle.selection_fns.proofs.SourcePlaces.{replicate_inside}
 use Rattle.index_region.specs.Answers.{IsPlaceOf}
-use Rattle.selection_fns.proofs.replicate.CopyRule.index_of.Goals as goal
+use Rattle.selection_fns.proofs.replicate.CopyFunction.index_of.Goals as goal
 use Rattle.index_region.specs.Sources.{Place}
 
 pub index_of_copy-requires-clause-rank : goal.index_of_copy-requires-clause-rank

@@ -5,7 +5,7 @@ use Rattle.arrays_core.proofs.Rows.{row_put}
 use Rattle.function_names.specs.Axes.{axis_at}
 use Rattle.selection_fns.specs.Replicate.{replicate_item}
 use Rattle.selection_fns.proofs.CopiedRows.{IsCopyRow, copied, first_copied, before_last, other_item, other_fits, as_many, first_before, last_item, last_fits}
-use Rattle.selection_fns.proofs.replicate.CopyRuleRowRule.extend_row.Goals as goal
+use Rattle.selection_fns.proofs.replicate.CopyFunctionRowRule.extend_row.Goals as goal
 
 pub bounds-self-0 : goal.bounds-self-0
 bounds-self-0 c =
@@ -25,8 +25,8 @@ bounds-self-0 c =
     let some : 0 < length before = omega (arith, c.requires.row.some) in
     some
 
-pub overflow_sub-place-then-axis_at-row : goal.overflow_sub-place-then-axis_at-row
-overflow_sub-place-then-axis_at-row c =
+pub overflow_sub-place : goal.overflow_sub-place
+overflow_sub-place c =
     let self = c.args.self.now in
     let along = self.replicate.along in
     let a = self.counts.now in
