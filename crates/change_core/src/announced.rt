@@ -69,7 +69,7 @@ pub trait Announced: Primitive {
         requires checked { HasShape (Self.form self.now args.now) shape.now }
         ensures { result ≡ box_at (uses self.now shape.now args.now) which region.now };
 
-    /// The whole result.
+    /// The whole result. A type that has an `apply` of its own answers with that by a line in its impl, as a trait cannot call what stands in the type alone.
     fn whole(&self, alloc: Global, args: &[Seen]) -> Result<Array, ApplyFault>
         requires { length args.now ≡ Self.arity self.now }
         ensures { IsAnswerTo (whole (Self.form self.now args.now) (Self.item self.now args.now)) result }

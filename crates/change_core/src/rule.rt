@@ -62,7 +62,8 @@ pub trait Rule {
         ensures rises { meter.old.ticks ≤ meter.new.ticks }
         ensures joins { meter.new.joins ≡ meter.old.joins };
 
-    /// As `part` says: one place after another.
+    /// The items of a box, as `part` says, made one after another. A `part` of an impl's own, as that of every `Announced`, calls it where no shorter way
+    /// is known.
     fn item_by_item(
         &self,
         alloc: Global,
