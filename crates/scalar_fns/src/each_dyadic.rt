@@ -1,9 +1,7 @@
 //! Scalar functions of two arrays as change rules.
 
-ghost use Rattle.std.specs.Prelude.{◌≡◌, ◌≢◌, IsTrue};
+ghost use Rattle.std.specs.Prelude.{◌≡◌};
 ghost use Rattle.std.proofs.Common.{rules};
-ghost use Rattle.arrays_core.specs.Shapes.{size, is_index_of};
-ghost use Rattle.scalar_fns.specs.ScalarExtension.{extended};
 ghost use Rattle.index_region.specs.ArgumentLists.{of_two_arguments};
 ghost use Rattle.scalar_fns.specs.EachDyadic.{each_dyadic_form, each_dyadic_item, each_dyadic_rule};
 ghost use Rattle.scalar_fns.specs.Laws.EachDyadic.{each_dyadic_tight};
@@ -11,7 +9,7 @@ ghost use Rattle.scalar_fns.specs.Laws.EachDyadicGrowth.{each_dyadic_growing};
 ghost use Rattle.scalar_fns.specs.Growth.{is_extended_to};
 
 use crate::items::two;
-use crate::scalar_extension::{apply_two, common_shape};
+use crate::scalar_extension::{apply_two, common_shape, extended_item};
 use arrays_core::{ApplyFault, Array, Item, ItemType, Kind, Shape};
 use change_core::Announced;
 use function_names::Scalar2;
@@ -23,22 +21,6 @@ use std::alloc::Global;
 pub struct EachDyadic {
     /// The function of two items.
     pub function: Scalar2,
-}
-
-/// The item of an array at an index list of the common shape.
-fn extended_item(array: &Seen, index: &[u32]) -> Item
-    requires { size array.now.shape ≢ 1 → IsTrue (is_index_of array.now.shape index.now) }
-    ensures { result ≡ extended array.now index.now }
-{
-    // The shape says that there is one item a place.
-    let shape = array.shape();
-    if shape.len() != index.len() {
-        return array.item(1);
-    }
-    match array.at(index) {
-        Some(item) => item,
-        None => array.item(1),
-    }
 }
 
 /// The other array has one item and no greater rank.

@@ -18,6 +18,7 @@ use arrays_core::{
     shape_of, size,
 };
 use function_names::{Scalar1, Scalar2};
+use index_region::Seen;
 use std::alloc::Global;
 
 /// The shape of a result of two arrays: of equal shapes that shape. An array of one item extends to
@@ -51,15 +52,18 @@ pub fn common_shape(left: &Shape, right: &Shape) -> Result<Shape, Kind>
 }
 
 /// The item of an array at an index list of the common shape.
-fn item_at_extended(array: &Array, index: &[u32]) -> Item
-    requires one { size array.now.shape ≢ 1 → IsTrue (is_index_of array.now.shape index.now) }
+pub(crate) fn extended_item(array: &Seen, index: &[u32]) -> Item
+    requires { size array.now.shape ≢ 1 → IsTrue (is_index_of array.now.shape index.now) }
     ensures { result ≡ extended array.now index.now }
 {
+    // The shape says that there is one item a place.
     let shape = array.shape();
-    if size(shape.as_slice()) == 1 {
-        array.item(1)
-    } else {
-        array.item(position(shape, index))
+    if shape.len() != index.len() {
+        return array.item(1);
+    }
+    match array.at(index) {
+        Some(item) => item,
+        None => array.item(1),
     }
 }
 
@@ -84,8 +88,8 @@ impl<'a> ItemRule for Pairs<'a> {
     fn item_at(&self, index: &[u32]) -> Result<Item, Kind> {
         two(
             self.function,
-            item_at_extended(self.left, index),
-            item_at_extended(self.right, index),
+            extended_item(&Seen::plain(self.left), index),
+            extended_item(&Seen::plain(self.right), index),
         )
     }
 }

@@ -1,6 +1,6 @@
 use Rattle.std.proofs.Common.{◌∙◌, length, ap, arith}
 use Rattle.scalar_fns.proofs.Extended.{found, one_alone, alone}
-use Rattle.scalar_fns.proofs.each_dyadic.extended_item.Goals as goal
+use Rattle.scalar_fns.proofs.scalar_extension.extended_item.Goals as goal
 
 pub returns-in-Some : goal.returns-in-Some
 returns-in-Some c = found c.args.array.now c.args.index.now c.in-Some.item c.in-Some.ensures.is
