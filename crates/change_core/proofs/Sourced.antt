@@ -24,7 +24,7 @@ item_from_same a b c d t Fill h k = refl
 item_from_same a b c d t (Place zero index) h k = let same : item_if_there a index ≡ item_if_there c index = cc in ap (λ (o : Option Item). Ok (unwrap_or o (fill t))) same
 item_from_same a b c d t (Place (suc n) index) h k = let same : item_if_there b index ≡ item_if_there d index = cc in ap (λ (o : Option Item). Ok (unwrap_or o (fill t))) same
 
--- the same for a function of one argument, which it gives as both
+-- an item of a function of one argument is what its source says of that, so it is the same where that is read alike
 pub item_from_same_one : (a c : ArrayValue) (t : ItemType) (s : Source) → right_of s ≡ [] → map (item_if_there a) (left_of s) ≡ map (item_if_there c) (left_of s)
     → item_from a a t s ≡ item_from c c t s
 item_from_same_one a c t s none h = item_from_same a a c c t s h (ap (map (item_if_there a)) none ∙ sym (ap (map (item_if_there c)) none))
@@ -92,7 +92,7 @@ one_tight form item use_of h = record { settled = settled; determined = determin
     all_covered [] f n e = absurd (omega arith)
     all_covered (b ∷ x ∷ rest) f n e = absurd (omega arith)
 
--- the same for a function of two arrays. Where the left one is a selector, it is known whole. That both are arrays is known
+-- the law of a function of two arrays. Where the left one is a selector, it is known whole. That both are arrays is known
 -- of the new ones, whose items these are
 pub record TwoArraysTight (selects : Bool) (form : ArrayValue → ArrayValue → Result Form Kind) (item : ArrayValue → ArrayValue → List ℕ → Result Item Kind) (left right : List ℕ → ArrayValue → ArrayValue → Use) : Type 0 where
   pub blind : (c d : ArrayValue) (xs ys : List Item) → IsOther selects c xs → length ys ≡ length d.items → form (other c xs) (other d ys) ≡ form c d

@@ -10,7 +10,7 @@ abbrev pub of_one_argument : {A : Type 0} → (ArrayValue → Result A Kind) →
 of_one_argument f (b ∷ []) = f b
 of_one_argument f args = Err Length
 
--- the same for two arguments, the left one first
+-- a function of two arguments, given the list of its arguments, the left one first. The last case, LENGTH, is never met
 abbrev pub of_two_arguments : {A : Type 0} → (ArrayValue → ArrayValue → Result A Kind) → List ArrayValue → Result A Kind
 of_two_arguments f (a ∷ b ∷ []) = f a b
 of_two_arguments f args = Err Length

@@ -25,7 +25,7 @@ pub record IsLeastOver (a b hull : List Interval) : Type 0 where
   pub right : LiesIn b hull
   pub least : (other : List Interval) → LiesIn a other → LiesIn b other → LiesIn hull other
 
--- so it is with the hull of two boxes of one rank
+-- the hull of two boxes of one rank holds both, and lies in each box that holds both
 abbrev pub HullsAreLeast : Type 0
 HullsAreLeast = (a b : List Interval) → IsTrue (is_box a) → IsTrue (is_box b) → length a ≡ length b → IsLeastOver a b (hull_of a b)
 
@@ -39,6 +39,6 @@ pub record IsLeastOf (shape : List ℕ) (first last : ℕ) (region : List Interv
   pub holds : HoldsPlaces shape first last region
   pub least : (other : List Interval) → HoldsPlaces shape first last other → LiesIn region other
 
--- so it is with the cover of some places
+-- the cover of some places of a shape holds them, and lies in each box that holds them
 abbrev pub CoversAreLeast : Type 0
 CoversAreLeast = (shape : List ℕ) (first last : ℕ) → first ≤ last → last < size shape → IsLeastOf shape first last (cover shape first last)

@@ -67,7 +67,7 @@ split_written (n ∷ axes) (true ∷ written) (a ∷ args) index p same long h i
     split_inside p.shape (indexed_shape axes (written_positions written args)) index
     (subst (λ q. is_index_of (q.shape ++ indexed_shape axes (written_positions written args)) index ≡ true) (sym is) inside)
 
--- the same where it is not
+-- the parts where the first position is not written
 pub split_empty : (axes : List ℕ) (written : List Bool) (args : List ArrayValue) (index : List ℕ)
     → length written ≡ length axes → 0 < length written → get_or written 0 false ≡ false
     → is_index_of (indexed_shape axes (written_positions written args)) index ≡ true

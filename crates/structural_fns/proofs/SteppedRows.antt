@@ -1,4 +1,4 @@
--- Rows of a result whose items stand an even number of places apart in an argument.
+-- Rows of a result whose items are evenly spaced in an argument.
 use Rattle.std.proofs.Common.{◌≡◌, ℕ, zero, suc, ◌+◌, ◌-◌, ◌*◌, ◌<◌, ◌≤◌, true, cond, List, [], ◌∷◌, ◌++◌, length, get_or, drop, reverse, Some, None, Result, Ok, refl, ap, ◌∙◌, arith, min, nat_eq, Bool, false, map, Err}
 use Rattle.std.specs.Prelude.{unwrap_or}
 use Rattle.std.specs.List.{range_with_len}
@@ -49,7 +49,7 @@ pub row_some : (form : Result Form Kind) (row : List ℕ) (count : ℕ) (item_ty
 row_some (Ok form) row count item_type h = h.0.some
 row_some (Err kind) row count item_type h = absurd h
 
--- ---- a row whose items stand at these index lists of an array, an even number of places apart
+-- ---- a row whose items stand at these index lists of an array, which are evenly spaced
 
 module _ (b : ArrayValue) (at : ℕ → List ℕ) (count step : ℕ)
     (inside : (i : ℕ) → 1 ≤ i → i ≤ count → is_index_of b.shape (at i) ≡ true)

@@ -47,7 +47,7 @@ taken_row a b row count item_type h =
       typed = inside.typed;
     }
 
--- the same from one place of the row
+-- what is known of the axes and the counts by one place of a row
 pub record TakenLong (a b : ArrayValue) (row : List ℕ) : Type 0 where
   pub axes : length (counted_shape a b) ≡ length row + 1
   pub counts : length a.items ≡ length row + 1

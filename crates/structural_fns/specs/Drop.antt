@@ -25,7 +25,7 @@ abbrev pub kept_place : ℤ → ℕ → ℕ
 kept_place (pos count) i = i + count
 kept_place (negsuc count) i = i
 
--- the same for each axis
+-- where the index list of what is left stands: its place on each axis
 abbrev pub kept_places : List ℤ → List ℕ → List ℕ
 kept_places (count ∷ counts) (i ∷ index) = kept_place count i ∷ kept_places counts index
 kept_places counts index = []

@@ -23,7 +23,7 @@ abbrev pub taken_place : ℕ → ℤ → ℕ → ℕ
 taken_place n (pos count) i = i
 taken_place n (negsuc count) i = i + n - suc count
 
--- the same for each axis
+-- where an index list of the taken axes stands: its place on each axis
 abbrev pub taken_places : List ℕ → List ℤ → List ℕ → List ℕ
 taken_places (n ∷ shape) (count ∷ counts) (i ∷ index) = taken_place n count i ∷ taken_places shape counts index
 taken_places shape counts index = []

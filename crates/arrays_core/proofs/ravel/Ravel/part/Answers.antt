@@ -10,7 +10,7 @@ use Rattle.arrays_core.proofs.ravel.Ravel.part.Goals as goal
 part_of : {A B : Type 0} (f : A → B) (places skipped : ℕ) (xs : List A) → map f (take places (drop skipped xs)) ≡ take places (drop skipped (map f xs))
 part_of f places skipped xs = sym (take-map f places (drop skipped xs)) ∙ ap (λ ys. take places ys) (sym (drop-map f skipped xs))
 
--- the same where the end of the part is given
+-- a part of which the end is given
 made_of : {A B : Type 0} (f : A → B) (places skipped : ℕ) (made lent : List A) → made ≡ take (skipped + places - skipped) (drop skipped lent) → map f made ≡ take places (drop skipped (map f lent))
 made_of f places skipped made lent is =
     let long : skipped + places - skipped ≡ places = omega arith in
