@@ -18,7 +18,7 @@ use Rattle.scalar_fns.specs.Items.{dyadic_on_items, number_item}
 use Rattle.scalar_fns.specs.ScalarExtension.{common, extended, dyadic_on_arrays, for_shape}
 use Rattle.scalar_fns.specs.NumberLists.{number_items}
 use Rattle.scalar_fns.specs.Characters.{equality, told, answers_of, character_at, AreTold}
-use Rattle.scalar_fns.specs.Laws.Extension.{Extends, common_extends}
+use Rattle.scalar_fns.specs.Laws.Extension.{ExtendsTo, common_extends}
 use Rattle.scalar_fns.proofs.Joint.{collected, IsOf, extended_is, extended_place, place_in}
 
 all_ok : (zs : List ℤ) → all_or_first_error {E = Kind} (map (λ z. Ok z) zs) ≡ Ok zs
@@ -58,7 +58,7 @@ of_characters equal a b cs ds shape zs is_a is_b common_is answers =
     ∙ ap (λ z. Ok (Num z)) (sym (answers.each i h)))
 
 -- the items of an array are of its type, wherever it extends to
-type_there : (a : ArrayValue) (shape : List ℕ) (i : ℕ) → IsArray a → Extends a.shape shape → i < size shape → type_of (extended a (index_after shape i)) ≡ a.item_type
+type_there : (a : ArrayValue) (shape : List ℕ) (i : ℕ) → IsArray a → ExtendsTo a.shape shape → i < size shape → type_of (extended a (index_after shape i)) ≡ a.item_type
 type_there a shape i is fits h =
     let place = extended_place a shape i fits h in
     let long : length a.items ≡ size a.shape = is.one_item_a_place in

@@ -9,7 +9,7 @@ use Rattle.arrays_core.specs.Arrays.{ArrayValue}
 use Rattle.function_names.specs.declared.scalar.Scalar2.{Scalar2}
 use Rattle.scalar_fns.specs.Items.{dyadic_on_items}
 use Rattle.scalar_fns.specs.ScalarExtension.{common, for_shape}
-use Rattle.scalar_fns.specs.Laws.Extension.{Extends, common_extends}
+use Rattle.scalar_fns.specs.Laws.Extension.{ExtendsTo, common_extends}
 use Rattle.index_region.specs.Boxes.{Interval, is_within, whole_of}
 use Rattle.index_region.specs.Checks.{Form, form_of}
 use Rattle.change_core.specs.Tightness.{Covered, IsTight}
@@ -38,7 +38,7 @@ extended_covered a shape region index fit place = (inside, tt)
     ]
 
 -- an argument of several items has the index lists of the result
-inside : (from shape index : List ℕ) → Extends from shape → is_index_of shape index ≡ true → (size from ≡ 1 → ⊥) → is_index_of from index ≡ true
+inside : (from shape index : List ℕ) → ExtendsTo from shape → is_index_of shape index ≡ true → (size from ≡ 1 → ⊥) → is_index_of from index ≡ true
 inside from shape index fits place many = elim fits.either [ inl one ↦ absurd (many one) | inr same ↦ rw same place ]
 
 common_is : (a b : ArrayValue) (f : Form) → each_dyadic_form a b ≡ Ok f → common a.shape b.shape ≡ Ok f.shape
