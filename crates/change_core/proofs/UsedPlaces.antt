@@ -10,7 +10,7 @@ use Rattle.index_region.proofs.Least.{within-whole, cover-within}
 use Rattle.change_core.specs.Tightness.{Covered}
 use Rattle.change_core.specs.Places.{by_place, cover_in, first_hit, first_of_box, last_hit, last_of_box, lies_in, searched}
 use Rattle.change_core.specs.Reaches.{is_moved}
-use Rattle.change_core.specs.Ways.{IsSound}
+use Rattle.change_core.specs.Ways.{IsSoundAxis}
 use Rattle.index_region.specs.Boxes.{Interval, is_within}
 
 pub first_hit-le : (test : ℕ → Bool) (from n i : ℕ) → from ≤ i → i < from + n → test i ≡ true → first_hit test from n ≤ i
@@ -38,7 +38,7 @@ last_hit-le test (suc n) i l u h = elim (cases_Bool (test (suc n))) [
 ]
 
 -- an axis by a table
-pub searched-sound : (n : ℕ) (source : ℕ → ℕ) → IsSound (searched n source)
+pub searched-sound : (n : ℕ) (source : ℕ → ℕ) → IsSoundAxis (searched n source)
 searched-sound n source = record {
   low = λ s i l u f h k. first_hit-le (λ j. lies_in s (source j)) 1 n i l (omega arith) (and_from _ _ (le-leb _ _ h) (le-leb _ _ k));
   high = λ s i l u f h k. last_hit-le (λ j. lies_in s (source j)) n i l u (and_from _ _ (le-leb _ _ h) (le-leb _ _ k));

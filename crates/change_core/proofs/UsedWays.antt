@@ -6,7 +6,7 @@ use Rattle.arrays_core.specs.Shapes.{is_index_of}
 use Rattle.change_core.specs.Tightness.{Covered, Each}
 use Rattle.change_core.specs.Reaches.{is_moved}
 use Rattle.change_core.specs.RuleModels.{Use}
-use Rattle.change_core.specs.Ways.{Axis, IsSound, across, alike, along, back, by_axes, everywhere, front, images, lengths, lines, meet_at, meets, on_box, permuted, read_all, scalar_by_axes, sources, then_by, unread}
+use Rattle.change_core.specs.Ways.{Axis, IsSoundAxis, across, alike, along, back, by_axes, everywhere, front, images, lengths, lines, meet_at, meets, on_box, permuted, read_all, scalar_by_axes, sources, then_by, unread}
 use Rattle.index_region.specs.Boxes.{Interval, fits, is_within, whole_of}
 pub use Rattle.index_region.proofs.Least.{within-whole}
 
@@ -31,7 +31,7 @@ alike-covered from shape region index fit place = ((λ h. h), tt)
 pub everywhere-covered : (from shape : List ℕ) (reads : List ℕ → List (List ℕ)) → Covered from shape (everywhere shape reads)
 everywhere-covered from shape reads region index fit place = each_all _ (reads index) (λ j h. within-whole shape index ∙ place)
 
-pub images-within : (axes : List Axis) (from : List ℕ) (region : List Interval) (index : List ℕ) → Each IsSound axes → fits region from ≡ true → is_index_of (lengths axes) index ≡ true → is_within region (sources axes index) ≡ true → is_within (images axes region) index ≡ true
+pub images-within : (axes : List Axis) (from : List ℕ) (region : List Interval) (index : List ℕ) → Each IsSoundAxis axes → fits region from ≡ true → is_index_of (lengths axes) index ≡ true → is_within region (sources axes index) ≡ true → is_within (images axes region) index ≡ true
 images-within [] from region [] h fit place inside = refl
 images-within [] from region (i ∷ index) h fit place inside = absurd (false≢true place)
 images-within (x ∷ axes) from region [] h fit place inside = absurd (false≢true place)
@@ -49,7 +49,7 @@ images-within (x ∷ axes) (m ∷ from) (s ∷ region) (i ∷ index) h fit place
     and_from _ _ (and_from _ _ (le-leb _ _ low) (le-leb _ _ high)) (images-within axes from region index h.1 fp.1 pp.1 ip.1)
 
 -- one fact an axis
-pub by_axes-covered : (from : List ℕ) (axes : List Axis) → Each IsSound axes → Covered from (lengths axes) (by_axes axes)
+pub by_axes-covered : (from : List ℕ) (axes : List Axis) → Each IsSoundAxis axes → Covered from (lengths axes) (by_axes axes)
 by_axes-covered from axes h region index fit place = (images-within axes from region index h fit place, tt)
 
 index-length : (shape index : List ℕ) → is_index_of shape index ≡ true → length index ≡ length shape
@@ -250,7 +250,7 @@ pub each_if : {A : Type 0} (P : A → Type 0) (test : Bool) (x : A) → (test �
 each_if P true x h = (h refl, tt)
 each_if P false x h = tt
 
-pub scalar_by_axes-covered : (axes : List Axis) → Each IsSound axes → Covered [] (lengths axes) (scalar_by_axes axes)
+pub scalar_by_axes-covered : (axes : List Axis) → Each IsSoundAxis axes → Covered [] (lengths axes) (scalar_by_axes axes)
 scalar_by_axes-covered axes h region index fit place =
     let ones = map {A = Axis} (λ _. 1) axes in
     each_if (λ (p : List ℕ). is_within region p ≡ true → is_within (images axes (whole_of ones)) index ≡ true) (is_index_of ones (sources axes index)) []

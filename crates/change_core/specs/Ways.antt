@@ -25,7 +25,7 @@ pub record Axis : Type 0 where
   pub image : Interval → Interval
 
 -- places come from an interval only within its image
-pub record IsSound (x : Axis) : Type 0 where
+pub record IsSoundAxis (x : Axis) : Type 0 where
   pub low : (s : Interval) (i : ℕ) → 1 ≤ i → i ≤ x.len → 1 ≤ s.0 → s.0 ≤ x.source i → x.source i ≤ s.1 → (x.image s).0 ≤ i
   pub high : (s : Interval) (i : ℕ) → 1 ≤ i → i ≤ x.len → 1 ≤ s.0 → s.0 ≤ x.source i → x.source i ≤ s.1 → i ≤ (x.image s).1
 

@@ -8,18 +8,18 @@ use Rattle.index_region.specs.Boxes.{is_within}
 use Rattle.index_region.specs.Checks.{Form}
 use Rattle.change_core.specs.Tightness.{IsTight, Covered, Each}
 use Rattle.change_core.specs.Sourced.{right_used}
-use Rattle.change_core.specs.Ways.{IsSound, lengths, sources}
+use Rattle.change_core.specs.Ways.{IsSoundAxis, lengths, sources}
 use Rattle.change_core.proofs.Sourced.{selected_sourced-tight}
 use Rattle.change_core.proofs.UsedWays.{images-within}
 use Rattle.structural_fns.specs.AxisCounts.{counted_shape, counted_box}
 use Rattle.structural_fns.specs.Drop.{kept_place, kept_places, drop_form, drop_source, dropped_shape, kept, kept_axes, drop_box, drop_rule}
 use Rattle.structural_fns.specs.Laws.CountedAxes.{counted_facts, counted_fits, counted_within}
 
-kept_sound : (n : ℕ) (count : ℤ) → IsSound (kept n count)
+kept_sound : (n : ℕ) (count : ℤ) → IsSoundAxis (kept n count)
 kept_sound n (pos count) = record { low = λ s i l u f h k. omega arith; high = λ s i l u f h k. omega arith }
 kept_sound n (negsuc count) = record { low = λ s i l u f h k. h; high = λ s i l u f h k. k }
 
-all_sound : (shape : List ℕ) (counts : List ℤ) → Each IsSound (kept_axes shape counts)
+all_sound : (shape : List ℕ) (counts : List ℤ) → Each IsSoundAxis (kept_axes shape counts)
 all_sound (n ∷ shape) (count ∷ counts) = (kept_sound n count, all_sound shape counts)
 all_sound [] counts = tt
 all_sound (n ∷ shape) [] = tt

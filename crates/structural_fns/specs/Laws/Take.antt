@@ -7,7 +7,7 @@ use Rattle.index_region.specs.Boxes.{is_within}
 use Rattle.index_region.specs.Checks.{Form}
 use Rattle.change_core.specs.Tightness.{IsTight, Covered, Each}
 use Rattle.change_core.specs.Sourced.{right_used}
-use Rattle.change_core.specs.Ways.{IsSound, lengths, sources, images}
+use Rattle.change_core.specs.Ways.{IsSoundAxis, lengths, sources, images}
 use Rattle.change_core.proofs.Sourced.{selected_sourced-tight}
 use Rattle.change_core.proofs.UsedWays.{images-within}
 use Rattle.structural_fns.specs.Reshape.{magnitudes}
@@ -16,11 +16,11 @@ use Rattle.structural_fns.specs.Take.{taken_place, taken_places, take_form, take
 use Rattle.structural_fns.specs.Laws.CountedAxes.{counted_facts, counted_fits, counted_within}
 use Rattle.structural_fns.specs.Laws.PlacesOrFill.{none_left, where_there}
 
-taken_sound : (n : ℕ) (count : ℤ) → IsSound (taken n count)
+taken_sound : (n : ℕ) (count : ℤ) → IsSoundAxis (taken n count)
 taken_sound n (pos count) = record { low = λ s i l u f h k. h; high = λ s i l u f h k. k }
 taken_sound n (negsuc count) = record { low = λ s i l u f h k. omega arith; high = λ s i l u f h k. omega arith }
 
-all_sound : (shape : List ℕ) (counts : List ℤ) → Each IsSound (taken_axes shape counts)
+all_sound : (shape : List ℕ) (counts : List ℤ) → Each IsSoundAxis (taken_axes shape counts)
 all_sound (n ∷ shape) (count ∷ counts) = (taken_sound n count, all_sound shape counts)
 all_sound [] counts = tt
 all_sound (n ∷ shape) [] = tt
