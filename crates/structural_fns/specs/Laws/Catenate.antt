@@ -59,14 +59,14 @@ within-set_whole (suc axis) s (n ∷ shape) (i ∷ index) place low high =
     and_from _ _ parts.0 (within-set_whole axis s shape index parts.1 low high)
 
 -- where place j of a side stands after the places before it, and is its only one where the side has not all axes
-pub record StandsAt (side : ArrayValue) (rank axis before j : ℕ) (index : List ℕ) : Type 0 where
+pub record StandsInSide (side : ArrayValue) (rank axis before j : ℕ) (index : List ℕ) : Type 0 where
   pub place : before + j ≡ get_or index axis 0
   pub below : axis < length index
   pub only : nat_eq (length side.shape) rank ≡ false → j ≡ 1
   pub axes : axis < rank
 
 side_covered : (side : ArrayValue) (shape : List ℕ) (axis before j : ℕ) (region : List Interval) (index : List ℕ) → fits region side.shape ≡ true → is_index_of shape index ≡ true
-    → StandsAt side (length shape) axis before j index → is_within region (in_side (length shape) axis side index j) ≡ true → is_moved (side_box shape axis before side region) index ≡ true
+    → StandsInSide side (length shape) axis before j index → is_within region (in_side (length shape) axis side index j) ≡ true → is_moved (side_box shape axis before side region) index ≡ true
 side_covered side shape axis before j region index fit place at = decide (is_scalar side) (nat_eq (length side.shape) (length shape)) at.only scalar
   where
     scalar : is_scalar side ≡ true → j ≡ 1
@@ -115,14 +115,14 @@ index_on shape index axis place h =
     record { below = omega arith; low = head.low; high = head.high }
 
 stands_left : (rank axis : ℕ) (a : ArrayValue) (shape index : List ℕ) → axis < rank → IndexAt shape index axis → nat_le (get_or index axis 0) (joined_places rank axis a) ≡ true
-    → StandsAt a rank axis 0 (get_or index axis 0) index
+    → StandsInSide a rank axis 0 (get_or index axis 0) index
 stands_left rank axis a shape index axes on t =
     let few = leb-true (get_or index axis 0) (joined_places rank axis a) t in
     let low = on.low in
     record { place = omega arith; below = on.below; only = λ n. let one = one_alone rank axis a n in omega arith; axes = axes }
 
 stands_right : (rank axis : ℕ) (a b : ArrayValue) (shape index : List ℕ) → axis < rank → IndexAt shape index axis → get_or shape axis 0 ≡ joined_places rank axis a + joined_places rank axis b
-    → nat_le (get_or index axis 0) (joined_places rank axis a) ≡ false → StandsAt b rank axis (joined_places rank axis a) (get_or index axis 0 - joined_places rank axis a) index
+    → nat_le (get_or index axis 0) (joined_places rank axis a) ≡ false → StandsInSide b rank axis (joined_places rank axis a) (get_or index axis 0 - joined_places rank axis a) index
 stands_right rank axis a b shape index axes on sum t =
     let past = leb-false (get_or index axis 0) (joined_places rank axis a) t in
     let high = on.high in
