@@ -10,7 +10,7 @@ use Rattle.change_core.specs.declared.reach.Reach.{Reach}
 use Rattle.change_core.specs.declared.reach.Reach.TheVariants.{Anew}
 use Rattle.change_core.proofs.Regions.{HasFit, bounded-fits, bounded-within, join_fits, join_unmoved}
 use Rattle.index_region.specs.Answers.{IsPlaceOf}
-use Rattle.change_core.specs.Tightness.{Agrees, AllAgree, AllCovered, ArgumentChange, Covered, Each, IsTight, ReachCovers, ReachLies, blank, frames, gathered, moves, news, olds}
+use Rattle.change_core.specs.Tightness.{Agrees, AllAgree, AllCovered, ArgumentChange, Covered, Each, IsTight, ReachCovers, ReachLies, blank, frames, items_read, moves, news, olds}
 use Rattle.change_core.specs.Reaches.{Fits, LiesInResult, as_reach, bounded, changed, changed_by, is_anew, is_moved, is_reached, reach_by}
 use Rattle.change_core.specs.RuleModels.{RuleModel, Use}
 use Rattle.index_region.specs.Boxes.{Interval, fits, is_within}
@@ -75,13 +75,13 @@ fit_of : (a : ArrayValue) (m : Option (List Interval)) → Fits a m → (region 
 fit_of a None h region e = absurd (let k : Some region ≡ None = sym e in cc)
 fit_of a (Some q) h region e = let k : q ≡ region = cc in subst (λ (r : List Interval). fits r a.shape ≡ true) k h
 
-gathered_same : (shape : List ℕ) (changes : List ArgumentChange) (uses : List Use) (index : List ℕ) → AllAgree changes → AllCovered shape (news changes) uses → is_index_of shape index ≡ true → is_moved (changed shape uses (moves changes)) index ≡ false → gathered (olds changes) uses index ≡ gathered (news changes) uses index
-gathered_same shape [] uses index h cover place u = refl
-gathered_same shape (c ∷ changes) [] index h cover place u = refl
-gathered_same shape (c ∷ changes) (used ∷ uses) index h cover place u =
+items_read_same : (shape : List ℕ) (changes : List ArgumentChange) (uses : List Use) (index : List ℕ) → AllAgree changes → AllCovered shape (news changes) uses → is_index_of shape index ≡ true → is_moved (changed shape uses (moves changes)) index ≡ false → items_read (olds changes) uses index ≡ items_read (news changes) uses index
+items_read_same shape [] uses index h cover place u = refl
+items_read_same shape (c ∷ changes) [] index h cover place u = refl
+items_read_same shape (c ∷ changes) (used ∷ uses) index h cover place u =
     let each = join_unmoved shape (changed_by shape used c.moved) (changed shape uses (moves changes)) index (changed_by-fits shape used c.moved) (changed-fits shape uses (moves changes)) u in
     let first = reads_same shape c.new.shape used c.moved index (item_if_there c.old) (item_if_there c.new) (fit_of c.new c.moved h.0.fit) (read_agrees c h.0) cover.0 place each.0 in
-    let rest = gathered_same shape changes uses index h.1 cover.1 place each.1 in
+    let rest = items_read_same shape changes uses index h.1 cover.1 place each.1 in
     λ i. first i ∷ rest i
 
 frame_same : (c : ArgumentChange) → Agrees c → blank c.old ≡ blank c.new
@@ -120,7 +120,7 @@ length-olds (c ∷ changes) = let k = length-olds changes in omega (arith, k)
 items_same : (p : RuleModel) → IsTight p → (changes : List ArgumentChange) (form : Result Form Kind) (index : List ℕ) → length changes ≡ length p.selectors → AllAgree changes → p.form (news changes) ≡ form → frames p.selectors (olds changes) ≡ frames p.selectors (news changes) → IsPlaceOf form index → is_reached (reach_by form p.uses (news changes) (moves changes)) index ≡ false → p.item (olds changes) index ≡ p.item (news changes) index
 items_same p tight changes (Err k) index n h e same place u = absurd (true≢false u)
 items_same p tight changes (Ok f) index n h e same place u =
-    tight.determined _ _ f index (length-olds changes ∙ n) (length-news changes ∙ n) (all_sound changes h) same e place (gathered_same f.shape changes (p.uses f.shape (news changes)) index h (tight.covered (news changes) f (length-news changes ∙ n) e) place (unmoved_reach f.shape _ index u))
+    tight.determined _ _ f index (length-olds changes ∙ n) (length-news changes ∙ n) (all_sound changes h) same e place (items_read_same f.shape changes (p.uses f.shape (news changes)) index h (tight.covered (news changes) f (length-news changes ∙ n) e) place (unmoved_reach f.shape _ index u))
 
 -- where the law of a rule holds, all that changes is reached
 pub covers : (p : RuleModel) → IsTight p → ReachCovers p

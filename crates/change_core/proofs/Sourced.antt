@@ -8,7 +8,7 @@ use Rattle.arrays_core.specs.declared.item.Kind.{Kind}
 use Rattle.arrays_core.specs.Arrays.{ArrayValue, IsArray, item_if_there}
 use Rattle.arrays_core.specs.Items.{fill}
 use Rattle.arrays_core.specs.Shapes.{is_index_of}
-use Rattle.change_core.specs.Tightness.{AllCovered, Covered, Each, IsTight, blank, framed, frames, gathered}
+use Rattle.change_core.specs.Tightness.{AllCovered, Covered, Each, IsTight, blank, framed, frames, items_read}
 use Rattle.change_core.specs.Reaches.{is_moved}
 use Rattle.change_core.specs.RuleModels.{Use}
 use Rattle.change_core.specs.Sourced.{Spread, left_of, left_used, one_rule, one_sourced, other, right_of, right_used, two_rule, two_sourced, uses_of_one, uses_of_two}
@@ -76,7 +76,7 @@ one_tight form item use_of h = record { settled = settled; determined = determin
     settled (a ∷ []) (b ∷ x ∷ rest) same g k = absurd (let no : ⊥ = cc in no)
 
     determined : (old new : List ArrayValue) (f : Form) (index : List ℕ) → length old ≡ 1 → length new ≡ 1 → Each IsArray new → frames (false ∷ []) old ≡ frames (false ∷ []) new → of_one_argument form new ≡ Ok f → is_index_of f.shape index ≡ true
-        → gathered old (uses_of_one use_of f.shape new) index ≡ gathered new (uses_of_one use_of f.shape new) index → of_one_argument (λ b. item b index) old ≡ of_one_argument (λ b. item b index) new
+        → items_read old (uses_of_one use_of f.shape new) index ≡ items_read new (uses_of_one use_of f.shape new) index → of_one_argument (λ b. item b index) old ≡ of_one_argument (λ b. item b index) new
     determined (a ∷ []) (b ∷ []) f index m n sound same e place read =
         let r = reframed a b (head_same (blank a) (blank b) [] [] same) in
         let reads = (use_of f.shape b).reads index in
@@ -119,7 +119,7 @@ two_arrays_tight selects form item left right h = record { settled = settled; de
     settled (a ∷ b ∷ []) (c ∷ d ∷ x ∷ rest) same g k = absurd (let no : ⊥ = cc in no)
 
     determined : (old new : List ArrayValue) (f : Form) (index : List ℕ) → length old ≡ 2 → length new ≡ 2 → Each IsArray new → frames (selects ∷ false ∷ []) old ≡ frames (selects ∷ false ∷ []) new → of_two_arguments form new ≡ Ok f → is_index_of f.shape index ≡ true
-        → gathered old (uses_of_two left right f.shape new) index ≡ gathered new (uses_of_two left right f.shape new) index → of_two_arguments (λ a b. item a b index) old ≡ of_two_arguments (λ a b. item a b index) new
+        → items_read old (uses_of_two left right f.shape new) index ≡ items_read new (uses_of_two left right f.shape new) index → of_two_arguments (λ a b. item a b index) old ≡ of_two_arguments (λ a b. item a b index) new
     determined (a ∷ b ∷ []) (c ∷ d ∷ []) f index m n sound same e place read =
         let p = as_other selects a c (head_same _ _ _ _ same) in
         let q = reframed b d (head_same _ _ _ _ (tail_same _ _ _ _ same)) in

@@ -27,9 +27,9 @@ frames (selects ∷ selectors) (a ∷ args) = framed selects a ∷ frames select
 frames _ _ = []
 
 -- for each argument the items that an item of the result reads, where there are such
-abbrev pub gathered : List ArrayValue → List Use → List ℕ → List (List (Option Item))
-gathered (a ∷ args) (u ∷ uses) index = map (item_if_there a) (u.reads index) ∷ gathered args uses index
-gathered _ _ index = []
+abbrev pub items_read : List ArrayValue → List Use → List ℕ → List (List (Option Item))
+items_read (a ∷ args) (u ∷ uses) index = map (item_if_there a) (u.reads index) ∷ items_read args uses index
+items_read _ _ index = []
 
 -- it holds of each
 abbrev pub Each : {A : Type 0} → (A → Type 0) → List A → Type 0
@@ -52,7 +52,7 @@ pub record IsTight (p : RuleModel) : Type 0 where
   pub settled : (old new : List ArrayValue) → frames p.selectors old ≡ frames p.selectors new → IsOk (p.form old) → IsOk (p.form new) → p.form old ≡ p.form new
   pub determined : (old new : List ArrayValue) (f : Form) (index : List ℕ) → length old ≡ length p.selectors → length new ≡ length p.selectors
       → Each IsArray new → frames p.selectors old ≡ frames p.selectors new → p.form new ≡ Ok f → is_index_of f.shape index ≡ true
-      → gathered old (p.uses f.shape new) index ≡ gathered new (p.uses f.shape new) index → p.item old index ≡ p.item new index
+      → items_read old (p.uses f.shape new) index ≡ items_read new (p.uses f.shape new) index → p.item old index ≡ p.item new index
   pub covered : (args : List ArrayValue) (f : Form) → length args ≡ length p.selectors → p.form args ≡ Ok f → AllCovered f.shape args (p.uses f.shape args)
 
 -- an argument before and after, and the box of what changed of it

@@ -12,7 +12,7 @@ use Rattle.index_region.specs.Boxes.{Interval, is_within, whole_of}
 use Rattle.index_region.specs.Checks.{Form, check, form_of, limited}
 use Rattle.index_region.specs.Sources.{Place, item_from}
 use Rattle.index_region.proofs.Passing.{gives, limited_gives}
-use Rattle.change_core.specs.Tightness.{AllCovered, IsTight, blank, frames, gathered}
+use Rattle.change_core.specs.Tightness.{AllCovered, IsTight, blank, frames, items_read}
 use Rattle.change_core.specs.Places.{lies_in}
 use Rattle.change_core.specs.Reaches.{is_moved}
 use Rattle.change_core.proofs.Sourced.{item_from_same_one}
@@ -142,7 +142,7 @@ settles written (a ∷ old) (b ∷ new) same g k =
 -- positions that are read alike name the same places
 places_same : (written : List Bool) (axes : List ℕ) (old new : List ArrayValue) (shape : List ℕ) (before : ℕ) (whole index : List ℕ) → length old ≡ count_written written → length new ≡ count_written written
     → length (written_positions written new) ≡ length axes → frames (unselected written) old ≡ frames (unselected written) new → is_index_of (indexed_shape axes (written_positions written new)) index ≡ true
-    → gathered old (position_uses shape before (written_positions written new)) whole ≡ gathered new (position_uses shape before (written_positions written new)) whole → index ≡ drop before whole
+    → items_read old (position_uses shape before (written_positions written new)) whole ≡ items_read new (position_uses shape before (written_positions written new)) whole → index ≡ drop before whole
     → source_index (written_positions written old) index ≡ source_index (written_positions written new) index
 places_same [] axes old new shape before whole index m n long same place got at = refl
 places_same (false ∷ written) [] old new shape before whole index m n long same place got at = absurd (omega arith)
@@ -159,9 +159,9 @@ places_same (true ∷ written) (x ∷ axes) (p ∷ old) (q ∷ new) shape before
     let part = take (length q.shape) (drop before whole) in
     let uses = position_uses shape (before + length q.shape) (written_positions written new) in
     let rest_shape = indexed_shape axes (written_positions written new) in
-    let rows : (item_if_there p part ∷ []) ∷ gathered old uses whole ≡ (item_if_there q part ∷ []) ∷ gathered new uses whole = got in
+    let rows : (item_if_there p part ∷ []) ∷ items_read old uses whole ≡ (item_if_there q part ∷ []) ∷ items_read new uses whole = got in
     let item : item_if_there p part ≡ item_if_there q part = cc in
-    let rest : gathered old uses whole ≡ gathered new uses whole = cc in
+    let rest : items_read old uses whole ≡ items_read new uses whole = cc in
     let own = take (length q.shape) index in
     let here : own ≡ part = ap (take (length q.shape)) at in
     let inside : is_index_of q.shape own ≡ true = index-take q.shape rest_shape index place in
@@ -184,7 +184,7 @@ length-selectors written = ap suc (length-unselected written)
 
 determines : (written : List Bool) (old new : List ArrayValue) (f : Form) (index : List ℕ) → length old ≡ suc (length (unselected written)) → length new ≡ suc (length (unselected written))
     → frames (false ∷ unselected written) old ≡ frames (false ∷ unselected written) new → of_array_and_positions written index_form new ≡ Ok f → is_index_of f.shape index ≡ true
-    → gathered old (index_uses written f.shape new) index ≡ gathered new (index_uses written f.shape new) index
+    → items_read old (index_uses written f.shape new) index ≡ items_read new (index_uses written f.shape new) index
     → of_array_and_positions written (λ a positions. index_item a positions index) old ≡ of_array_and_positions written (λ a positions. index_item a positions index) new
 determines written [] new f index m n same e place got = absurd (omega arith)
 determines written (a ∷ old) [] f index m n same e place got = absurd (omega arith)
@@ -194,9 +194,9 @@ determines written (a ∷ old) (b ∷ new) f index m n same e place got =
     let positions = written_positions written new in
     let uses = position_uses f.shape 0 positions in
     let at = source_index positions index in
-    let rows : (item_if_there a at ∷ []) ∷ gathered old uses index ≡ (item_if_there b at ∷ []) ∷ gathered new uses index = got in
+    let rows : (item_if_there a at ∷ []) ∷ items_read old uses index ≡ (item_if_there b at ∷ []) ∷ items_read new uses index = got in
     let item : (item_if_there a at ∷ []) ≡ (item_if_there b at ∷ []) = cc in
-    let rest : gathered old uses index ≡ gathered new uses index = cc in
+    let rest : items_read old uses index ≡ items_read new uses index = cc in
     let facts = index_facts b positions f e in
     let here : is_index_of (indexed_shape b.shape positions) index ≡ true = ap (λ (g : Form). is_index_of g.shape index) (sym facts.is) ∙ place in
     let many = length-unselected written in

@@ -2,7 +2,7 @@
 use Rattle.std.proofs.Common.{◌≡◌, ℕ, List, [], ◌∷◌, length, true, ap, arith, Ok, IsOk}
 use Rattle.arrays_core.specs.Arrays.{ArrayValue, IsArray}
 use Rattle.arrays_core.specs.Shapes.{is_index_of}
-use Rattle.change_core.specs.Tightness.{AllCovered, Each, IsTight, frames, gathered}
+use Rattle.change_core.specs.Tightness.{AllCovered, Each, IsTight, frames, items_read}
 use Rattle.change_core.specs.Sourced.{uses_of_one}
 use Rattle.change_core.specs.Ways.{unread}
 use Rattle.change_core.proofs.UsedWays.{unread-covered}
@@ -23,7 +23,7 @@ generator_tight = record { settled = settled; determined = determined; covered =
     settled (a ∷ []) (b ∷ x ∷ rest) same g k = absurd (let no : ⊥ = cc in no)
 
     determined : (old new : List ArrayValue) (f : Form) (index : List ℕ) → length old ≡ 1 → length new ≡ 1 → Each IsArray new → frames (true ∷ []) old ≡ frames (true ∷ []) new → of_one_argument generator_form new ≡ Ok f → is_index_of f.shape index ≡ true
-        → gathered old (uses_of_one (λ shape n. unread) f.shape new) index ≡ gathered new (uses_of_one (λ shape n. unread) f.shape new) index
+        → items_read old (uses_of_one (λ shape n. unread) f.shape new) index ≡ items_read new (uses_of_one (λ shape n. unread) f.shape new) index
         → of_one_argument (λ n. generator_item n index) old ≡ of_one_argument (λ n. generator_item n index) new
     determined (a ∷ []) (b ∷ []) f index m n sound same e place read = ap (of_one_argument (λ n. generator_item n index)) same
     determined [] new f index m n sound same e place read = absurd (omega arith)
