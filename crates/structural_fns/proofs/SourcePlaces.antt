@@ -21,7 +21,7 @@ use Rattle.structural_fns.specs.Transpose.{transpose_form}
 use Rattle.structural_fns.specs.Rotate.{rotated_place}
 use Rattle.structural_fns.specs.AxisCounts.{counted_shape, uncounted}
 use Rattle.structural_fns.specs.Drop.{dropped_shape, kept_places}
-use Rattle.structural_fns.specs.DyadicTranspose.{axes_to, greatest, least, all_positive, are_axes, lengths_at, transposed_shape, gathered, transpose_by_form}
+use Rattle.structural_fns.specs.DyadicTranspose.{axes_to, greatest_of, least_of, all_positive, are_axes, lengths_at, transposed_shape, gathered, transpose_by_form}
 use Rattle.structural_fns.proofs.Turning.{residue_euclid}
 use Rattle.structural_fns.proofs.Counting.{numbers_long, magnitudes_long, magnitude_at}
 use Rattle.structural_fns.proofs.Entries.{entries_long}
@@ -110,7 +110,7 @@ kept_inside (n ∷ shape) (negsuc m ∷ counts) (i ∷ index) e h =
 -- a list has an entry that is no greater
 record HasAtMost (lengths : List ℕ) (n : ℕ) : Type 0 where
   some : 0 < length lengths
-  low : least lengths ≤ n
+  low : least_of lengths ≤ n
 
 first_at_most : (n : ℕ) (lengths : List ℕ) → HasAtMost (n ∷ lengths) n
 first_at_most n [] = record { some = omega arith; low = omega arith }
@@ -136,7 +136,7 @@ least_at (x ∷ axes) (n ∷ shape) (suc k) j a s e = later (nat_eq x j) (least_
     later true rest = later_at_most n (map (λ p. p.1) others) (get_or shape k 0) rest
     later false rest = rest
 
-at_most_greatest : (axes : List ℕ) (k : ℕ) → k < length axes → get_or axes k 0 ≤ greatest axes
+at_most_greatest : (axes : List ℕ) (k : ℕ) → k < length axes → get_or axes k 0 ≤ greatest_of axes
 at_most_greatest [] k h = absurd (omega arith)
 at_most_greatest (x ∷ axes) zero h = omega arith
 at_most_greatest (x ∷ axes) (suc k) h = let rest = at_most_greatest axes k (omega arith) in omega arith
@@ -164,10 +164,10 @@ gathered_inside a b index h =
     let there : k < length axes = omega arith in
     let value = magnitude_at a k (omega arith) in
     let low : 1 ≤ j = omega (arith, value, entry_positive (numbers a) k all.0 (omega arith)) in
-    let high : j ≤ greatest axes = at_most_greatest axes k there in
-    let shape_long = length-map-range_with_len (λ j. least (lengths_at axes b.shape j)) 1 (greatest axes) in
+    let high : j ≤ greatest_of axes = at_most_greatest axes k there in
+    let shape_long = length-map-range_with_len (λ j. least_of (lengths_at axes b.shape j)) 1 (greatest_of axes) in
     let on = on_axis (transposed_shape axes b.shape) index (j - 1) inside (omega arith) in
-    let least_here = get_or-map-range_with_len (λ j. least (lengths_at axes b.shape j)) 1 (greatest axes) (j - 1) j 0 (omega arith) (omega arith) in
+    let least_here = get_or-map-range_with_len (λ j. least_of (lengths_at axes b.shape j)) 1 (greatest_of axes) (j - 1) j 0 (omega arith) (omega arith) in
     let at_most = least_at axes b.shape k j there below refl in
     let read = get_or-map (λ j. get_or index (j - 1) 0) axes k 0 0 there in
     record { low = omega (arith, on.low); high = omega (arith, on.high, at_most.low) })

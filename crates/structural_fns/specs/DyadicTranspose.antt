@@ -17,15 +17,15 @@ abbrev pub axes_to : ArrayValue → List ℕ
 axes_to a = map unsigned_abs (numbers a)
 
 -- the greatest of a list; 0 of none
-abbrev pub greatest : List ℕ → ℕ
-greatest [] = 0
-greatest (n ∷ rest) = max n (greatest rest)
+abbrev pub greatest_of : List ℕ → ℕ
+greatest_of [] = 0
+greatest_of (n ∷ rest) = max n (greatest_of rest)
 
 -- the least of a list; 0 of none
-abbrev pub least : List ℕ → ℕ
-least [] = 0
-least (n ∷ []) = n
-least (n ∷ m ∷ rest) = min n (least (m ∷ rest))
+abbrev pub least_of : List ℕ → ℕ
+least_of [] = 0
+least_of (n ∷ []) = n
+least_of (n ∷ m ∷ rest) = min n (least_of (m ∷ rest))
 
 -- none is below 1
 abbrev pub all_positive : List ℤ → Bool
@@ -39,7 +39,7 @@ occurs axes j = list_any (λ k. nat_eq k j) axes
 abbrev pub are_axes : List ℤ → Bool
 are_axes zs =
     let axes = map unsigned_abs zs in
-    all_positive zs && list_all (occurs axes) (range_with_len 1 (greatest axes))
+    all_positive zs && list_all (occurs axes) (range_with_len 1 (greatest_of axes))
 
 -- the lengths of the axes that go to axis j
 abbrev pub lengths_at : List ℕ → List ℕ → ℕ → List ℕ
@@ -47,7 +47,7 @@ lengths_at axes shape j = map (λ p. p.1) (filter (λ p. nat_eq p.0 j) (zip axes
 
 -- an axis that several go to has their least length
 abbrev pub transposed_shape : List ℕ → List ℕ → List ℕ
-transposed_shape axes shape = map (λ j. least (lengths_at axes shape j)) (range_with_len 1 (greatest axes))
+transposed_shape axes shape = map (λ j. least_of (lengths_at axes shape j)) (range_with_len 1 (greatest_of axes))
 
 -- the checks, and the shape and the type of the result
 abbrev pub transpose_by_form : ArrayValue → ArrayValue → Result Form Kind

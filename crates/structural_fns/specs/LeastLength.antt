@@ -1,8 +1,8 @@
 -- The least of some lengths, found one by one.
 use Rattle.std.specs.Prelude.{ℕ, List, ◌∷◌, Option, Some, None}
-use Rattle.structural_fns.specs.DyadicTranspose.{least}
+use Rattle.structural_fns.specs.DyadicTranspose.{least_of}
 
 -- the least of the lengths, with the least of those before them where there were any
 abbrev pub least_with : Option ℕ → List ℕ → ℕ
-least_with None lengths = least lengths
-least_with (Some n) lengths = least (n ∷ lengths)
+least_with None lengths = least_of lengths
+least_with (Some n) lengths = least_of (n ∷ lengths)

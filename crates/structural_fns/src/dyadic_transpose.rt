@@ -12,7 +12,7 @@ ghost use Rattle.index_region.specs.Answers.{IsPlaceOf, IsSourceIn, IsFormAnswer
 ghost use Rattle.index_region.specs.Checks.{limited};
 ghost use Rattle.change_core.specs.Ways.{meet_at, meets};
 ghost use Rattle.change_core.proofs.Growing.{never_grows};
-ghost use Rattle.structural_fns.specs.DyadicTranspose.{axes_to, greatest, least as least_of, all_positive, occurs, are_axes, lengths_at, transposed_shape, gathered, transpose_by_form, transpose_by_source, transpose_by_item, transpose_by_whole, axes_from_zero, transpose_by_rule};
+ghost use Rattle.structural_fns.specs.DyadicTranspose.{axes_to, greatest_of, least_of, all_positive, occurs, are_axes, lengths_at, transposed_shape, gathered, transpose_by_form, transpose_by_source, transpose_by_item, transpose_by_whole, axes_from_zero, transpose_by_rule};
 ghost use Rattle.structural_fns.specs.LeastLength.{least_with};
 ghost use Rattle.structural_fns.specs.Laws.DyadicTranspose.{transpose_by_tight};
 
@@ -52,7 +52,7 @@ fn entry(axes: &Seen, place: u32) -> u64
 
 /// The greatest entry.
 fn greatest(axes: &Seen) -> u64
-    ensures { result ≡ greatest (axes_to axes.now) }
+    ensures { result ≡ greatest_of (axes_to axes.now) }
 {
     let mut greatest = 0;
     for place in 0..axes.places() {

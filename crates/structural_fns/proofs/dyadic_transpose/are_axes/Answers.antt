@@ -1,5 +1,5 @@
 use Rattle.std.proofs.Common.{◌≡◌, ◌+◌, true, arith}
-use Rattle.structural_fns.specs.DyadicTranspose.{axes_to, occurs, greatest}
+use Rattle.structural_fns.specs.DyadicTranspose.{axes_to, occurs, greatest_of}
 use Rattle.structural_fns.proofs.Entries.{range_more}
 use Rattle.structural_fns.proofs.dyadic_transpose.are_axes.Goals as goal
 
@@ -7,7 +7,7 @@ pub loop-axis-preserved : goal.loop-axis-preserved
 loop-axis-preserved c =
     let axes = axes_to c.args.axes.now in
     let k = c.loop-axis.axis in
-    let more = range_more (greatest axes) k (omega (arith, c.greatest-axis-end.ensures)) in
+    let more = range_more (greatest_of axes) k (omega (arith, c.greatest-axis-end.ensures)) in
     let here : occurs axes (k + 1) ≡ true = grind arith in
     let shown = rw more at c.loop-axis.invariant in
     rw here at shown

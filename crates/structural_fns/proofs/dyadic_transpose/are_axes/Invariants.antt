@@ -1,9 +1,9 @@
 use Rattle.std.proofs.Common.{◌≡◌, ◌-◌, ◌+◌}
 use Rattle.std.specs.List.{list_all, range_with_len}
-use Rattle.structural_fns.specs.DyadicTranspose.{axes_to, occurs, greatest}
+use Rattle.structural_fns.specs.DyadicTranspose.{axes_to, occurs, greatest_of}
 use Rattle.structural_fns.proofs.dyadic_transpose.are_axes.Given as goal
 
 abbrev pub invariant-loop-axis : goal.invariant-loop-axis
 invariant-loop-axis l =
-    list_all (occurs (axes_to l.fn.axes)) (range_with_len (l.axis + 1) (greatest (axes_to l.fn.axes) - l.axis))
-    ≡ list_all (occurs (axes_to l.fn.axes)) (range_with_len 1 (greatest (axes_to l.fn.axes)))
+    list_all (occurs (axes_to l.fn.axes)) (range_with_len (l.axis + 1) (greatest_of (axes_to l.fn.axes) - l.axis))
+    ≡ list_all (occurs (axes_to l.fn.axes)) (range_with_len 1 (greatest_of (axes_to l.fn.axes)))

@@ -1,6 +1,6 @@
 use Rattle.std.proofs.Common.{◌≡◌, drop, max}
-use Rattle.structural_fns.specs.DyadicTranspose.{axes_to, greatest}
+use Rattle.structural_fns.specs.DyadicTranspose.{axes_to, greatest_of}
 use Rattle.structural_fns.proofs.dyadic_transpose.greatest.Given as goal
 
 abbrev pub invariant-loop-place : goal.invariant-loop-place
-invariant-loop-place l = max l.greatest (greatest (drop l.place (axes_to l.fn.axes))) ≡ greatest (axes_to l.fn.axes)
+invariant-loop-place l = max l.greatest (greatest_of (drop l.place (axes_to l.fn.axes))) ≡ greatest_of (axes_to l.fn.axes)
