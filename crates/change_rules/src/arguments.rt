@@ -1,6 +1,6 @@
 //! The arguments of a node as they are handed in: each as it is now, with what changed of it.
 
-ghost use Rattle.std.specs.Prelude.{◌≡◌, IfOk, is_ok, not, ◌||◌};
+ghost use Rattle.std.specs.Prelude.{◌≡◌, IfOk, ◌||◌};
 ghost use Rattle.change_rules.specs.Nodes.{views, moved, moved_by, all_same, starts_anew, is_whole, is_grown, is_grown_at_most, all_patched_at_most, marks};
 ghost use Rattle.std.specs.List.{list_all, list_any};
 ghost use Rattle.arrays_core.specs.Arrays.{IsArray};

@@ -1,6 +1,6 @@
 //! Boxes of places.
 
-ghost use Rattle.std.specs.Prelude.{◌≡◌, ◌+◌, ◌-◌, ◌≤◌, ◌<◌, ◌^◌, ℕ, List, length, IsTrue, IfSome, Some, None, if◌then◌else◌, true, map, ◌&&◌, nat_le};
+ghost use Rattle.std.specs.Prelude.{◌≡◌, ◌+◌, ◌-◌, ◌≤◌, ◌<◌, ◌^◌, ℕ, List, length, IsTrue, Some, None, if◌then◌else◌, true, map, ◌&&◌, nat_le};
 ghost use Rattle.std.specs.List.{list_all};
 ghost use Rattle.arrays_core.specs.Limits.{most_axes};
 ghost use Rattle.arrays_core.specs.Shapes.{IsWithinLimits, is_index_of, size};

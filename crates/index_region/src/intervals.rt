@@ -1,6 +1,6 @@
 //! Intervals on the axes of an array.
 
-ghost use Rattle.std.specs.Prelude.{◌≡◌, ◌≤◌, ◌<◌, ◌+◌, ◌++◌, ◌∷◌, [], ℕ, List, length, take, map, set, insert, remove, get_or};
+ghost use Rattle.std.specs.Prelude.{◌≡◌, ◌≤◌, ◌<◌, ◌+◌, ◌++◌, ◌∷◌, [], ℕ, List, length, take, set, insert, remove, get_or};
 ghost use Rattle.arrays_core.specs.Limits.{most_axes};
 ghost use Rattle.index_region.specs.Boxes.{whole_of, is_empty, met, hull_of, meet_of};
 

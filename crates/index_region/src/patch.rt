@@ -1,7 +1,6 @@
 //! Patches: new items for a box of an array.
 
-ghost use Rattle.std.specs.Prelude.{◌≡◌, ◌-◌, ◌≤◌, ◌<◌, ◌∷◌, [], length, get_or, IsTrue, IfOk};
-ghost use Rattle.arrays_core.specs.Arrays.{IsArray};
+ghost use Rattle.std.specs.Prelude.{◌≡◌, ◌-◌, ◌<◌, ◌∷◌, [], length, get_or, IsTrue, IfOk};
 ghost use Rattle.arrays_core.specs.Items.{fill, type_of};
 ghost use Rattle.index_region.specs.Boxes.{box_size, box_offset, is_within};
 ghost use Rattle.index_region.specs.NewItems.{items_of, type_of_items};

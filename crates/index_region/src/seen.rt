@@ -1,11 +1,11 @@
 //! Arrays as they are seen.
 
-ghost use Rattle.std.specs.Prelude.{◌≡◌, ◌+◌, ◌-◌, ◌≤◌, ◌↔◌, IfSome, IsNone, IfOk, Ok, not, length, map, take, drop, ◌++◌, get_or, pos};
+ghost use Rattle.std.specs.Prelude.{◌≡◌, ◌+◌, ◌-◌, ◌≤◌, IfSome, IfOk, Ok, not, length, map, take, drop, ◌++◌, get_or, pos};
 ghost use Rattle.index_region.specs.Patches.{patched, FitsPatch};
 ghost use Rattle.index_region.specs.Tails.{FitsTail};
 ghost use Rattle.index_region.specs.Laid.{seen, IsLaid};
 ghost use Rattle.arrays_core.specs.Growth.{grown_by};
-ghost use Rattle.arrays_core.specs.Arrays.{ArrayValue, IsArray, item_of, item_if_there};
+ghost use Rattle.arrays_core.specs.Arrays.{ArrayValue, IsArray, item_if_there};
 ghost use Rattle.arrays_core.specs.Shapes.{size, IsWithinLimits};
 ghost use Rattle.arrays_core.specs.declared.item.Item.TheVariants.{Num, Char};
 ghost use Rattle.arrays_core.specs.declared.item.ItemType.TheVariants.{Nums, Chars};

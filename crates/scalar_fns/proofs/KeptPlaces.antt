@@ -1,5 +1,5 @@
 -- A scalar function of two arrays has the places of the one to which the other is extended.
-use Rattle.std.proofs.Common.{◌≡◌, ℕ, zero, suc, ◌<◌, List, [], ◌∷◌, length, get_or, refl, ap, sym, subst, ◌∙◌, arith, true, false, Result, Ok, Some, Option, bytes_eq}
+use Rattle.std.proofs.Common.{◌≡◌, ℕ, zero, suc, ◌<◌, List, [], ◌∷◌, length, get_or, refl, ap, sym, subst, arith, true, Result, Ok, Some, bytes_eq}
 use Rattle.std.proofs.lemmas.Bool.{and_parts, cond-true, eqb-true, leb-true}
 use Rattle.std.proofs.lemmas.Slice.Eq.{bytes_eq-Decides}
 use Rattle.arrays_core.specs.declared.item.Kind.{Kind}
@@ -10,7 +10,7 @@ use Rattle.index_region.specs.Boxes.{Interval, whole_of}
 use Rattle.index_region.specs.Checks.{form_of}
 use Rattle.index_region.proofs.Passing.{two_arguments}
 use Rattle.change_core.specs.RuleModels.{KeepsPlaces}
-use Rattle.scalar_fns.specs.EachDyadic.{each_dyadic_form, each_dyadic_rule, extended_box}
+use Rattle.scalar_fns.specs.EachDyadic.{each_dyadic_rule, extended_box}
 use Rattle.scalar_fns.specs.Growth.{is_extended_to}
 use Rattle.scalar_fns.specs.ScalarExtension.{for_shape}
 use Rattle.scalar_fns.specs.Laws.EachDyadicGrowth.{common_left, common_right}

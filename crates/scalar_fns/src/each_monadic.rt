@@ -1,6 +1,5 @@
 //! Scalar functions of one array as change rules.
 
-ghost use Rattle.std.specs.Prelude.{◌≡◌};
 ghost use Rattle.std.proofs.Common.{rules};
 ghost use Rattle.index_region.specs.ArgumentLists.{of_one_argument};
 ghost use Rattle.scalar_fns.specs.EachMonadic.{each_monadic_form, each_monadic_item, each_monadic_rule};

@@ -1,6 +1,6 @@
 //! Functions of numbers as types, so that a loop over many numbers is made for each function.
 
-ghost use Rattle.std.specs.Prelude.{◌≡◌, ℤ, pos, neg_ℤ, unsigned_abs, Result, Ok};
+ghost use Rattle.std.specs.Prelude.{◌≡◌, ℤ, Result, Ok};
 ghost use Rattle.arrays_core.specs.declared.item.Kind.{Kind};
 ghost use Rattle.function_names.specs.declared.scalar.Scalar1.TheVariants as one;
 ghost use Rattle.function_names.specs.declared.scalar.Scalar2.TheVariants as two;

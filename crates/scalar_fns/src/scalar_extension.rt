@@ -1,6 +1,6 @@
 //! Scalar functions of arrays.
 
-ghost use Rattle.std.specs.Prelude.{◌≡◌, ◌≤◌, ◌≢◌, IsTrue, List, ℕ, Ok, false, length, replicate};
+ghost use Rattle.std.specs.Prelude.{◌≡◌, ◌≢◌, IsTrue, Ok, false, length, replicate};
 ghost use Rattle.arrays_core.specs.Shapes.{size, is_index_of, IsWithinLimits, IsShapeAnswerTo};
 ghost use Rattle.arrays_core.specs.Arrays.{IsAnswerTo, IsArray, item_of, scalar_of, with_items};
 ghost use Rattle.arrays_core.specs.declared.item.ItemType.TheVariants.{Nums};

@@ -8,7 +8,7 @@ ghost use Rattle.arrays_core.specs.Arrays.{ArrayValue, IsAnswerTo, IsArray};
 ghost use Rattle.arrays_core.specs.Shapes.{places_before};
 ghost use Rattle.index_region.specs.ArgumentLists.{of_two_arguments};
 ghost use Rattle.index_region.specs.Arguments.{numbers};
-ghost use Rattle.index_region.specs.Answers.{IsPlaceOf, IsSourceIn, IsFormAnswerTo, source_value};
+ghost use Rattle.index_region.specs.Answers.{IsPlaceOf, IsSourceIn, source_value};
 ghost use Rattle.index_region.specs.Checks.{limited};
 ghost use Rattle.change_core.specs.Ways.{meet_at, meets};
 ghost use Rattle.change_core.proofs.Growing.{never_grows};

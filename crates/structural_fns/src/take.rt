@@ -1,6 +1,6 @@
 //! Take: a number of places of each axis, the first or the last, and fill beyond them.
 
-ghost use Rattle.std.specs.Prelude.{◌≡◌, ◌≤◌, ◌<◌, ◌+◌, ◌^◌, ◌++◌, ◌∷◌, [], ℤ, pos, unsigned_abs, IsTrue, IfOk, OnOk, Ok, All, length, get_or, nat_eq, nat_le, ◌&&◌};
+ghost use Rattle.std.specs.Prelude.{◌≡◌, ◌≤◌, ◌<◌, ◌+◌, ◌^◌, ◌++◌, ◌∷◌, [], pos, unsigned_abs, IsTrue, IfOk, OnOk, Ok, All, length, get_or, nat_eq, nat_le, ◌&&◌};
 ghost use Rattle.std.proofs.Common.{rules};
 ghost use Rattle.arrays_core.specs.Limits.{most_axes, longest_axis};
 ghost use Rattle.arrays_core.specs.Building.{with_row};
