@@ -13,6 +13,7 @@ use Rattle.arrays_core.proofs.Shapes.{as_long}
 use Rattle.function_names.specs.declared.scalar.Scalar2.{Scalar2}
 use Rattle.scalar_fns.specs.Items.{dyadic_on_items}
 use Rattle.scalar_fns.specs.ScalarExtension.{extended}
+use Rattle.scalar_fns.specs.Laws.OneItem.{ones_inside, ones_first, only_index}
 use Rattle.index_region.specs.Answers.{IsPlaceOf}
 use Rattle.index_region.specs.Boxes.{Interval, is_within, whole_of}
 use Rattle.index_region.specs.Checks.{Form}
@@ -35,16 +36,6 @@ factors_of_one (suc n) zero h = absurd (omega arith)
 factors_of_one (suc zero) (suc s) h = (refl, omega arith)
 factors_of_one (suc (suc n)) (suc s) h = absurd (omega arith)
 
-ones_inside : (shape : List ℕ) → size shape ≡ 1 → is_index_of shape (ones shape) ≡ true
-ones_inside [] h = refl
-ones_inside (n ∷ shape) h =
-    let each = factors_of_one n (size shape) h in
-    rw (each.0) (ones_inside shape each.1)
-
-ones_first : (shape : List ℕ) → places_before shape (ones shape) ≡ 0
-ones_first [] = refl
-ones_first (n ∷ shape) = let rest = ones_first shape in omega arith
-
 -- the one index of an axis of one place
 only : (n i : ℕ) → n ≡ 1 → (nat_le 1 i && nat_le i n) ≡ true → i ≡ 1
 only n i one h =
@@ -53,18 +44,7 @@ only n i one h =
     let high : i ≤ n = leb-true i n parts.1 in
     omega arith
 
--- its index lists, and those without the first or the last axis
-all_one : (shape index : List ℕ) → size shape ≡ 1 → is_index_of shape index ≡ true → index ≡ ones shape
-all_one [] [] h place = refl
-all_one [] (i ∷ index) h place = absurd (false≢true place)
-all_one (n ∷ shape) [] h place = absurd (false≢true place)
-all_one (n ∷ shape) (i ∷ index) h place =
-    let each = factors_of_one n (size shape) h in
-    let parts = and_parts _ _ place in
-    let first : i ≡ 1 = only n i each.0 parts.0 in
-    let rest = all_one shape index each.1 parts.1 in
-    λ j. first j ∷ rest j
-
+-- the index list without the last axis, and without the first
 but_last_one : (k : ℕ) (shape index : List ℕ) → size shape ≡ 1 → is_index_of (take k shape) index ≡ true → index ≡ take k (ones shape)
 but_last_one zero shape [] h place = refl
 but_last_one zero shape (i ∷ index) h place = absurd (false≢true place)
@@ -81,7 +61,7 @@ but_last_one (suc k) (n ∷ shape) (i ∷ index) h place =
 but_first_one : (shape index : List ℕ) → size shape ≡ 1 → is_index_of (drop 1 shape) index ≡ true → index ≡ drop 1 (ones shape)
 but_first_one [] [] h place = refl
 but_first_one [] (i ∷ index) h place = absurd (false≢true place)
-but_first_one (n ∷ shape) index h place = all_one shape index (factors_of_one n (size shape) h).1 place
+but_first_one (n ∷ shape) index h place = sym (only_index shape index (factors_of_one n (size shape) h).1 place)
 
 -- ---- lines that are read alike
 

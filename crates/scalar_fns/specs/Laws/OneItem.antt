@@ -10,13 +10,13 @@ use Rattle.change_core.specs.Sourced.{other}
 use Rattle.change_core.proofs.ReadAlike.{one_same}
 
 -- the one index list of a shape of one place
-ones_inside : (shape : List ℕ) → size shape ≡ 1 → is_index_of shape (map (λ _. 1) shape) ≡ true
+pub ones_inside : (shape : List ℕ) → size shape ≡ 1 → is_index_of shape (map (λ _. 1) shape) ≡ true
 ones_inside [] h = refl
 ones_inside (zero ∷ shape) h = absurd (omega arith)
 ones_inside (suc zero ∷ shape) h = ones_inside shape (omega arith)
 ones_inside (suc (suc n) ∷ shape) h = let no = factor_le (suc (suc n)) (size shape) 1 h (omega arith) in absurd (omega arith)
 
-ones_first : (shape : List ℕ) → places_before shape (map (λ _. 1) shape) ≡ 0
+pub ones_first : (shape : List ℕ) → places_before shape (map (λ _. 1) shape) ≡ 0
 ones_first [] = refl
 ones_first (n ∷ shape) = omega (arith, ones_first shape)
 
