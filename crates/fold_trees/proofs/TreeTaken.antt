@@ -2,7 +2,7 @@
 use Rattle.std.proofs.Common.{◌≡◌, ◌≢◌, ◌∙◌, ℕ, ◌+◌, ◌-◌, ◌<◌, ◌≤◌, ℤ, List, length, get_or, refl, sym, subst, arith, inl, inr}
 use Rattle.std.proofs.lemmas.Bool.{cases_eq}
 use Rattle.operator_fns.specs.declared.line_tree.Line.{Line}
-use Rattle.operator_fns.specs.LineTrees.{slot_of, shorter, nth_node, from_two, node_of, AreKept}
+use Rattle.operator_fns.specs.LineTrees.{slot_of, shorter, nth_node, from_two, node_of, ArePartsKept}
 use Rattle.operator_fns.proofs.LineSpots.{nodes_apart}
 use Rattle.operator_fns.proofs.Halves.{are_from_two}
 use Rattle.operator_fns.proofs.LineNodes.{kept_alike}
@@ -10,21 +10,21 @@ use Rattle.operator_fns.specs.LineBlocks.{line_at}
 
 -- one line has taken its last number; nodes of no place of it stay
 pub record IsTaken {P : Type 0} (blank : P) (tells : P → List ℤ → Type 0) (l : Line) (numbers : List ℤ) (nodes after : List P) : Type 0 where
-  pub kept : AreKept from_two tells l.count (slot_of l numbers) (node_of from_two blank l after)
+  pub kept : ArePartsKept from_two tells l.count (slot_of l numbers) (node_of from_two blank l after)
   pub other_nodes : (p : ℕ) → ((meeting : ℕ) → 1 ≤ meeting → meeting < l.count → p ≢ nth_node l meeting) → get_or after p blank ≡ get_or nodes p blank
   pub node_count : length after ≡ length nodes
 
 -- the lines before one have taken theirs, the others have not yet
 pub record AreTakenTo {P : Type 0} (blank : P) (tells : P → List ℤ → Type 0) (count step : ℕ) (numbers : List ℤ) (nodes now : List P) (line : ℕ) : Type 0 where
-  pub kept : (k : ℕ) → k < line → AreKept from_two tells count (slot_of (line_at from_two count step k) numbers) (node_of from_two blank (line_at from_two count step k) now)
+  pub kept : (k : ℕ) → k < line → ArePartsKept from_two tells count (slot_of (line_at from_two count step k) numbers) (node_of from_two blank (line_at from_two count step k) now)
   pub rest : (k m : ℕ) → line ≤ k → 1 ≤ m → m < count → node_of from_two blank (line_at from_two count step k) now m ≡ node_of from_two blank (line_at from_two count step k) nodes m
   pub node_count : length now ≡ length nodes
 
 module _ {P : Type 0} (blank : P) (tells : P → List ℤ → Type 0) (count step : ℕ) (numbers : List ℤ) (nodes now : List P) (line : ℕ)
     (taken : AreTakenTo blank tells count step numbers nodes now line) where
   -- what is kept of a line that has not
-  pub rest_kept : AreKept from_two tells (count - 1) (slot_of (shorter (line_at from_two count step line)) numbers) (node_of from_two blank (shorter (line_at from_two count step line)) nodes)
-      → AreKept from_two tells (count - 1) (slot_of (shorter (line_at from_two count step line)) numbers) (node_of from_two blank (shorter (line_at from_two count step line)) now)
+  pub rest_kept : ArePartsKept from_two tells (count - 1) (slot_of (shorter (line_at from_two count step line)) numbers) (node_of from_two blank (shorter (line_at from_two count step line)) nodes)
+      → ArePartsKept from_two tells (count - 1) (slot_of (shorter (line_at from_two count step line)) numbers) (node_of from_two blank (shorter (line_at from_two count step line)) now)
   rest_kept =
       let l = shorter (line_at from_two count step line) in
       kept_alike from_two are_from_two tells (count - 1) (slot_of l numbers) (slot_of l numbers) (node_of from_two blank l nodes) (node_of from_two blank l now) (λ i p. refl)
@@ -35,7 +35,7 @@ module _ {P : Type 0} (blank : P) (tells : P → List ℤ → Type 0) (count ste
       → AreTakenTo blank tells count step numbers nodes after (line + 1)
   taken_on after apart new = record {
     kept = λ k h. elim (cases_eq k line) [
-      | inl e ↦ subst (λ j. AreKept from_two tells count (slot_of (line_at from_two count step j) numbers) (node_of from_two blank (line_at from_two count step j) after)) (sym e) new.kept
+      | inl e ↦ subst (λ j. ArePartsKept from_two tells count (slot_of (line_at from_two count step j) numbers) (node_of from_two blank (line_at from_two count step j) after)) (sym e) new.kept
       | inr other ↦
           let l = line_at from_two count step k in
           kept_alike from_two are_from_two tells count (slot_of l numbers) (slot_of l numbers) (node_of from_two blank l now) (node_of from_two blank l after) (λ i p. refl) (stay k other)

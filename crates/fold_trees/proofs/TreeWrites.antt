@@ -8,7 +8,7 @@ use Rattle.operator_fns.proofs.LineParts.{replaced_here, replaced_other}
 use Rattle.operator_fns.proofs.LineWrites.{put_here, put_other}
 use Rattle.operator_fns.proofs.LinePlaces.{place_spot}
 use Rattle.operator_fns.specs.declared.line_tree.Line.{Line}
-use Rattle.operator_fns.specs.LineTrees.{slot_at, slot_of, replaced, HasSlots, nth_node, from_two, node_of, AreKept, nodes_in_line}
+use Rattle.operator_fns.specs.LineTrees.{slot_at, slot_of, replaced, HasSlots, nth_node, from_two, node_of, ArePartsKept, nodes_in_line}
 use Rattle.operator_fns.proofs.LineSpots.{nodes_apart, slots_apart}
 use Rattle.operator_fns.proofs.Halves.{are_from_two}
 use Rattle.operator_fns.proofs.LineNodes.{kept_alike}
@@ -29,7 +29,7 @@ number_set l numbers place z has inside i = elim (cases_eq i place) [
 pub record IsWritten {P : Type 0} (blank : P) (tells : P → List ℤ → Type 0) (l : Line) (place : ℕ) (z : ℤ) (numbers after : List ℤ)
     (nodes nodes_after : List P) : Type 0 where
   pub numbers_are : (i : ℕ) → i < l.count → slot_of l after i ≡ replaced (slot_of l numbers) place z i
-  pub kept : AreKept from_two tells l.count (slot_of l after) (node_of from_two blank l nodes_after)
+  pub kept : ArePartsKept from_two tells l.count (slot_of l after) (node_of from_two blank l nodes_after)
   pub other_slots : (p : ℕ) → p ≢ slot_at l place → get_or after p (pos 0) ≡ get_or numbers p (pos 0)
   pub other_nodes : (p : ℕ) → ((meeting : ℕ) → 1 ≤ meeting → meeting < l.count → p ≢ nth_node l meeting) → get_or nodes_after p blank ≡ get_or nodes p blank
   pub slot_count : length after ≡ length numbers
@@ -71,7 +71,7 @@ module _ {P : Type 0} (blank : P) (tells : P → List ℤ → Type 0) (count ste
     lines = subst (AreLines count step) (sym new.slot_count) trees.lines;
     sized = new.node_count ∙ trees.sized ∙ ap (λ n. n / count * nodes_in_line from_two count) (sym new.slot_count);
     kept = λ k h. elim (cases_eq k line) [
-      | inl e ↦ subst (λ j. AreKept from_two tells count (slot_of (line_at from_two count step j) after) (node_of from_two blank (line_at from_two count step j) nodes_after)) (sym e) new.kept
+      | inl e ↦ subst (λ j. ArePartsKept from_two tells count (slot_of (line_at from_two count step j) after) (node_of from_two blank (line_at from_two count step j) nodes_after)) (sym e) new.kept
       | inr other ↦
           let l = line_at from_two count step k in
           let within = mod_below (place / step) count trees.lines.some in

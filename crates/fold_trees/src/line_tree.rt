@@ -2,8 +2,8 @@
 
 ghost use Rattle.std.specs.Prelude.{◌≡◌, ◌≢◌, pos, get_or, ℕ, ◌+◌, ◌-◌, ◌*◌, ◌/◌, ◌%◌, ◌^◌, ◌<◌, ◌≤◌, ◌++◌, ◌∷◌, [], min, ℤ, List, length, vec_len, vec_capacity, ◌⊎◌};
 ghost use Rattle.operator_fns.specs.SumTree.{IsWithinDigitsOf};
-ghost use Rattle.operator_fns.specs.LineTrees.{slot_at, nth_node, slot_of, HasSlots, IsPart, AreSameIn, other_half, replaced, shorter, segment, numbers_of_block, from_two, IsIn, node_of, AreKept, AreKeptIn, AreKeptBeside, AreKeptUpTo};
-ghost use Rattle.operator_fns.specs.LineBlocks.{line_of, HaveSlots, nodes_end, HaveNodes, AreKeptBehind, AreKeptFrom};
+ghost use Rattle.operator_fns.specs.LineTrees.{slot_at, nth_node, slot_of, HasSlots, IsPart, AreSameIn, other_half, replaced, shorter, segment, numbers_of_block, from_two, IsIn, node_of, ArePartsKept, ArePartsKeptIn, ArePartsKeptBeside, ArePartsKeptUpTo};
+ghost use Rattle.operator_fns.specs.LineBlocks.{line_of, HaveSlots, nodes_end, HaveNodes, ArePartsKeptBehind, ArePartsKeptFrom};
 
 use crate::part::Part;
 use operator_fns::Line;
@@ -22,7 +22,7 @@ impl<'a, P: Part> LineTree<'a, P> {
         requires inside { IsIn from_two self.now.line (length self.now.numbers.now) (length self.now.nodes.now) }
         requires from { from < self.now.line.count }
         requires part { IsPart from width }
-        requires kept { AreKeptIn from_two P.tells from width self.now.line.count (slot_of self.now.line self.now.numbers.now) (node_of from_two P.blank self.now.line self.now.nodes.now) }
+        requires kept { ArePartsKeptIn from_two P.tells from width self.now.line.count (slot_of self.now.line self.now.numbers.now) (node_of from_two P.blank self.now.line self.now.nodes.now) }
         ensures { P.tells result (segment (slot_of self.now.line self.now.numbers.now) from (min width (self.now.line.count - from))) }
     {
         let long = width.min(self.line.count - from);
@@ -37,7 +37,7 @@ impl<'a, P: Part> LineTree<'a, P> {
     pub(crate) fn whole(&self) -> P
         requires inside { IsIn from_two self.now.line (length self.now.numbers.now) (length self.now.nodes.now) }
         requires some { 0 < self.now.line.count }
-        requires kept { AreKept from_two P.tells self.now.line.count (slot_of self.now.line self.now.numbers.now) (node_of from_two P.blank self.now.line self.now.nodes.now) }
+        requires kept { ArePartsKept from_two P.tells self.now.line.count (slot_of self.now.line self.now.numbers.now) (node_of from_two P.blank self.now.line self.now.nodes.now) }
         ensures { P.tells result (segment (slot_of self.now.line self.now.numbers.now) 0 self.now.line.count) }
     {
         self.part(0, self.line.count.next_power_of_two())
@@ -50,7 +50,7 @@ impl<'a, P: Part> LineTree<'a, P> {
         requires from { block * width < self.now.line.count }
         requires short { width < self.now.line.count }
         requires level { (level : ℕ) × (width ≡ 2 ^ level) }
-        requires kept { AreKeptIn from_two P.tells (other_half block * width) width self.now.line.count (slot_of self.now.line self.now.numbers.now) (node_of from_two P.blank self.now.line self.now.nodes.now) }
+        requires kept { ArePartsKeptIn from_two P.tells (other_half block * width) width self.now.line.count (slot_of self.now.line self.now.numbers.now) (node_of from_two P.blank self.now.line self.now.nodes.now) }
         requires told { (xs : List ℤ) × P.tells kept.now xs }
         ensures is { (x : ℕ → ℤ) → AreSameIn (other_half block * width) width (slot_of self.now.line self.now.numbers.now) x
             → P.tells kept.now (numbers_of_block self.now.line.count x block width) → P.tells result.0 (numbers_of_block self.now.line.count x (block / 2) (2 * width)) }
@@ -73,7 +73,7 @@ impl<'a, P: Part> LineTree<'a, P> {
     pub(crate) fn with(&self, place: usize, number: i64) -> (P, u32)
         requires inside { IsIn from_two self.now.line (length self.now.numbers.now) (length self.now.nodes.now) }
         requires place { place < self.now.line.count }
-        requires kept { AreKept from_two P.tells self.now.line.count (slot_of self.now.line self.now.numbers.now) (node_of from_two P.blank self.now.line self.now.nodes.now) }
+        requires kept { ArePartsKept from_two P.tells self.now.line.count (slot_of self.now.line self.now.numbers.now) (node_of from_two P.blank self.now.line self.now.nodes.now) }
         ensures is { P.tells result.0 (segment (replaced (slot_of self.now.line self.now.numbers.now) place number) 0 self.now.line.count) }
         ensures most { IsWithinDigitsOf (self.now.line.count - 1) result.1 }
         ensures least { 1 < self.now.line.count → 0 < result.1 }
@@ -97,8 +97,8 @@ impl<'a, P: Part> LineTree<'a, P> {
 pub(crate) fn renew<P: Part>(numbers: &[i64], nodes: &mut [P], line: Line, place: usize)
     requires inside { IsIn from_two line (length numbers.now) (length nodes.old) }
     requires place { place < line.count }
-    requires kept { AreKeptBeside from_two P.tells place line.count (slot_of line numbers.now) (node_of from_two P.blank line nodes.old) }
-    ensures kept { AreKept from_two P.tells line.count (slot_of line numbers.now) (node_of from_two P.blank line nodes.new) }
+    requires kept { ArePartsKeptBeside from_two P.tells place line.count (slot_of line numbers.now) (node_of from_two P.blank line nodes.old) }
+    ensures kept { ArePartsKept from_two P.tells line.count (slot_of line numbers.now) (node_of from_two P.blank line nodes.new) }
     ensures others { (p : ℕ) → ((meeting : ℕ) → 1 ≤ meeting → meeting < line.count → p ≢ nth_node line meeting) → get_or nodes.new p P.blank ≡ get_or nodes.old p P.blank }
     ensures length { length nodes.new ≡ length nodes.old }
 {
@@ -131,9 +131,9 @@ pub(crate) fn write<P: Part>(
 )
     requires inside { IsIn from_two line (length numbers.old) (length nodes.old) }
     requires place { place < line.count }
-    requires kept { AreKept from_two P.tells line.count (slot_of line numbers.old) (node_of from_two P.blank line nodes.old) }
+    requires kept { ArePartsKept from_two P.tells line.count (slot_of line numbers.old) (node_of from_two P.blank line nodes.old) }
     ensures numbers { (i : ℕ) → i < line.count → slot_of line numbers.new i ≡ replaced (slot_of line numbers.old) place number i }
-    ensures kept { AreKept from_two P.tells line.count (slot_of line numbers.new) (node_of from_two P.blank line nodes.new) }
+    ensures kept { ArePartsKept from_two P.tells line.count (slot_of line numbers.new) (node_of from_two P.blank line nodes.new) }
     ensures other_slots { (p : ℕ) → p ≢ slot_at line place → get_or numbers.new p (pos 0) ≡ get_or numbers.old p (pos 0) }
     ensures other_nodes { (p : ℕ) → ((meeting : ℕ) → 1 ≤ meeting → meeting < line.count → p ≢ nth_node line meeting) → get_or nodes.new p P.blank ≡ get_or nodes.old p P.blank }
     ensures slot_count { length numbers.new ≡ length numbers.old }
@@ -148,8 +148,8 @@ pub(crate) fn write<P: Part>(
 pub(crate) fn take_last<P: Part>(numbers: &[i64], nodes: &mut [P], line: Line)
     requires inside { IsIn from_two line (length numbers.now) (length nodes.old) }
     requires more { 1 < line.count }
-    requires kept { AreKept from_two P.tells (line.count - 1) (slot_of (shorter line) numbers.now) (node_of from_two P.blank (shorter line) nodes.old) }
-    ensures kept { AreKept from_two P.tells line.count (slot_of line numbers.now) (node_of from_two P.blank line nodes.new) }
+    requires kept { ArePartsKept from_two P.tells (line.count - 1) (slot_of (shorter line) numbers.now) (node_of from_two P.blank (shorter line) nodes.old) }
+    ensures kept { ArePartsKept from_two P.tells line.count (slot_of line numbers.now) (node_of from_two P.blank line nodes.new) }
     ensures other_nodes { (p : ℕ) → ((meeting : ℕ) → 1 ≤ meeting → meeting < line.count → p ≢ nth_node line meeting) → get_or nodes.new p P.blank ≡ get_or nodes.old p P.blank }
     ensures node_count { length nodes.new ≡ length nodes.old }
 {
@@ -164,8 +164,8 @@ fn close_parts<P: Part>(nodes: &mut [P], line: Line, end: usize)
     requires some { 0 < end }
     requires below { end < line.count }
     requires nodes { nth_node line end < length nodes.old }
-    requires kept { (x : ℕ → ℤ) × AreKeptUpTo from_two P.tells end 2 line.count x (node_of from_two P.blank line nodes.old) }
-    ensures kept { (x : ℕ → ℤ) → AreKeptUpTo from_two P.tells end 2 line.count x (node_of from_two P.blank line nodes.old) → AreKeptIn from_two P.tells 0 end line.count x (node_of from_two P.blank line nodes.new) }
+    requires kept { (x : ℕ → ℤ) × ArePartsKeptUpTo from_two P.tells end 2 line.count x (node_of from_two P.blank line nodes.old) }
+    ensures kept { (x : ℕ → ℤ) → ArePartsKeptUpTo from_two P.tells end 2 line.count x (node_of from_two P.blank line nodes.old) → ArePartsKeptIn from_two P.tells 0 end line.count x (node_of from_two P.blank line nodes.new) }
     ensures others { (p : ℕ) → p < line.node → get_or nodes.new p P.blank ≡ get_or nodes.old p P.blank }
     ensures length { length nodes.new ≡ length nodes.old }
 {
@@ -198,8 +198,8 @@ fn push_pair<P: Part>(numbers: &[i64], nodes: &mut Vec<P>, line: Line, from: usi
     requires full { from + 2 < line.count }
     requires here { vec_len nodes.old ≡ line.node + from }
     requires room { line.node + from + 2 ≤ vec_capacity nodes.old }
-    requires kept { AreKeptIn from_two P.tells 0 from line.count (slot_of line numbers.now) (node_of from_two P.blank line nodes.old.items) }
-    ensures kept { AreKeptIn from_two P.tells 0 (from + 2) line.count (slot_of line numbers.now) (node_of from_two P.blank line nodes.new.items) }
+    requires kept { ArePartsKeptIn from_two P.tells 0 from line.count (slot_of line numbers.now) (node_of from_two P.blank line nodes.old.items) }
+    ensures kept { ArePartsKeptIn from_two P.tells 0 (from + 2) line.count (slot_of line numbers.now) (node_of from_two P.blank line nodes.new.items) }
     ensures others { (p : ℕ) → p < line.node → get_or nodes.new.items p P.blank ≡ get_or nodes.old.items p P.blank }
     ensures length { vec_len nodes.new ≡ line.node + from + 2 }
     ensures room { vec_capacity nodes.old ≤ vec_capacity nodes.new }
@@ -218,7 +218,7 @@ pub(crate) fn push_line<P: Part>(numbers: &[i64], nodes: &mut Vec<P>, line: Line
     requires some { 0 < line.count }
     requires here { vec_len nodes.old ≡ line.node }
     requires room { nodes_end from_two line ≤ vec_capacity nodes.old }
-    ensures kept { AreKept from_two P.tells line.count (slot_of line numbers.now) (node_of from_two P.blank line nodes.new.items) }
+    ensures kept { ArePartsKept from_two P.tells line.count (slot_of line numbers.now) (node_of from_two P.blank line nodes.new.items) }
     ensures others { (p : ℕ) → p < line.node → get_or nodes.new.items p P.blank ≡ get_or nodes.old.items p P.blank }
     ensures length { vec_len nodes.new ≡ nodes_end from_two line }
     ensures room { vec_capacity nodes.old ≤ vec_capacity nodes.new }
@@ -278,7 +278,7 @@ fn last_row<P: Part>(numbers: &[i64], nodes: &mut [P], first: Line, from: usize,
     requires half { (level : ℕ) × (half ≡ 2 ^ level) }
     requires from { (place : ℕ) × (from ≡ place * (2 * half)) }
     requires short { from + half < first.count }
-    requires kept { AreKeptBehind from_two P.blank P.tells slot_of from half first numbers.now nodes.old }
+    requires kept { ArePartsKeptBehind from_two P.blank P.tells slot_of from half first numbers.now nodes.old }
     ensures told { (column : ℕ) → column < first.step
         → P.tells (node_of from_two P.blank (line_of first column) nodes.new (from + half)) (segment (slot_of (line_of first column) numbers.now) from (min (2 * half) (first.count - from))) }
     ensures others { (p : ℕ) → (p < nth_node first (from + half) ⊎ nth_node first (from + half) + first.step ≤ p) → get_or nodes.new p P.blank ≡ get_or nodes.old p P.blank }
@@ -304,8 +304,8 @@ fn join_row<P: Part>(numbers: &[i64], nodes: &mut [P], first: Line, from: usize,
     requires half { (level : ℕ) × (half ≡ 2 ^ level) }
     requires from { (place : ℕ) × (from ≡ place * (2 * half)) }
     requires short { from + half < first.count }
-    requires kept { AreKeptBehind from_two P.blank P.tells slot_of from half first numbers.now nodes.old }
-    ensures kept { AreKeptBehind from_two P.blank P.tells slot_of from (2 * half) first numbers.now nodes.new }
+    requires kept { ArePartsKeptBehind from_two P.blank P.tells slot_of from half first numbers.now nodes.old }
+    ensures kept { ArePartsKeptBehind from_two P.blank P.tells slot_of from (2 * half) first numbers.now nodes.new }
     ensures others { (p : ℕ) → (p < first.node ⊎ nodes_end from_two first ≤ p) → get_or nodes.new p P.blank ≡ get_or nodes.old p P.blank }
     ensures length { length nodes.new ≡ length nodes.old }
 {
@@ -324,8 +324,8 @@ fn fill_from<P: Part>(numbers: &[i64], nodes: &mut [P], first: Line, from: usize
     requires nodes { HaveNodes from_two first (length nodes.old) }
     requires two { from % 2 ≡ 0 }
     requires below { from < first.count }
-    requires kept { AreKeptFrom from_two P.blank P.tells slot_of (from + 2) first numbers.now nodes.old }
-    ensures kept { AreKeptFrom from_two P.blank P.tells slot_of from first numbers.now nodes.new }
+    requires kept { ArePartsKeptFrom from_two P.blank P.tells slot_of (from + 2) first numbers.now nodes.old }
+    ensures kept { ArePartsKeptFrom from_two P.blank P.tells slot_of from first numbers.now nodes.new }
     ensures others { (p : ℕ) → (p < first.node ⊎ nodes_end from_two first ≤ p) → get_or nodes.new p P.blank ≡ get_or nodes.old p P.blank }
     ensures length { length nodes.new ≡ length nodes.old }
 {
@@ -340,7 +340,7 @@ fn fill_from<P: Part>(numbers: &[i64], nodes: &mut [P], first: Line, from: usize
 pub(crate) fn fill_block<P: Part>(numbers: &[i64], nodes: &mut [P], first: Line)
     requires slots { HaveSlots first (length numbers.now) }
     requires nodes { HaveNodes from_two first (length nodes.old) }
-    ensures kept { (column : ℕ) → column < first.step → AreKept from_two P.tells first.count (slot_of (line_of first column) numbers.now) (node_of from_two P.blank (line_of first column) nodes.new) }
+    ensures kept { (column : ℕ) → column < first.step → ArePartsKept from_two P.tells first.count (slot_of (line_of first column) numbers.now) (node_of from_two P.blank (line_of first column) nodes.new) }
     ensures others { (p : ℕ) → (p < first.node ⊎ nodes_end from_two first ≤ p) → get_or nodes.new p P.blank ≡ get_or nodes.old p P.blank }
     ensures length { length nodes.new ≡ length nodes.old }
 {

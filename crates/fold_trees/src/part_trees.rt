@@ -5,7 +5,7 @@ ghost use Rattle.arrays_core.specs.Growth.{IsRoomy};
 ghost use Rattle.operator_fns.specs.SumTree.{IsWithinDigitsOf};
 ghost use Rattle.operator_fns.specs.SumTrees.{FitBehind, FitNext, with_lines, with_places, line_count, numbers_of_line, numbers_through, with_number, AreLines, AreLineTrees};
 ghost use Rattle.operator_fns.specs.LineBlocks.{block_at, line_at, AreAllKept};
-ghost use Rattle.operator_fns.specs.LineTrees.{slot_of, shorter, from_two, IsIn, node_of, AreKept, nodes_in_line};
+ghost use Rattle.operator_fns.specs.LineTrees.{slot_of, shorter, from_two, IsIn, node_of, ArePartsKept, nodes_in_line};
 ghost use Rattle.fold_trees.specs.FoldTrees.{IsReductionBy};
 
 use crate::line_tree::{LineTree, fill_block, push_line, take_last, write};
@@ -46,7 +46,7 @@ fn nth_tree<'a, P: Part>(
     ensures numbers { result.numbers.now ≡ numbers.now }
     ensures nodes { result.nodes.now ≡ nodes.now }
     ensures inside { IsIn from_two result.line (length result.numbers.now) (length result.nodes.now) }
-    ensures kept { AreKept from_two P.tells result.line.count (slot_of result.line result.numbers.now) (node_of from_two P.blank result.line result.nodes.now) }
+    ensures kept { ArePartsKept from_two P.tells result.line.count (slot_of result.line result.numbers.now) (node_of from_two P.blank result.line result.nodes.now) }
 {
     let line = nth_line(count, step, line);
     LineTree {
@@ -126,8 +126,8 @@ fn take_places<P: Part>(numbers: &[i64], nodes: &mut [P], count: usize, step: us
     requires apart { 0 < step }
     requires slot_count { length numbers.now ≡ count * step }
     requires node_count { length nodes.old ≡ nodes_in_line from_two count * step }
-    requires kept { (line : ℕ) → line < step → AreKept from_two P.tells (count - 1) (slot_of (shorter (line_at from_two count step line)) numbers.now) (node_of from_two P.blank (shorter (line_at from_two count step line)) nodes.old) }
-    ensures kept { (line : ℕ) → line < step → AreKept from_two P.tells count (slot_of (line_at from_two count step line) numbers.now) (node_of from_two P.blank (line_at from_two count step line) nodes.new) }
+    requires kept { (line : ℕ) → line < step → ArePartsKept from_two P.tells (count - 1) (slot_of (shorter (line_at from_two count step line)) numbers.now) (node_of from_two P.blank (shorter (line_at from_two count step line)) nodes.old) }
+    ensures kept { (line : ℕ) → line < step → ArePartsKept from_two P.tells count (slot_of (line_at from_two count step line) numbers.now) (node_of from_two P.blank (line_at from_two count step line) nodes.new) }
     ensures node_length { length nodes.new ≡ length nodes.old }
 {
     for line in 0..step {

@@ -20,7 +20,7 @@ use Rattle.change_core.specs.RuleModels.{form_size}
 use Rattle.change_core.specs.Reaches.{as_reach, reach_by, reach_of}
 use Rattle.change_rules.specs.Nodes.{Argument, reached_cost, size_in}
 use Rattle.change_rules.proofs.Nodes.{cost_reached}
-use Rattle.sum_rules.specs.Totals.{is_narrow, is_one_a_line, lines_of, new_items, total_rule}
+use Rattle.sum_rules.specs.Totals.{is_narrow, is_one_a_line, box_of_lines, new_items, total_rule}
 use Rattle.sum_rules.proofs.ChangedTotals.{cost_grown}
 use Rattle.sum_rules.proofs.OneAxis.{size_with_one}
 use Rattle.arrays_core.specs.Outcomes.{Outcome}
@@ -58,7 +58,7 @@ module _ (fold : Reduce) (a : ArrayValue) (p : PatchValue) (inside : fits p.regi
   axis = axis_at (length a.shape) fold.along
 
   abbrev lines : List Interval
-  lines = lines_of axis p.region
+  lines = box_of_lines axis p.region
 
   as_many_axes : length lines ≡ length (remove a.shape axis)
   as_many_axes =

@@ -3,7 +3,7 @@ use Rattle.std.proofs.Common.{◌≡◌, ◌∙◌, ℕ, ◌+◌, ◌-◌, ◌*�
 use Rattle.std.proofs.lemmas.Nat.{div-add-mod', div-mul-add, mod-mul-add, mul-add-lt, div_below, mod_below, mul-le}
 use Rattle.std.proofs.lemmas.Bool.{cases_lt}
 use Rattle.operator_fns.specs.declared.line_tree.Line.{Line}
-use Rattle.operator_fns.specs.LineTrees.{Halves, from_four, slot_at, nth_node, slot_of, number_of, node_of, AreKept, nodes_in_line}
+use Rattle.operator_fns.specs.LineTrees.{Halves, from_four, slot_at, nth_node, slot_of, number_in_line, node_of, ArePartsKept, nodes_in_line}
 use Rattle.operator_fns.specs.LineBlocks.{line_of, HaveSlots, nodes_end, block_at, line_at, HaveNodes}
 use Rattle.operator_fns.specs.SumTrees.{number_kept, AreLines}
 use Rattle.operator_fns.proofs.LineTables.{numbers_alike}
@@ -86,8 +86,8 @@ module _ (count step p : ℕ) (some : 0 < count) (apart : 0 < step) where
   pub place_is : p ≡ p / (count * step) * (count * step) + (p / step % count * step + p % step)
   place_is = parts ∙ ap (λ b. b * (count * step) + (p / step % count * step + p % step)) (sym block_is)
 
-  pub kept_is : (slots : List ℤ) → number_kept count step slots p ≡ number_of (line_of (block_at from_four count step (p / (count * step))) (p % step)) slots (p / step % count)
-  kept_is slots = ap (λ l. number_of l slots (p / step % count)) (line_in_block from_four count step (p / (count * step)) (p % step) (mod_below p step apart))
+  pub kept_is : (slots : List ℤ) → number_kept count step slots p ≡ number_in_line (line_of (block_at from_four count step (p / (count * step))) (p % step)) slots (p / step % count)
+  kept_is slots = ap (λ l. number_in_line l slots (p / step % count)) (line_in_block from_four count step (p / (count * step)) (p % step) (mod_below p step apart))
 
   pub slot_is : slot_at (line_of (block_at from_four count step (p / (count * step))) (p % step)) (p / step % count) ≡ p
   slot_is = omega (arith, place_is)
@@ -113,7 +113,7 @@ module _ (count step p : ℕ) (some : 0 < count) (apart : 0 < step) where
 -- ---- one block after another
 
 module _ (count step : ℕ) (before now after : List ℤ) (block : ℕ) (some : 0 < count) (apart : 0 < step)
-    (numbers : (column : ℕ) → column < step → (i : ℕ) → i < count → number_of (line_of (block_at from_four count step block) column) after i ≡ slot_of (line_of (block_at from_four count step block) column) now i)
+    (numbers : (column : ℕ) → column < step → (i : ℕ) → i < count → number_in_line (line_of (block_at from_four count step block) column) after i ≡ slot_of (line_of (block_at from_four count step block) column) now i)
     (others : (p : ℕ) → (p < block * (count * step) ⊎ block * (count * step) + count * step ≤ p) → get_or after p (pos 0) ≡ get_or now p (pos 0))
     (done : (p : ℕ) → p < block * (count * step) → number_kept count step now p ≡ get_or before p (pos 0))
     (rest : (p : ℕ) → block * (count * step) ≤ p → get_or now p (pos 0) ≡ get_or before p (pos 0)) where
@@ -141,7 +141,7 @@ module _ (count step : ℕ) (before now after : List ℤ) (block : ℕ) (some : 
     | inr here ↦
         let is = in_block count step p some apart block here high in
         kept_is count step p some apart after
-        ∙ ap (λ b. number_of (line_of (block_at from_four count step b) (p % step)) after (p / step % count)) is
+        ∙ ap (λ b. number_in_line (line_of (block_at from_four count step b) (p % step)) after (p / step % count)) is
         ∙ numbers (p % step) (mod_below p step apart) (p / step % count) (mod_below (p / step) count some)
         ∙ sym (ap (λ b. slot_of (line_of (block_at from_four count step b) (p % step)) now (p / step % count)) is)
         ∙ ap (λ q. get_or now q (pos 0)) (slot_is count step p some apart)
@@ -171,10 +171,10 @@ line_nodes_end f count line = ap (λ n. n + nodes_in_line f count * 1) (line_nod
 module _ {P : Type 0} (f : Halves) (halves : AreHalves f) (blank : P) (tells : P → List ℤ → Type 0) (number : Line → List ℤ → ℕ → ℤ) where
   -- what is kept of the lines of one more block
   pub block_kept : (count step : ℕ) (slots : List ℤ) (now after : List P) (block : ℕ) → 0 < step
-      → ((column : ℕ) → column < step → AreKept f tells count (number (line_of (block_at f count step block) column) slots) (node_of f blank (line_of (block_at f count step block) column) after))
+      → ((column : ℕ) → column < step → ArePartsKept f tells count (number (line_of (block_at f count step block) column) slots) (node_of f blank (line_of (block_at f count step block) column) after))
       → ((p : ℕ) → (p < block * (nodes_in_line f count * step) ⊎ block * (nodes_in_line f count * step) + nodes_in_line f count * step ≤ p) → get_or after p blank ≡ get_or now p blank)
-      → ((line : ℕ) → line < block * step → AreKept f tells count (number (line_at f count step line) slots) (node_of f blank (line_at f count step line) now))
-      → (line : ℕ) → line < (block + 1) * step → AreKept f tells count (number (line_at f count step line) slots) (node_of f blank (line_at f count step line) after)
+      → ((line : ℕ) → line < block * step → ArePartsKept f tells count (number (line_at f count step line) slots) (node_of f blank (line_at f count step line) now))
+      → (line : ℕ) → line < (block + 1) * step → ArePartsKept f tells count (number (line_at f count step line) slots) (node_of f blank (line_at f count step line) after)
   block_kept count step slots now after block apart here others kept line high = elim (cases_lt line (block * step)) [
     | inl low ↦
         let l = line_at f count step line in
@@ -186,14 +186,14 @@ module _ {P : Type 0} (f : Halves) (halves : AreHalves f) (blank : P) (tells : P
         let below : column < step = omega (arith, enough, high, sum) in
         let is : line ≡ block * step + column = omega (arith, enough) in
         let lies = ap (line_at f count step) is ∙ line_in_block f count step block column below in
-        subst (λ l. AreKept f tells count (number l slots) (node_of f blank l after)) (sym lies) (here column below)
+        subst (λ l. ArePartsKept f tells count (number l slots) (node_of f blank l after)) (sym lies) (here column below)
   ]
 
   -- and of one more line whose numbers are neighbours
-  pub line_kept : (count : ℕ) (slots : List ℤ) (now after : List P) (line : ℕ) → AreKept f tells count (number (line_at f count 1 line) slots) (node_of f blank (line_at f count 1 line) after)
+  pub line_kept : (count : ℕ) (slots : List ℤ) (now after : List P) (line : ℕ) → ArePartsKept f tells count (number (line_at f count 1 line) slots) (node_of f blank (line_at f count 1 line) after)
       → ((p : ℕ) → p < line * nodes_in_line f count → get_or after p blank ≡ get_or now p blank)
-      → ((other : ℕ) → other < line → AreKept f tells count (number (line_at f count 1 other) slots) (node_of f blank (line_at f count 1 other) now))
-      → (other : ℕ) → other < line + 1 → AreKept f tells count (number (line_at f count 1 other) slots) (node_of f blank (line_at f count 1 other) after)
+      → ((other : ℕ) → other < line → ArePartsKept f tells count (number (line_at f count 1 other) slots) (node_of f blank (line_at f count 1 other) now))
+      → (other : ℕ) → other < line + 1 → ArePartsKept f tells count (number (line_at f count 1 other) slots) (node_of f blank (line_at f count 1 other) after)
   line_kept count slots now after line here others kept other below = elim (cases_lt other line) [
     | inl less ↦
         let l = line_at f count 1 other in
@@ -202,5 +202,5 @@ module _ {P : Type 0} (f : Halves) (halves : AreHalves f) (blank : P) (tells : P
         (λ m one high. others (nth_node l (f.nth m)) (omega (arith, line_node_first (nodes_in_line f count) other, ends, halves.counted m one, halves.within m count high))) (kept other less)
     | inr enough ↦
         let is : line ≡ other = omega (arith, below, enough) in
-        subst (λ k. AreKept f tells count (number (line_at f count 1 k) slots) (node_of f blank (line_at f count 1 k) after)) is here
+        subst (λ k. ArePartsKept f tells count (number (line_at f count 1 k) slots) (node_of f blank (line_at f count 1 k) after)) is here
   ]

@@ -3,8 +3,8 @@ use Rattle.std.proofs.Common.{◌≡◌, ◌≢◌, ◌∙◌, ℕ, zero, suc, �
 use Rattle.std.proofs.lemmas.Nat.{mod-mul-add, div-add-mod', mul-le}
 use Rattle.std.proofs.lemmas.Bool.{cases_lt}
 use Rattle.operator_fns.specs.declared.line_tree.Line.{Line}
-use Rattle.operator_fns.specs.LineTrees.{Halves, nth_node, node_of, segment, IsKept, AreKeptIn}
-use Rattle.operator_fns.specs.LineBlocks.{line_of, nodes_end, AreKeptBehind, AreKeptFrom}
+use Rattle.operator_fns.specs.LineTrees.{Halves, nth_node, node_of, segment, IsKept, ArePartsKeptIn}
+use Rattle.operator_fns.specs.LineBlocks.{line_of, nodes_end, ArePartsKeptBehind, ArePartsKeptFrom}
 use Rattle.operator_fns.proofs.Halves.{AreHalves, half_some, half_up, half_grows, half_doubled, half_or_same, half_times, meetings_apart, nth_some, nths_apart}
 use Rattle.operator_fns.proofs.BlockRows.{row_away, nodes_within}
 
@@ -31,7 +31,7 @@ module _ {P : Type 0} (h : Halves) (are : AreHalves h) (blank : P) (tells : P �
 
   pub kept_on : ((column : ℕ) → column < first.step
       → tells (node_of h blank (line_of first column) after (from + half)) (segment (number (line_of first column) slots) from (min (2 * half) (first.count - from))))
-      → AreKeptBehind h blank tells number from half first slots nodes → AreKeptBehind h blank tells number from (2 * half) first slots after
+      → ArePartsKeptBehind h blank tells number from half first slots nodes → ArePartsKeptBehind h blank tells number from (2 * half) first slots after
   kept_on told kept column below level place which inside = elim which [
     | inl behind ↦ old (λ e.
         let same = ap (λ k. h.half k) (meetings_apart h are level place at part (e ∙ meets)) in
@@ -70,7 +70,7 @@ rows_outside h are blank first meeting nodes after low high others p away = othe
 
 module _ {P : Type 0} (h : Halves) (are : AreHalves h) (blank : P) (tells : P → List ℤ → Type 0) (number : Line → List ℤ → ℕ → ℤ) (from : ℕ) (first : Line) (slots : List ℤ) (nodes : List P) where
   -- all parts begin at multiples of the least width
-  pub begin_from : from % (2 * h.half 0) ≡ 0 → AreKeptFrom h blank tells number (from + 2 * h.half 0) first slots nodes → AreKeptBehind h blank tells number from (h.half 0) first slots nodes
+  pub begin_from : from % (2 * h.half 0) ≡ 0 → ArePartsKeptFrom h blank tells number (from + 2 * h.half 0) first slots nodes → ArePartsKeptBehind h blank tells number from (h.half 0) first slots nodes
   begin_from whole kept column below level place which inside = elim which [
     | inl behind ↦ kept column below level place (next_multiple behind) inside
     | inr here ↦ let no : ⊥ = omega (arith, here.1, half_grows h are 0 level (omega arith), half_some h are 0) in absurd no
@@ -93,8 +93,8 @@ module _ {P : Type 0} (h : Halves) (are : AreHalves h) (blank : P) (tells : P �
           omega (arith, most, sum, rows, whole, times)
 
   -- no wider part that begins there has a second half, or none does begin there
-  pub end_from : (half at : ℕ) → half ≡ h.half at → (first.count ≤ from + half ⊎ from % (2 * half) ≢ 0) → AreKeptBehind h blank tells number from half first slots nodes
-      → AreKeptFrom h blank tells number from first slots nodes
+  pub end_from : (half at : ℕ) → half ≡ h.half at → (first.count ≤ from + half ⊎ from % (2 * half) ≢ 0) → ArePartsKeptBehind h blank tells number from half first slots nodes
+      → ArePartsKeptFrom h blank tells number from first slots nodes
   end_from half at half_is last kept column below level place low inside = elim (cases_lt from (place * (2 * h.half level))) [
     | inl behind ↦ kept column below level place (inl behind) inside
     | inr not_behind ↦
@@ -118,20 +118,20 @@ module _ {P : Type 0} (h : Halves) (are : AreHalves h) (blank : P) (tells : P �
 
   -- ---- the parts within the two halves
 
-  pub kept_in_first : (half column : ℕ) → column < first.step → AreKeptBehind h blank tells number from half first slots nodes
-      → AreKeptIn h tells from half first.count (number (line_of first column) slots) (node_of h blank (line_of first column) nodes)
+  pub kept_in_first : (half column : ℕ) → column < first.step → ArePartsKeptBehind h blank tells number from half first slots nodes
+      → ArePartsKeptIn h tells from half first.count (number (line_of first column) slots) (node_of h blank (line_of first column) nodes)
   kept_in_first half column below kept level place low high inside = elim (cases_lt from (place * (2 * h.half level))) [
     | inl behind ↦ kept column below level place (inl behind) inside
     | inr here ↦ kept column below level place (inr (omega (arith, low, here), omega (arith, low, here, high))) inside
   ]
 
-  pub kept_in_second : (half column : ℕ) → column < first.step → 0 < half → AreKeptBehind h blank tells number from half first slots nodes
-      → AreKeptIn h tells (from + half) half first.count (number (line_of first column) slots) (node_of h blank (line_of first column) nodes)
+  pub kept_in_second : (half column : ℕ) → column < first.step → 0 < half → ArePartsKeptBehind h blank tells number from half first slots nodes
+      → ArePartsKeptIn h tells (from + half) half first.count (number (line_of first column) slots) (node_of h blank (line_of first column) nodes)
   kept_in_second half column below some kept level place low high inside = kept column below level place (inl (omega (arith, low, some))) inside
 
 -- what is kept stays with the nodes of the line
 pub kept_in_still : {P : Type 0} (h : Halves) (tells : P → List ℤ → Type 0) (from width count : ℕ) (x : ℕ → ℤ) (m n : ℕ → P) → ((meeting : ℕ) → n meeting ≡ m meeting)
-    → AreKeptIn h tells from width count x m → AreKeptIn h tells from width count x n
+    → ArePartsKeptIn h tells from width count x m → ArePartsKeptIn h tells from width count x n
 kept_in_still h tells from width count x m n same kept level place low high inside =
     subst (λ s. tells s (segment x (place * (2 * h.half level)) (min (2 * h.half level) (count - place * (2 * h.half level))))) (sym (same (place * (2 * h.half level) + h.half level)))
     (kept level place low high inside)
@@ -144,7 +144,7 @@ quarter h are half zero is other = absurd (other is)
 quarter h are half (suc low) is other = (low, is ∙ half_up h are low)
 
 module _ {P : Type 0} (h : Halves) (are : AreHalves h) (blank : P) (tells : P → List ℤ → Type 0) (number : Line → List ℤ → ℕ → ℤ) (from half low part : ℕ) (first : Line) (slots : List ℤ) (nodes : List P)
-    (half_is : half ≡ 2 * h.half low) (from_is : from ≡ part * (2 * half)) (full : from + 2 * half ≤ first.count) (kept : AreKeptBehind h blank tells number from half first slots nodes)
+    (half_is : half ≡ 2 * h.half low) (from_is : from ≡ part * (2 * half)) (full : from + 2 * half ≤ first.count) (kept : ArePartsKeptBehind h blank tells number from half first slots nodes)
     (column : ℕ) (below : column < first.step) where
   -- a full part of the line is told by its node
   told_at : (start place : ℕ) → start ≡ place * (2 * h.half low) → start + half ≤ first.count

@@ -6,7 +6,7 @@ use Rattle.std.proofs.lemmas.Bool.{cases_lt, cases_eq}
 use Rattle.std.proofs.lemmas.List.{get_or-set_same, get_or-set_other, get_or_read}
 use Rattle.operator_fns.specs.declared.line_tree.Line.{Line}
 use Rattle.operator_fns.specs.SumNodes.{single, join, sums_from}
-use Rattle.operator_fns.specs.LineTrees.{Halves, slot_at, nth_node, slot_of, number_of, node_of, IsIn}
+use Rattle.operator_fns.specs.LineTrees.{Halves, slot_at, nth_node, slot_of, number_in_line, node_of, IsIn}
 use Rattle.operator_fns.specs.LineBlocks.{line_of, slots_end, HaveSlots, nodes_end, HaveNodes}
 use Rattle.operator_fns.proofs.Halves.{AreHalves}
 use Rattle.operator_fns.proofs.LineParts.{number_before, number_odd, sums_split, sums_two}
@@ -141,9 +141,9 @@ read_before h are blank first k b nodes before has sized below others a base v l
 pub sums_four : (l : Line) (slots : List ℤ) (from : ℕ) → from % 2 ≡ 0 → from + 4 ≤ l.count
     → join (join (single (int_wrap w64 (slot_of l slots from -ℤ slot_of l slots (from + 1)))) (single (slot_of l slots (from + 1))))
     (join (single (int_wrap w64 (slot_of l slots (from + 2) -ℤ slot_of l slots (from + 3)))) (single (slot_of l slots (from + 3))))
-    ≡ sums_from (number_of l slots) from 4
+    ≡ sums_from (number_in_line l slots) from 4
 sums_four l slots from even full =
-    let x = number_of l slots in
+    let x = number_in_line l slots in
     let a = number_before l slots from even (omega (arith, full)) in
     let b = number_odd l slots (from + 1) (omega (arith, even)) in
     let next : from + 2 + 1 ≡ from + 3 = omega arith in

@@ -18,7 +18,7 @@ use Rattle.index_region.specs.Boxes.{Interval, box_size, box_offset, is_within, 
 use Rattle.index_region.proofs.Walks.{walk_within, walk_of_offset, offset_below}
 use Rattle.change_core.specs.Parts.{items_in}
 use Rattle.operator_fns.specs.Scan.{scan_item, scan_along}
-use Rattle.operator_fns.specs.BoxLines.{Holds, IsOnLine, IsTableOf}
+use Rattle.operator_fns.specs.BoxLines.{Holds, IsOnLine, FillsBox}
 use Rattle.operator_fns.specs.Laws.Scan.{put_again}
 
 -- ---- lists of results
@@ -110,7 +110,7 @@ module _ (item : List ℕ → Result Item Kind) (region : List Interval) (old ne
       subst_place : (place : ℕ) → place ≡ q → Holds item region new place
       subst_place place e = rw e holds_there
 
-  pub table_still : IsTableOf region old → IsTableOf region new
+  pub table_still : FillsBox region old → FillsBox region new
   table_still h = record {
     typed = ap (λ (a : ArrayValue). a.item_type) is ∙ h.typed;
     long = ap (λ (a : ArrayValue). length a.items) is ∙ length-set old.items q x ∙ h.long;
@@ -148,7 +148,7 @@ module _ (f : Scalar2) (along : Along) (b : ArrayValue) (region : List Interval)
 -- ---- the whole table
 
 -- a table that holds all items is what is asked for
-pub table_is : (item : List ℕ → Result Item Kind) (region : List Interval) (a : ArrayValue) → IsTableOf region a → ((place : ℕ) → place < box_size region → Holds item region a place) → items_in item region ≡ Ok a.items
+pub table_is : (item : List ℕ → Result Item Kind) (region : List Interval) (a : ArrayValue) → FillsBox region a → ((place : ℕ) → place < box_size region → Holds item region a place) → items_in item region ≡ Ok a.items
 table_is item region a table each =
     let g : ℕ → Result Item Kind = λ place. item (walk_at region place) in
     let long = length-map-range_with_len g 0 (box_size region) in

@@ -4,8 +4,8 @@ use Rattle.std.proofs.lemmas.Nat.{pow_pos}
 use Rattle.std.proofs.lemmas.Bool.{cases_lt}
 use Rattle.operator_fns.specs.declared.summary.Summary.{Summary}
 use Rattle.operator_fns.specs.declared.line_tree.Line.{Line}
-use Rattle.operator_fns.specs.SumNodes.{Tells, sums_from, TellsSums}
-use Rattle.operator_fns.specs.LineTrees.{from_four, node_at, AreKeptIn, AreKeptUpTo}
+use Rattle.operator_fns.specs.SumNodes.{IsSummaryOf, sums_from, TellsSums}
+use Rattle.operator_fns.specs.LineTrees.{from_four, node_at, ArePartsKeptIn, ArePartsKeptUpTo}
 use Rattle.operator_fns.proofs.LineEnds.{near_node}
 
 -- ---- the nodes of a part that ends at a place, and of its halves, on a line whose numbers are neighbours
@@ -27,30 +27,30 @@ module _ (l : Line) (end half low part : ℕ) (half_is : half ≡ 2 * (2 * 2 ^ l
 
 -- their parts are kept, and the nodes of the parts before stay
 pub eight_more : (from count : ℕ) (x : ℕ → ℤ) (m n : ℕ → Summary) → from % 8 ≡ 0 → from + 8 ≤ count → ((meeting : ℕ) → 2 ≤ meeting → meeting < from + 2 → n meeting ≡ m meeting)
-    → Tells (n (from + 2)) (sums_from x from 4) → Tells (n (from + 4)) (sums_from x from 8) → Tells (n (from + 6)) (sums_from x (from + 4) 4)
-    → AreKeptIn from_four TellsSums 0 from count x m → AreKeptUpTo from_four TellsSums (from + 8) 8 count x n
+    → IsSummaryOf (n (from + 2)) (sums_from x from 4) → IsSummaryOf (n (from + 4)) (sums_from x from 8) → IsSummaryOf (n (from + 6)) (sums_from x (from + 4) 4)
+    → ArePartsKeptIn from_four TellsSums 0 from count x m → ArePartsKeptUpTo from_four TellsSums (from + 8) 8 count x n
 eight_more from count x m n eight full same first all second kept level place which inside = elim which [
   | inl before ↦ elim (cases_lt from (place * (2 * (2 * 2 ^ level)) + 2 * (2 * 2 ^ level))) [
     | inl behind ↦ early level before behind
     | inr ends ↦
         let p = pow_pos level in
-        subst (λ s. Tells s (sums_from x (place * (2 * (2 * 2 ^ level))) (min (2 * (2 * 2 ^ level)) (count - place * (2 * (2 * 2 ^ level))))))
+        subst (λ s. IsSummaryOf s (sums_from x (place * (2 * (2 * 2 ^ level))) (min (2 * (2 * 2 ^ level)) (count - place * (2 * (2 * 2 ^ level))))))
         (sym (same (place * (2 * (2 * 2 ^ level)) + 2 * 2 ^ level) (omega (arith, p)) (omega (arith, ends, p)))) (kept level place (omega arith) (omega (arith, ends)) inside)
   ]
   | inr here ↦ late level here.0 here.1
 ]
   where
     -- a part at one of the three meetings
-    told_at : (level start long : ℕ) → place * (2 * (2 * 2 ^ level)) ≡ start → 4 * 2 ^ level ≡ long → start + long ≤ from + 8 → Tells (n (start + long / 2)) (sums_from x start long)
-        → Tells (n (place * (2 * (2 * 2 ^ level)) + 2 * 2 ^ level)) (sums_from x (place * (2 * (2 * 2 ^ level))) (min (2 * (2 * 2 ^ level)) (count - place * (2 * (2 * 2 ^ level)))))
+    told_at : (level start long : ℕ) → place * (2 * (2 * 2 ^ level)) ≡ start → 4 * 2 ^ level ≡ long → start + long ≤ from + 8 → IsSummaryOf (n (start + long / 2)) (sums_from x start long)
+        → IsSummaryOf (n (place * (2 * (2 * 2 ^ level)) + 2 * 2 ^ level)) (sums_from x (place * (2 * (2 * 2 ^ level))) (min (2 * (2 * 2 ^ level)) (count - place * (2 * (2 * 2 ^ level)))))
     told_at level start long begins wide ends told =
         let meeting : place * (2 * (2 * 2 ^ level)) + 2 * 2 ^ level ≡ start + long / 2 = omega (arith, begins, wide) in
         let most : min (2 * (2 * 2 ^ level)) (count - place * (2 * (2 * 2 ^ level))) ≡ long = omega (arith, begins, wide, ends, full) in
-        subst (λ k. Tells (n k) (sums_from x (place * (2 * (2 * 2 ^ level))) (min (2 * (2 * 2 ^ level)) (count - place * (2 * (2 * 2 ^ level)))))) (sym meeting)
-        (subst (Tells (n (start + long / 2))) (sym (λ i. sums_from x (begins i) (most i))) told)
+        subst (λ k. IsSummaryOf (n k) (sums_from x (place * (2 * (2 * 2 ^ level))) (min (2 * (2 * 2 ^ level)) (count - place * (2 * (2 * 2 ^ level)))))) (sym meeting)
+        (subst (IsSummaryOf (n (start + long / 2))) (sym (λ i. sums_from x (begins i) (most i))) told)
 
     early : (level : ℕ) → place * (2 * (2 * 2 ^ level)) + 2 * (2 * 2 ^ level) < from + 8 → from < place * (2 * (2 * 2 ^ level)) + 2 * (2 * 2 ^ level)
-        → Tells (n (place * (2 * (2 * 2 ^ level)) + 2 * 2 ^ level)) (sums_from x (place * (2 * (2 * 2 ^ level))) (min (2 * (2 * 2 ^ level)) (count - place * (2 * (2 * 2 ^ level)))))
+        → IsSummaryOf (n (place * (2 * (2 * 2 ^ level)) + 2 * 2 ^ level)) (sums_from x (place * (2 * (2 * 2 ^ level))) (min (2 * (2 * 2 ^ level)) (count - place * (2 * (2 * 2 ^ level)))))
     early zero before behind = told_at zero from 4 (omega (arith, before, behind, eight)) (omega arith) (omega arith) first
     early (suc more) before behind =
         let power : 2 ^ suc more ≡ 2 * 2 ^ more = grind arith in
@@ -59,8 +59,8 @@ eight_more from count x m n eight full same first all second kept level place wh
         absurd no
 
     late : (level : ℕ) → place * (2 * (2 * 2 ^ level)) + 2 * (2 * 2 ^ level) ≡ from + 8 → 2 * (2 * 2 ^ level) ≤ 8
-        → Tells (n (place * (2 * (2 * 2 ^ level)) + 2 * 2 ^ level)) (sums_from x (place * (2 * (2 * 2 ^ level))) (min (2 * (2 * 2 ^ level)) (count - place * (2 * (2 * 2 ^ level)))))
-    late zero here few = told_at zero (from + 4) 4 (omega (arith, here)) (omega arith) (omega arith) (subst (λ k. Tells (n k) (sums_from x (from + 4) 4)) (omega arith) second)
+        → IsSummaryOf (n (place * (2 * (2 * 2 ^ level)) + 2 * 2 ^ level)) (sums_from x (place * (2 * (2 * 2 ^ level))) (min (2 * (2 * 2 ^ level)) (count - place * (2 * (2 * 2 ^ level)))))
+    late zero here few = told_at zero (from + 4) 4 (omega (arith, here)) (omega arith) (omega arith) (subst (λ k. IsSummaryOf (n k) (sums_from x (from + 4) 4)) (omega arith) second)
     late (suc zero) here few = told_at (suc zero) from 8 (omega (arith, here)) (omega arith) (omega arith) all
     late (suc (suc more)) here few =
         let p = pow_pos more in

@@ -22,7 +22,7 @@ use Rattle.index_region.specs.Arguments.{has_one_item}
 use Rattle.index_region.proofs.Passing.{gives, limited_gives}
 use Rattle.operator_fns.specs.RightFold.{fold_right}
 use Rattle.operator_fns.specs.InnerProduct.{row_rank, row_length, column_length, inner_length, inner_form, inner_item, inner_whole, all_or_last_error}
-use Rattle.operator_fns.specs.RowByColumn.{entry, met, folded_all, row_at, column_at, cell, IsGridOf, grid_of}
+use Rattle.operator_fns.specs.RowByColumn.{entry, all_met, folded_all, row_at, column_at, cell, IsGridOf, grid_of}
 use Rattle.operator_fns.specs.Laws.JoinedIndices.{parts, size-append}
 use Rattle.operator_fns.proofs.Joined.{number_there}
 use Rattle.operator_fns.proofs.Lines.{size-drop-le}
@@ -59,9 +59,9 @@ folded_numbers f (x ∷ y ∷ zs) = ap (λ r. and_then r (dyadic_on_items f (Num
     moved (Err e) = refl
 
 fold_of_numbers : (f g : Scalar2) (x y : ℕ → ℤ) (count : ℕ)
-    → folded_all (dyadic_on_items f) (met (dyadic_on_items g) (λ k. Num (x k)) (λ k. Num (y k)) count) ≡ number_item (folded_all (dyadic_on_numbers f) (met (dyadic_on_numbers g) x y count))
+    → folded_all (dyadic_on_items f) (all_met (dyadic_on_items g) (λ k. Num (x k)) (λ k. Num (y k)) count) ≡ number_item (folded_all (dyadic_on_numbers f) (all_met (dyadic_on_numbers g) x y count))
 fold_of_numbers f g x y count =
-    let rs = met (dyadic_on_numbers g) x y count in
+    let rs = all_met (dyadic_on_numbers g) x y count in
     ap (folded_all (dyadic_on_items f)) (met_numbers g x y (range_with_len 0 count))
     ∙ ap (λ r. and_then r (folded (dyadic_on_items f))) (all_numbers rs)
     ∙ moved (all_or_last_error rs)
@@ -243,7 +243,7 @@ module _ (a b : ArrayValue) (xs ys : List ℤ) (long_a : length a.items ≡ size
         (λ k low. subst (λ q. Num (get_or ys (q + k * cond (eqb (length b.items) 1) 0 (size columns)) (pos 0)) ≡ extended b ((k + 1) ∷ column)) (sym two.column)
         (column_entry b ys long_b is_b some_b column count k two.back column_long low).is) in
         sym (ap (λ rs. and_then (all_or_last_error rs) (fold_right f)) same
-        ∙ fold_of_some f (met (dyadic_on_items g) (λ k. Num (x k)) (λ k. Num (y k)) count) (omega arith)
+        ∙ fold_of_some f (all_met (dyadic_on_items g) (λ k. Num (x k)) (λ k. Num (y k)) count) (omega arith)
         ∙ fold_of_numbers f g x y count)
 
   -- what is known where the checks have given a form

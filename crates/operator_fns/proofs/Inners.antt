@@ -13,7 +13,7 @@ use Rattle.scalar_fns.specs.ScalarExtension.{extended}
 use Rattle.scalar_fns.specs.Folds.{folded}
 use Rattle.operator_fns.specs.RightFold.{fold_right}
 use Rattle.operator_fns.specs.InnerProduct.{row_rank, inner_length, inner_item, all_or_last_error, products}
-use Rattle.operator_fns.specs.RowByColumn.{met, folded_all}
+use Rattle.operator_fns.specs.RowByColumn.{all_met, folded_all}
 use Rattle.operator_fns.proofs.Folds.{some_folded}
 use Rattle.operator_fns.proofs.Meetings.{length-met, met_at}
 
@@ -38,13 +38,13 @@ fold_of_some f rs h = then_folded f (all_or_last_error rs) (λ items e. some_all
 pub products_met : (g : Scalar2) (a b : ArrayValue) (row column : List ℕ) (left right : ℕ → Item) (count : ℕ) → count ≡ inner_length a b
     → ((k : ℕ) → k < count → left k ≡ extended a (row ++ (k + 1) ∷ []))
     → ((k : ℕ) → k < count → right k ≡ extended b ((k + 1) ∷ column))
-    → products g a b row column ≡ met (dyadic_on_items g) left right count
+    → products g a b row column ≡ all_met (dyadic_on_items g) left right count
 products_met g a b row column left right count e is_left is_right =
     let f = λ (j : ℕ). dyadic_on_items g (extended a (row ++ j ∷ [])) (extended b (j ∷ column)) in
     let d : Result Item Kind = f 0 in
     let long = length-map-range_with_len f 1 (inner_length a b) in
     let met_long = length-met (dyadic_on_items g) left right count in
-    ext_get_or d (products g a b row column) (met (dyadic_on_items g) left right count) (omega arith) (λ k h.
+    ext_get_or d (products g a b row column) (all_met (dyadic_on_items g) left right count) (omega arith) (λ k h.
     let below : k < count = omega arith in
     get_or-map-range_with_len f 1 (inner_length a b) k (k + 1) d (omega arith) (omega arith)
     ∙ sym (met_at (dyadic_on_items g) left right count k d below ∙ (rw (is_left k below, is_right k below) refl)))

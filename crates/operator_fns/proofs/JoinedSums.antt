@@ -2,7 +2,7 @@
 use Rattle.std.proofs.Common.{◌≡◌, sym, subst, ◌∙◌, arith, inl, inr, ℤ}
 use Rattle.std.proofs.lemmas.Int.{ints, clamps}
 use Rattle.operator_fns.specs.declared.summary.Summary.{Summary}
-use Rattle.operator_fns.specs.SumNodes.{Sums, none, single, join, IsOrdered, told, IsFar, Tells}
+use Rattle.operator_fns.specs.SumNodes.{Sums, sums_of_none, single, join, IsOrdered, told_sums, IsFar, IsSummaryOf}
 
 pub sums_eq : (a b : Sums) → a.total ≡ b.total → a.least ≡ b.least → a.greatest ≡ b.greatest → a ≡ b
 sums_eq a b e f g = λ i. record { total = e i; least = f i; greatest = g i }
@@ -10,13 +10,13 @@ sums_eq a b e f g = λ i. record { total = e i; least = f i; greatest = g i }
 pub join_assoc : (a b c : Sums) → join (join a b) c ≡ join a (join b c)
 join_assoc a b c = sums_eq _ _ (omega (arith, ints)) (omega (arith, ints, clamps)) (omega (arith, ints, clamps))
 
-pub join_none : (s : Sums) → IsOrdered s → join s none ≡ s
+pub join_none : (s : Sums) → IsOrdered s → join s sums_of_none ≡ s
 join_none s h =
     let h1 = h.least_zero in
     let h2 = h.zero_greatest in
     sums_eq _ _ (omega (arith, ints)) (omega (arith, ints, clamps)) (omega (arith, ints, clamps))
 
-pub none_join : (s : Sums) → IsOrdered s → join none s ≡ s
+pub none_join : (s : Sums) → IsOrdered s → join sums_of_none s ≡ s
 none_join s h =
     let h1 = h.least_total in
     let h2 = h.total_greatest in
@@ -45,7 +45,7 @@ ordered_single z = record {
   zero_greatest = omega (arith, ints, clamps);
 }
 
-pub ordered_none : IsOrdered none
+pub ordered_none : IsOrdered sums_of_none
 ordered_none = record { least_total = omega (arith, ints); total_greatest = omega (arith, ints); least_zero = omega (arith, ints); zero_greatest = omega (arith, ints) }
 
 -- sums that are too far apart stay so
@@ -56,7 +56,7 @@ pub far_behind : (a b : Sums) → IsFar b → IsFar (join a b)
 far_behind a b h = omega (arith, ints, clamps)
 
 -- what tells the join of what two tell, tells that of their sums
-pub tells_join : (a b s : Summary) (m n : Sums) → Tells a m → Tells b n → Tells s (join (told a) (told b)) → Tells s (join m n)
+pub tells_join : (a b s : Summary) (m n : Sums) → IsSummaryOf a m → IsSummaryOf b n → IsSummaryOf s (join (told_sums a) (told_sums b)) → IsSummaryOf s (join m n)
 tells_join a b s m n h k j = record {
   ordered = ordered_join m n h.ordered k.ordered;
   sound = j.sound;
@@ -66,13 +66,13 @@ tells_join a b s m n h k j = record {
         | inl told_so ↦ inl (told_so ∙ (λ i. join (same i) (alike i)))
         | inr far ↦ inr (subst IsFar (λ i. join (same i) (alike i)) far.0, far.1)
       ]
-      | inr far ↦ inr (far_behind m n far.0, spread (far_behind (told a) (told b) far.1))
+      | inr far ↦ inr (far_behind m n far.0, spread (far_behind (told_sums a) (told_sums b) far.1))
     ]
-    | inr far ↦ inr (far_before m n far.0, spread (far_before (told a) (told b) far.1))
+    | inr far ↦ inr (far_before m n far.0, spread (far_before (told_sums a) (told_sums b) far.1))
   ];
 }
   where
-    spread : IsFar (join (told a) (told b)) → IsFar (told s)
+    spread : IsFar (join (told_sums a) (told_sums b)) → IsFar (told_sums s)
     spread far = elim j.is [
       | inl told_so ↦ subst IsFar (sym told_so) far
       | inr both ↦ both.1

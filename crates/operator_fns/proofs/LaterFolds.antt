@@ -15,7 +15,7 @@ use Rattle.scalar_fns.proofs.RightFolds.{strided_run}
 use Rattle.operator_fns.specs.declared.axis_lines.AxisLines.{AxisLines}
 use Rattle.operator_fns.specs.AxisLines.{scans_of}
 use Rattle.operator_fns.specs.LinearScan.{run_to, scanned, folds_from}
-use Rattle.operator_fns.proofs.Tables.{after_parts, all_then, as_many_as}
+use Rattle.operator_fns.proofs.OuterRows.{after_parts, all_then, as_many_as}
 
 -- a list as one line
 pub one_line : (f : ℤ → ℤ → Result ℤ Kind) (lines : AxisLines) (zs : List ℤ) → lines.numbers.now ≡ zs → lines.stride ≡ 1 → lines.count ≡ length zs

@@ -19,8 +19,8 @@ pub mod Associates
 pub mod Endings
 pub mod RunningSums
 pub mod SmallSums
-pub mod SmallBits
-pub mod Tables
+pub mod WithinBounds
+pub mod OuterRows
 pub mod Scanned
 pub mod ScannedLine
 pub mod Joined
@@ -68,7 +68,6 @@ pub mod NextProducts
 pub mod UnitProducts
 pub mod NextOutcomes
 pub mod MetLists
-pub mod NearBits
 -- What changes of results.
 pub mod Ranks
 pub mod Boxes

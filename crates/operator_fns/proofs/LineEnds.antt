@@ -3,7 +3,7 @@ use Rattle.std.proofs.Common.{◌≡◌, ◌≢◌, ◌∙◌, ℕ, zero, suc, �
 use Rattle.std.proofs.lemmas.Nat.{mod-mul-add, div-add-mod', mul-le}
 use Rattle.std.proofs.lemmas.Bool.{cases_lt}
 use Rattle.operator_fns.specs.declared.line_tree.Line.{Line}
-use Rattle.operator_fns.specs.LineTrees.{Halves, slot_at, nth_node, node_of, segment, IsKept, AreKeptIn, AreKeptBeside, AreKeptUpTo}
+use Rattle.operator_fns.specs.LineTrees.{Halves, slot_at, nth_node, node_of, segment, IsKept, ArePartsKeptIn, ArePartsKeptBeside, ArePartsKeptUpTo}
 use Rattle.operator_fns.proofs.Segments.{segment_split}
 use Rattle.operator_fns.proofs.Halves.{AreHalves, half_some, half_up, half_grows, half_doubled, half_or_same, half_times, meetings_apart, nth_some, nths_apart}
 use Rattle.operator_fns.proofs.LineNodes.{node_here, node_other}
@@ -19,7 +19,7 @@ near_node l k near = ap (λ s. l.node + (k - 1) * s) near ∙ omega arith
 -- ---- one more part that ends at a place
 
 module _ {P : Type 0} (h : Halves) (are : AreHalves h) (blank : P) (tells : P → List ℤ → Type 0) (l : Line) (nodes : List P) (x : ℕ → ℤ) (end half low : ℕ) (half_is : half ≡ 2 * h.half low)
-    (whole : end % (2 * half) ≡ 0) (some : 0 < end) (below : end < l.count) (kept : AreKeptUpTo h tells end half l.count x (node_of h blank l nodes)) where
+    (whole : end % (2 * half) ≡ 0) (some : 0 < end) (below : end < l.count) (kept : ArePartsKeptUpTo h tells end half l.count x (node_of h blank l nodes)) where
   abbrev pub part : ℕ
   part = end / (2 * half) - 1
 
@@ -88,7 +88,7 @@ module _ {P : Type 0} (h : Halves) (are : AreHalves h) (blank : P) (tells : P �
     all_told : tells s (segment x from (half + half))
     all_told = subst (tells s) (sym (segment_split x from half half)) told
 
-    pub kept_up : AreKeptUpTo h tells end (2 * half) l.count x (node_of h blank l (set nodes (nth_node l (h.nth (end - half))) s))
+    pub kept_up : ArePartsKeptUpTo h tells end (2 * half) l.count x (node_of h blank l (set nodes (nth_node l (h.nth (end - half))) s))
     unfolding after
     kept_up level place which inside_line = elim which [
       | inl before ↦ old level place (λ e.
@@ -112,7 +112,7 @@ module _ {P : Type 0} (h : Halves) (are : AreHalves h) (blank : P) (tells : P �
 
 module _ {P : Type 0} (h : Halves) (are : AreHalves h) (tells : P → List ℤ → Type 0) where
   -- where no wider part ends there
-  pub kept_within : (end half low count : ℕ) (x : ℕ → ℤ) (node : ℕ → P) → half ≡ 2 * h.half low → end % (2 * half) ≢ 0 → AreKeptUpTo h tells end half count x node → AreKeptIn h tells 0 end count x node
+  pub kept_within : (end half low count : ℕ) (x : ℕ → ℤ) (node : ℕ → P) → half ≡ 2 * h.half low → end % (2 * half) ≢ 0 → ArePartsKeptUpTo h tells end half count x node → ArePartsKeptIn h tells 0 end count x node
   kept_within end half low count x node half_is uneven kept level place first last inside = elim (cases_lt (place * (2 * h.half level) + 2 * h.half level) end) [
     | inl before ↦ kept level place (inl before) inside
     | inr enough ↦
@@ -154,7 +154,7 @@ module _ {P : Type 0} (h : Halves) (are : AreHalves h) (tells : P → List ℤ �
   -- it is kept, and the nodes of the parts before stay
   pub least_more : (from count : ℕ) (x : ℕ → ℤ) (m n : ℕ → P) → from % (2 * h.half 0) ≡ 0 → from + 2 * h.half 0 ≤ count
       → ((meeting : ℕ) → h.half 0 ≤ meeting → meeting < from + h.half 0 → n meeting ≡ m meeting) → tells (n (from + h.half 0)) (segment x from (2 * h.half 0))
-      → AreKeptIn h tells 0 from count x m → AreKeptUpTo h tells (from + 2 * h.half 0) (2 * h.half 0) count x n
+      → ArePartsKeptIn h tells 0 from count x m → ArePartsKeptUpTo h tells (from + 2 * h.half 0) (2 * h.half 0) count x n
   least_more from count x m n whole full same told kept level place which inside = elim which [
     | inl before ↦
         let some = half_some h are 0 in
@@ -179,7 +179,7 @@ module _ {P : Type 0} (h : Halves) (are : AreHalves h) (tells : P → List ℤ �
 
   -- once the last full part of the least width before the last number is done, all are kept that this number is not in; further nodes change nothing
   pub kept_beside_last : (done count : ℕ) (x : ℕ → ℤ) (m n : ℕ → P) → 0 < count → done % (2 * h.half 0) ≡ 0 → count - 1 < done + 2 * h.half 0
-      → ((meeting : ℕ) → h.half 0 ≤ meeting → meeting < done → n meeting ≡ m meeting) → AreKeptIn h tells 0 done count x m → AreKeptBeside h tells (count - 1) count x n
+      → ((meeting : ℕ) → h.half 0 ≤ meeting → meeting < done → n meeting ≡ m meeting) → ArePartsKeptIn h tells 0 done count x m → ArePartsKeptBeside h tells (count - 1) count x n
   kept_beside_last done count x m n some whole last same kept level place which inside = elim which [
     | inl behind ↦ let no : ⊥ = omega (arith, behind, inside, some) in absurd no
     | inr before ↦

@@ -3,7 +3,7 @@ use Rattle.std.proofs.Common.{◌≡◌, ◌≢◌, ◌∙◌, ℕ, ◌+◌, ◌
 use Rattle.std.proofs.lemmas.Bool.{cases_lt, cases_eq}
 use Rattle.std.proofs.lemmas.List.{get_or-set_same, get_or-set_other}
 use Rattle.operator_fns.specs.declared.line_tree.Line.{Line}
-use Rattle.operator_fns.specs.LineTrees.{Halves, nth_node, node_of, segment, numbers_of_block, IsKept, AreKept, AreKeptIn, AreKeptBeside, other_half}
+use Rattle.operator_fns.specs.LineTrees.{Halves, nth_node, node_of, segment, numbers_of_block, IsKept, ArePartsKept, ArePartsKeptIn, ArePartsKeptBeside, other_half}
 use Rattle.operator_fns.proofs.LineParts.{IsClimb, climb_up, odd_block, even_block}
 use Rattle.operator_fns.proofs.LineWrites.{steps_apart}
 use Rattle.operator_fns.proofs.Segments.{segment_same}
@@ -163,20 +163,20 @@ module _ {P : Type 0} (h : Halves) (are : AreHalves h) (blank : P) (tells : P �
 
 module _ {P : Type 0} (h : Halves) (are : AreHalves h) (tells : P → List ℤ → Type 0) where
   -- before the way up
-  pub kept_first : (at count : ℕ) (x : ℕ → ℤ) (node : ℕ → P) → AreKeptBeside h tells at count x node → AreKeptTo h tells (h.half 0) at count x node
+  pub kept_first : (at count : ℕ) (x : ℕ → ℤ) (node : ℕ → P) → ArePartsKeptBeside h tells at count x node → AreKeptTo h tells (h.half 0) at count x node
   kept_first at count x node kept level place where_it_is = kept level place (elim where_it_is [
     | inl few ↦ let no : ⊥ = omega (arith, few, half_grows h are 0 level (omega arith), half_some h are 0) in absurd no
     | inr beside ↦ beside
   ])
 
   -- at the end of the way up all is kept
-  pub all_kept : (width at count top : ℕ) (x : ℕ → ℤ) (node : ℕ → P) → width ≡ h.half top → count ≤ width → AreKeptTo h tells width at count x node → AreKept h tells count x node
+  pub all_kept : (width at count top : ℕ) (x : ℕ → ℤ) (node : ℕ → P) → width ≡ h.half top → count ≤ width → AreKeptTo h tells width at count x node → ArePartsKept h tells count x node
   all_kept width at count top x node is wide kept level place inside =
       kept level place (inl (omega (arith, half_doubled h are level top (half_below h are level top (omega (arith, is, wide, inside))), is))) inside
 
   -- the parts of the other half have not the place
   pub kept_beside : (width at block count : ℕ) (x : ℕ → ℤ) (node : ℕ → P) → IsClimb at block width → AreKeptTo h tells width at count x node
-      → AreKeptIn h tells (other_half block * width) width count x node
+      → ArePartsKeptIn h tells (other_half block * width) width count x node
   kept_beside width at block count x node climb kept level place low high = kept level place (inr beside)
     where
       beside : at < place * (2 * h.half level) ⊎ place * (2 * h.half level) + 2 * h.half level ≤ at
@@ -186,8 +186,8 @@ module _ {P : Type 0} (h : Halves) (are : AreHalves h) (tells : P → List ℤ �
       ]
 
   -- what is kept beside a place, where another number lies there
-  pub kept_replaced : (at count : ℕ) (x y : ℕ → ℤ) (node : ℕ → P) → ((i : ℕ) → i < count → i ≢ at → y i ≡ x i) → AreKept h tells count x node
-      → AreKeptBeside h tells at count y node
+  pub kept_replaced : (at count : ℕ) (x y : ℕ → ℤ) (node : ℕ → P) → ((i : ℕ) → i < count → i ≢ at → y i ≡ x i) → ArePartsKept h tells count x node
+      → ArePartsKeptBeside h tells at count y node
   kept_replaced at count x y node stays kept level place beside inside =
       let from = place * (2 * h.half level) in
       let half = h.half level in
@@ -202,7 +202,7 @@ module _ {P : Type 0} (h : Halves) (are : AreHalves h) (tells : P → List ℤ �
       subst (tells (node (from + half))) same (kept level place inside)
 
   -- where a line has one more number, the parts without it are those of the shorter line
-  pub kept_longer : (count : ℕ) (x y : ℕ → ℤ) (node : ℕ → P) → ((i : ℕ) → i < count - 1 → y i ≡ x i) → AreKept h tells (count - 1) x node → AreKeptBeside h tells (count - 1) count y node
+  pub kept_longer : (count : ℕ) (x y : ℕ → ℤ) (node : ℕ → P) → ((i : ℕ) → i < count - 1 → y i ≡ x i) → ArePartsKept h tells (count - 1) x node → ArePartsKeptBeside h tells (count - 1) count y node
   kept_longer count x y node same kept level place beside inside = elim beside [
     | inl after ↦ let no : ⊥ = omega (arith, after, inside) in absurd no
     | inr before ↦
@@ -216,7 +216,7 @@ module _ {P : Type 0} (h : Halves) (are : AreHalves h) (tells : P → List ℤ �
 
   -- where the numbers and the nodes of a line stay, what is kept of its parts does
   pub kept_alike : (count : ℕ) (x y : ℕ → ℤ) (m n : ℕ → P) → ((i : ℕ) → i < count → y i ≡ x i)
-      → ((meeting : ℕ) → h.half 0 ≤ meeting → meeting < count → n meeting ≡ m meeting) → AreKept h tells count x m → AreKept h tells count y n
+      → ((meeting : ℕ) → h.half 0 ≤ meeting → meeting < count → n meeting ≡ m meeting) → ArePartsKept h tells count x m → ArePartsKept h tells count y n
   kept_alike count x y m n same nodes kept level place inside =
       let from = place * (2 * h.half level) in
       let half = h.half level in

@@ -6,7 +6,7 @@ use Rattle.std.proofs.Math.Nat.{pow-le-pow_right}
 use Rattle.std.proofs.lemmas.Bool.{cases_lt, cases_eq, and_from, eq-eqb, ne_eqb, lt-ltb, le-ltb, cond-true, cond-false}
 use Rattle.operator_fns.specs.SumNodes.{single, join, IsOrdered, sums_of, sums_from}
 use Rattle.operator_fns.specs.declared.line_tree.Line.{Line}
-use Rattle.operator_fns.specs.LineTrees.{IsPart, slot_of, number_of, other_half, AreSameIn, replaced, segment, numbers_of_block}
+use Rattle.operator_fns.specs.LineTrees.{IsPart, slot_of, number_in_line, other_half, AreSameIn, replaced, segment, numbers_of_block}
 use Rattle.operator_fns.proofs.Segments.{segment_split, segment_same}
 use Rattle.operator_fns.proofs.JoinedSums.{join_assoc, join_none, none_join, ordered_join, ordered_single, ordered_none}
 
@@ -104,15 +104,15 @@ more_levels (suc (suc more)) p is some half = let double : 2 ^ suc (suc more) �
 
 -- at an even place that another one comes after
 pub number_before : (l : Line) (slots : List ℤ) (place : ℕ) → place % 2 ≡ 0 → place + 1 < l.count
-    → number_of l slots place ≡ int_wrap w64 (slot_of l slots place -ℤ slot_of l slots (place + 1))
+    → number_in_line l slots place ≡ int_wrap w64 (slot_of l slots place -ℤ slot_of l slots (place + 1))
 number_before l slots place even next = cond-true _ _ _ (and_from _ _ (eq-eqb (place % 2) 0 even) (lt-ltb (place + 1) l.count next))
 
 -- at an odd place
-pub number_odd : (l : Line) (slots : List ℤ) (place : ℕ) → place % 2 ≡ 1 → number_of l slots place ≡ slot_of l slots place
+pub number_odd : (l : Line) (slots : List ℤ) (place : ℕ) → place % 2 ≡ 1 → number_in_line l slots place ≡ slot_of l slots place
 number_odd l slots place odd = cond-false _ _ _ (ap (λ b. b && nat_lt (place + 1) l.count) (ne_eqb (place % 2) 0 (λ e. let no : ⊥ = omega (arith, e, odd) in no)))
 
 -- at the last place
-pub number_last : (l : Line) (slots : List ℤ) (place : ℕ) → l.count ≤ place + 1 → number_of l slots place ≡ slot_of l slots place
+pub number_last : (l : Line) (slots : List ℤ) (place : ℕ) → l.count ≤ place + 1 → number_in_line l slots place ≡ slot_of l slots place
 number_last l slots place last = elim (cases_eq (place % 2) 0) [
   | inl even ↦ cond-false _ _ _ ((λ i. eq-eqb (place % 2) 0 even i && le-ltb (place + 1) l.count last i))
   | inr odd ↦ number_odd l slots place (omega (arith, odd))

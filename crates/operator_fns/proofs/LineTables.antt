@@ -4,7 +4,7 @@ use Rattle.std.specs.List.{range_with_len}
 use Rattle.std.specs.Int.{int_wrap}
 use Rattle.std.proofs.lemmas.Bool.{cases_lt, cases_eq}
 use Rattle.operator_fns.specs.declared.line_tree.Line.{Line}
-use Rattle.operator_fns.specs.LineTrees.{slot_of, number_of}
+use Rattle.operator_fns.specs.LineTrees.{slot_of, number_in_line}
 use Rattle.operator_fns.proofs.LineParts.{number_before, number_odd, number_last}
 
 -- lists of the same at each place
@@ -26,7 +26,7 @@ pub slots_read : ReadsSlots slot_of
 slots_read l m before after long same = same
 
 -- where the slots of a line are those of another one, so are its numbers
-pub numbers_moved : ReadsSlots number_of
+pub numbers_moved : ReadsSlots number_in_line
 numbers_moved l m before after long same i h = elim (cases_lt (i + 1) l.count) [
   | inl more ↦ elim (cases_eq (i % 2) 0) [
     | inl even ↦
@@ -39,5 +39,5 @@ numbers_moved l m before after long same i h = elim (cases_lt (i + 1) l.count) [
 ]
 
 -- where they stay, its numbers do
-pub numbers_alike : (l : Line) (before after : List ℤ) → ((i : ℕ) → i < l.count → slot_of l after i ≡ slot_of l before i) → (i : ℕ) → i < l.count → number_of l after i ≡ number_of l before i
+pub numbers_alike : (l : Line) (before after : List ℤ) → ((i : ℕ) → i < l.count → slot_of l after i ≡ slot_of l before i) → (i : ℕ) → i < l.count → number_in_line l after i ≡ number_in_line l before i
 numbers_alike l before after = numbers_moved l l before after refl

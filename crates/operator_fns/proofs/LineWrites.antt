@@ -5,7 +5,7 @@ use Rattle.std.proofs.lemmas.Bool.{cases_lt, cases_eq}
 use Rattle.std.proofs.lemmas.Int.{SFits-int_wrap}
 use Rattle.std.proofs.lemmas.List.{length-set, get_or-set_same, get_or-set_other}
 use Rattle.operator_fns.specs.declared.line_tree.Line.{Line}
-use Rattle.operator_fns.specs.LineTrees.{slot_at, slot_of, number_of, replaced, HasSlots, ArePaired}
+use Rattle.operator_fns.specs.LineTrees.{slot_at, slot_of, number_in_line, replaced, HasSlots, ArePaired}
 use Rattle.operator_fns.proofs.LineParts.{number_before, number_odd, number_last, replaced_here, replaced_other}
 use Rattle.operator_fns.proofs.Wrapping.{other_of_two}
 
@@ -38,7 +38,7 @@ module _ (l : Line) (slots : List ℤ) (has : HasSlots l (length slots)) where
 
 -- a number whose slots stay
 pub number_stays : (l : Line) (before after : List ℤ) (i : ℕ) → slot_of l after i ≡ slot_of l before i → (i % 2 ≡ 0 → slot_of l after (i + 1) ≡ slot_of l before (i + 1))
-    → number_of l after i ≡ number_of l before i
+    → number_in_line l after i ≡ number_in_line l before i
 number_stays l before after i here next = elim (cases_lt (i + 1) l.count) [
   | inl more ↦ elim (cases_eq (i % 2) 0) [
     | inl even ↦ number_before l after i even more ∙ (λ k. int_wrap w64 (here k -ℤ next even k)) ∙ sym (number_before l before i even more)
@@ -50,12 +50,12 @@ number_stays l before after i here next = elim (cases_lt (i + 1) l.count) [
 module _ (l : Line) (slots : List ℤ) (has : HasSlots l (length slots)) (place : ℕ) (z : ℤ) (fits : FitsSigned w64 z) (inside : place < l.count) where
   -- at an even place that another number comes after
   pub put_before : place % 2 ≡ 0 → place + 1 < l.count → (i : ℕ) → i < l.count
-      → number_of l (set slots (slot_at l place) (int_wrap w64 (z +ℤ slot_of l slots (place + 1)))) i ≡ replaced (number_of l slots) place z i
+      → number_in_line l (set slots (slot_at l place) (int_wrap w64 (z +ℤ slot_of l slots (place + 1)))) i ≡ replaced (number_in_line l slots) place z i
   put_before even more i h = elim (cases_eq i place) [
-    | inl e ↦ ap (number_of l after) e ∙ here ∙ sym (replaced_here (number_of l slots) place z) ∙ sym (ap (replaced (number_of l slots) place z) e)
+    | inl e ↦ ap (number_in_line l after) e ∙ here ∙ sym (replaced_here (number_in_line l slots) place z) ∙ sym (ap (replaced (number_in_line l slots) place z) e)
     | inr other ↦
         number_stays l slots after i (put_other l slots has place sum i other) (λ e. put_other l slots has place sum (i + 1) (λ f. let no : ⊥ = omega (arith, e, f, even) in no))
-        ∙ sym (replaced_other (number_of l slots) place z i other)
+        ∙ sym (replaced_other (number_in_line l slots) place z i other)
   ]
     where
       sum : ℤ
@@ -67,20 +67,20 @@ module _ (l : Line) (slots : List ℤ) (has : HasSlots l (length slots)) (place 
       next : slot_of l after (place + 1) ≡ slot_of l slots (place + 1)
       next = put_other l slots has place sum (place + 1) (λ e. let no : ⊥ = omega (arith, e) in no)
 
-      here : number_of l after place ≡ z
+      here : number_in_line l after place ≡ z
       here = number_before l after place even more
           ∙ (λ k. int_wrap w64 (put_here l slots has place sum inside k -ℤ next k))
           ∙ other_of_two z (slot_of l slots (place + 1)) fits
 
   -- at the last place, if it is even
-  pub put_last : place % 2 ≡ 0 → l.count ≤ place + 1 → (i : ℕ) → i < l.count → number_of l (set slots (slot_at l place) z) i ≡ replaced (number_of l slots) place z i
+  pub put_last : place % 2 ≡ 0 → l.count ≤ place + 1 → (i : ℕ) → i < l.count → number_in_line l (set slots (slot_at l place) z) i ≡ replaced (number_in_line l slots) place z i
   put_last even last i h = elim (cases_eq i place) [
     | inl e ↦
-        ap (number_of l after) e ∙ number_last l after place last ∙ put_here l slots has place z inside
-        ∙ sym (replaced_here (number_of l slots) place z) ∙ sym (ap (replaced (number_of l slots) place z) e)
+        ap (number_in_line l after) e ∙ number_last l after place last ∙ put_here l slots has place z inside
+        ∙ sym (replaced_here (number_in_line l slots) place z) ∙ sym (ap (replaced (number_in_line l slots) place z) e)
     | inr other ↦
         number_stays l slots after i (put_other l slots has place z i other) (λ e. put_other l slots has place z (i + 1) (λ f. let no : ⊥ = omega (arith, e, f, even) in no))
-        ∙ sym (replaced_other (number_of l slots) place z i other)
+        ∙ sym (replaced_other (number_in_line l slots) place z i other)
   ]
     where
       after : List ℤ
@@ -88,19 +88,19 @@ module _ (l : Line) (slots : List ℤ) (has : HasSlots l (length slots)) (place 
 
   -- at an odd place
   pub put_behind : place % 2 ≡ 1 → (i : ℕ) → i < l.count
-      → number_of l (set (set slots (slot_at l place) z) (slot_at l (place - 1)) (int_wrap w64 (int_wrap w64 (slot_of l slots (place - 1) -ℤ slot_of l slots place) +ℤ z))) i
-      ≡ replaced (number_of l slots) place z i
+      → number_in_line l (set (set slots (slot_at l place) z) (slot_at l (place - 1)) (int_wrap w64 (int_wrap w64 (slot_of l slots (place - 1) -ℤ slot_of l slots place) +ℤ z))) i
+      ≡ replaced (number_in_line l slots) place z i
   put_behind odd i h = elim (cases_eq i place) [
     | inl e ↦
-        ap (number_of l after) e ∙ number_odd l after place odd ∙ there
-        ∙ sym (replaced_here (number_of l slots) place z) ∙ sym (ap (replaced (number_of l slots) place z) e)
+        ap (number_in_line l after) e ∙ number_odd l after place odd ∙ there
+        ∙ sym (replaced_here (number_in_line l slots) place z) ∙ sym (ap (replaced (number_in_line l slots) place z) e)
     | inr other ↦ elim (cases_eq i before) [
       | inl e ↦
-          ap (number_of l after) e ∙ first ∙ sym (number_before l slots before even (omega (arith, next, inside)) ∙ ap (λ k. int_wrap w64 (slot_of l slots before -ℤ slot_of l slots k)) next)
-          ∙ sym (ap (number_of l slots) e) ∙ sym (replaced_other (number_of l slots) place z i other)
+          ap (number_in_line l after) e ∙ first ∙ sym (number_before l slots before even (omega (arith, next, inside)) ∙ ap (λ k. int_wrap w64 (slot_of l slots before -ℤ slot_of l slots k)) next)
+          ∙ sym (ap (number_in_line l slots) e) ∙ sym (replaced_other (number_in_line l slots) place z i other)
       | inr another ↦
           number_stays l slots after i (stays i other another) (λ e. stays (i + 1) (λ f. another (omega (arith, f))) (λ f. let no : ⊥ = omega (arith, e, f, even) in no))
-          ∙ sym (replaced_other (number_of l slots) place z i other)
+          ∙ sym (replaced_other (number_in_line l slots) place z i other)
     ]
   ]
     where
@@ -137,7 +137,7 @@ module _ (l : Line) (slots : List ℤ) (has : HasSlots l (length slots)) (place 
       stays : (j : ℕ) → j ≢ place → j ≢ before → slot_of l after j ≡ slot_of l slots j
       stays j a b = put_other l middle has_middle before sum j b ∙ put_other l slots has place z j a
 
-      first : number_of l after before ≡ left
+      first : number_in_line l after before ≡ left
       first = number_before l after before even (omega (arith, next, inside))
           ∙ (λ k. int_wrap w64 (put_here l middle has_middle before sum (omega (arith, next, inside)) k -ℤ (ap (slot_of l after) next ∙ there) k))
           ∙ other_of_two left z (SFits-int_wrap w64 (slot_of l slots before -ℤ slot_of l slots place))
@@ -166,7 +166,7 @@ pair_on l before after place sum has even more paired fits is = record {
     made = set after (slot_at l place) sum
 
 pub pair_end : (l : Line) (before after : List ℤ) (place : ℕ) → place % 2 ≡ 0 → place ≤ l.count → l.count ≤ place + 1 → ArePaired l before after place
-    → (i : ℕ) → i < l.count → number_of l after i ≡ slot_of l before i
+    → (i : ℕ) → i < l.count → number_in_line l after i ≡ slot_of l before i
 pair_end l before after place even here last paired i h = elim (cases_eq (i % 2) 0) [
   | inl e ↦ elim (cases_lt (i + 1) l.count) [
     | inl more ↦

@@ -7,10 +7,10 @@ use Rattle.std.proofs.lemmas.List.{ext_get_or, length-set, get_or-set_same, get_
 use Rattle.std.proofs.lemmas.List.FromFn.{length-map-range_with_len, get_or-map-range_with_len}
 use Rattle.operator_fns.specs.SumNodes.{single, join, sums_of, sums_from}
 use Rattle.operator_fns.specs.declared.line_tree.Line.{Line}
-use Rattle.operator_fns.specs.LineTrees.{slot_at, slot_of, number_of, replaced, HasSlots, from_four, HasNodes}
+use Rattle.operator_fns.specs.LineTrees.{slot_at, slot_of, number_in_line, replaced, HasSlots, from_four, HasNodes}
 use Rattle.operator_fns.specs.declared.summary.Summary.{Summary}
 use Rattle.operator_fns.proofs.LineParts.{number_before, number_odd, number_last, replaced_here, replaced_other}
-use Rattle.operator_fns.specs.SumTree.{one_line, numbers_in, IsTree}
+use Rattle.operator_fns.specs.SumTree.{one_line, numbers_in_slots, IsTree}
 
 -- the sums of a list by its places
 pub sums_listed : (x : ℕ → ℤ) (from count : ℕ) → sums_from x from count ≡ sums_of (map x (range_with_len from count))
@@ -18,8 +18,8 @@ sums_listed x from zero = refl
 sums_listed x from (suc count) = ap (join (single (x from))) (sums_listed x (from + 1) count)
 
 -- as long as its slots
-pub length_numbers : (slots : List ℤ) → length (numbers_in slots) ≡ length slots
-length_numbers slots = length-map-range_with_len (number_of (one_line (length slots)) slots) 0 (length slots)
+pub length_numbers : (slots : List ℤ) → length (numbers_in_slots slots) ≡ length slots
+length_numbers slots = length-map-range_with_len (number_in_line (one_line (length slots)) slots) 0 (length slots)
 
 pub number_at : (x : ℕ → ℤ) (count i : ℕ) → i < count → get_or (map x (range_with_len 0 count)) i (pos 0) ≡ x i
 number_at x count i h = get_or-map-range_with_len x 0 count i i (pos 0) h (omega arith)
@@ -38,7 +38,7 @@ pub nodes_of_one : (count nodes : ℕ) → count < 2 ^ 62 → nodes ≡ (count -
 nodes_of_one count nodes few is = record { fit = omega (arith, few, is); node = λ meeting some h. omega (arith, some, h, is) }
 
 -- each number fits 64 bits
-pub number_fits : (l : Line) (slots : List ℤ) (i : ℕ) → All (FitsSigned w64) slots → HasSlots l (length slots) → i < l.count → FitsSigned w64 (number_of l slots i)
+pub number_fits : (l : Line) (slots : List ℤ) (i : ℕ) → All (FitsSigned w64) slots → HasSlots l (length slots) → i < l.count → FitsSigned w64 (number_in_line l slots i)
 number_fits l slots i fit has h = elim (cases_lt (i + 1) l.count) [
   | inl more ↦ elim (cases_eq (i % 2) 0) [
     | inl even ↦ subst (FitsSigned w64) (sym (number_before l slots i even more)) (SFits-int_wrap w64 (slot_of l slots i -ℤ slot_of l slots (i + 1)))
@@ -47,16 +47,16 @@ number_fits l slots i fit has h = elim (cases_lt (i + 1) l.count) [
   | inr last ↦ subst (FitsSigned w64) (sym (number_last l slots i last)) (fit (slot_at l i) (pos 0) (has.slot i h))
 ]
 
-pub line_fits : (l : Line) (slots : List ℤ) → All (FitsSigned w64) slots → HasSlots l (length slots) → All (FitsSigned w64) (map (number_of l slots) (range_with_len 0 l.count))
+pub line_fits : (l : Line) (slots : List ℤ) → All (FitsSigned w64) slots → HasSlots l (length slots) → All (FitsSigned w64) (map (number_in_line l slots) (range_with_len 0 l.count))
 line_fits l slots fit has k d h =
-    let below : k < l.count = omega (arith, length-map-range_with_len (number_of l slots) 0 l.count, h) in
-    subst (FitsSigned w64) (sym (get_or-map-range_with_len (number_of l slots) 0 l.count k k d below (omega arith))) (number_fits l slots k fit has below)
+    let below : k < l.count = omega (arith, length-map-range_with_len (number_in_line l slots) 0 l.count, h) in
+    subst (FitsSigned w64) (sym (get_or-map-range_with_len (number_in_line l slots) 0 l.count k k d below (omega arith))) (number_fits l slots k fit has below)
 
-pub numbers_fit : (slots : List ℤ) → length slots < 2 ^ 62 → All (FitsSigned w64) slots → All (FitsSigned w64) (numbers_in slots)
+pub numbers_fit : (slots : List ℤ) → length slots < 2 ^ 62 → All (FitsSigned w64) slots → All (FitsSigned w64) (numbers_in_slots slots)
 numbers_fit slots few fit k d h =
     let l = one_line (length slots) in
     let below : k < length slots = omega (arith, length_numbers slots, h) in
-    subst (FitsSigned w64) (sym (get_or-map-range_with_len (number_of l slots) 0 (length slots) k k d below (omega arith)))
+    subst (FitsSigned w64) (sym (get_or-map-range_with_len (number_in_line l slots) 0 (length slots) k k d below (omega arith)))
     (number_fits l slots k fit (slots_of_one (length slots) few) below)
 
 -- the list where one number is another

@@ -4,14 +4,14 @@ use Rattle.std.specs.Int.{int_wrap}
 use Rattle.std.specs.List.{All}
 use Rattle.std.proofs.lemmas.Bool.{cases_eq}
 use Rattle.operator_fns.specs.declared.line_tree.Line.{Line}
-use Rattle.operator_fns.specs.LineTrees.{slot_at, slot_of, number_of, shorter, HasSlots}
+use Rattle.operator_fns.specs.LineTrees.{slot_at, slot_of, number_in_line, shorter, HasSlots}
 use Rattle.operator_fns.proofs.LineParts.{number_before, number_odd, number_last}
 use Rattle.operator_fns.proofs.LineWrites.{put_here, put_other}
 use Rattle.operator_fns.proofs.Wrapping.{other_of_two, sum_left}
 
 -- a number of the shorter line whose slots stay, and that is no half of a new pair
 pub number_longer : (l : Line) (before after : List ℤ) (i : ℕ) → i < l.count - 1 → slot_of l after i ≡ slot_of l before i
-    → (i % 2 ≡ 0 → (i + 1 < l.count - 1) × (slot_of l after (i + 1) ≡ slot_of l before (i + 1))) → number_of l after i ≡ number_of (shorter l) before i
+    → (i % 2 ≡ 0 → (i + 1 < l.count - 1) × (slot_of l after (i + 1) ≡ slot_of l before (i + 1))) → number_in_line l after i ≡ number_in_line (shorter l) before i
 number_longer l before after i below here next = elim (cases_eq (i % 2) 0) [
   | inl even ↦
       let more = next even in
@@ -20,7 +20,7 @@ number_longer l before after i below here next = elim (cases_eq (i % 2) 0) [
 ]
 
 -- where the last place is even, it is by itself
-pub numbers_alone : (l : Line) (slots : List ℤ) → (l.count - 1) % 2 ≡ 0 → (i : ℕ) → i < l.count - 1 → number_of l slots i ≡ number_of (shorter l) slots i
+pub numbers_alone : (l : Line) (slots : List ℤ) → (l.count - 1) % 2 ≡ 0 → (i : ℕ) → i < l.count - 1 → number_in_line l slots i ≡ number_in_line (shorter l) slots i
 numbers_alone l slots last i below = number_longer l slots slots i below refl (λ even. (omega (arith, below, last, even), refl))
 
 -- the sum of the last two, as it is worked out
@@ -39,21 +39,21 @@ module _ (l : Line) (before : List ℤ) (has : HasSlots l (length before)) (fit 
   after = set before (slot_at l (l.count - 1 - 1)) sum
 
   -- the last number
-  pub last_paired : number_of l after (l.count - 1) ≡ slot_of l before (l.count - 1)
+  pub last_paired : number_in_line l after (l.count - 1) ≡ slot_of l before (l.count - 1)
   last_paired = number_odd l after (l.count - 1) odd ∙ put_other l before has (l.count - 1 - 1) sum (l.count - 1) (λ e. let no : ⊥ = omega (arith, e, more) in no)
 
   -- and those before it
-  pub numbers_paired : (i : ℕ) → i < l.count - 1 → number_of l after i ≡ number_of (shorter l) before i
+  pub numbers_paired : (i : ℕ) → i < l.count - 1 → number_in_line l after i ≡ number_in_line (shorter l) before i
   numbers_paired i below = elim (cases_eq i (l.count - 1 - 1)) [
     | inl e ↦
         let at = l.count - 1 - 1 in
         let next : at + 1 ≡ l.count - 1 = omega (arith, more) in
-        ap (number_of l after) e
+        ap (number_in_line l after) e
         ∙ number_before l after at (omega (arith, odd, more)) (omega (arith, more))
         ∙ (λ k. int_wrap w64 ((put_here l before has at sum (omega (arith, more)) ∙ is) k -ℤ (put_other l before has at sum (at + 1) (λ f. let no : ⊥ = omega (arith, f) in no) ∙ ap (slot_of l before) next) k))
         ∙ other_of_two (slot_of l before at) (slot_of l before (l.count - 1)) (fit (slot_at l at) (pos 0) (has.slot at (omega (arith, more))))
         ∙ sym (number_last (shorter l) before at (omega (arith, more)))
-        ∙ sym (ap (number_of (shorter l) before) e)
+        ∙ sym (ap (number_in_line (shorter l) before) e)
     | inr other ↦
         number_longer l before after i below (put_other l before has (l.count - 1 - 1) sum i other)
         (λ even. (omega (arith, below, other, odd, even), put_other l before has (l.count - 1 - 1) sum (i + 1) (λ f. let no : ⊥ = omega (arith, f, even, odd, more) in no)))

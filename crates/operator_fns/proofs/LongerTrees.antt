@@ -5,7 +5,7 @@ use Rattle.std.proofs.lemmas.List.{ext_get_or, length-append, get_or_append_left
 use Rattle.std.proofs.lemmas.Nat.{div_below, mod_below, div-mul-add, mod-mul-add}
 use Rattle.operator_fns.specs.declared.summary.Summary.{Summary}
 use Rattle.operator_fns.specs.declared.line_tree.Line.{Line}
-use Rattle.operator_fns.specs.LineTrees.{Halves, slot_at, nth_node, slot_of, number_of, shorter, from_four, node_of, AreKept, nodes_in_line}
+use Rattle.operator_fns.specs.LineTrees.{Halves, slot_at, nth_node, slot_of, number_in_line, shorter, from_four, node_of, ArePartsKept, nodes_in_line}
 use Rattle.operator_fns.specs.SumTrees.{line_through, number_kept, numbers_kept, AreLines, AreLineTrees}
 use Rattle.operator_fns.proofs.KeptNumbers.{kept_count, kept_at, kept_on_line}
 use Rattle.operator_fns.proofs.LinePlaces.{place_spot, some_places, line_within}
@@ -53,7 +53,7 @@ module _ {P : Type 0} (h : Halves) (blank : P) (tells : P → List ℤ → Type 
 
   -- the trees of one block of lines
   pub longer_trees : 0 < count → 0 < step → length slots ≡ count * step → length nodes ≡ nodes_in_line h count * step
-      → ((line : ℕ) → line < step → AreKept h tells count (number (line_at h count step line) slots) (node_of h blank (line_at h count step line) nodes))
+      → ((line : ℕ) → line < step → ArePartsKept h tells count (number (line_at h count step line) slots) (node_of h blank (line_at h count step line) nodes))
       → AreLineTrees h blank tells number count step slots nodes
   longer_trees some apart slot_count node_count kept =
       let lines = lines_in_block count step (length slots) some slot_count in
@@ -92,15 +92,15 @@ module _ {P : Type 0} (h : Halves) (are : AreHalves h) (blank : P) (tells : P �
 
   -- what is kept is that of the lines without them
   pub kept_without : (line : ℕ) → line < step
-      → AreKept h tells (count + 1 - 1) (number (shorter (line_at h (count + 1) step line)) (slots ++ numbers)) (node_of h blank (shorter (line_at h (count + 1) step line)) (nodes ++ more))
+      → ArePartsKept h tells (count + 1 - 1) (number (shorter (line_at h (count + 1) step line)) (slots ++ numbers)) (node_of h blank (shorter (line_at h (count + 1) step line)) (nodes ++ more))
   kept_without line below =
       let l = line_at h count step line in
       let m = shorter (line_at h (count + 1) step line) in
-      subst (λ n. AreKept h tells n (number m (slots ++ numbers)) (node_of h blank m (nodes ++ more))) (omega arith)
+      subst (λ n. ArePartsKept h tells n (number m (slots ++ numbers)) (node_of h blank m (nodes ++ more))) (omega arith)
       (kept_alike h are tells count (number l slots) (number m (slots ++ numbers)) (node_of h blank l nodes) (node_of h blank m (nodes ++ more)) (numbers_without line below)
       (nodes_without line below) (old.kept line (there line below)))
 
-module _ (count step : ℕ) (slots numbers : List ℤ) (nodes more : List Summary) (old : AreLineTrees from_four empty TellsSums number_of count step slots nodes) (between : length slots ≡ count * step)
+module _ (count step : ℕ) (slots numbers : List ℤ) (nodes more : List Summary) (old : AreLineTrees from_four empty TellsSums number_in_line count step slots nodes) (between : length slots ≡ count * step)
     (wide : length numbers ≡ step) where
   abbrev long : ℕ
   long = count + 1
@@ -115,8 +115,8 @@ module _ (count step : ℕ) (slots numbers : List ℤ) (nodes more : List Summar
   old_line line h = omega (arith, h, lines_in_block count step (length slots) old.lines.some between)
 
   -- the numbers of a line without the new ones
-  first_numbers : (line : ℕ) → line < step → (i : ℕ) → i < count → number_of (shorter (line_at from_four long step line)) all i ≡ number_of (line_at from_four count step line) slots i
-  first_numbers = numbers_without from_four are_from_four empty TellsSums number_of numbers_moved count step slots numbers nodes more old between
+  first_numbers : (line : ℕ) → line < step → (i : ℕ) → i < count → number_in_line (shorter (line_at from_four long step line)) all i ≡ number_in_line (line_at from_four count step line) slots i
+  first_numbers = numbers_without from_four are_from_four empty TellsSums number_in_line numbers_moved count step slots numbers nodes more old between
 
   -- as many nodes as the longer lines have
   pub nodes_long : length more ≡ (nodes_in_line from_four long - nodes_in_line from_four count) * length numbers → length (nodes ++ more) ≡ nodes_in_line from_four long * step
@@ -124,15 +124,15 @@ module _ (count step : ℕ) (slots numbers : List ℤ) (nodes more : List Summar
       let rest = nodes_in_line from_four long - nodes_in_line from_four count in
       let whole : nodes_in_line from_four long ≡ nodes_in_line from_four count + rest = omega arith in
       let sum : (nodes_in_line from_four count + rest) * step ≡ nodes_in_line from_four count * step + rest * step = grind arith in
-      let held = held_nodes from_four empty TellsSums number_of count step slots nodes old between in
+      let held = held_nodes from_four empty TellsSums number_in_line count step slots nodes old between in
       let added = is ∙ ap (λ n. rest * n) wide in
       omega (arith, length-append nodes more, held, added, sum) ∙ ap (λ n. n * step) (sym whole)
 
   -- ---- when all have
 
   module _ (after : List ℤ) (same_count : length after ≡ length all)
-      (kept_numbers : (line i : ℕ) → line < step → i < long - 1 → number_of (line_at from_four long step line) after i ≡ number_of (shorter (line_at from_four long step line)) all i)
-      (last : (line : ℕ) → line < step → number_of (line_at from_four long step line) after (long - 1) ≡ slot_of (line_at from_four long step line) all (long - 1)) where
+      (kept_numbers : (line i : ℕ) → line < step → i < long - 1 → number_in_line (line_at from_four long step line) after i ≡ number_in_line (shorter (line_at from_four long step line)) all i)
+      (last : (line : ℕ) → line < step → number_in_line (line_at from_four long step line) after (long - 1) ≡ slot_of (line_at from_four long step line) all (long - 1)) where
     after_long : length after ≡ long * step
     after_long = same_count ∙ all_long count step slots numbers between wide
 
@@ -168,7 +168,7 @@ module _ (count step : ℕ) (slots numbers : List ℤ) (nodes more : List Summar
         let behind : length slots ≤ k =
         let first : (long - 1) * step ≡ count * step = ap (λ n. n * step) one_more in
         omega (arith, at, first, between) in
-        ap (λ i. number_of (line_at from_four long step line) after i) place
+        ap (λ i. number_in_line (line_at from_four long step line) after i) place
         ∙ last line on
         ∙ ap (λ n. get_or all n (pos 0)) at
         ∙ get_or-append_right slots numbers (length slots) k (pos 0) refl behind

@@ -8,7 +8,7 @@ use Rattle.arrays_core.specs.Items.{and_then}
 use Rattle.scalar_fns.specs.Folds.{folded}
 use Rattle.scalar_fns.proofs.RightFolds.{fold_more}
 use Rattle.operator_fns.specs.InnerProduct.{all_or_last_error}
-use Rattle.operator_fns.specs.RowByColumn.{met, last_error_or, folded_all}
+use Rattle.operator_fns.specs.RowByColumn.{all_met, last_error_or, folded_all}
 
 -- ---- the error of the last that has one
 
@@ -146,8 +146,8 @@ module _ {A : Type 0} (rule : ℕ → Result A Kind) where
 -- ---- what is met
 
 module _ {A : Type 0} (g : A → A → Result A Kind) (row column : ℕ → A) where
-  pub length-met : (count : ℕ) → length (met g row column count) ≡ count
+  pub length-met : (count : ℕ) → length (all_met g row column count) ≡ count
   length-met count = length-firsts (λ k. g (row k) (column k)) count
 
-  pub met_at : (count k : ℕ) (d : Result A Kind) → k < count → get_or (met g row column count) k d ≡ g (row k) (column k)
+  pub met_at : (count k : ℕ) (d : Result A Kind) → k < count → get_or (all_met g row column count) k d ≡ g (row k) (column k)
   met_at count k d h = first_at (λ k. g (row k) (column k)) count k d h

@@ -4,7 +4,7 @@ use Rattle.std.proofs.lemmas.Bool.{cases_lt}
 use Rattle.std.proofs.lemmas.List.{ext_get_or, length-append, get_or_append_left, get_or-append-add, get_or-append_right}
 use Rattle.std.proofs.lemmas.Nat.{div-add-mod', div-mul-add, mod-mul-add, mod_below, mul-le}
 use Rattle.operator_fns.specs.declared.summary.Summary.{Summary}
-use Rattle.operator_fns.specs.LineTrees.{slot_at, number_of, from_four}
+use Rattle.operator_fns.specs.LineTrees.{slot_at, number_in_line, from_four}
 use Rattle.operator_fns.specs.SumTrees.{line_through, number_kept, numbers_kept, AreLines, AreLineTrees}
 use Rattle.operator_fns.proofs.KeptNumbers.{kept_count, kept_at}
 use Rattle.operator_fns.proofs.LinePlaces.{some_places, spot_line, spot_place, place_spot, line_within}
@@ -48,7 +48,7 @@ spot_after count step slots are unit line place =
     ∙ spot_behind unit step (blocks count step slots are) line place are.apart
     ∙ ap (λ n. n + spot unit step line place) (order ∙ ap (λ n. n * unit) (sym lines))
 
-module _ (count step : ℕ) (slots more : List ℤ) (nodes more_nodes : List Summary) (old : AreLineTrees from_four empty TellsSums number_of count step slots nodes) (new : AreLineTrees from_four empty TellsSums number_of count step more more_nodes) where
+module _ (count step : ℕ) (slots more : List ℤ) (nodes more_nodes : List Summary) (old : AreLineTrees from_four empty TellsSums number_in_line count step slots nodes) (new : AreLineTrees from_four empty TellsSums number_in_line count step more more_nodes) where
   old_lines : ℕ
   old_lines = length slots / count
 
@@ -71,12 +71,12 @@ module _ (count step : ℕ) (slots more : List ℤ) (nodes more_nodes : List Sum
   slots_behind k = ap (λ n. length slots + n) (sym (place_spot count step old.lines.some old.lines.apart k)) ∙ sym (slot_behind (line_through count step k) (k / step % count))
 
   -- the numbers of both
-  first_numbers : (line : ℕ) → line < old_lines → (i : ℕ) → i < count → number_of (line_at from_four count step line) (slots ++ more) i ≡ number_of (line_at from_four count step line) slots i
+  first_numbers : (line : ℕ) → line < old_lines → (i : ℕ) → i < count → number_in_line (line_at from_four count step line) (slots ++ more) i ≡ number_in_line (line_at from_four count step line) slots i
   unfolding old_lines
   first_numbers line h = numbers_alike (line_at from_four count step line) slots (slots ++ more) (λ i p.
       get_or_append_left slots more (pos 0) (slot_at (line_at from_four count step line) i) (slot_within count step (length slots) old.lines line h i p))
 
-  later_numbers : (line i : ℕ) → i < count → number_of (line_at from_four count step (old_lines + line)) (slots ++ more) i ≡ number_of (line_at from_four count step line) more i
+  later_numbers : (line i : ℕ) → i < count → number_in_line (line_at from_four count step (old_lines + line)) (slots ++ more) i ≡ number_in_line (line_at from_four count step line) more i
   later_numbers line = numbers_moved (line_at from_four count step line) (line_at from_four count step (old_lines + line)) more (slots ++ more) refl (λ i p.
       ap (λ k. get_or (slots ++ more) k (pos 0)) (slot_behind line i) ∙ get_or-append-add slots more (slot_at (line_at from_four count step line) i) (pos 0))
 
@@ -120,7 +120,7 @@ module _ (count step : ℕ) (slots more : List ℤ) (nodes more_nodes : List Sum
                 let is : k ≡ length slots + j = omega (arith, after) in
                 kept_at count step (slots ++ more) k within
                 ∙ ap (number_kept count step (slots ++ more)) is
-                ∙ (λ i. number_of (line_at from_four count step (line_behind j i)) (slots ++ more) (place_behind j i))
+                ∙ (λ i. number_in_line (line_at from_four count step (line_behind j i)) (slots ++ more) (place_behind j i))
                 ∙ later_numbers (line_through count step j) (j / step % count) (mod_below (j / step) count old.lines.some)
                 ∙ sym (kept_at count step more j (omega (arith, within, length-append slots more, after)))
                 ∙ sym (get_or-append_right first later (length slots) k (pos 0) old_count after)

@@ -4,7 +4,7 @@ use Rattle.std.proofs.lemmas.Bool.{cases_lt}
 use Rattle.std.proofs.lemmas.List.{length-append, get_or_append_left, get_or-append-add}
 use Rattle.operator_fns.specs.declared.line_tree.Line.{Line}
 use Rattle.operator_fns.specs.SumTrees.{AreLines, AreLineTrees}
-use Rattle.operator_fns.specs.LineTrees.{Halves, slot_at, nth_node, node_of, AreKept, nodes_in_line}
+use Rattle.operator_fns.specs.LineTrees.{Halves, slot_at, nth_node, node_of, ArePartsKept, nodes_in_line}
 use Rattle.operator_fns.specs.LineBlocks.{line_at}
 use Rattle.operator_fns.proofs.Halves.{AreHalves}
 use Rattle.operator_fns.proofs.LineNodes.{kept_alike}
@@ -32,7 +32,7 @@ module _ {P : Type 0} (f : Halves) (halves : AreHalves f) (blank : P) (tells : P
 
   -- what is kept of the parts of both
   first_kept : (line : ℕ) → line < old_lines
-      → AreKept f tells count (number (line_at f count step line) (slots ++ more)) (node_of f blank (line_at f count step line) (nodes ++ more_nodes))
+      → ArePartsKept f tells count (number (line_at f count step line) (slots ++ more)) (node_of f blank (line_at f count step line) (nodes ++ more_nodes))
   first_kept line h =
       let l = line_at f count step line in
       kept_alike f halves tells count (number l slots) (number l (slots ++ more)) (node_of f blank l nodes) (node_of f blank l (nodes ++ more_nodes))
@@ -42,7 +42,7 @@ module _ {P : Type 0} (f : Halves) (halves : AreHalves f) (blank : P) (tells : P
       (old.kept line h)
 
   later_kept : (line : ℕ) → line < length more / count
-      → AreKept f tells count (number (line_at f count step (old_lines + line)) (slots ++ more))
+      → ArePartsKept f tells count (number (line_at f count step (old_lines + line)) (slots ++ more))
       (node_of f blank (line_at f count step (old_lines + line)) (nodes ++ more_nodes))
   later_kept line h =
       let l = line_at f count step line in
@@ -68,7 +68,7 @@ module _ {P : Type 0} (f : Halves) (halves : AreHalves f) (blank : P) (tells : P
           | inl before ↦ first_kept k before
           | inr after ↦
               let is : k ≡ old_lines + (k - old_lines) = omega (arith, after) in
-              subst (λ n. AreKept f tells count (number (line_at f count step n) (slots ++ more)) (node_of f blank (line_at f count step n) (nodes ++ more_nodes))) (sym is)
+              subst (λ n. ArePartsKept f tells count (number (line_at f count step n) (slots ++ more)) (node_of f blank (line_at f count step n) (nodes ++ more_nodes))) (sym is)
               (later_kept (k - old_lines) (omega (arith, h, lines, after)))
         ];
       }

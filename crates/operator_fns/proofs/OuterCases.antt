@@ -6,8 +6,8 @@ use Rattle.operator_fns.specs.OuterProduct.{outer_whole}
 use Rattle.arrays_core.proofs.CaseWords.{nums, ints, chars, is, fails, minus, least}
 
 -- 1 2∘.×1 2 3, and by other functions
-table : outer_whole two.Times (nums (2 ∷ []) (1 ∷ 2 ∷ [])) (nums (3 ∷ []) (1 ∷ 2 ∷ 3 ∷ [])) ≡ is (nums (2 ∷ 3 ∷ []) (1 ∷ 2 ∷ 3 ∷ 2 ∷ 4 ∷ 6 ∷ []))
-table = refl
+matrix : outer_whole two.Times (nums (2 ∷ []) (1 ∷ 2 ∷ [])) (nums (3 ∷ []) (1 ∷ 2 ∷ 3 ∷ [])) ≡ is (nums (2 ∷ 3 ∷ []) (1 ∷ 2 ∷ 3 ∷ 2 ∷ 4 ∷ 6 ∷ []))
+matrix = refl
 
 not_turned_round : outer_whole two.Minus (nums (2 ∷ []) (10 ∷ 20 ∷ [])) (nums (3 ∷ []) (1 ∷ 2 ∷ 3 ∷ [])) ≡ is (nums (2 ∷ 3 ∷ []) (9 ∷ 8 ∷ 7 ∷ 19 ∷ 18 ∷ 17 ∷ []))
 not_turned_round = refl

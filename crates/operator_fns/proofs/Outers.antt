@@ -15,8 +15,8 @@ use Rattle.scalar_fns.specs.NumberLists.{number_items}
 use Rattle.index_region.specs.Checks.{Form, whole}
 use Rattle.index_region.proofs.Passing.{limited_gives}
 use Rattle.operator_fns.specs.OuterProduct.{outer_form, outer_item, outer_whole}
-use Rattle.operator_fns.specs.ResultTable.{table}
-use Rattle.operator_fns.proofs.Tables.{places_of_table}
+use Rattle.operator_fns.specs.OuterResults.{outer_results}
+use Rattle.operator_fns.proofs.OuterRows.{places_of_outer}
 use Rattle.operator_fns.specs.Laws.JoinedIndices.{parts, size-append}
 use Rattle.operator_fns.proofs.Joined.{number_there}
 use Rattle.operator_fns.proofs.Placewise.{collected_same, numbers_collected}
@@ -49,12 +49,12 @@ module _ (f : Scalar2) (a b : ArrayValue) (xs ys : List ℤ) (long_a : length a.
       ∙ (rw (p.front_place, p.back_place, left, right) refl)
 
   pub outer_of_numbers : (form : Form) → outer_form a b ≡ Ok form
-      → with_items Nums form.shape (number_items (all_or_first_error (table (dyadic_on_numbers f) xs ys))) ≡ outer_whole f a b
+      → with_items Nums form.shape (number_items (all_or_first_error (outer_results (dyadic_on_numbers f) xs ys))) ≡ outer_whole f a b
   outer_of_numbers form h =
       let shape = a.shape ++ b.shape in
       let is = limited_gives (a.shape ++ b.shape) Nums form h in
-      ap (λ (g : Form). with_items Nums g.shape (number_items (all_or_first_error (table (dyadic_on_numbers f) xs ys)))) is
-      ∙ ap (λ rs. with_items Nums shape (number_items (all_or_first_error rs))) (sym (places_of_table (dyadic_on_numbers f) ys xs (size shape) outer_places))
+      ap (λ (g : Form). with_items Nums g.shape (number_items (all_or_first_error (outer_results (dyadic_on_numbers f) xs ys)))) is
+      ∙ ap (λ rs. with_items Nums shape (number_items (all_or_first_error rs))) (sym (places_of_outer (dyadic_on_numbers f) ys xs (size shape) outer_places))
       ∙ sym (numbers_collected shape pair)
       ∙ collected_same Nums shape (λ index. number_item (pair (places_before shape index))) (outer_item f a b) pair_there
       ∙ sym (ap (λ r. whole r (outer_item f a b)) h ∙ ap (λ (g : Form). collect g.item_type g.shape (outer_item f a b)) is)

@@ -11,7 +11,7 @@ use Rattle.arrays_core.specs.Items.{and_then}
 use Rattle.scalar_fns.specs.Folds.{folded}
 use Rattle.scalar_fns.proofs.RightFolds.{fold_more}
 use Rattle.operator_fns.specs.LinearScan.{depth, run_to}
-use Rattle.operator_fns.specs.Prefixes.{fold_to, IsFresh, Tells, Continues, IsClosed}
+use Rattle.operator_fns.specs.Prefixes.{fold_to, IsFresh, FoldsWithNext, Continues, IsClosed}
 use Rattle.operator_fns.proofs.Runs.{through, as_it_is, run_first, run_more, first_row, later_row}
 
 regroup : {A B C : Type 0} (r : Result A Kind) (g : A → Result B Kind) (h : B → Result C Kind) → and_then (and_then r g) h ≡ and_then r (λ z. and_then (g z) h)
@@ -31,12 +31,12 @@ module _ {A : Type 0} (f : A → A → Result A Kind) where
       (λ w. sym (fold_more f y (rest ++ w ∷ []) (omega (arith, length-append rest (w ∷ [])))))
 
 module _ (f : ℤ → ℤ → Result ℤ Kind) where
-  pub fresh_tells : (gives : ℤ → Result ℤ Kind) → IsFresh gives → Tells f gives []
+  pub fresh_tells : (gives : ℤ → Result ℤ Kind) → IsFresh gives → FoldsWithNext f gives []
   fresh_tells gives fresh = record { is = λ v fits. fresh.is v fits }
 
   -- one more number is in the list
-  pub tells_more : (before after : ℤ → Result ℤ Kind) (xs : List ℤ) (x : ℤ) → IsClosed f → FitsSigned w64 x → Tells f before xs → Continues (f x) before after
-      → Tells f after (xs ++ x ∷ [])
+  pub tells_more : (before after : ℤ → Result ℤ Kind) (xs : List ℤ) (x : ℤ) → IsClosed f → FitsSigned w64 x → FoldsWithNext f before xs → Continues (f x) before after
+      → FoldsWithNext f after (xs ++ x ∷ [])
   tells_more before after xs x closed fits told next = record { is = λ v fit. next.is v fit ∙ decide v fit (f x v) refl ∙ sym (fold_two f xs x v) ∙ ap (folded f) (sym (append_assoc xs (x ∷ []) (v ∷ []))) }
     where
       decide : (v : ℤ) → FitsSigned w64 v → (r : Result ℤ Kind) → f x v ≡ r → and_then (f x v) before ≡ and_then (f x v) (λ w. folded f (xs ++ w ∷ []))
@@ -48,7 +48,7 @@ module _ (f : ℤ → ℤ → Result ℤ Kind) where
 module _ (f : ℤ → ℤ → Result ℤ Kind) (zs : List ℤ) (stride count : ℕ) (apart : 0 < stride) (some : 1 ≤ count) (place : ℕ) (before : ℤ → Result ℤ Kind)
     (fits : FitsSigned w64 (get_or zs place (pos 0)))
     (fresh : depth stride count place ≡ 0 → IsFresh before)
-    (told : 0 < depth stride count place → Tells f before (run_to (pos 0) zs stride count (place - stride))) where
+    (told : 0 < depth stride count place → FoldsWithNext f before (run_to (pos 0) zs stride count (place - stride))) where
   pub fold_here : fold_to f zs stride count place ≡ before (get_or zs place (pos 0))
   fold_here = decide (depth stride count place) refl
     where
@@ -58,16 +58,16 @@ module _ (f : ℤ → ℤ → Result ℤ Kind) (zs : List ℤ) (stride count : �
           let deep : 0 < depth stride count place = omega (arith, e) in
           ap (folded f) (run_more stride count apart some (pos 0) zs place deep) ∙ sym ((told deep).is (get_or zs place (pos 0)) fits)
 
-  pub tells_here : (after : ℤ → Result ℤ Kind) → IsClosed f → Continues (f (get_or zs place (pos 0))) before after → Tells f after (run_to (pos 0) zs stride count place)
+  pub tells_here : (after : ℤ → Result ℤ Kind) → IsClosed f → Continues (f (get_or zs place (pos 0))) before after → FoldsWithNext f after (run_to (pos 0) zs stride count place)
   tells_here after closed next = decide (depth stride count place) refl
     where
-      decide : (d : ℕ) → depth stride count place ≡ d → Tells f after (run_to (pos 0) zs stride count place)
+      decide : (d : ℕ) → depth stride count place ≡ d → FoldsWithNext f after (run_to (pos 0) zs stride count place)
       decide zero e =
-          subst (Tells f after) (sym (run_first stride count apart some (pos 0) zs place e))
+          subst (FoldsWithNext f after) (sym (run_first stride count apart some (pos 0) zs place e))
           (tells_more f before after [] (get_or zs place (pos 0)) closed fits (fresh_tells f before (fresh e)) next)
       decide (suc d) e =
           let deep : 0 < depth stride count place = omega (arith, e) in
-          subst (Tells f after) (sym (run_more stride count apart some (pos 0) zs place deep))
+          subst (FoldsWithNext f after) (sym (run_more stride count apart some (pos 0) zs place deep))
           (tells_more f before after _ (get_or zs place (pos 0)) closed fits (told deep) next)
 
 -- ---- what is kept of a line, and of those a stride apart
@@ -75,7 +75,7 @@ module _ (f : ℤ → ℤ → Result ℤ Kind) (zs : List ℤ) (stride count : �
 -- a line of which these numbers are known so far
 pub record Keeps {A : Type 0} (step : A → ℤ → ℤ → Result ℤ Kind) (gives : A → ℤ → Result ℤ Kind) (f : ℤ → ℤ → Result ℤ Kind) (xs : List ℤ) (line : A) : Type 0 where
   pub same : step line ≡ f
-  pub tells : Tells f (gives line) xs
+  pub tells : FoldsWithNext f (gives line) xs
 
 mod_other : (p q s : ℕ) → 0 < s → p < q → q < p + s → q % s ≡ p % s → ⊥
 mod_other p q s some low high e =
@@ -99,7 +99,7 @@ AreFoldsKept step gives none zs stride count place lines = (q : ℕ) → place �
 pub record IsFoldKept {A : Type 0} (step : A → ℤ → ℤ → Result ℤ Kind) (gives : A → ℤ → Result ℤ Kind) (none : A) (zs : List ℤ) (stride count place : ℕ) (line : A) : Type 0 where
   pub same : step line ≡ step none
   pub fresh : depth stride count place ≡ 0 → IsFresh (gives line)
-  pub told : 0 < depth stride count place → Tells (step none) (gives line) (run_to (pos 0) zs stride count (place - stride))
+  pub told : 0 < depth stride count place → FoldsWithNext (step none) (gives line) (run_to (pos 0) zs stride count (place - stride))
 
 module _ {A : Type 0} (step : A → ℤ → ℤ → Result ℤ Kind) (gives : A → ℤ → Result ℤ Kind) (none : A) (zs : List ℤ) (stride count : ℕ) (apart : 0 < stride) (some : 1 ≤ count) where
   pub line_kept : (place block_place column : ℕ) (lines : List A) (line : A) → AreFoldsKept step gives none zs stride count place lines → IsFresh (gives none)
@@ -125,7 +125,7 @@ module _ {A : Type 0} (step : A → ℤ → ℤ → Result ℤ Kind) (gives : A 
             record {
               same = ap step is ∙ was.same;
               fresh = λ d. absurd (omega (arith, deep, d));
-              told = λ d. subst (λ l. Tells (step none) (gives l) (run_to (pos 0) zs stride count (place - stride))) (sym is) was.tells;
+              told = λ d. subst (λ l. FoldsWithNext (step none) (gives l) (run_to (pos 0) zs stride count (place - stride))) (sym is) was.tells;
             }
       ]
 
@@ -183,7 +183,7 @@ module _ {A : Type 0} (step : A → ℤ → ℤ → Result ℤ Kind) (gives : A 
         same = same ∙ it.same;
         fresh = λ d. absurd (omega (arith, deep, d));
         told = λ d.
-            subst (λ p. Tells (step none) (gives after) (run_to (pos 0) zs 1 count p)) (sym back)
+            subst (λ p. FoldsWithNext (step none) (gives after) (run_to (pos 0) zs 1 count p)) (sym back)
             (tells_here (step none) zs 1 count (omega arith) some place (gives line) fits it.fresh it.told (gives after) closed
             (subst (λ f. Continues (f (get_or zs place (pos 0))) (gives line) (gives after)) it.same next));
       }

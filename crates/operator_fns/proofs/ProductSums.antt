@@ -15,8 +15,8 @@ use Rattle.scalar_fns.specs.Numbers.{dyadic_on_numbers, number_or_limit}
 use Rattle.scalar_fns.specs.Folds.{folded}
 use Rattle.operator_fns.specs.Sum.{sum_of}
 use Rattle.operator_fns.specs.InnerProduct.{all_or_last_error}
-use Rattle.operator_fns.specs.RowByColumn.{met, folded_all}
-use Rattle.operator_fns.specs.SmallProducts.{sum_of_products, IsNear, AddUp, EndsInSums, IsProduct}
+use Rattle.operator_fns.specs.RowByColumn.{all_met, folded_all}
+use Rattle.operator_fns.specs.SmallProducts.{sum_of_products, IsNoFurther, AddUp, EndsInSums, IsProduct}
 use Rattle.operator_fns.proofs.Endings.{held_within, within_of}
 use Rattle.operator_fns.proofs.Firsts.{same_rules}
 
@@ -36,7 +36,7 @@ sum_more : (xs : List ℤ) (z : ℤ) → sum_of (xs ++ z ∷ []) ≡ sum_of xs +
 sum_more [] z = omega (arith, ints)
 sum_more (x ∷ xs) z = ap (λ s. x +ℤ s) (sum_more xs z) ∙ omega (arith, ints)
 
-pub sum_near : (most : ℕ) (xs : List ℤ) → All (IsNear most) xs → unsigned_abs (sum_of xs) ≤ most * length xs
+pub sum_near : (most : ℕ) (xs : List ℤ) → All (IsNoFurther most) xs → unsigned_abs (sum_of xs) ≤ most * length xs
 sum_near most [] h = omega arith
 sum_near most (x ∷ xs) h =
     let here = (h 0 x (omega arith)).near in
@@ -44,11 +44,11 @@ sum_near most (x ∷ xs) h =
     let both = abs_add x (sum_of xs) in
     omega arith
 
-near_folded : (most : ℕ) (xs : List ℤ) → 0 < length xs → most * length xs < 2 ^ 63 → All (IsNear most) xs → folded (dyadic_on_numbers Plus) xs ≡ Ok (sum_of xs)
+near_folded : (most : ℕ) (xs : List ℤ) → 0 < length xs → most * length xs < 2 ^ 63 → All (IsNoFurther most) xs → folded (dyadic_on_numbers Plus) xs ≡ Ok (sum_of xs)
 near_folded most [] some few h = absurd (omega arith)
 near_folded most (x ∷ []) some few h = ap Ok (omega (arith, ints))
 near_folded most (x ∷ y ∷ rest) some few h =
-    let later : All (IsNear most) (y ∷ rest) = λ k d below. h (suc k) d (omega arith) in
+    let later : All (IsNoFurther most) (y ∷ rest) = λ k d below. h (suc k) d (omega arith) in
     let fewer : most * length (y ∷ rest) < 2 ^ 63 = omega arith in
     ap (λ r. and_then r (dyadic_on_numbers Plus x)) (near_folded most (y ∷ rest) (omega arith) fewer later)
     ∙ near_held (x +ℤ sum_of (y ∷ rest)) (most * length (x ∷ y ∷ rest)) (sum_near most (x ∷ y ∷ rest) h) few
@@ -96,7 +96,7 @@ module _ (row column : ℕ → ℤ) (n : ℕ) (small : AreSmall row column n) wh
   abbrev products : ℕ → List ℤ
   products k = map (λ k. row k *ℤ column k) (range_with_len 0 k)
 
-  near_products : (k : ℕ) → k ≤ n → All (IsNear most) (products k)
+  near_products : (k : ℕ) → k ≤ n → All (IsNoFurther most) (products k)
   near_products k high i d below =
       let long = length-map-range_with_len (λ k. row k *ℤ column k) 0 k in
       let inside : i < k = omega arith in
@@ -125,10 +125,10 @@ module _ (row column : ℕ → ℤ) (n : ℕ) (small : AreSmall row column n) wh
   next_fits k below = subst (FitsSigned w64) (next_sum row column k) (part_fits (k + 1) (omega arith))
 
   -- the fold of what is met is the sum
-  pub products_folded : 1 ≤ n → folded_all (dyadic_on_numbers Plus) (met (dyadic_on_numbers Times) row column n) ≡ Ok (sum_of_products row column n)
+  pub products_folded : 1 ≤ n → folded_all (dyadic_on_numbers Plus) (all_met (dyadic_on_numbers Times) row column n) ≡ Ok (sum_of_products row column n)
   products_folded some =
       let long = length-map-range_with_len (λ k. row k *ℤ column k) 0 n in
-      let fine : met (dyadic_on_numbers Times) row column n ≡ map (λ k. Ok (row k *ℤ column k)) (range_with_len 0 n) =
+      let fine : all_met (dyadic_on_numbers Times) row column n ≡ map (λ k. Ok (row k *ℤ column k)) (range_with_len 0 n) =
       same_rules (λ k. dyadic_on_numbers Times (row k) (column k)) (λ k. Ok (row k *ℤ column k)) n
       (λ k below. held_within (row k *ℤ column k) (within_of (row k *ℤ column k) (product_fits k below))) in
       ap (folded_all (dyadic_on_numbers Plus)) fine
@@ -170,8 +170,8 @@ parts_add_up xs ys first long count most small same =
     record {
       most_x = small.most_x;
       most_y = small.most_y;
-      near_x = All-take (IsNear small.most_x) long (drop first xs) (All-drop (IsNear small.most_x) first xs small.near_x);
-      near_y = All-take (IsNear small.most_y) most ys small.near_y;
+      near_x = All-take (IsNoFurther small.most_x) long (drop first xs) (All-drop (IsNoFurther small.most_x) first xs small.near_x);
+      near_y = All-take (IsNoFurther small.most_y) most ys small.near_y;
       few = subst (λ n. small.most_x * small.most_y * n < 2 ^ 63) (sym same) small.few;
     }
 

@@ -26,7 +26,7 @@ use Rattle.operator_fns.specs.LinearScan.{folds_from}
 use Rattle.operator_fns.specs.Scan.{scan_item, scan_along}
 use Rattle.operator_fns.proofs.Folds.{some_folded}
 use Rattle.operator_fns.proofs.Reduced.{folded_numbers}
-use Rattle.operator_fns.proofs.Tables.{as_many_as}
+use Rattle.operator_fns.proofs.OuterRows.{as_many_as}
 
 -- ---- numbers as the items of a vector
 

@@ -1,8 +1,13 @@
--- The bits of small numbers that are moved up.
-use Rattle.std.proofs.Common.{◌+◌, ◌%◌, ◌<◌, ℤ, pos, negsuc, arith, of_z, w64, SFits}
+-- Numbers within a bound, and the bits of those that are moved up by it.
+use Rattle.std.proofs.Common.{ℕ, ◌+◌, ◌%◌, ◌/◌, ◌<◌, ℤ, pos, negsuc, arith, of_z, w64, SFits}
 use Rattle.std.proofs.lemmas.Int.{ints}
-use Rattle.operator_fns.specs.Sum.{IsSmall}
+use Rattle.operator_fns.specs.Sum.{IsWithinBound}
+use Rattle.operator_fns.specs.SmallProducts.{IsNoFurther}
 
-pub small_bits : (z : ℤ) → SFits w64 z → (of_z w64 z + 8796093022208) % 18446744073709551616 < 17592186044416 → IsSmall z
-small_bits (pos n) fit h = let inside = fit.sfits in record { low = omega (arith, ints); high = omega (arith, ints) }
-small_bits (negsuc n) fit h = let inside = fit.sfits in record { low = omega (arith, ints); high = omega (arith, ints) }
+pub within_bits : (bound : ℕ) (z : ℤ) → bound < 18446744073709551616 → SFits w64 z → (of_z w64 z + bound) % 18446744073709551616 / 2 < bound → IsWithinBound bound z
+within_bits bound (pos n) few fit h = let inside = fit.sfits in record { low = omega (arith, ints); high = omega (arith, ints) }
+within_bits bound (negsuc n) few fit h = let inside = fit.sfits in record { low = omega (arith, ints); high = omega (arith, ints) }
+
+pub no_further : (bound : ℕ) (z : ℤ) → IsWithinBound bound z → IsNoFurther bound z
+no_further bound (pos n) within = let high = within.high in record { near = omega (arith, ints) }
+no_further bound (negsuc n) within = let low = within.low in record { near = omega (arith, ints) }

@@ -10,7 +10,7 @@ use Rattle.arrays_core.specs.Arrays.{ArrayValue}
 use Rattle.index_region.specs.Boxes.{Interval, interval_length, box_size, walk_at}
 
 -- numbers, as many as a box has places
-pub record IsTableOf (region : List Interval) (a : ArrayValue) : Type 0 where
+pub record FillsBox (region : List Interval) (a : ArrayValue) : Type 0 where
   pub typed : a.item_type ≡ Nums
   pub long : length a.items ≡ box_size region
 

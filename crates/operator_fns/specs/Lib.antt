@@ -18,7 +18,7 @@ pub mod Prefixes
 pub mod RecalledScan
 pub mod ResidueScan
 pub mod RowByColumn
-pub mod ResultTable
+pub mod OuterResults
 pub mod Sum
 pub mod SumNodes
 -- What changes of results.

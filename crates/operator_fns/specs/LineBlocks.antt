@@ -2,7 +2,7 @@
 use Rattle.std.specs.Prelude.{◌≡◌, ℕ, ◌+◌, ◌*◌, ◌/◌, ◌%◌, ◌^◌, ◌<◌, ◌≤◌, ◌⊎◌, ℤ, List, length}
 use Rattle.operator_fns.specs.declared.line_tree.Line.{Line}
 use Rattle.operator_fns.specs.Strides.{line_start}
-use Rattle.operator_fns.specs.LineTrees.{Halves, nodes_in_line, node_of, IsKept, AreKept}
+use Rattle.operator_fns.specs.LineTrees.{Halves, nodes_in_line, node_of, IsKept, ArePartsKept}
 
 -- a line of a block, of which the first one is told
 abbrev pub line_of : Line → (column : ℕ) → Line
@@ -44,17 +44,17 @@ pub record HaveNodes (h : Halves) (first : Line) (nodes : ℕ) : Type 0 where
 -- ---- what is kept of the parts of each line, where it is told how the numbers of a line are read from its slots
 
 -- of those that begin behind a place, and of those that begin there and are no wider than this
-abbrev pub AreKeptBehind : {P : Type 0} → Halves → P → (P → List ℤ → Type 0) → (Line → List ℤ → ℕ → ℤ) → (from width : ℕ) → Line → List ℤ → List P → Type 0
-AreKeptBehind h blank tells number from width first slots nodes = (column : ℕ) → column < first.step → (level place : ℕ)
+abbrev pub ArePartsKeptBehind : {P : Type 0} → Halves → P → (P → List ℤ → Type 0) → (Line → List ℤ → ℕ → ℤ) → (from width : ℕ) → Line → List ℤ → List P → Type 0
+ArePartsKeptBehind h blank tells number from width first slots nodes = (column : ℕ) → column < first.step → (level place : ℕ)
     → (from < place * (2 * h.half level) ⊎ place * (2 * h.half level) ≡ from × 2 * h.half level ≤ width)
     → IsKept tells first.count (number (line_of first column) slots) (node_of h blank (line_of first column) nodes) (place * (2 * h.half level)) (h.half level)
 
 -- of all parts from a place on
-abbrev pub AreKeptFrom : {P : Type 0} → Halves → P → (P → List ℤ → Type 0) → (Line → List ℤ → ℕ → ℤ) → (from : ℕ) → Line → List ℤ → List P → Type 0
-AreKeptFrom h blank tells number from first slots nodes = (column : ℕ) → column < first.step → (level place : ℕ) → from ≤ place * (2 * h.half level)
+abbrev pub ArePartsKeptFrom : {P : Type 0} → Halves → P → (P → List ℤ → Type 0) → (Line → List ℤ → ℕ → ℤ) → (from : ℕ) → Line → List ℤ → List P → Type 0
+ArePartsKeptFrom h blank tells number from first slots nodes = (column : ℕ) → column < first.step → (level place : ℕ) → from ≤ place * (2 * h.half level)
     → IsKept tells first.count (number (line_of first column) slots) (node_of h blank (line_of first column) nodes) (place * (2 * h.half level)) (h.half level)
 
 -- of all parts of all lines
 abbrev pub AreAllKept : {P : Type 0} → Halves → P → (P → List ℤ → Type 0) → (Line → List ℤ → ℕ → ℤ) → (count step : ℕ) → List ℤ → List P → Type 0
 AreAllKept h blank tells number count step slots nodes =
-    (line : ℕ) → line < length slots / count → AreKept h tells count (number (line_at h count step line) slots) (node_of h blank (line_at h count step line) nodes)
+    (line : ℕ) → line < length slots / count → ArePartsKept h tells count (number (line_at h count step line) slots) (node_of h blank (line_at h count step line) nodes)

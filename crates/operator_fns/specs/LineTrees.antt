@@ -20,8 +20,8 @@ abbrev pub slot_of : Line → List ℤ → ℕ → ℤ
 slot_of l slots place = get_or slots (slot_at l place) (pos 0)
 
 -- the number at a place: where another one comes after an even place, the slot holds what 64 bits hold of the sum of both
-abbrev pub number_of : Line → List ℤ → ℕ → ℤ
-number_of l slots place =
+abbrev pub number_in_line : Line → List ℤ → ℕ → ℤ
+number_in_line l slots place =
     if nat_eq (place % 2) 0 && nat_lt (place + 1) l.count then int_wrap w64 (slot_of l slots place -ℤ slot_of l slots (place + 1))
     else slot_of l slots place
 
@@ -111,21 +111,21 @@ abbrev pub IsKept : {P : Type 0} → (P → List ℤ → Type 0) → (count : �
 IsKept tells count x node from half = from + half < count → tells (node (from + half)) (segment x from (min (2 * half) (count - from)))
 
 -- for all parts that have a node
-abbrev pub AreKept : {P : Type 0} → Halves → (P → List ℤ → Type 0) → (count : ℕ) → (ℕ → ℤ) → (ℕ → P) → Type 0
-AreKept h tells count x node = (level place : ℕ) → IsKept tells count x node (place * (2 * h.half level)) (h.half level)
+abbrev pub ArePartsKept : {P : Type 0} → Halves → (P → List ℤ → Type 0) → (count : ℕ) → (ℕ → ℤ) → (ℕ → P) → Type 0
+ArePartsKept h tells count x node = (level place : ℕ) → IsKept tells count x node (place * (2 * h.half level)) (h.half level)
 
 -- for those within a part
-abbrev pub AreKeptIn : {P : Type 0} → Halves → (P → List ℤ → Type 0) → (from width count : ℕ) → (ℕ → ℤ) → (ℕ → P) → Type 0
-AreKeptIn h tells from width count x node = (level place : ℕ) → from ≤ place * (2 * h.half level) → place * (2 * h.half level) + 2 * h.half level ≤ from + width
+abbrev pub ArePartsKeptIn : {P : Type 0} → Halves → (P → List ℤ → Type 0) → (from width count : ℕ) → (ℕ → ℤ) → (ℕ → P) → Type 0
+ArePartsKeptIn h tells from width count x node = (level place : ℕ) → from ≤ place * (2 * h.half level) → place * (2 * h.half level) + 2 * h.half level ≤ from + width
     → IsKept tells count x node (place * (2 * h.half level)) (h.half level)
 
 -- for those that a place is not in
-abbrev pub AreKeptBeside : {P : Type 0} → Halves → (P → List ℤ → Type 0) → (at count : ℕ) → (ℕ → ℤ) → (ℕ → P) → Type 0
-AreKeptBeside h tells at count x node = (level place : ℕ) → (at < place * (2 * h.half level) ⊎ place * (2 * h.half level) + 2 * h.half level ≤ at)
+abbrev pub ArePartsKeptBeside : {P : Type 0} → Halves → (P → List ℤ → Type 0) → (at count : ℕ) → (ℕ → ℤ) → (ℕ → P) → Type 0
+ArePartsKeptBeside h tells at count x node = (level place : ℕ) → (at < place * (2 * h.half level) ⊎ place * (2 * h.half level) + 2 * h.half level ≤ at)
     → IsKept tells count x node (place * (2 * h.half level)) (h.half level)
 
 -- for those that end before a place, and for those that end there and are no wider than this
-abbrev pub AreKeptUpTo : {P : Type 0} → Halves → (P → List ℤ → Type 0) → (end width count : ℕ) → (ℕ → ℤ) → (ℕ → P) → Type 0
-AreKeptUpTo h tells end width count x node = (level place : ℕ)
+abbrev pub ArePartsKeptUpTo : {P : Type 0} → Halves → (P → List ℤ → Type 0) → (end width count : ℕ) → (ℕ → ℤ) → (ℕ → P) → Type 0
+ArePartsKeptUpTo h tells end width count x node = (level place : ℕ)
     → (place * (2 * h.half level) + 2 * h.half level < end ⊎ place * (2 * h.half level) + 2 * h.half level ≡ end × 2 * h.half level ≤ width)
     → IsKept tells count x node (place * (2 * h.half level)) (h.half level)

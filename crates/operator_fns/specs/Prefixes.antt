@@ -18,7 +18,7 @@ pub record IsFresh (gives : ℤ → Result ℤ Kind) : Type 0 where
   pub is : (v : ℤ) → FitsSigned w64 v → gives v ≡ Ok v
 
 -- what a list of numbers and one more of 64 bits fold to
-pub record Tells (f : ℤ → ℤ → Result ℤ Kind) (gives : ℤ → Result ℤ Kind) (xs : List ℤ) : Type 0 where
+pub record FoldsWithNext (f : ℤ → ℤ → Result ℤ Kind) (gives : ℤ → Result ℤ Kind) (xs : List ℤ) : Type 0 where
   pub is : (v : ℤ) → FitsSigned w64 v → gives v ≡ folded f (xs ++ v ∷ [])
 
 -- a function of the next number, where another one is applied to it first

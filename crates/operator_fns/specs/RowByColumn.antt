@@ -20,8 +20,8 @@ abbrev pub IsInside : StridedLine → ℕ → ℕ → Type 0
 IsInside line count n = (k : ℕ) → k < count → line.first + k * line.stride < n
 
 -- what a function gives for each entry of a row with the entry of a column that it meets
-abbrev pub met : {A : Type 0} → (A → A → Result A Kind) → (row column : ℕ → A) → ℕ → List (Result A Kind)
-met g row column count = map (λ k. g (row k) (column k)) (range_with_len 0 count)
+abbrev pub all_met : {A : Type 0} → (A → A → Result A Kind) → (row column : ℕ → A) → ℕ → List (Result A Kind)
+all_met g row column count = map (λ k. g (row k) (column k)) (range_with_len 0 count)
 
 -- the error of the last that has one, or another error
 abbrev pub last_error_or : {A : Type 0} → Kind → List (Result A Kind) → Kind
@@ -44,7 +44,7 @@ column_at grid place = record { first = place % grid.columns; stride = grid.colu
 
 -- the number at a place of the result
 abbrev pub cell : (f g : ℤ → ℤ → Result ℤ Kind) → (xs ys : List ℤ) → Grid → ℕ → Result ℤ Kind
-cell f g xs ys grid place = folded_all f (met g (entry (pos 0) xs (row_at grid place)) (entry (pos 0) ys (column_at grid place)) grid.count)
+cell f g xs ys grid place = folded_all f (all_met g (entry (pos 0) xs (row_at grid place)) (entry (pos 0) ys (column_at grid place)) grid.count)
 
 -- the rows and the columns of the places of a result are not empty, and lie within lists of n and m numbers
 pub record IsGridOf (grid : Grid) (places n m : ℕ) : Type 0 where

@@ -9,15 +9,15 @@ abbrev pub sum_of_products : (row column : ℕ → ℤ) → ℕ → ℤ
 sum_of_products row column count = sum_of (map (λ k. row k *ℤ column k) (range_with_len 0 count))
 
 -- not further from 0
-pub record IsNear (most : ℕ) (z : ℤ) : Type 0 where
+pub record IsNoFurther (most : ℕ) (z : ℤ) : Type 0 where
   pub near : unsigned_abs z ≤ most
 
 -- so many products of a number of one list and a number of another stay within 64 bits, in whatever order they are added
 pub record AddUp (count : ℕ) (xs ys : List ℤ) : Type 0 where
   pub most_x : ℕ
   pub most_y : ℕ
-  pub near_x : All (IsNear most_x) xs
-  pub near_y : All (IsNear most_y) ys
+  pub near_x : All (IsNoFurther most_x) xs
+  pub near_y : All (IsNoFurther most_y) ys
   pub few : most_x * most_y * count < 2 ^ 63
 
 -- a product, and a sum with it, are of 64 bits

@@ -15,8 +15,8 @@ pub record Sums : Type 0 where
   pub greatest : ℤ
 
 -- of no numbers
-abbrev pub none : Sums
-none = record { total = pos 0; least = pos 0; greatest = pos 0 }
+abbrev pub sums_of_none : Sums
+sums_of_none = record { total = pos 0; least = pos 0; greatest = pos 0 }
 
 -- of one number
 abbrev pub single : ℤ → Sums
@@ -32,7 +32,7 @@ join a b = record {
 
 -- of a list
 abbrev pub sums_of : List ℤ → Sums
-sums_of [] = none
+sums_of [] = sums_of_none
 sums_of (z ∷ rest) = join (single z) (sums_of rest)
 
 -- the sum from the right that these tell
@@ -49,22 +49,22 @@ pub record IsOrdered (s : Sums) : Type 0 where
 -- ---- what is kept of them
 
 -- the sums that are told by what is kept
-abbrev pub told : Summary → Sums
-told s = record { total = pos s.total -ℤ pos s.below; least = neg_ℤ (pos s.below); greatest = pos s.above }
+abbrev pub told_sums : Summary → Sums
+told_sums s = record { total = pos s.total -ℤ pos s.below; least = neg_ℤ (pos s.below); greatest = pos s.above }
 
 -- they are too far apart for any list with these numbers in it
 abbrev pub IsFar : Sums → Type 0
 IsFar m = (m.least +ℤ pos (2 ^ 64)) ≤ℤ m.greatest
 
--- it tells these sums; where they are too far apart, others that are so too
-pub record Tells (s : Summary) (m : Sums) : Type 0 where
+-- a summary tells these sums; where they are too far apart, others that are so too
+pub record IsSummaryOf (s : Summary) (m : Sums) : Type 0 where
   pub ordered : IsOrdered m
-  pub sound : IsOrdered (told s)
-  pub is : told s ≡ m ⊎ IsFar m × IsFar (told s)
+  pub sound : IsOrdered (told_sums s)
+  pub is : told_sums s ≡ m ⊎ IsFar m × IsFar (told_sums s)
 
 -- it tells the sums of a list
 abbrev pub TellsSums : Summary → List ℤ → Type 0
-TellsSums s xs = Tells s (sums_of xs)
+TellsSums s xs = IsSummaryOf s (sums_of xs)
 
 -- of no numbers
 abbrev pub empty : Summary

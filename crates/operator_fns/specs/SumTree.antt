@@ -10,7 +10,7 @@ use Rattle.operator_fns.specs.declared.summary.Summary.{Summary}
 use Rattle.operator_fns.specs.declared.line_tree.Line.{Line}
 use Rattle.operator_fns.specs.RightFold.{fold_right}
 use Rattle.operator_fns.specs.SumNodes.{empty, TellsSums}
-use Rattle.operator_fns.specs.LineTrees.{from_four, number_of, node_of, AreKept}
+use Rattle.operator_fns.specs.LineTrees.{from_four, number_in_line, node_of, ArePartsKept}
 
 -- what the reduction of these numbers by + gives
 abbrev pub IsReductionBySum : List ℤ → Result ℤ Kind → Type 0
@@ -27,12 +27,12 @@ abbrev pub one_line : ℕ → Line
 one_line count = record { count = count; step = 1; slot = 0; node = 0 }
 
 -- its numbers
-abbrev pub numbers_in : List ℤ → List ℤ
-numbers_in slots = map (number_of (one_line (length slots)) slots) (range_with_len 0 (length slots))
+abbrev pub numbers_in_slots : List ℤ → List ℤ
+numbers_in_slots slots = map (number_in_line (one_line (length slots)) slots) (range_with_len 0 (length slots))
 
 -- what is kept of it
 pub record IsTree (slots : List ℤ) (nodes : List Summary) : Type 0 where
   pub few : length slots < 2 ^ 62
   pub fit : All (FitsSigned w64) slots
   pub sized : length nodes ≡ (length slots - 1) / 2
-  pub kept : AreKept from_four TellsSums (length slots) (number_of (one_line (length slots)) slots) (node_of from_four empty (one_line (length slots)) nodes)
+  pub kept : ArePartsKept from_four TellsSums (length slots) (number_in_line (one_line (length slots)) slots) (node_of from_four empty (one_line (length slots)) nodes)

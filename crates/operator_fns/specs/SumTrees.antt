@@ -8,7 +8,7 @@ use Rattle.operator_fns.specs.declared.line_tree.Line.{Line}
 use Rattle.scalar_fns.specs.Folds.{strided}
 use Rattle.operator_fns.specs.Strides.{line_start}
 use Rattle.operator_fns.specs.SumNodes.{empty, TellsSums}
-use Rattle.operator_fns.specs.LineTrees.{Halves, from_four, number_of, nodes_in_line}
+use Rattle.operator_fns.specs.LineTrees.{Halves, from_four, number_in_line, nodes_in_line}
 use Rattle.operator_fns.specs.LineBlocks.{line_at, AreAllKept}
 
 -- ---- the lines of an array along one axis
@@ -47,7 +47,7 @@ with_lines t numbers = record { count = t.count; step = t.step; numbers = t.numb
 
 -- the number at a place of all lines whose numbers are kept in a list of slots
 abbrev pub number_kept : (count step : ℕ) → List ℤ → (place : ℕ) → ℤ
-number_kept count step slots place = number_of (line_at from_four count step (line_through count step place)) slots (place / step % count)
+number_kept count step slots place = number_in_line (line_at from_four count step (line_through count step place)) slots (place / step % count)
 
 -- all of them
 abbrev pub numbers_kept : (count step : ℕ) → List ℤ → List ℤ
@@ -69,7 +69,7 @@ pub record AreLineTrees {P : Type 0} (h : Halves) (blank : P) (tells : P → Lis
 
 -- those of sums, where the two lists lie in pieces of memory of these capacities, each with room for the next power of two as many
 pub record AreSumTrees (count step : ℕ) (slots : List ℤ) (nodes : List Summary) (slot_capacity node_capacity : ℕ) : Type 0 where
-  pub trees : AreLineTrees from_four empty TellsSums number_of count step slots nodes
+  pub trees : AreLineTrees from_four empty TellsSums number_in_line count step slots nodes
   pub fit : All (FitsSigned w64) slots
   pub slot_room : IsRoomy (length slots) slot_capacity
   pub node_room : IsRoomy (length nodes) node_capacity

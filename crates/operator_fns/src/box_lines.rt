@@ -10,7 +10,7 @@ ghost use Rattle.function_names.specs.Axes.{axis_at};
 ghost use Rattle.index_region.specs.Boxes.{box_size, fits, is_within};
 ghost use Rattle.index_region.specs.Checks.{form_of};
 ghost use Rattle.operator_fns.specs.Scan.{scan_form, scan_item};
-ghost use Rattle.operator_fns.specs.BoxLines.{Holds, IsOneError, IsTableOf, LineIsIn};
+ghost use Rattle.operator_fns.specs.BoxLines.{Holds, IsOneError, FillsBox, LineIsIn};
 
 use crate::scan::Scan;
 use arrays_core::{ApplyFault, Array, ItemType, Kind, shape_of, with_axis, without_axis};
@@ -45,8 +45,8 @@ fn write_line(
     requires fit { IsTrue (fits region.now array.now.shape) }
     requires inside { IsTrue (is_within region.now index.now) }
     requires begins { get_or index.now axis 1 ≡ (get_or region.now axis (0, 0)).0 }
-    requires table { IsTableOf region.now table.old }
-    ensures table { IsTableOf region.now table.new }
+    requires table { FillsBox region.now table.old }
+    ensures table { FillsBox region.now table.new }
     ensures keeps { (place : ℕ) → Holds (scan_item scan.now.function scan.now.along array.now) region.now table.old place → Holds (scan_item scan.now.function scan.now.along array.now) region.now table.new place }
     ensures line { IfSome result (LineIsIn (scan_item scan.now.function scan.now.along array.now) region.now axis index.now table.new) }
 {

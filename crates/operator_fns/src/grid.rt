@@ -10,7 +10,7 @@ ghost use Rattle.scalar_fns.specs.Items.{number_item};
 ghost use Rattle.operator_fns.specs.RowByColumn.{cell, IsGridOf, IsPlain};
 
 use crate::met_numbers::MetNumbers;
-use crate::number_rule::{NumberRule, collect_numbers};
+use crate::number_function::{NumberFunction, collect_numbers};
 use crate::row_by_column::{NumberLines, StridedLine, fold_row};
 use crate::small_products::{add_up, small_products};
 use arrays_core::{ApplyFault, Array, Kind, Shape, size};
@@ -56,7 +56,7 @@ struct Cells<'a, F, G> {
     ghost fits: { IsGridOf grid places (length left.now) (length right.now) },
 }
 
-impl<'a, F: TwoNumbers, G: TwoNumbers> NumberRule for Cells<'a, F, G> {
+impl<'a, F: TwoNumbers, G: TwoNumbers> NumberFunction for Cells<'a, F, G> {
     ghost places = { λ r. r.places };
 
     ghost number = { λ r place. cell (F.gives r.fold.now) (G.gives r.each.now) r.left.now r.right.now r.grid place };

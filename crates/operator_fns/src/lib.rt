@@ -2,6 +2,7 @@
 #![tactic(auto)]
 
 mod axis_lines;
+mod bounds;
 mod box_lines;
 mod columns;
 mod differences;
@@ -12,7 +13,7 @@ mod limits;
 mod line_tree;
 mod linear_scan;
 mod met_numbers;
-mod number_rule;
+mod number_function;
 mod number_scan;
 mod outcomes;
 mod outer_product;

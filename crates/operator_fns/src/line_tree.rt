@@ -2,10 +2,10 @@
 
 ghost use Rattle.std.specs.Prelude.{◌≡◌, ◌≢◌, pos, get_or, ℕ, ◌+◌, ◌-◌, ◌*◌, ◌/◌, ◌%◌, ◌^◌, ◌<◌, ◌≤◌, ◌++◌, ◌∷◌, [], min, ℤ, List, length, vec_len, vec_capacity, FitsSigned, All, ◌⊎◌};
 ghost use Rattle.std.specs.Int.{w64};
-ghost use Rattle.operator_fns.specs.SumNodes.{Sums, Tells, join, sums_from, sums_at, empty, TellsSums};
-ghost use Rattle.operator_fns.specs.LineTrees.{slot_at, node_at, nth_node, slot_of, number_of, HasSlots, ArePaired, IsPart, AreSameIn, other_half, replaced, shorter, from_four, IsIn, node_of, AreKept, AreKeptIn, AreKeptBeside, AreKeptUpTo};
+ghost use Rattle.operator_fns.specs.SumNodes.{Sums, IsSummaryOf, join, sums_from, sums_at, empty, TellsSums};
+ghost use Rattle.operator_fns.specs.LineTrees.{slot_at, node_at, nth_node, slot_of, number_in_line, HasSlots, ArePaired, IsPart, AreSameIn, other_half, replaced, shorter, from_four, IsIn, node_of, ArePartsKept, ArePartsKeptIn, ArePartsKeptBeside, ArePartsKeptUpTo};
 ghost use Rattle.operator_fns.specs.SumTree.{IsWithinDigitsOf};
-ghost use Rattle.operator_fns.specs.LineBlocks.{line_of, slots_end, HaveSlots, nodes_end, HaveNodes, AreKeptBehind, AreKeptFrom};
+ghost use Rattle.operator_fns.specs.LineBlocks.{line_of, slots_end, HaveSlots, nodes_end, HaveNodes, ArePartsKeptBehind, ArePartsKeptFrom};
 
 use crate::summary::Summary;
 
@@ -77,7 +77,7 @@ impl<'a> LineTree<'a> {
     pub(crate) fn number(&self, place: usize) -> i64
         requires inside { IsIn from_four self.now.line (length self.now.slots.now) (length self.now.nodes.now) }
         requires place { place < self.now.line.count }
-        ensures { result ≡ number_of self.now.line self.now.slots.now place }
+        ensures { result ≡ number_in_line self.now.line self.now.slots.now place }
     {
         let kept = self.slots[self.line.slot_at(place)];
         if place % 2 == 0 && place + 1 < self.line.count {
@@ -92,8 +92,8 @@ impl<'a> LineTree<'a> {
         requires full { from + width ≤ self.now.line.count }
         requires wide { 1 < width }
         requires part { IsPart from width }
-        requires kept { AreKeptIn from_four TellsSums from width self.now.line.count (number_of self.now.line self.now.slots.now) (node_of from_four empty self.now.line self.now.nodes.now) }
-        ensures { Tells result (sums_from (number_of self.now.line self.now.slots.now) from width) }
+        requires kept { ArePartsKeptIn from_four TellsSums from width self.now.line.count (number_in_line self.now.line self.now.slots.now) (node_of from_four empty self.now.line self.now.nodes.now) }
+        ensures { IsSummaryOf result (sums_from (number_in_line self.now.line self.now.slots.now) from width) }
     {
         if width == 2 {
             let sum = self.slots[self.line.slot_at(from)];
@@ -107,8 +107,8 @@ impl<'a> LineTree<'a> {
         requires inside { IsIn from_four self.now.line (length self.now.slots.now) (length self.now.nodes.now) }
         requires from { from < self.now.line.count }
         requires part { IsPart from width }
-        requires kept { AreKeptIn from_four TellsSums from width self.now.line.count (number_of self.now.line self.now.slots.now) (node_of from_four empty self.now.line self.now.nodes.now) }
-        ensures { Tells result (sums_from (number_of self.now.line self.now.slots.now) from (min width (self.now.line.count - from))) }
+        requires kept { ArePartsKeptIn from_four TellsSums from width self.now.line.count (number_in_line self.now.line self.now.slots.now) (node_of from_four empty self.now.line self.now.nodes.now) }
+        ensures { IsSummaryOf result (sums_from (number_in_line self.now.line self.now.slots.now) from (min width (self.now.line.count - from))) }
     {
         let long = width.min(self.line.count - from);
         if long == width && width > 1 {
@@ -129,8 +129,8 @@ impl<'a> LineTree<'a> {
     pub(crate) fn whole(&self) -> Summary
         requires inside { IsIn from_four self.now.line (length self.now.slots.now) (length self.now.nodes.now) }
         requires some { 0 < self.now.line.count }
-        requires kept { AreKept from_four TellsSums self.now.line.count (number_of self.now.line self.now.slots.now) (node_of from_four empty self.now.line self.now.nodes.now) }
-        ensures { Tells result (sums_from (number_of self.now.line self.now.slots.now) 0 self.now.line.count) }
+        requires kept { ArePartsKept from_four TellsSums self.now.line.count (number_in_line self.now.line self.now.slots.now) (node_of from_four empty self.now.line self.now.nodes.now) }
+        ensures { IsSummaryOf result (sums_from (number_in_line self.now.line self.now.slots.now) 0 self.now.line.count) }
     {
         self.part(0, self.line.count.next_power_of_two())
     }
@@ -142,10 +142,10 @@ impl<'a> LineTree<'a> {
         requires from { block * width < self.now.line.count }
         requires short { width < self.now.line.count }
         requires level { (level : ℕ) × (width ≡ 2 ^ level) }
-        requires kept { AreKeptIn from_four TellsSums (other_half block * width) width self.now.line.count (number_of self.now.line self.now.slots.now) (node_of from_four empty self.now.line self.now.nodes.now) }
-        requires told { (sums : Sums) × Tells summary.now sums }
-        ensures is { (x : ℕ → ℤ) → AreSameIn (other_half block * width) width (number_of self.now.line self.now.slots.now) x
-            → Tells summary.now (sums_at self.now.line.count x block width) → Tells result.0 (sums_at self.now.line.count x (block / 2) (2 * width)) }
+        requires kept { ArePartsKeptIn from_four TellsSums (other_half block * width) width self.now.line.count (number_in_line self.now.line self.now.slots.now) (node_of from_four empty self.now.line self.now.nodes.now) }
+        requires told { (sums : Sums) × IsSummaryOf summary.now sums }
+        ensures is { (x : ℕ → ℤ) → AreSameIn (other_half block * width) width (number_in_line self.now.line self.now.slots.now) x
+            → IsSummaryOf summary.now (sums_at self.now.line.count x block width) → IsSummaryOf result.0 (sums_at self.now.line.count x (block / 2) (2 * width)) }
         ensures joins { result.1 ≤ 1 }
         ensures none { result.1 ≡ 0 → (block % 2 ≡ 0) × (self.now.line.count ≤ block * width + width) }
         ensures one { result.1 ≡ 1 → (block / 2 * 2 + 1) * width < self.now.line.count }
@@ -165,8 +165,8 @@ impl<'a> LineTree<'a> {
     pub(crate) fn with(&self, place: usize, number: i64) -> (Summary, u32)
         requires inside { IsIn from_four self.now.line (length self.now.slots.now) (length self.now.nodes.now) }
         requires place { place < self.now.line.count }
-        requires kept { AreKept from_four TellsSums self.now.line.count (number_of self.now.line self.now.slots.now) (node_of from_four empty self.now.line self.now.nodes.now) }
-        ensures is { Tells result.0 (sums_from (replaced (number_of self.now.line self.now.slots.now) place number) 0 self.now.line.count) }
+        requires kept { ArePartsKept from_four TellsSums self.now.line.count (number_in_line self.now.line self.now.slots.now) (node_of from_four empty self.now.line self.now.nodes.now) }
+        ensures is { IsSummaryOf result.0 (sums_from (replaced (number_in_line self.now.line self.now.slots.now) place number) 0 self.now.line.count) }
         ensures most { IsWithinDigitsOf (self.now.line.count - 1) result.1 }
         ensures least { 1 < self.now.line.count → 0 < result.1 }
     {
@@ -190,7 +190,7 @@ fn put(slots: &mut [i64], line: Line, place: usize, number: i64)
     requires slots { HasSlots line (length slots.old) }
     requires fit { All (FitsSigned w64) slots.old }
     requires place { place < line.count }
-    ensures numbers { (i : ℕ) → i < line.count → number_of line slots.new i ≡ replaced (number_of line slots.old) place number i }
+    ensures numbers { (i : ℕ) → i < line.count → number_in_line line slots.new i ≡ replaced (number_in_line line slots.old) place number i }
     ensures fit { All (FitsSigned w64) slots.new }
     ensures others { (p : ℕ) → ((i : ℕ) → i < line.count → p ≢ slot_at line i) → get_or slots.new p (pos 0) ≡ get_or slots.old p (pos 0) }
     ensures length { length slots.new ≡ length slots.old }
@@ -213,8 +213,8 @@ fn put(slots: &mut [i64], line: Line, place: usize, number: i64)
 fn renew(slots: &[i64], nodes: &mut [Summary], line: Line, place: usize)
     requires inside { IsIn from_four line (length slots.now) (length nodes.old) }
     requires place { place < line.count }
-    requires kept { AreKeptBeside from_four TellsSums place line.count (number_of line slots.now) (node_of from_four empty line nodes.old) }
-    ensures kept { AreKept from_four TellsSums line.count (number_of line slots.now) (node_of from_four empty line nodes.new) }
+    requires kept { ArePartsKeptBeside from_four TellsSums place line.count (number_in_line line slots.now) (node_of from_four empty line nodes.old) }
+    ensures kept { ArePartsKept from_four TellsSums line.count (number_in_line line slots.now) (node_of from_four empty line nodes.new) }
     ensures others { (p : ℕ) → ((meeting : ℕ) → 2 ≤ meeting → meeting < line.count → p ≢ node_at line meeting) → get_or nodes.new p empty ≡ get_or nodes.old p empty }
     ensures length { length nodes.new ≡ length nodes.old }
 {
@@ -242,8 +242,8 @@ fn close_parts(nodes: &mut [Summary], line: Line, end: usize, width: usize)
     requires width { (level : ℕ) × (width ≡ 4 * 2 ^ level) }
     requires within { width ≤ end }
     requires nodes { node_at line end < length nodes.old }
-    requires kept { (x : ℕ → ℤ) × AreKeptUpTo from_four TellsSums end width line.count x (node_of from_four empty line nodes.old) }
-    ensures kept { (x : ℕ → ℤ) → AreKeptUpTo from_four TellsSums end width line.count x (node_of from_four empty line nodes.old) → AreKeptIn from_four TellsSums 0 end line.count x (node_of from_four empty line nodes.new) }
+    requires kept { (x : ℕ → ℤ) × ArePartsKeptUpTo from_four TellsSums end width line.count x (node_of from_four empty line nodes.old) }
+    ensures kept { (x : ℕ → ℤ) → ArePartsKeptUpTo from_four TellsSums end width line.count x (node_of from_four empty line nodes.old) → ArePartsKeptIn from_four TellsSums 0 end line.count x (node_of from_four empty line nodes.new) }
     ensures others { (p : ℕ) → p < line.node → get_or nodes.new p empty ≡ get_or nodes.old p empty }
     ensures length { length nodes.new ≡ length nodes.old }
 {
@@ -273,7 +273,7 @@ fn four_from(slots: &[i64], line: Line, from: usize) -> Summary
     requires near { line.step ≡ 1 }
     requires even { from % 2 ≡ 0 }
     requires full { from + 4 ≤ line.count }
-    ensures { Tells result (sums_from (number_of line slots.now) from 4) }
+    ensures { IsSummaryOf result (sums_from (number_in_line line slots.now) from 4) }
 {
     let at = line.slot + from;
     Summary::of_four(slots[at], slots[at + 1], slots[at + 2], slots[at + 3])
@@ -288,8 +288,8 @@ fn push_four(slots: &[i64], nodes: &mut Vec<Summary>, line: Line, from: usize)
     requires full { from + 4 < line.count }
     requires here { vec_len nodes.old ≡ line.node + from / 2 }
     requires room { line.node + from / 2 + 2 ≤ vec_capacity nodes.old }
-    requires kept { AreKeptIn from_four TellsSums 0 from line.count (number_of line slots.now) (node_of from_four empty line nodes.old.items) }
-    ensures kept { AreKeptIn from_four TellsSums 0 (from + 4) line.count (number_of line slots.now) (node_of from_four empty line nodes.new.items) }
+    requires kept { ArePartsKeptIn from_four TellsSums 0 from line.count (number_in_line line slots.now) (node_of from_four empty line nodes.old.items) }
+    ensures kept { ArePartsKeptIn from_four TellsSums 0 (from + 4) line.count (number_in_line line slots.now) (node_of from_four empty line nodes.new.items) }
     ensures others { (p : ℕ) → p < line.node → get_or nodes.new.items p empty ≡ get_or nodes.old.items p empty }
     ensures length { vec_len nodes.new ≡ line.node + from / 2 + 2 }
     ensures room { vec_capacity nodes.old ≤ vec_capacity nodes.new }
@@ -310,8 +310,8 @@ fn push_eight(slots: &[i64], nodes: &mut Vec<Summary>, line: Line, from: usize)
     requires full { from + 8 < line.count }
     requires here { vec_len nodes.old ≡ line.node + from / 2 }
     requires room { line.node + from / 2 + 4 ≤ vec_capacity nodes.old }
-    requires kept { AreKeptIn from_four TellsSums 0 from line.count (number_of line slots.now) (node_of from_four empty line nodes.old.items) }
-    ensures kept { AreKeptIn from_four TellsSums 0 (from + 8) line.count (number_of line slots.now) (node_of from_four empty line nodes.new.items) }
+    requires kept { ArePartsKeptIn from_four TellsSums 0 from line.count (number_in_line line slots.now) (node_of from_four empty line nodes.old.items) }
+    ensures kept { ArePartsKeptIn from_four TellsSums 0 (from + 8) line.count (number_in_line line slots.now) (node_of from_four empty line nodes.new.items) }
     ensures others { (p : ℕ) → p < line.node → get_or nodes.new.items p empty ≡ get_or nodes.old.items p empty }
     ensures length { vec_len nodes.new ≡ line.node + from / 2 + 4 }
     ensures room { vec_capacity nodes.old ≤ vec_capacity nodes.new }
@@ -333,7 +333,7 @@ fn push_fours(slots: &[i64], nodes: &mut Vec<Summary>, line: Line)
     requires some { 0 < line.count }
     requires here { vec_len nodes.old ≡ line.node }
     requires room { nodes_end from_four line ≤ vec_capacity nodes.old }
-    ensures kept { AreKeptIn from_four TellsSums 0 (4 * ((line.count - 1) / 4)) line.count (number_of line slots.now) (node_of from_four empty line nodes.new.items) }
+    ensures kept { ArePartsKeptIn from_four TellsSums 0 (4 * ((line.count - 1) / 4)) line.count (number_in_line line slots.now) (node_of from_four empty line nodes.new.items) }
     ensures others { (p : ℕ) → p < line.node → get_or nodes.new.items p empty ≡ get_or nodes.old.items p empty }
     ensures length { vec_len nodes.new ≡ line.node + 2 * ((line.count - 1) / 4) }
     ensures room { vec_capacity nodes.old ≤ vec_capacity nodes.new }
@@ -354,7 +354,7 @@ pub(crate) fn push_line(slots: &[i64], nodes: &mut Vec<Summary>, line: Line)
     requires some { 0 < line.count }
     requires here { vec_len nodes.old ≡ line.node }
     requires room { nodes_end from_four line ≤ vec_capacity nodes.old }
-    ensures kept { AreKept from_four TellsSums line.count (number_of line slots.now) (node_of from_four empty line nodes.new.items) }
+    ensures kept { ArePartsKept from_four TellsSums line.count (number_in_line line slots.now) (node_of from_four empty line nodes.new.items) }
     ensures others { (p : ℕ) → p < line.node → get_or nodes.new.items p empty ≡ get_or nodes.old.items p empty }
     ensures length { vec_len nodes.new ≡ nodes_end from_four line }
     ensures room { vec_capacity nodes.old ≤ vec_capacity nodes.new }
@@ -373,7 +373,7 @@ fn fours_row(slots: &[i64], nodes: &mut [Summary], first: Line, from: usize)
     requires nodes { HaveNodes from_four first (length nodes.old) }
     requires even { from % 2 ≡ 0 }
     requires full { from + 4 ≤ first.count }
-    ensures told { (column : ℕ) → column < first.step → Tells (node_of from_four empty (line_of first column) nodes.new (from + 2)) (sums_from (number_of (line_of first column) slots.now) from 4) }
+    ensures told { (column : ℕ) → column < first.step → IsSummaryOf (node_of from_four empty (line_of first column) nodes.new (from + 2)) (sums_from (number_in_line (line_of first column) slots.now) from 4) }
     ensures others { (p : ℕ) → (p < node_at first (from + 2) ⊎ node_at first (from + 2) + first.step ≤ p) → get_or nodes.new p empty ≡ get_or nodes.old p empty }
     ensures length { length nodes.new ≡ length nodes.old }
 {
@@ -393,10 +393,10 @@ fn halves_row(nodes: &mut [Summary], first: Line, from: usize, half: usize)
     requires nodes { HaveNodes from_four first (length nodes.old) }
     requires wide { 4 ≤ half }
     requires full { from + 2 * half ≤ first.count }
-    requires told { (column : ℕ) → column < first.step → (sums : Sums) × Tells (node_of from_four empty (line_of first column) nodes.old (from + half / 2)) sums }
-    requires later { (column : ℕ) → column < first.step → (sums : Sums) × Tells (node_of from_four empty (line_of first column) nodes.old (from + half + half / 2)) sums }
-    ensures told { (column : ℕ) → column < first.step → (earlier rest : Sums) → Tells (node_of from_four empty (line_of first column) nodes.old (from + half / 2)) earlier
-        → Tells (node_of from_four empty (line_of first column) nodes.old (from + half + half / 2)) rest → Tells (node_of from_four empty (line_of first column) nodes.new (from + half)) (join earlier rest) }
+    requires told { (column : ℕ) → column < first.step → (sums : Sums) × IsSummaryOf (node_of from_four empty (line_of first column) nodes.old (from + half / 2)) sums }
+    requires later { (column : ℕ) → column < first.step → (sums : Sums) × IsSummaryOf (node_of from_four empty (line_of first column) nodes.old (from + half + half / 2)) sums }
+    ensures told { (column : ℕ) → column < first.step → (earlier rest : Sums) → IsSummaryOf (node_of from_four empty (line_of first column) nodes.old (from + half / 2)) earlier
+        → IsSummaryOf (node_of from_four empty (line_of first column) nodes.old (from + half + half / 2)) rest → IsSummaryOf (node_of from_four empty (line_of first column) nodes.new (from + half)) (join earlier rest) }
     ensures others { (p : ℕ) → (p < node_at first (from + half) ⊎ node_at first (from + half) + first.step ≤ p) → get_or nodes.new p empty ≡ get_or nodes.old p empty }
     ensures length { length nodes.new ≡ length nodes.old }
 {
@@ -416,9 +416,9 @@ fn last_row(slots: &[i64], nodes: &mut [Summary], first: Line, from: usize, half
     requires half { (level : ℕ) × (half ≡ 2 * 2 ^ level) }
     requires from { (place : ℕ) × (from ≡ place * (2 * half)) }
     requires short { from + half < first.count }
-    requires kept { AreKeptBehind from_four empty TellsSums number_of from half first slots.now nodes.old }
+    requires kept { ArePartsKeptBehind from_four empty TellsSums number_in_line from half first slots.now nodes.old }
     ensures told { (column : ℕ) → column < first.step
-        → Tells (node_of from_four empty (line_of first column) nodes.new (from + half)) (sums_from (number_of (line_of first column) slots.now) from (min (2 * half) (first.count - from))) }
+        → IsSummaryOf (node_of from_four empty (line_of first column) nodes.new (from + half)) (sums_from (number_in_line (line_of first column) slots.now) from (min (2 * half) (first.count - from))) }
     ensures others { (p : ℕ) → (p < node_at first (from + half) ⊎ node_at first (from + half) + first.step ≤ p) → get_or nodes.new p empty ≡ get_or nodes.old p empty }
     ensures length { length nodes.new ≡ length nodes.old }
 {
@@ -438,8 +438,8 @@ fn join_row(slots: &[i64], nodes: &mut [Summary], first: Line, from: usize, half
     requires half { (level : ℕ) × (half ≡ 2 * 2 ^ level) }
     requires from { (place : ℕ) × (from ≡ place * (2 * half)) }
     requires short { from + half < first.count }
-    requires kept { AreKeptBehind from_four empty TellsSums number_of from half first slots.now nodes.old }
-    ensures kept { AreKeptBehind from_four empty TellsSums number_of from (2 * half) first slots.now nodes.new }
+    requires kept { ArePartsKeptBehind from_four empty TellsSums number_in_line from half first slots.now nodes.old }
+    ensures kept { ArePartsKeptBehind from_four empty TellsSums number_in_line from (2 * half) first slots.now nodes.new }
     ensures others { (p : ℕ) → (p < first.node ⊎ nodes_end from_four first ≤ p) → get_or nodes.new p empty ≡ get_or nodes.old p empty }
     ensures length { length nodes.new ≡ length nodes.old }
 {
@@ -458,8 +458,8 @@ fn fill_from(slots: &[i64], nodes: &mut [Summary], first: Line, from: usize)
     requires nodes { HaveNodes from_four first (length nodes.old) }
     requires four { from % 4 ≡ 0 }
     requires below { from < first.count }
-    requires kept { AreKeptFrom from_four empty TellsSums number_of (from + 4) first slots.now nodes.old }
-    ensures kept { AreKeptFrom from_four empty TellsSums number_of from first slots.now nodes.new }
+    requires kept { ArePartsKeptFrom from_four empty TellsSums number_in_line (from + 4) first slots.now nodes.old }
+    ensures kept { ArePartsKeptFrom from_four empty TellsSums number_in_line from first slots.now nodes.new }
     ensures others { (p : ℕ) → (p < first.node ⊎ nodes_end from_four first ≤ p) → get_or nodes.new p empty ≡ get_or nodes.old p empty }
     ensures length { length nodes.new ≡ length nodes.old }
 {
@@ -474,7 +474,7 @@ fn fill_from(slots: &[i64], nodes: &mut [Summary], first: Line, from: usize)
 pub(crate) fn fill_block(slots: &[i64], nodes: &mut [Summary], first: Line)
     requires slots { HaveSlots first (length slots.now) }
     requires nodes { HaveNodes from_four first (length nodes.old) }
-    ensures kept { (column : ℕ) → column < first.step → AreKept from_four TellsSums first.count (number_of (line_of first column) slots.now) (node_of from_four empty (line_of first column) nodes.new) }
+    ensures kept { (column : ℕ) → column < first.step → ArePartsKept from_four TellsSums first.count (number_in_line (line_of first column) slots.now) (node_of from_four empty (line_of first column) nodes.new) }
     ensures others { (p : ℕ) → (p < first.node ⊎ nodes_end from_four first ≤ p) → get_or nodes.new p empty ≡ get_or nodes.old p empty }
     ensures length { length nodes.new ≡ length nodes.old }
 {
@@ -490,7 +490,7 @@ fn pair_neighbours(slots: &mut [i64], line: Line)
     requires slots { HasSlots line (length slots.old) }
     requires near { line.step ≡ 1 }
     requires fit { All (FitsSigned w64) slots.old }
-    ensures numbers { (i : ℕ) → i < line.count → number_of line slots.new i ≡ slot_of line slots.old i }
+    ensures numbers { (i : ℕ) → i < line.count → number_in_line line slots.new i ≡ slot_of line slots.old i }
     ensures fit { All (FitsSigned w64) slots.new }
     ensures others { (p : ℕ) → (p < line.slot ⊎ slots_end line ≤ p) → get_or slots.new p (pos 0) ≡ get_or slots.old p (pos 0) }
     ensures length { length slots.new ≡ length slots.old }
@@ -524,7 +524,7 @@ fn pair_row(slots: &mut [i64], first: Line, place: usize)
 fn pair_rows(slots: &mut [i64], first: Line)
     requires slots { HaveSlots first (length slots.old) }
     requires fit { All (FitsSigned w64) slots.old }
-    ensures numbers { (column : ℕ) → column < first.step → (i : ℕ) → i < first.count → number_of (line_of first column) slots.new i ≡ slot_of (line_of first column) slots.old i }
+    ensures numbers { (column : ℕ) → column < first.step → (i : ℕ) → i < first.count → number_in_line (line_of first column) slots.new i ≡ slot_of (line_of first column) slots.old i }
     ensures fit { All (FitsSigned w64) slots.new }
     ensures others { (p : ℕ) → (p < first.slot ⊎ slots_end first ≤ p) → get_or slots.new p (pos 0) ≡ get_or slots.old p (pos 0) }
     ensures length { length slots.new ≡ length slots.old }
@@ -540,7 +540,7 @@ fn pair_rows(slots: &mut [i64], first: Line)
 pub(crate) fn pair_block(slots: &mut [i64], first: Line)
     requires slots { HaveSlots first (length slots.old) }
     requires fit { All (FitsSigned w64) slots.old }
-    ensures numbers { (column : ℕ) → column < first.step → (i : ℕ) → i < first.count → number_of (line_of first column) slots.new i ≡ slot_of (line_of first column) slots.old i }
+    ensures numbers { (column : ℕ) → column < first.step → (i : ℕ) → i < first.count → number_in_line (line_of first column) slots.new i ≡ slot_of (line_of first column) slots.old i }
     ensures fit { All (FitsSigned w64) slots.new }
     ensures others { (p : ℕ) → (p < first.slot ⊎ slots_end first ≤ p) → get_or slots.new p (pos 0) ≡ get_or slots.old p (pos 0) }
     ensures length { length slots.new ≡ length slots.old }
@@ -557,10 +557,10 @@ pub(crate) fn write(slots: &mut [i64], nodes: &mut [Summary], line: Line, place:
     requires inside { IsIn from_four line (length slots.old) (length nodes.old) }
     requires place { place < line.count }
     requires fit { All (FitsSigned w64) slots.old }
-    requires kept { AreKept from_four TellsSums line.count (number_of line slots.old) (node_of from_four empty line nodes.old) }
-    ensures numbers { (i : ℕ) → i < line.count → number_of line slots.new i ≡ replaced (number_of line slots.old) place number i }
+    requires kept { ArePartsKept from_four TellsSums line.count (number_in_line line slots.old) (node_of from_four empty line nodes.old) }
+    ensures numbers { (i : ℕ) → i < line.count → number_in_line line slots.new i ≡ replaced (number_in_line line slots.old) place number i }
     ensures fit { All (FitsSigned w64) slots.new }
-    ensures kept { AreKept from_four TellsSums line.count (number_of line slots.new) (node_of from_four empty line nodes.new) }
+    ensures kept { ArePartsKept from_four TellsSums line.count (number_in_line line slots.new) (node_of from_four empty line nodes.new) }
     ensures other_slots { (p : ℕ) → ((i : ℕ) → i < line.count → p ≢ slot_at line i) → get_or slots.new p (pos 0) ≡ get_or slots.old p (pos 0) }
     ensures other_nodes { (p : ℕ) → ((meeting : ℕ) → 2 ≤ meeting → meeting < line.count → p ≢ node_at line meeting) → get_or nodes.new p empty ≡ get_or nodes.old p empty }
     ensures slot_count { length slots.new ≡ length slots.old }
@@ -576,8 +576,8 @@ fn pair_last(slots: &mut [i64], line: Line)
     requires slots { HasSlots line (length slots.old) }
     requires more { 1 < line.count }
     requires fit { All (FitsSigned w64) slots.old }
-    ensures numbers { (i : ℕ) → i < line.count - 1 → number_of line slots.new i ≡ number_of (shorter line) slots.old i }
-    ensures last { number_of line slots.new (line.count - 1) ≡ slot_of line slots.old (line.count - 1) }
+    ensures numbers { (i : ℕ) → i < line.count - 1 → number_in_line line slots.new i ≡ number_in_line (shorter line) slots.old i }
+    ensures last { number_in_line line slots.new (line.count - 1) ≡ slot_of line slots.old (line.count - 1) }
     ensures fit { All (FitsSigned w64) slots.new }
     ensures others { (p : ℕ) → ((i : ℕ) → i < line.count → p ≢ slot_at line i) → get_or slots.new p (pos 0) ≡ get_or slots.old p (pos 0) }
     ensures length { length slots.new ≡ length slots.old }
@@ -596,11 +596,11 @@ pub(crate) fn take_last(slots: &mut [i64], nodes: &mut [Summary], line: Line)
     requires inside { IsIn from_four line (length slots.old) (length nodes.old) }
     requires more { 1 < line.count }
     requires fit { All (FitsSigned w64) slots.old }
-    requires kept { AreKept from_four TellsSums (line.count - 1) (number_of (shorter line) slots.old) (node_of from_four empty (shorter line) nodes.old) }
-    ensures numbers { (i : ℕ) → i < line.count - 1 → number_of line slots.new i ≡ number_of (shorter line) slots.old i }
-    ensures last { number_of line slots.new (line.count - 1) ≡ slot_of line slots.old (line.count - 1) }
+    requires kept { ArePartsKept from_four TellsSums (line.count - 1) (number_in_line (shorter line) slots.old) (node_of from_four empty (shorter line) nodes.old) }
+    ensures numbers { (i : ℕ) → i < line.count - 1 → number_in_line line slots.new i ≡ number_in_line (shorter line) slots.old i }
+    ensures last { number_in_line line slots.new (line.count - 1) ≡ slot_of line slots.old (line.count - 1) }
     ensures fit { All (FitsSigned w64) slots.new }
-    ensures kept { AreKept from_four TellsSums line.count (number_of line slots.new) (node_of from_four empty line nodes.new) }
+    ensures kept { ArePartsKept from_four TellsSums line.count (number_in_line line slots.new) (node_of from_four empty line nodes.new) }
     ensures other_slots { (p : ℕ) → ((i : ℕ) → i < line.count → p ≢ slot_at line i) → get_or slots.new p (pos 0) ≡ get_or slots.old p (pos 0) }
     ensures other_nodes { (p : ℕ) → ((meeting : ℕ) → 2 ≤ meeting → meeting < line.count → p ≢ node_at line meeting) → get_or nodes.new p empty ≡ get_or nodes.old p empty }
     ensures slot_count { length slots.new ≡ length slots.old }

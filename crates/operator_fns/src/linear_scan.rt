@@ -9,8 +9,9 @@ ghost use Rattle.operator_fns.specs.AxisLines.{scans_of};
 ghost use Rattle.operator_fns.specs.LinearScan.{folded_left, left_rule, scanned, AreResultsTo, FailsAt, HasRead, IsAssociative};
 
 use crate::axis_lines::AxisLines;
+use crate::bounds::are_within;
 use crate::limits::MOST_ITEMS;
-use crate::sum::are_small;
+use crate::sum::SMALL;
 use arrays_core::{ApplyFault, Kind, room_of};
 use scalar_fns::kernels::{Plus, TwoNumbers};
 use std::alloc::Global;
@@ -195,7 +196,7 @@ pub(crate) fn running_sums(alloc: Global, lines: &AxisLines) -> Result<Vec<i64>,
     ensures is { IsListAnswerTo (scans_of (dyadic_on_numbers Sum) lines.now) result }
     ensures long { IfOk result (λ v. vec_len v ≡ length lines.now.numbers.now) }
 {
-    if lines.numbers.len() <= MOST_ITEMS && are_small(lines.numbers) {
+    if lines.numbers.len() <= MOST_ITEMS && are_within(lines.numbers, SMALL) {
         return running(alloc, &Plus, lines);
     }
     running(alloc, &GreatestEnding, lines)?;

@@ -10,7 +10,7 @@ ghost use Rattle.scalar_fns.specs.Numbers.{dyadic_on_numbers};
 ghost use Rattle.scalar_fns.specs.Folds.{folded};
 ghost use Rattle.scalar_fns.specs.NumberLists.{number_items, IsListAnswerTo};
 ghost use Rattle.operator_fns.specs.InnerProduct.{all_or_last_error};
-ghost use Rattle.operator_fns.specs.RowByColumn.{entry, met as all_met, cell, IsInside, IsGridOf};
+ghost use Rattle.operator_fns.specs.RowByColumn.{entry, all_met, cell, IsInside, IsGridOf};
 
 use crate::grid::Grid;
 use crate::row_by_column::StridedLine;

@@ -12,7 +12,7 @@ ghost use Rattle.index_region.specs.ArgumentLists.{of_two_arguments};
 ghost use Rattle.index_region.specs.Answers.{IsFormAnswerTo, IsPlaceOf, HasTypeOf};
 ghost use Rattle.change_core.specs.Sourced.{uses_of_two};
 ghost use Rattle.scalar_fns.specs.NumberLists.{number_items, IsListAnswerTo};
-ghost use Rattle.operator_fns.specs.ResultTable.{table, with_results, LeavesOrFails};
+ghost use Rattle.operator_fns.specs.OuterResults.{outer_results, with_results, LeavesOrFails};
 ghost use Rattle.operator_fns.specs.OuterProduct.{outer_form, outer_item, outer_whole, front_use, back_use};
 ghost use Rattle.operator_fns.specs.Laws.OuterProduct.{outer_tight};
 ghost use Rattle.operator_fns.specs.Laws.OuterProductGrowth.{outer_growing};
@@ -45,14 +45,14 @@ fn push_row<S: TwoNumbers>(
 }
 
 /// What a function gives for each number of one list with each of another.
-fn table_numbers<S: TwoNumbers>(
+fn outer_numbers<S: TwoNumbers>(
     alloc: Global,
     step: &S,
     left: &[i64],
     right: &[i64],
 ) -> Result<Vec<i64>, ApplyFault>
     requires few { length left.now * length right.now ≤ most_places }
-    ensures is { IsListAnswerTo (all_or_first_error (table (S.gives step.now) left.now right.now)) result }
+    ensures is { IsListAnswerTo (all_or_first_error (outer_results (S.gives step.now) left.now right.now)) result }
     ensures long { IfOk result (λ v. vec_len v ≡ length left.now * length right.now) }
 {
     let mut numbers = Vec::with_capacity(alloc, room_of(left.len() * right.len()))?;
@@ -64,7 +64,7 @@ fn table_numbers<S: TwoNumbers>(
 
 /// Two lists of numbers, and the shape of what a function gives for each number of one with each of the other.
 #[derive(Drop)]
-struct Table<'a> {
+struct OuterNumbers<'a> {
     alloc: Global,
     left: &'a [i64],
     right: &'a [i64],
@@ -73,13 +73,13 @@ struct Table<'a> {
     ghost whole: { size shape.now.items ≡ length left.now * length right.now },
 }
 
-impl<'a> WithFunction for Table<'a> {
+impl<'a> WithFunction for OuterNumbers<'a> {
     type Output = Result<Array, ApplyFault>;
 
-    ghost makes = { λ t gives result. IsAnswerTo (with_items Nums t.shape.now.items (number_items (all_or_first_error (table gives t.left.now t.right.now)))) result };
+    ghost makes = { λ o gives result. IsAnswerTo (with_items Nums o.shape.now.items (number_items (all_or_first_error (outer_results gives o.left.now o.right.now)))) result };
 
     fn with<S: TwoNumbers + Copy>(self, step: S) -> Result<Array, ApplyFault> {
-        let numbers = table_numbers(self.alloc, &step, self.left, self.right)?;
+        let numbers = outer_numbers(self.alloc, &step, self.left, self.right)?;
         Ok(Array::from_numbers(self.shape, numbers)?)
     }
 }
@@ -148,13 +148,13 @@ impl Outer {
         ensures { IsAnswerTo (outer_whole self.function left.now right.now) result }
     {
         let (shape, _) = self.form(left, right)?;
-        let table = Table {
+        let outer = OuterNumbers {
             alloc,
             left: numbers,
             right: others,
             shape: &shape,
         };
-        with_function(self.function, table)
+        with_function(self.function, outer)
     }
 }
 

@@ -20,7 +20,7 @@ ghost use Rattle.operator_fns.specs.Growth.{lines_grow};
 use crate::axis_lines::AxisLines;
 use crate::columns::{Numberwise, RowFold, column_folds};
 use crate::later_axis::is_along_a_later_axis;
-use crate::number_rule::{NumberRule, collect_numbers};
+use crate::number_function::{NumberFunction, collect_numbers};
 use crate::right_fold::{fold_line, identity_item};
 use crate::sum::sum_list;
 use arrays_core::{ApplyFault, Array, Item, ItemType, Kind, Shape, shape_of, without_axis};
@@ -38,7 +38,7 @@ struct LineFolds<'a, S> {
     lines: AxisLines<'a>,
 }
 
-impl<'a, S: TwoNumbers> NumberRule for LineFolds<'a, S> {
+impl<'a, S: TwoNumbers> NumberFunction for LineFolds<'a, S> {
     ghost places = { λ f. f.lines.places };
 
     ghost number = { λ f. fold_at (S.gives f.step.now) f.lines };
@@ -57,7 +57,7 @@ struct Totals<'a> {
     ghost beside: { lines.stride ≡ 1 },
 }
 
-impl<'a> NumberRule for Totals<'a> {
+impl<'a> NumberFunction for Totals<'a> {
     ghost places = { λ t. t.lines.places };
 
     ghost number = { λ t. fold_at (dyadic_on_numbers Sum) t.lines };

@@ -13,11 +13,12 @@ ghost use Rattle.operator_fns.specs.Prefixes.{fold_to};
 ghost use Rattle.operator_fns.specs.Sum.{IsSmall};
 
 use crate::axis_lines::AxisLines;
+use crate::bounds::are_within;
 use crate::differences::Differences;
 use crate::limits::MOST_ITEMS;
 use crate::linear_scan::place_after;
 use crate::prefix::prefix_folds;
-use crate::sum::are_small;
+use crate::sum::SMALL;
 use arrays_core::{ApplyFault, room_of};
 use std::alloc::Global;
 
@@ -128,7 +129,7 @@ pub(crate) fn running_differences(alloc: Global, lines: &AxisLines) -> Result<Ve
     ensures is { IsListAnswerTo (scans_of (dyadic_on_numbers Difference) lines.now) result }
     ensures long { IfOk result (λ v. vec_len v ≡ length lines.now.numbers.now) }
 {
-    if lines.numbers.len() > MOST_ITEMS || !are_small(lines.numbers) {
+    if lines.numbers.len() > MOST_ITEMS || !are_within(lines.numbers, SMALL) {
         return prefix_folds(alloc, &Differences::none(), lines);
     }
     if lines.stride == 1 {

@@ -1,15 +1,16 @@
 //! Sums of products of small numbers, which stay within 64 bits in whatever order they are added.
 
 ghost use Rattle.std.specs.Prelude.{◌≡◌, ◌<◌, ◌≤◌, ℕ, ◌+◌, ◌*◌, ◌/◌, ◌%◌, ◌^◌, ◌+ℤ◌, ◌*ℤ◌, true, pos, length, get_or, All, FitsSigned, OnOk, IfOk, vec_len};
-ghost use Rattle.operator_fns.specs.SmallProducts.{sum_of_products, IsNear, AddUp, RowFits, AreSums, EndsInSums, IsProduct};
+ghost use Rattle.operator_fns.specs.SmallProducts.{sum_of_products, IsNoFurther, AddUp, RowFits, AreSums, EndsInSums, IsProduct};
 
+use crate::bounds::are_within;
 use crate::limits::MOST_ITEMS;
 use arrays_core::room_of;
 use std::alloc::{AllocError, Global};
 
 /// How far the numbers of a list are from 0 at most.
 fn farthest(numbers: &[i64]) -> u64
-    ensures { All (IsNear result) numbers.now }
+    ensures { All (IsNoFurther result) numbers.now }
 {
     let mut least: i64 = 0;
     let mut greatest: i64 = 0;
@@ -23,23 +24,11 @@ fn farthest(numbers: &[i64]) -> u64
 /// The products of two numbers that are no further from 0 add up within 64 bits: as many of them as an array may have.
 const NEAR: u64 = 2_097_152;
 
-/// No number of a list is far from 0. Where each is moved up by as much as a near one may be below 0, the near ones have
-/// no bit above those that twice as much needs, and all others have one.
-fn are_near(numbers: &[i64]) -> bool
-    ensures { result ≡ true → All (IsNear 2097152) numbers.now }
-{
-    let mut bits = 0;
-    for number in numbers {
-        bits |= number.cast_unsigned().wrapping_add(NEAR);
-    }
-    bits < 2 * NEAR
-}
-
 /// So many products of a number of one list and a number of another are known to add up within 64 bits.
 pub(crate) fn add_up(left: &[i64], right: &[i64], count: usize) -> bool
     ensures { result ≡ true → AddUp count left.now right.now }
 {
-    if count <= MOST_ITEMS && are_near(right) && are_near(left) {
+    if count <= MOST_ITEMS && are_within(right, NEAR) && are_within(left, NEAR) {
         return true;
     }
     match farthest(left).checked_mul(farthest(right)) {

@@ -7,25 +7,14 @@ ghost use Rattle.scalar_fns.specs.Numbers.{dyadic_on_numbers};
 ghost use Rattle.scalar_fns.specs.Folds.{folded};
 ghost use Rattle.operator_fns.specs.Sum.{IsSmall, sum_of};
 
+use crate::bounds::are_within;
 use crate::limits::MOST_ITEMS;
 use arrays_core::Kind;
 use scalar_fns::folds::fold_list;
 use scalar_fns::kernels::Plus;
 
 /// Numbers that are less than this, and no further below 0, add up within 64 bits: as many of them as an array may have.
-const SMALL: u64 = 8_796_093_022_208;
-
-/// No number of a list is far from 0. Where each is moved up by as much as a small one may be below 0, the small ones
-/// have no bit above those that twice as much needs, and all others have one.
-pub(crate) fn are_small(numbers: &[i64]) -> bool
-    ensures { result ≡ true → All IsSmall numbers.now }
-{
-    let mut bits = 0;
-    for number in numbers {
-        bits |= number.cast_unsigned().wrapping_add(SMALL);
-    }
-    bits < 2 * SMALL
-}
+pub(crate) const SMALL: u64 = 8_796_093_022_208;
 
 /// The sum of small numbers, which no order of adding takes out of 64 bits.
 fn sum_of_small(numbers: &[i64]) -> i64
@@ -46,7 +35,7 @@ pub(crate) fn sum_list(numbers: &[i64]) -> Result<i64, Kind>
     requires { 0 < length numbers.now }
     ensures { result ≡ folded (dyadic_on_numbers Sum) numbers.now }
 {
-    if numbers.len() <= MOST_ITEMS && are_small(numbers) {
+    if numbers.len() <= MOST_ITEMS && are_within(numbers, SMALL) {
         Ok(sum_of_small(numbers))
     } else {
         fold_list(&Plus, numbers)

@@ -4,7 +4,7 @@ ghost use Rattle.std.specs.Prelude.{◌≡◌, ◌<◌, ◌≤◌, ◌-◌, ◌/
 ghost use Rattle.std.specs.Int.{w64};
 ghost use Rattle.operator_fns.specs.SumNodes.{empty, TellsSums};
 ghost use Rattle.operator_fns.specs.SumTree.{IsReductionBySum, IsWithinDigitsOf, one_line};
-ghost use Rattle.operator_fns.specs.LineTrees.{number_of, from_four, node_of, AreKept};
+ghost use Rattle.operator_fns.specs.LineTrees.{number_in_line, from_four, node_of, ArePartsKept};
 
 use crate::line_tree::{Line, LineTree, pair_block, push_line, write};
 use crate::summary::Summary;
@@ -46,7 +46,7 @@ fn copied(alloc: Global, numbers: &[i64]) -> Result<Vec<i64>, AllocError>
 /// What is kept of the parts of a list that is by itself. AllocError where memory for it is refused.
 fn nodes_of(alloc: Global, slots: &[i64]) -> Result<Vec<Summary>, AllocError>
     requires { length slots.now < 2 ^ 62 }
-    ensures kept { IfOk result (λ v. AreKept from_four TellsSums (length slots.now) (number_of (one_line (length slots.now)) slots.now) (node_of from_four empty (one_line (length slots.now)) v.items)) }
+    ensures kept { IfOk result (λ v. ArePartsKept from_four TellsSums (length slots.now) (number_in_line (one_line (length slots.now)) slots.now) (node_of from_four empty (one_line (length slots.now)) v.items)) }
     ensures sized { IfOk result (λ v. length v.items ≡ (length slots.now - 1) / 2) }
 {
     let mut nodes = Vec::with_capacity(alloc, slots.len().saturating_sub(1) / 2)?;
@@ -67,11 +67,11 @@ pub struct SumTree {
 
 impl Model for SumTree {
     ghost use Rattle.std.specs.Prelude.{ℤ, List};
-    ghost use Rattle.operator_fns.specs.SumTree.{numbers_in, IsTree};
+    ghost use Rattle.operator_fns.specs.SumTree.{numbers_in_slots, IsTree};
 
     ghost Value = { List ℤ };
 
-    ghost view = { λ t. numbers_in t.slots.items };
+    ghost view = { λ t. numbers_in_slots t.slots.items };
 
     ghost invariant = { λ t. IsTree t.slots.items t.nodes.items };
 }

@@ -4,7 +4,7 @@ ghost use Rattle.std.specs.Prelude.{◌≡◌, ℕ, ◌+◌, ◌-◌, ◌*◌, �
 ghost use Rattle.std.specs.Int.{w64};
 ghost use Rattle.arrays_core.specs.Growth.{IsRoomy};
 ghost use Rattle.operator_fns.specs.SumNodes.{empty, TellsSums};
-ghost use Rattle.operator_fns.specs.LineTrees.{slot_of, number_of, shorter, from_four, IsIn, node_of, AreKept, nodes_in_line};
+ghost use Rattle.operator_fns.specs.LineTrees.{slot_of, number_in_line, shorter, from_four, IsIn, node_of, ArePartsKept, nodes_in_line};
 ghost use Rattle.operator_fns.specs.LineBlocks.{block_at, line_at, AreAllKept};
 ghost use Rattle.operator_fns.specs.SumTree.{IsReductionBySum, IsWithinDigitsOf};
 ghost use Rattle.operator_fns.specs.SumTrees.{FitBehind, FitNext, with_lines, with_places, line_through, numbers_kept, line_count, numbers_of_line, numbers_through, with_number, AreLines, AreLineTrees};
@@ -50,13 +50,13 @@ fn nth_tree<'a>(
     step: usize,
     line: usize,
 ) -> LineTree<'a>
-    requires trees { AreLineTrees from_four empty TellsSums number_of count step slots.now nodes.now }
+    requires trees { AreLineTrees from_four empty TellsSums number_in_line count step slots.now nodes.now }
     requires line { line < length slots.now / count }
     ensures line { result.line ≡ line_at from_four count step line }
     ensures slots { result.slots.now ≡ slots.now }
     ensures nodes { result.nodes.now ≡ nodes.now }
     ensures inside { IsIn from_four result.line (length result.slots.now) (length result.nodes.now) }
-    ensures kept { AreKept from_four TellsSums result.line.count (number_of result.line result.slots.now) (node_of from_four empty result.line result.nodes.now) }
+    ensures kept { ArePartsKept from_four TellsSums result.line.count (number_in_line result.line result.slots.now) (node_of from_four empty result.line result.nodes.now) }
 {
     let line = nth_line(count, step, line);
     LineTree { line, slots, nodes }
@@ -93,7 +93,7 @@ fn pair_all(slots: &mut [i64], count: usize, step: usize)
 fn fill_all(slots: &[i64], nodes: &mut [Summary], count: usize, step: usize)
     requires lines { AreLines count step (length slots.now) }
     requires sized { length nodes.old ≡ length slots.now / count * nodes_in_line from_four count }
-    ensures kept { AreAllKept from_four empty TellsSums number_of count step slots.now nodes.new }
+    ensures kept { AreAllKept from_four empty TellsSums number_in_line count step slots.now nodes.new }
     ensures length { length nodes.new ≡ length nodes.old }
 {
     for block in 0..slots.len() / count / step {
@@ -104,7 +104,7 @@ fn fill_all(slots: &[i64], nodes: &mut [Summary], count: usize, step: usize)
 /// What is kept of the parts of lines whose numbers are neighbours. AllocError where memory for it is refused.
 fn nodes_of_lines(alloc: Global, slots: &[i64], count: usize) -> Result<Vec<Summary>, AllocError>
     requires lines { AreLines count 1 (length slots.now) }
-    ensures kept { IfOk result (λ v. AreAllKept from_four empty TellsSums number_of count 1 slots.now v.items) }
+    ensures kept { IfOk result (λ v. AreAllKept from_four empty TellsSums number_in_line count 1 slots.now v.items) }
     ensures sized { IfOk result (λ v. length v.items ≡ length slots.now / count * nodes_in_line from_four count) }
     ensures roomy { IfOk result (λ v. IsRoomy (length v.items) (vec_capacity v)) }
 {
@@ -124,7 +124,7 @@ fn nodes_of_blocks(
     step: usize,
 ) -> Result<Vec<Summary>, AllocError>
     requires lines { AreLines count step (length slots.now) }
-    ensures kept { IfOk result (λ v. AreAllKept from_four empty TellsSums number_of count step slots.now v.items) }
+    ensures kept { IfOk result (λ v. AreAllKept from_four empty TellsSums number_in_line count step slots.now v.items) }
     ensures sized { IfOk result (λ v. length v.items ≡ length slots.now / count * nodes_in_line from_four count) }
     ensures roomy { IfOk result (λ v. IsRoomy (length v.items) (vec_capacity v)) }
 {
@@ -142,11 +142,11 @@ fn take_places(slots: &mut [i64], nodes: &mut [Summary], count: usize, step: usi
     requires slot_count { length slots.old ≡ count * step }
     requires node_count { length nodes.old ≡ nodes_in_line from_four count * step }
     requires fit { All (FitsSigned w64) slots.old }
-    requires kept { (line : ℕ) → line < step → AreKept from_four TellsSums (count - 1) (number_of (shorter (line_at from_four count step line)) slots.old) (node_of from_four empty (shorter (line_at from_four count step line)) nodes.old) }
-    ensures numbers { (line i : ℕ) → line < step → i < count - 1 → number_of (line_at from_four count step line) slots.new i ≡ number_of (shorter (line_at from_four count step line)) slots.old i }
-    ensures last { (line : ℕ) → line < step → number_of (line_at from_four count step line) slots.new (count - 1) ≡ slot_of (line_at from_four count step line) slots.old (count - 1) }
+    requires kept { (line : ℕ) → line < step → ArePartsKept from_four TellsSums (count - 1) (number_in_line (shorter (line_at from_four count step line)) slots.old) (node_of from_four empty (shorter (line_at from_four count step line)) nodes.old) }
+    ensures numbers { (line i : ℕ) → line < step → i < count - 1 → number_in_line (line_at from_four count step line) slots.new i ≡ number_in_line (shorter (line_at from_four count step line)) slots.old i }
+    ensures last { (line : ℕ) → line < step → number_in_line (line_at from_four count step line) slots.new (count - 1) ≡ slot_of (line_at from_four count step line) slots.old (count - 1) }
     ensures fit { All (FitsSigned w64) slots.new }
-    ensures kept { (line : ℕ) → line < step → AreKept from_four TellsSums count (number_of (line_at from_four count step line) slots.new) (node_of from_four empty (line_at from_four count step line) nodes.new) }
+    ensures kept { (line : ℕ) → line < step → ArePartsKept from_four TellsSums count (number_in_line (line_at from_four count step line) slots.new) (node_of from_four empty (line_at from_four count step line) nodes.new) }
     ensures slot_length { length slots.new ≡ length slots.old }
     ensures node_length { length nodes.new ≡ length nodes.old }
 {

@@ -2,7 +2,7 @@
 
 ghost use Rattle.std.specs.Prelude.{◌≡◌, ◌+◌, ◌^◌, ◌<◌, ◌≤◌, true, unsigned_abs, ℤ, pos, ◌+ℤ◌, ◌-ℤ◌, ◌≤ℤ◌, neg_ℤ};
 ghost use Rattle.std.specs.Int.{int_wrap, w64};
-ghost use Rattle.operator_fns.specs.SumNodes.{Sums, IsOrdered, Tells, told, none, single, join, sum_told};
+ghost use Rattle.operator_fns.specs.SumNodes.{Sums, IsOrdered, IsSummaryOf, told_sums, sums_of_none, single, join, sum_told};
 
 use arrays_core::Kind;
 
@@ -41,7 +41,7 @@ fn sum_of_two(left: i64, right: i64, sum: i64) -> i128
 impl Summary {
     /// That of no numbers.
     pub(crate) fn none() -> Summary
-        ensures { Tells result none }
+        ensures { IsSummaryOf result sums_of_none }
     {
         Summary {
             below: 0,
@@ -52,7 +52,7 @@ impl Summary {
 
     /// That of one number.
     pub(crate) fn of(number: i64) -> Summary
-        ensures { Tells result (single number) }
+        ensures { IsSummaryOf result (single number) }
     {
         let size = number.unsigned_abs();
         if number < 0 {
@@ -72,7 +72,7 @@ impl Summary {
 
     /// That of two numbers: of the second one, and of one before it of which the sum with it is given, as far as 64 bits hold that.
     pub(crate) fn of_pair(sum: i64, right: i64) -> Summary
-        ensures { Tells result (join (single (int_wrap w64 (sum -ℤ right))) (single right)) }
+        ensures { IsSummaryOf result (join (single (int_wrap w64 (sum -ℤ right))) (single right)) }
     {
         if let Some(_left) = sum.checked_sub(right) {
             return Summary::of_narrow(sum, sum.min(right).min(0), sum.max(right).max(0));
@@ -86,7 +86,7 @@ impl Summary {
     /// That of four numbers: of the second and the fourth one, and of those before them of which the sums with them are given, as far
     /// as 64 bits hold these.
     pub(crate) fn of_four(sum: i64, right: i64, later: i64, last: i64) -> Summary
-        ensures { Tells result (join (join (single (int_wrap w64 (sum -ℤ right))) (single right)) (join (single (int_wrap w64 (later -ℤ last))) (single last))) }
+        ensures { IsSummaryOf result (join (join (single (int_wrap w64 (sum -ℤ right))) (single right)) (join (single (int_wrap w64 (later -ℤ last))) (single last))) }
     {
         let first_near = sum.unsigned_abs() < NEAR && right.unsigned_abs() < NEAR;
         let later_near = later.unsigned_abs() < NEAR && last.unsigned_abs() < NEAR;
@@ -110,7 +110,7 @@ impl Summary {
     #[cold]
     #[inline(never)]
     fn of_far(sum: i64, right: i64, later: i64, last: i64) -> Summary
-        ensures { Tells result (join (join (single (int_wrap w64 (sum -ℤ right))) (single right)) (join (single (int_wrap w64 (later -ℤ last))) (single last))) }
+        ensures { IsSummaryOf result (join (join (single (int_wrap w64 (sum -ℤ right))) (single right)) (join (single (int_wrap w64 (later -ℤ last))) (single last))) }
     {
         Summary::of_pair(sum, right).join(&Summary::of_pair(later, last))
     }
@@ -121,7 +121,7 @@ impl Summary {
         requires right { unsigned_abs right < 2 ^ 61 }
         requires later { unsigned_abs later < 2 ^ 61 }
         requires last { unsigned_abs last < 2 ^ 61 }
-        ensures { Tells result (join (join (single (int_wrap w64 (sum -ℤ right))) (single right)) (join (single (int_wrap w64 (later -ℤ last))) (single last))) }
+        ensures { IsSummaryOf result (join (join (single (int_wrap w64 (sum -ℤ right))) (single right)) (join (single (int_wrap w64 (later -ℤ last))) (single last))) }
     {
         let three = right + later;
         let total = sum + later;
@@ -133,7 +133,7 @@ impl Summary {
     /// That of a list with this total, and with this least and greatest sum of an ending, where they are within 64 bits.
     fn of_narrow(total: i64, least: i64, greatest: i64) -> Summary
         requires { IsOrdered (record { total = total; least = least; greatest = greatest }) }
-        ensures { Tells result (record { total = total; least = least; greatest = greatest }) }
+        ensures { IsSummaryOf result (record { total = total; least = least; greatest = greatest }) }
     {
         Summary {
             below: least.unsigned_abs(),
@@ -147,7 +147,7 @@ impl Summary {
         requires ordered { IsOrdered (record { total = total; least = least; greatest = greatest }) }
         requires low { neg_ℤ (pos 73786976294838206464) ≤ℤ least }
         requires high { greatest ≤ℤ pos 73786976294838206464 }
-        ensures { Tells result (record { total = total; least = least; greatest = greatest }) }
+        ensures { IsSummaryOf result (record { total = total; least = least; greatest = greatest }) }
     {
         if greatest - least >= ALL {
             return Summary {
@@ -165,7 +165,7 @@ impl Summary {
 
     /// The total that it tells.
     fn total(&self) -> i128
-        ensures is { result ≡ (told self.now).total }
+        ensures is { result ≡ (told_sums self.now).total }
         ensures low { neg_ℤ (pos 18446744073709551616) ≤ℤ result }
         ensures high { result ≤ℤ pos 18446744073709551616 }
     {
@@ -174,7 +174,7 @@ impl Summary {
 
     /// The least sum of an ending that it tells.
     fn least(&self) -> i128
-        ensures is { result ≡ (told self.now).least }
+        ensures is { result ≡ (told_sums self.now).least }
         ensures low { neg_ℤ (pos 18446744073709551616) ≤ℤ result }
         ensures high { result ≤ℤ pos 0 }
     {
@@ -183,7 +183,7 @@ impl Summary {
 
     /// The greatest sum of an ending that it tells.
     fn greatest(&self) -> i128
-        ensures is { result ≡ (told self.now).greatest }
+        ensures is { result ≡ (told_sums self.now).greatest }
         ensures low { pos 0 ≤ℤ result }
         ensures high { result ≤ℤ pos 18446744073709551616 }
     {
@@ -192,9 +192,9 @@ impl Summary {
 
     /// That of a list and of a later one after it. Where the sums of one of them are too far apart, those of both are.
     pub(crate) fn join(&self, later: &Summary) -> Summary
-        requires here { (sums : Sums) × Tells self.now sums }
-        requires later { (sums : Sums) × Tells later.now sums }
-        ensures { (earlier : Sums) → (rest : Sums) → Tells self.now earlier → Tells later.now rest → Tells result (join earlier rest) }
+        requires here { (sums : Sums) × IsSummaryOf self.now sums }
+        requires later { (sums : Sums) × IsSummaryOf later.now sums }
+        ensures { (earlier : Sums) → (rest : Sums) → IsSummaryOf self.now earlier → IsSummaryOf later.now rest → IsSummaryOf result (join earlier rest) }
     {
         if self.is_near() && later.is_near() {
             return self.join_near(later);
@@ -216,9 +216,9 @@ impl Summary {
     #[cold]
     #[inline(never)]
     fn join_far(&self, later: &Summary) -> Summary
-        requires here { (sums : Sums) × Tells self.now sums }
-        requires later { (sums : Sums) × Tells later.now sums }
-        ensures { (earlier : Sums) → (rest : Sums) → Tells self.now earlier → Tells later.now rest → Tells result (join earlier rest) }
+        requires here { (sums : Sums) × IsSummaryOf self.now sums }
+        requires later { (sums : Sums) × IsSummaryOf later.now sums }
+        ensures { (earlier : Sums) → (rest : Sums) → IsSummaryOf self.now earlier → IsSummaryOf later.now rest → IsSummaryOf result (join earlier rest) }
     {
         let shift = later.total();
         let least = (self.least() + shift).min(later.least());
@@ -235,11 +235,11 @@ impl Summary {
 
     /// That of a list and of a later one after it whose sums are near, worked out in 64 bits.
     fn join_near(&self, later: &Summary) -> Summary
-        requires sound { IsOrdered (told self.now) }
+        requires sound { IsOrdered (told_sums self.now) }
         requires near { (self.now.below < 2 ^ 61) × (self.now.above < 2 ^ 61) }
-        requires later_sound { IsOrdered (told later.now) }
+        requires later_sound { IsOrdered (told_sums later.now) }
         requires later_near { (later.now.below < 2 ^ 61) × (later.now.above < 2 ^ 61) }
-        ensures { told result ≡ join (told self.now) (told later.now) }
+        ensures { told_sums result ≡ join (told_sums self.now) (told_sums later.now) }
     {
         let below = later.below + self.below.saturating_sub(later.total);
         let up = self.above + later.total;
@@ -255,8 +255,8 @@ impl Summary {
     /// The sum of the list from its last number to its first, or LIMIT where that leaves 64 bits on its way: where the sum of an
     /// ending does.
     pub(crate) fn sum(&self) -> Result<i64, Kind>
-        requires { (sums : Sums) × Tells self.now sums }
-        ensures { (sums : Sums) → Tells self.now sums → result ≡ sum_told sums }
+        requires { (sums : Sums) × IsSummaryOf self.now sums }
+        ensures { (sums : Sums) → IsSummaryOf self.now sums → result ≡ sum_told sums }
     {
         if self.below > 1 << 63 || self.above >= 1 << 63 {
             return Err(Kind::Limit);

@@ -17,7 +17,7 @@ const NEAR_RADIX: u64 = 2_097_152;
 /// 64 bits.
 #[inline]
 #[tactic(auto, using(crate::proofs::NearNumbers::stays))]
-fn are_near(number: i64, radix: i64, digit: i64) -> bool
+fn stays_within(number: i64, radix: i64, digit: i64) -> bool
     ensures { result ≡ true → StaysWithin number radix digit }
 {
     if number.unsigned_abs() > NEAR {
@@ -35,7 +35,7 @@ fn are_near(number: i64, radix: i64, digit: i64) -> bool
 pub(crate) fn one_more(number: i64, radix: i64, digit: i64) -> Result<i64, Kind>
     ensures { result ≡ with_one_more number radix digit }
 {
-    if are_near(number, radix, digit) {
+    if stays_within(number, radix, digit) {
         return Ok(number * radix + digit);
     }
     let product = Times.at(number, radix)?;

@@ -30,8 +30,8 @@ use Rattle.operator_fns.proofs.BoxTables.{remove_inserted}
 use Rattle.operator_fns.proofs.Lines.{long_with_axis, stride}
 use Rattle.operator_fns.proofs.Reduced.{start_is}
 use Rattle.operator_fns.specs.RightFold.{fold_right, line}
-use Rattle.sum_rules.specs.LineSums.{StandFor, array_of, line_length, line_step}
-use Rattle.sum_rules.specs.Totals.{StoodFor, is_one_a_line, lines_of}
+use Rattle.sum_rules.specs.LineSums.{StandFor, array_of_shape, line_length, line_step}
+use Rattle.sum_rules.specs.Totals.{StoodFor, is_one_a_line, box_of_lines}
 use Rattle.sum_rules.proofs.OneAxis.{FitsAxis, fits_axis, size_with_one, walk_with_one, within_axis}
 use Rattle.sum_rules.proofs.Lines.{line_through_place, some_step}
 
@@ -60,7 +60,7 @@ module _ (axis : ℕ) (t : TreesValue) (a : ArrayValue) (p : PatchValue) (stand 
   s = get_or p.region axis (1, 0)
 
   abbrev region : List Interval
-  region = lines_of axis p.region
+  region = box_of_lines axis p.region
 
   as_many_axes : length p.region ≡ length a.shape
   as_many_axes = fits_length p.region a.shape fit.inside
@@ -236,7 +236,7 @@ module _ (axis : ℕ) (t : TreesValue) (a : ArrayValue) (p : PatchValue) (stand 
         ∙ total_there sound before below f h same at item (at_is ∙ ap (places_before a.shape) (sym walked)) item_is
 
 -- what the array is now, by its trees
-pub now_is : (along : Along) (t : TreesValue) (p : PatchValue) (now : ArrayValue) → StoodFor along t p now → patched (array_of now.shape t.numbers) p ≡ now
+pub now_is : (along : Along) (t : TreesValue) (p : PatchValue) (now : ArrayValue) → StoodFor along t p now → patched (array_of_shape now.shape t.numbers) p ≡ now
 now_is along t p now stood =
     let shape : now.shape ≡ stood.before.shape = ap (λ (a : ArrayValue). a.shape) stood.is in
-    ap (λ (axes : List ℕ). patched (array_of axes t.numbers) p) shape ∙ ap (λ (a : ArrayValue). patched a p) (sym stood.lines.is) ∙ sym stood.is
+    ap (λ (axes : List ℕ). patched (array_of_shape axes t.numbers) p) shape ∙ ap (λ (a : ArrayValue). patched a p) (sym stood.lines.is) ∙ sym stood.is

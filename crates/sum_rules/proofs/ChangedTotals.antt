@@ -32,8 +32,8 @@ use Rattle.change_core.specs.RuleModels.{form_size}
 use Rattle.operator_fns.specs.Growth.{is_along_a_later_axis}
 use Rattle.change_rules.proofs.Nodes.{delta_reached}
 use Rattle.change_core.specs.Meters.{ticked}
-use Rattle.sum_rules.specs.LineSums.{array_of, length_along}
-use Rattle.sum_rules.specs.Totals.{AreFolds, HasAllJoins, StoodFor, is_by_trees, is_narrow, is_one_a_line, lines_of, total_rule}
+use Rattle.sum_rules.specs.LineSums.{array_of_shape, length_along}
+use Rattle.sum_rules.specs.Totals.{AreFolds, HasAllJoins, StoodFor, is_by_trees, is_narrow, is_one_a_line, box_of_lines, total_rule}
 use Rattle.sum_rules.proofs.ChangedLines.{as_many_lines, fits_axes, line_there, now_is}
 use Rattle.change_core.proofs.Regions.{fit_some, met_fit}
 
@@ -43,11 +43,11 @@ axis_before along t p now stood = ap (λ (a : ArrayValue). axis_at (length a.sha
 
 -- the items of the box, by the array as it is now
 pub items_now : (fold : Reduce) (t : TreesValue) (p : PatchValue) (now : ArrayValue) (shape : List ℕ) (region : List Interval) → StoodFor fold.along t p now → shape ≡ now.shape
-    → region ≡ lines_of (axis_at (length now.shape) fold.along) p.region
-    → items_in (reduce_item fold.function fold.along (patched (array_of shape t.numbers) p)) (lines_of (axis_at (length shape) fold.along) p.region) ≡ items_in (reduce_item fold.function fold.along now) region
+    → region ≡ box_of_lines (axis_at (length now.shape) fold.along) p.region
+    → items_in (reduce_item fold.function fold.along (patched (array_of_shape shape t.numbers) p)) (box_of_lines (axis_at (length shape) fold.along) p.region) ≡ items_in (reduce_item fold.function fold.along now) region
 items_now fold t p now shape region stood shaped is =
-    let same : patched (array_of shape t.numbers) p ≡ now = ap (λ (axes : List ℕ). patched (array_of axes t.numbers) p) shaped ∙ now_is fold.along t p now stood in
-    let box : lines_of (axis_at (length shape) fold.along) p.region ≡ region = ap (λ (axes : List ℕ). lines_of (axis_at (length axes) fold.along) p.region) shaped ∙ sym is in
+    let same : patched (array_of_shape shape t.numbers) p ≡ now = ap (λ (axes : List ℕ). patched (array_of_shape axes t.numbers) p) shaped ∙ now_is fold.along t p now stood in
+    let box : box_of_lines (axis_at (length shape) fold.along) p.region ≡ region = ap (λ (axes : List ℕ). box_of_lines (axis_at (length axes) fold.along) p.region) shaped ∙ sym is in
     λ i. items_in (reduce_item fold.function fold.along (same i)) (box i)
 
 module _ (fold : Reduce) (t : TreesValue) (p : PatchValue) (now : ArrayValue) (stood : StoodFor fold.along t p now) (one : is_one_a_line (axis_at (length now.shape) fold.along) p.region ≡ true) where
@@ -61,27 +61,27 @@ module _ (fold : Reduce) (t : TreesValue) (p : PatchValue) (now : ArrayValue) (s
   one_before = subst (λ k. is_one_a_line k p.region ≡ true) axis_is one
 
   -- the lines of the box are as many as its places
-  pub as_many_lines_now : box_size p.region ≡ box_size (lines_of (axis_at (length now.shape) fold.along) p.region)
-  as_many_lines_now = as_many_lines axis t stood.before p stood.lines stood.fit one_before ∙ ap (λ k. box_size (lines_of k p.region)) (sym axis_is)
+  pub as_many_lines_now : box_size p.region ≡ box_size (box_of_lines (axis_at (length now.shape) fold.along) p.region)
+  as_many_lines_now = as_many_lines axis t stood.before p stood.lines stood.fit one_before ∙ ap (λ k. box_size (box_of_lines k p.region)) (sym axis_is)
 
   -- so a box of one line has one place
-  pub one_place : (region : List Interval) → region ≡ lines_of (axis_at (length now.shape) fold.along) p.region → box_size region ≡ 1 → box_size p.region ≡ 1
+  pub one_place : (region : List Interval) → region ≡ box_of_lines (axis_at (length now.shape) fold.along) p.region → box_size region ≡ 1 → box_size p.region ≡ 1
   one_place region is single = as_many_lines_now ∙ sym (ap box_size is) ∙ single
 
   -- the total of one line is all that its box holds
-  pub one_total : (shape : List ℕ) (region : List Interval) → shape ≡ now.shape → region ≡ lines_of (axis_at (length now.shape) fold.along) p.region → box_size region ≡ 1
+  pub one_total : (shape : List ℕ) (region : List Interval) → shape ≡ now.shape → region ≡ box_of_lines (axis_at (length now.shape) fold.along) p.region → box_size region ≡ 1
       → (index : List ℕ) → index ≡ walk_at p.region 0
-      → (total : Result Item Kind) → total ≡ reduce_item fold.function fold.along (patched (array_of shape t.numbers) p) (remove index (axis_at (length shape) fold.along))
+      → (total : Result Item Kind) → total ≡ reduce_item fold.function fold.along (patched (array_of_shape shape t.numbers) p) (remove index (axis_at (length shape) fold.along))
       → items_in (reduce_item fold.function fold.along now) region ≡ all_or_first_error (total ∷ [])
   one_total shape region shaped is single index first total total_is =
       let item = reduce_item fold.function fold.along now in
-      let same : patched (array_of shape t.numbers) p ≡ now = ap (λ (axes : List ℕ). patched (array_of axes t.numbers) p) shaped ∙ now_is fold.along t p now stood in
+      let same : patched (array_of_shape shape t.numbers) p ≡ now = ap (λ (axes : List ℕ). patched (array_of_shape axes t.numbers) p) shaped ∙ now_is fold.along t p now stood in
       let before_is : axis_at (length shape) fold.along ≡ axis = ap (λ (axes : List ℕ). axis_at (length axes) fold.along) shaped ∙ axis_is in
-      let some : 0 < box_size (lines_of axis p.region) = omega (arith, single, ap box_size is, ap (λ k. box_size (lines_of k p.region)) axis_is) in
+      let some : 0 < box_size (box_of_lines axis p.region) = omega (arith, single, ap box_size is, ap (λ k. box_size (box_of_lines k p.region)) axis_is) in
       let there : remove index (axis_at (length shape) fold.along) ≡ walk_at region 0 =
       (λ i. remove (first i) (before_is i))
       ∙ line_there axis t stood.before p stood.lines stood.fit one_before 0 some
-      ∙ ap (λ k. walk_at (lines_of k p.region) 0) (sym axis_is)
+      ∙ ap (λ k. walk_at (box_of_lines k p.region) 0) (sym axis_is)
       ∙ ap (λ (r : List Interval). walk_at r 0) (sym is) in
       let total_there : total ≡ item (walk_at region 0) = total_is ∙ (λ i. reduce_item fold.function fold.along (same i) (there i)) in
       ap (λ k. all_or_first_error (map (λ before. item (walk_at region before)) (range_with_len 0 k))) single
@@ -89,22 +89,22 @@ module _ (fold : Reduce) (t : TreesValue) (p : PatchValue) (now : ArrayValue) (s
 
   -- the box of what may change of the result
   module _ (shape : List ℕ) (type : ItemType) (form : reduce_form fold.along now ≡ Ok (form_of shape type)) where
-    met_is : unless_empty (met shape (remove p.region (axis_at (length now.shape) fold.along))) ≡ Some (lines_of (axis_at (length now.shape) fold.along) p.region)
+    met_is : unless_empty (met shape (remove p.region (axis_at (length now.shape) fold.along))) ≡ Some (box_of_lines (axis_at (length now.shape) fold.along) p.region)
     met_is =
         let fit = fits_axes axis t stood.before p stood.lines stood.fit one_before in
         let now_shape : now.shape ≡ stood.before.shape = ap (λ (a : ArrayValue). a.shape) stood.is in
         let others : shape ≡ remove stood.before.shape axis = (reduce_facts fold.along now shape type form).shaped ∙ (λ i. remove (now_shape i) (axis_is i)) in
         (λ i. unless_empty (met (others i) (remove p.region (axis_is i))))
-        ∙ ap unless_empty (met_fit _ (lines_of axis p.region) fit.rest)
-        ∙ cond-false _ _ _ (fit_some (lines_of axis p.region) _ fit.rest)
-        ∙ ap (λ k. Some (lines_of k p.region)) (sym axis_is)
+        ∙ ap unless_empty (met_fit _ (box_of_lines axis p.region) fit.rest)
+        ∙ cond-false _ _ _ (fit_some (box_of_lines axis p.region) _ fit.rest)
+        ∙ ap (λ k. Some (box_of_lines k p.region)) (sym axis_is)
 
-    reach_is : reach_of (total_rule fold) (now ∷ []) (Some p.region ∷ []) ≡ Inside (lines_of (axis_at (length now.shape) fold.along) p.region)
+    reach_is : reach_of (total_rule fold) (now ∷ []) (Some p.region ∷ []) ≡ Inside (box_of_lines (axis_at (length now.shape) fold.along) p.region)
     reach_is =
         ap (λ (x : Result Form Kind). reach_by x (total_rule fold).uses (now ∷ []) (Some p.region ∷ [])) form
         ∙ ap (λ (m : Option (List Interval)). as_reach (join_boxes m None)) met_is
 
-    pub reached_box : (region : List Interval) → Inside region ≡ reach_of (total_rule fold) (now ∷ []) (Some p.region ∷ []) → region ≡ lines_of (axis_at (length now.shape) fold.along) p.region
+    pub reached_box : (region : List Interval) → Inside region ≡ reach_of (total_rule fold) (now ∷ []) (Some p.region ∷ []) → region ≡ box_of_lines (axis_at (length now.shape) fold.along) p.region
     reached_box region is = let same = is ∙ reach_is in cc
 
     pub some_reached : Unmoved ≡ reach_of (total_rule fold) (now ∷ []) (Some p.region ∷ []) → ⊥

@@ -5,7 +5,7 @@ use Rattle.arrays_core.specs.declared.item.Item.TheVariants.{Num}
 use Rattle.arrays_core.specs.declared.item.ItemType.TheVariants.{Nums}
 use Rattle.arrays_core.specs.Growth.{grown_by, one_longer}
 use Rattle.fold_trees.specs.FoldTrees.{FoldsValue}
-use Rattle.sum_rules.specs.LineSums.{SummedValue, array_of, StandFor}
+use Rattle.sum_rules.specs.LineSums.{SummedValue, array_of_shape, StandFor}
 use Rattle.sum_rules.specs.NewLines.{lines_behind, new_numbers, trees_grown, AreNewLinesOf, FitsSums, FitsTrees}
 use Rattle.sum_rules.specs.declared.new_lines.Growth.{Growth}
 use Rattle.sum_rules.specs.declared.new_lines.Growth.TheVariants.{Lines, Places}
@@ -14,10 +14,10 @@ use Rattle.sum_rules.proofs.MorePlaces.{fit_next, stand_longer}
 
 -- the array of these numbers, whose lines along an axis are summed up
 abbrev pub held : (axis : ℕ) → List ℕ → FoldsValue → SummedValue
-held axis old t = record { function = t.function; axis = axis; array = array_of old t.lines.numbers }
+held axis old t = record { function = t.function; axis = axis; array = array_of_shape old t.lines.numbers }
 
 -- it takes what it grows by
-pub fits_trees : (axis : ℕ) (old new : List ℕ) (t : FoldsValue) (g : Growth) → StandFor t.lines axis (array_of old t.lines.numbers) → AreNewLinesOf axis new g → FitsSums (held axis old t) (lines_behind axis new g)
+pub fits_trees : (axis : ℕ) (old new : List ℕ) (t : FoldsValue) (g : Growth) → StandFor t.lines axis (array_of_shape old t.lines.numbers) → AreNewLinesOf axis new g → FitsSums (held axis old t) (lines_behind axis new g)
     → FitsTrees t g
 fits_trees axis old new t (Lines m) stand made fits = record {
   function = fits.function;
@@ -31,18 +31,18 @@ fits_trees axis old new t (Places m) stand made fits =
     let first = made.new.0 in
     record {
       function = fits.function;
-      places = fit_next old new t m (subst (λ k. StandFor t.lines k (array_of old t.lines.numbers)) first stand) (subst (λ k. AreNewLinesOf k new (Places m)) first made)
+      places = fit_next old new t m (subst (λ k. StandFor t.lines k (array_of_shape old t.lines.numbers)) first stand) (subst (λ k. AreNewLinesOf k new (Places m)) first made)
           (subst (λ k. FitsSums (held k old t) (lines_behind k new (Places m))) first fits);
     }
 
 -- they stand for the lines of the array that grew
-pub stands : (axis : ℕ) (old new : List ℕ) (t : FoldsValue) (g : Growth) → StandFor t.lines axis (array_of old t.lines.numbers) → AreNewLinesOf axis new g → FitsSums (held axis old t) (lines_behind axis new g)
-    → StandFor (trees_grown t g).lines axis (array_of new (t.lines.numbers ++ new_numbers g))
+pub stands : (axis : ℕ) (old new : List ℕ) (t : FoldsValue) (g : Growth) → StandFor t.lines axis (array_of_shape old t.lines.numbers) → AreNewLinesOf axis new g → FitsSums (held axis old t) (lines_behind axis new g)
+    → StandFor (trees_grown t g).lines axis (array_of_shape new (t.lines.numbers ++ new_numbers g))
 stands axis old new t (Lines m) stand made fits = stand_grown axis old new t m stand made fits
 stands axis old new t (Places m) stand made fits =
     let first = made.new.0 in
-    subst (λ k. StandFor (trees_grown t (Places m)).lines k (array_of new (t.lines.numbers ++ m.places.numbers))) (sym first)
-    (stand_longer old new t m (subst (λ k. StandFor t.lines k (array_of old t.lines.numbers)) first stand) (subst (λ k. AreNewLinesOf k new (Places m)) first made)
+    subst (λ k. StandFor (trees_grown t (Places m)).lines k (array_of_shape new (t.lines.numbers ++ m.places.numbers))) (sym first)
+    (stand_longer old new t m (subst (λ k. StandFor t.lines k (array_of_shape old t.lines.numbers)) first stand) (subst (λ k. AreNewLinesOf k new (Places m)) first made)
     (subst (λ k. FitsSums (held k old t) (lines_behind k new (Places m))) first fits))
 
 -- and their numbers are those of both
@@ -56,5 +56,5 @@ function_stays t (Lines m) = refl
 function_stays t (Places m) = refl
 
 -- the array of both is the one that grew
-pub array_grown : (old new : List ℕ) (numbers more : List ℤ) → new ≡ one_longer old → array_of new (numbers ++ more) ≡ grown_by (array_of old numbers) (map (λ (z : ℤ). Num z) more)
+pub array_grown : (old new : List ℕ) (numbers more : List ℤ) → new ≡ one_longer old → array_of_shape new (numbers ++ more) ≡ grown_by (array_of_shape old numbers) (map (λ (z : ℤ). Num z) more)
 array_grown old new numbers more shaped i = record { item_type = Nums; shape = shaped i; items = map-append (λ (z : ℤ). Num z) numbers more i }

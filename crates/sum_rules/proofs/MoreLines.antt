@@ -12,7 +12,7 @@ use Rattle.arrays_core.specs.Shapes.{size}
 use Rattle.arrays_core.proofs.Growing.{size_longer}
 use Rattle.operator_fns.specs.SumTrees.{with_lines}
 use Rattle.fold_trees.specs.FoldTrees.{FoldsValue, NewFoldsValue}
-use Rattle.sum_rules.specs.LineSums.{line_length, line_step, array_of, StandFor}
+use Rattle.sum_rules.specs.LineSums.{line_length, line_step, array_of_shape, StandFor}
 use Rattle.sum_rules.specs.NewLines.{lines_behind, AreNewLinesOf, FitsSums}
 use Rattle.sum_rules.specs.declared.new_lines.Growth.TheVariants.{Lines}
 use Rattle.sum_rules.proofs.Lines.{factor_divides, some_in_line, whole_lines}
@@ -43,8 +43,8 @@ lines_behind_others old more count some whole =
 
 -- ---- an array of lines that grows by more of them
 
-module _ (axis : ℕ) (old new : List ℕ) (t : FoldsValue) (more : NewFoldsValue) (stand : StandFor t.lines axis (array_of old t.lines.numbers)) (made : AreNewLinesOf axis new (Lines more))
-    (fits : FitsSums (record { function = t.function; axis = axis; array = array_of old t.lines.numbers }) (lines_behind axis new (Lines more))) where
+module _ (axis : ℕ) (old new : List ℕ) (t : FoldsValue) (more : NewFoldsValue) (stand : StandFor t.lines axis (array_of_shape old t.lines.numbers)) (made : AreNewLinesOf axis new (Lines more))
+    (fits : FitsSums (record { function = t.function; axis = axis; array = array_of_shape old t.lines.numbers }) (lines_behind axis new (Lines more))) where
   n : ℕ
   n = line_length axis old
 
@@ -75,7 +75,7 @@ module _ (axis : ℕ) (old new : List ℕ) (t : FoldsValue) (more : NewFoldsValu
       ∙ ap (λ k. length t.lines.numbers / k) (sym stand.counted)
 
   -- the trees stand for the lines of the array that grew
-  pub stand_grown : StandFor (with_lines t.lines more.lines.numbers) axis (array_of new (t.lines.numbers ++ more.lines.numbers))
+  pub stand_grown : StandFor (with_lines t.lines more.lines.numbers) axis (array_of_shape new (t.lines.numbers ++ more.lines.numbers))
   stand_grown = record {
     sound = record {
       within = made.within;

@@ -11,7 +11,7 @@ use Rattle.arrays_core.specs.Shapes.{size}
 use Rattle.arrays_core.proofs.Growing.{size_longer}
 use Rattle.operator_fns.specs.SumTrees.{FitNext, with_places}
 use Rattle.fold_trees.specs.FoldTrees.{FoldsValue, NextFoldsValue}
-use Rattle.sum_rules.specs.LineSums.{line_length, line_step, array_of, StandFor}
+use Rattle.sum_rules.specs.LineSums.{line_length, line_step, array_of_shape, StandFor}
 use Rattle.sum_rules.specs.NewLines.{lines_behind, AreNewLinesOf, FitsSums}
 use Rattle.sum_rules.specs.declared.new_lines.Growth.TheVariants.{Places}
 use Rattle.sum_rules.proofs.Lines.{some_in_line}
@@ -42,8 +42,8 @@ few_with_place shape old there some few is =
     let each : 1 * s ≡ s = omega arith in
     omega (arith, most, sum, all, few, one, each)
 
-module _ (old new : List ℕ) (t : FoldsValue) (more : NextFoldsValue) (stand : StandFor t.lines 0 (array_of old t.lines.numbers)) (made : AreNewLinesOf 0 new (Places more))
-    (fits : FitsSums (record { function = t.function; axis = 0; array = array_of old t.lines.numbers }) (lines_behind 0 new (Places more))) where
+module _ (old new : List ℕ) (t : FoldsValue) (more : NextFoldsValue) (stand : StandFor t.lines 0 (array_of_shape old t.lines.numbers)) (made : AreNewLinesOf 0 new (Places more))
+    (fits : FitsSums (record { function = t.function; axis = 0; array = array_of_shape old t.lines.numbers }) (lines_behind 0 new (Places more))) where
   length_is : line_length 0 new ≡ line_length 0 old + 1
   length_is = ap (line_length 0) fits.tail.shaped ∙ longer old stand.there
 
@@ -62,7 +62,7 @@ module _ (old new : List ℕ) (t : FoldsValue) (more : NextFoldsValue) (stand : 
   }
 
   -- the trees stand for the longer lines
-  pub stand_longer : StandFor (with_places t.lines more.places.numbers) 0 (array_of new (t.lines.numbers ++ more.places.numbers))
+  pub stand_longer : StandFor (with_places t.lines more.places.numbers) 0 (array_of_shape new (t.lines.numbers ++ more.places.numbers))
   stand_longer = record {
     sound = record {
       within = made.within;

@@ -59,8 +59,8 @@ grown_sums s items = record { function = s.function; axis = s.axis; array = grow
 -- ---- what tells them
 
 -- the array of these numbers
-abbrev pub array_of : List ℕ → List ℤ → ArrayValue
-array_of shape numbers = record { item_type = Nums; shape = shape; items = map (λ z. Num z) numbers }
+abbrev pub array_of_shape : List ℕ → List ℤ → ArrayValue
+array_of_shape shape numbers = record { item_type = Nums; shape = shape; items = map (λ z. Num z) numbers }
 
 -- trees stand for the lines of an array of some numbers along an axis
 pub record StandFor (t : TreesValue) (axis : ℕ) (a : ArrayValue) : Type 0 where
@@ -69,4 +69,4 @@ pub record StandFor (t : TreesValue) (axis : ℕ) (a : ArrayValue) : Type 0 wher
   pub there : axis < length a.shape
   pub counted : t.count ≡ line_length axis a.shape
   pub apart : t.step ≡ line_step axis a.shape
-  pub is : a ≡ array_of a.shape t.numbers
+  pub is : a ≡ array_of_shape a.shape t.numbers

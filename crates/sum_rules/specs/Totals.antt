@@ -104,8 +104,8 @@ abbrev pub is_one_a_line : ℕ → List Interval → Bool
 is_one_a_line axis region = let s = get_or region axis (1, 0) in nat_eq s.0 s.1
 
 -- a box without an axis
-abbrev pub lines_of : ℕ → List Interval → List Interval
-lines_of axis region = remove region axis
+abbrev pub box_of_lines : ℕ → List Interval → List Interval
+box_of_lines axis region = remove region axis
 
 -- the trees serve: the totals were an array, and the box that changed has one place a line, or each line got one more place
 abbrev pub is_narrow : ℕ → Delta → Bool

@@ -10,7 +10,7 @@ ghost use Rattle.function_names.specs.Axes.{is_axis, axis_at};
 ghost use Rattle.index_region.specs.Patches.{FitsPatch, patched};
 ghost use Rattle.operator_fns.specs.SumTrees.{with_number};
 ghost use Rattle.fold_trees.specs.FoldTrees.{has_trees};
-ghost use Rattle.sum_rules.specs.LineSums.{length_along, line_length, line_step, keeps_sums, summed, array_of, patched_sums, grown_sums, StandFor};
+ghost use Rattle.sum_rules.specs.LineSums.{length_along, line_length, line_step, keeps_sums, summed, array_of_shape, patched_sums, grown_sums, StandFor};
 ghost use Rattle.sum_rules.specs.NewLines.{FitsSums, FitsTrees, trees_grown};
 
 use crate::new_lines::{Growth, NewLines};
@@ -111,10 +111,10 @@ fn set_item(trees: &mut FoldTrees, place: usize, item: Item)
 
 /// Puts the new items of a patch into the lines of an array of this shape.
 fn write_into(shape: &Shape, trees: &mut FoldTrees, patch: &Patch)
-    requires lines { IsArray (array_of shape.now.items trees.old.lines.numbers) }
-    requires fit { FitsPatch (array_of shape.now.items trees.old.lines.numbers) patch.now }
-    ensures numbers { array_of shape.now.items trees.new.lines.numbers ≡ patched (array_of shape.now.items trees.old.lines.numbers) patch.now }
-    ensures sound { IsArray (array_of shape.now.items trees.new.lines.numbers) }
+    requires lines { IsArray (array_of_shape shape.now.items trees.old.lines.numbers) }
+    requires fit { FitsPatch (array_of_shape shape.now.items trees.old.lines.numbers) patch.now }
+    ensures numbers { array_of_shape shape.now.items trees.new.lines.numbers ≡ patched (array_of_shape shape.now.items trees.old.lines.numbers) patch.now }
+    ensures sound { IsArray (array_of_shape shape.now.items trees.new.lines.numbers) }
     ensures function { trees.new.function ≡ trees.old.function }
     ensures count { trees.new.lines.count ≡ trees.old.lines.count }
     ensures step { trees.new.lines.step ≡ trees.old.lines.step }
@@ -158,13 +158,13 @@ pub struct LineSums {
 }
 
 impl Model for LineSums {
-    ghost use Rattle.sum_rules.specs.LineSums.{SummedValue, array_of, StandFor};
+    ghost use Rattle.sum_rules.specs.LineSums.{SummedValue, array_of_shape, StandFor};
 
     ghost Value = { SummedValue };
 
-    ghost view = { λ s. record { function = s.lines.value.trees.function; axis = s.lines.value.axis; array = array_of s.lines.value.shape.items s.lines.value.trees.lines.numbers } };
+    ghost view = { λ s. record { function = s.lines.value.trees.function; axis = s.lines.value.axis; array = array_of_shape s.lines.value.shape.items s.lines.value.trees.lines.numbers } };
 
-    ghost invariant = { λ s. StandFor s.lines.value.trees.lines s.lines.value.axis (array_of s.lines.value.shape.items s.lines.value.trees.lines.numbers) };
+    ghost invariant = { λ s. StandFor s.lines.value.trees.lines s.lines.value.axis (array_of_shape s.lines.value.shape.items s.lines.value.trees.lines.numbers) };
 }
 
 impl LineSums {

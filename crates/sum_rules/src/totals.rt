@@ -22,8 +22,8 @@ ghost use Rattle.change_core.specs.RuleModels.{form_size};
 ghost use Rattle.change_rules.specs.Evaluation.{evaluation};
 ghost use Rattle.change_rules.specs.Nodes.{views, moved, is_error, node_delta, node_cost, reached_delta, reached_cost, patch_delta};
 ghost use Rattle.change_rules.specs.Currency.{BringsUpToDate, HasAxis, IsRight};
-ghost use Rattle.sum_rules.specs.LineSums.{StandFor, array_of, length_along};
-ghost use Rattle.sum_rules.specs.Totals.{total_rule, longer_totals, StoodFor, StoodBefore, IsSummedUp, IsSummedByLines, AreJoinsWithin, AreJoinsFrom, AreFoldsWithin, AreFolds, HasJoins, HasAllJoins, is_one_a_line, lines_of, row_sums};
+ghost use Rattle.sum_rules.specs.LineSums.{StandFor, array_of_shape, length_along};
+ghost use Rattle.sum_rules.specs.Totals.{total_rule, longer_totals, StoodFor, StoodBefore, IsSummedUp, IsSummedByLines, AreJoinsWithin, AreJoinsFrom, AreFoldsWithin, AreFolds, HasJoins, HasAllJoins, is_one_a_line, box_of_lines, row_sums};
 
 use crate::line_sums::length_along;
 use crate::line_totals::{LineTotals, TreeALine};
@@ -77,11 +77,11 @@ fn line_total<S: LineTotals>(
 ) -> Result<Item, Kind>
     requires function { S.function sums.now ≡ fold.function }
     requires on_axis { is_axis (length shape.now.items) fold.along ≡ true }
-    requires lines { StandFor (S.trees sums.now) (axis_at (length shape.now.items) fold.along) (array_of shape.now.items (S.trees sums.now).numbers) }
-    requires fit { FitsPatch (array_of shape.now.items (S.trees sums.now).numbers) patch.now }
+    requires lines { StandFor (S.trees sums.now) (axis_at (length shape.now.items) fold.along) (array_of_shape shape.now.items (S.trees sums.now).numbers) }
+    requires fit { FitsPatch (array_of_shape shape.now.items (S.trees sums.now).numbers) patch.now }
     requires one { is_one_a_line (axis_at (length shape.now.items) fold.along) patch.now.region ≡ true }
     requires inside { IsTrue (is_within patch.now.region index.now) }
-    ensures total { result ≡ reduce_item fold.function fold.along (patched (array_of shape.now.items (S.trees sums.now).numbers) patch.now) (remove index.now (axis_at (length shape.now.items) fold.along)) }
+    ensures total { result ≡ reduce_item fold.function fold.along (patched (array_of_shape shape.now.items (S.trees sums.now).numbers) patch.now) (remove index.now (axis_at (length shape.now.items) fold.along)) }
     ensures typed { IfOk result (λ total. type_of total ≡ Nums) }
     ensures ticks { meter.new.ticks ≡ ticked meter.old.ticks 1 }
     ensures rises { meter.old.ticks ≤ meter.new.ticks }
@@ -109,10 +109,10 @@ fn new_totals<S: LineTotals>(
 ) -> Result<Array, ApplyFault>
     requires function { S.function sums.now ≡ fold.function }
     requires on_axis { is_axis (length shape.now.items) fold.along ≡ true }
-    requires lines { StandFor (S.trees sums.now) (axis_at (length shape.now.items) fold.along) (array_of shape.now.items (S.trees sums.now).numbers) }
-    requires fit { FitsPatch (array_of shape.now.items (S.trees sums.now).numbers) patch.now }
+    requires lines { StandFor (S.trees sums.now) (axis_at (length shape.now.items) fold.along) (array_of_shape shape.now.items (S.trees sums.now).numbers) }
+    requires fit { FitsPatch (array_of_shape shape.now.items (S.trees sums.now).numbers) patch.now }
     requires one { is_one_a_line (axis_at (length shape.now.items) fold.along) patch.now.region ≡ true }
-    ensures totals { HoldsItems Nums (items_in (reduce_item fold.function fold.along (patched (array_of shape.now.items (S.trees sums.now).numbers) patch.now)) (lines_of (axis_at (length shape.now.items) fold.along) patch.now.region)) result }
+    ensures totals { HoldsItems Nums (items_in (reduce_item fold.function fold.along (patched (array_of_shape shape.now.items (S.trees sums.now).numbers) patch.now)) (box_of_lines (axis_at (length shape.now.items) fold.along) patch.now.region)) result }
     ensures ticks { meter.new.ticks ≤ meter.old.ticks + box_size patch.now.region }
     ensures exact { IfOk result (λ _. meter.new.ticks ≡ ticked meter.old.ticks (box_size patch.now.region)) }
     ensures rises { meter.old.ticks ≤ meter.new.ticks }
@@ -192,7 +192,7 @@ fn patch_of_one<S: LineTotals>(
     requires function { S.function sums.now ≡ fold.function }
     requires lines { StoodFor fold.along (S.trees sums.now) patch.now array.now }
     requires one { is_one_a_line (axis_at (length array.now.shape) fold.along) patch.now.region ≡ true }
-    requires region { region ≡ lines_of (axis_at (length array.now.shape) fold.along) patch.now.region }
+    requires region { region ≡ box_of_lines (axis_at (length array.now.shape) fold.along) patch.now.region }
     requires single { box_size region ≡ 1 }
     ensures delta { change.new ≡ patch_delta Nums region (items_in (reduce_item fold.function fold.along array.now) region) }
     ensures ticks { meter.new.ticks ≡ ticked meter.old.ticks 1 }
@@ -221,7 +221,7 @@ fn patch_of<S: LineTotals>(
     requires function { S.function sums.now ≡ fold.function }
     requires lines { StoodFor fold.along (S.trees sums.now) patch.now array.now }
     requires one { is_one_a_line (axis_at (length array.now.shape) fold.along) patch.now.region ≡ true }
-    requires region { region ≡ lines_of (axis_at (length array.now.shape) fold.along) patch.now.region }
+    requires region { region ≡ box_of_lines (axis_at (length array.now.shape) fold.along) patch.now.region }
     ensures delta { OnOk result (change.new ≡ patch_delta Nums region (items_in (reduce_item fold.function fold.along array.now) region)) }
     ensures ticks { meter.new.ticks ≤ meter.old.ticks + box_size patch.now.region }
     ensures exact { OnOk result (is_error change.new ≡ false → meter.new.ticks ≡ ticked meter.old.ticks (box_size patch.now.region)) }

@@ -7,10 +7,10 @@ use Rattle.fold_trees.proofs.PairEnds.{node_is, first_is, second_is}
 use Rattle.fold_trees.proofs.line_tree.close_parts.Goals as goal
 use Rattle.fold_trees.proofs.line_tree.close_parts.Goals.{After-index-nodes-node-in-loop-half}
 use Rattle.fold_trees.proofs.line_tree.close_parts.Given.{Over}
-use Rattle.operator_fns.specs.LineTrees.{segment, from_two, node_of, AreKeptUpTo}
+use Rattle.operator_fns.specs.LineTrees.{segment, from_two, node_of, ArePartsKeptUpTo}
 
 -- what is read of the earlier half
-earlier : (g : Over) (c : After-index-nodes-node-in-loop-half g) (x : ℕ → ℤ) → AreKeptUpTo from_two g.P.Part.tells c.args.end 2 c.args.line.count x (node_of from_two g.P.Part.blank c.args.line c.args.nodes.now)
+earlier : (g : Over) (c : After-index-nodes-node-in-loop-half g) (x : ℕ → ℤ) → ArePartsKeptUpTo from_two g.P.Part.tells c.args.end 2 c.args.line.count x (node_of from_two g.P.Part.blank c.args.line c.args.nodes.now)
     → g.P.Part.tells c.index-nodes-node.result (segment x ((c.args.end / (2 * c.loop-half.half) - 1) * (2 * c.loop-half.half)) c.loop-half.half)
 earlier g c x h =
     let blank = g.P.Part.blank in
@@ -31,7 +31,7 @@ earlier g c x h =
     (first_told from_two are_from_two blank tells line nodes x end half low inv.half.1 c.loop-half-test.true c.requires.some c.requires.below kept)
 
 -- and of the later one
-later : (g : Over) (c : After-index-nodes-node-in-loop-half g) (x : ℕ → ℤ) → AreKeptUpTo from_two g.P.Part.tells c.args.end 2 c.args.line.count x (node_of from_two g.P.Part.blank c.args.line c.args.nodes.now)
+later : (g : Over) (c : After-index-nodes-node-in-loop-half g) (x : ℕ → ℤ) → ArePartsKeptUpTo from_two g.P.Part.tells c.args.end 2 c.args.line.count x (node_of from_two g.P.Part.blank c.args.line c.args.nodes.now)
     → g.P.Part.tells c.index-nodes-node-in-loop-half.result (segment x ((c.args.end / (2 * c.loop-half.half) - 1) * (2 * c.loop-half.half) + c.loop-half.half) c.loop-half.half)
 later g c x h =
     let blank = g.P.Part.blank in
@@ -82,7 +82,7 @@ loop-half-preserved g c =
     record {
       half = (suc low, ap (λ k. 2 * k) inv.half.1 ∙ grind arith);
       within = inl (omega (arith, ends));
-      kept = λ x h. subst (λ k. AreKeptUpTo from_two tells end (2 * half) line.count x (node_of from_two blank line (set nodes k s))) at
+      kept = λ x h. subst (λ k. ArePartsKeptUpTo from_two tells end (2 * half) line.count x (node_of from_two blank line (set nodes k s))) at
           (kept_up from_two are_from_two blank tells line nodes x end half low inv.half.1 whole c.requires.some c.requires.below (inv.kept x h) s apart (subst (λ k. k < length nodes) (sym at) inside)
           (c.join.ensures (segment x (part * (2 * half)) half) (segment x (part * (2 * half) + half) half)
           (earlier g (goal.at.loop-half-preserved g c).After-index-nodes-node-in-loop-half x h) (later g (goal.at.loop-half-preserved g c).After-index-nodes-node-in-loop-half x h)));

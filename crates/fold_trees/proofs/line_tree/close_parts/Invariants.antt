@@ -1,13 +1,13 @@
 use Rattle.std.proofs.Common.{◌≡◌, ℕ, ℤ, ◌-◌, ◌*◌, ◌^◌, ◌<◌, ◌≤◌, ◌⊎◌, length, get_or}
-use Rattle.operator_fns.specs.LineTrees.{from_two, node_of, AreKeptUpTo}
+use Rattle.operator_fns.specs.LineTrees.{from_two, node_of, ArePartsKeptUpTo}
 use Rattle.fold_trees.proofs.line_tree.close_parts.Given as goal
 
 abbrev pub invariant-loop-half : goal.invariant-loop-half
 invariant-loop-half g l = record {
   half : (low : ℕ) × (l.half ≡ 2 * 2 ^ low);
   within : l.half ≤ l.end ⊎ l.half ≡ 2;
-  kept : (x : ℕ → ℤ) → AreKeptUpTo from_two g.P.Part.tells l.end 2 l.line.count x (node_of from_two g.P.Part.blank l.line l.initial.nodes)
-      → AreKeptUpTo from_two g.P.Part.tells l.end l.half l.line.count x (node_of from_two g.P.Part.blank l.line l.nodes);
+  kept : (x : ℕ → ℤ) → ArePartsKeptUpTo from_two g.P.Part.tells l.end 2 l.line.count x (node_of from_two g.P.Part.blank l.line l.initial.nodes)
+      → ArePartsKeptUpTo from_two g.P.Part.tells l.end l.half l.line.count x (node_of from_two g.P.Part.blank l.line l.nodes);
   others : (p : ℕ) → p < l.line.node → get_or l.nodes p g.P.Part.blank ≡ get_or l.initial.nodes p g.P.Part.blank;
   sized : length l.nodes ≡ length l.initial.nodes;
 }

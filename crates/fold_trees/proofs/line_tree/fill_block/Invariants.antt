@@ -1,12 +1,12 @@
 use Rattle.std.proofs.Common.{◌≡◌, ℕ, ◌+◌, ◌*◌, ◌<◌, ◌≤◌, ◌⊎◌, length, get_or}
 use Rattle.operator_fns.specs.LineTrees.{from_two, slot_of}
-use Rattle.operator_fns.specs.LineBlocks.{nodes_end, AreKeptFrom}
+use Rattle.operator_fns.specs.LineBlocks.{nodes_end, ArePartsKeptFrom}
 use Rattle.fold_trees.proofs.line_tree.fill_block.Given as goal
 
 abbrev pub invariant-loop-pairs : goal.invariant-loop-pairs
 invariant-loop-pairs g l = record {
   few : 2 * l.pairs < l.first.count + 2;
-  kept : AreKeptFrom from_two g.P.Part.blank g.P.Part.tells slot_of (2 * l.pairs) l.first l.numbers l.nodes;
+  kept : ArePartsKeptFrom from_two g.P.Part.blank g.P.Part.tells slot_of (2 * l.pairs) l.first l.numbers l.nodes;
   others : (p : ℕ) → (p < l.first.node ⊎ nodes_end from_two l.first ≤ p) → get_or l.nodes p g.P.Part.blank ≡ get_or l.initial.nodes p g.P.Part.blank;
   sized : length l.nodes ≡ length l.initial.nodes;
 }

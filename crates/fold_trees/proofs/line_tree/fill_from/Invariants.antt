@@ -1,13 +1,13 @@
 use Rattle.std.proofs.Common.{◌≡◌, ℕ, ◌-◌, ◌*◌, ◌^◌, ◌<◌, ◌≤◌, ◌⊎◌, length, get_or}
 use Rattle.operator_fns.specs.LineTrees.{from_two, slot_of}
-use Rattle.operator_fns.specs.LineBlocks.{nodes_end, AreKeptBehind}
+use Rattle.operator_fns.specs.LineBlocks.{nodes_end, ArePartsKeptBehind}
 use Rattle.fold_trees.proofs.line_tree.fill_from.Given as goal
 
 abbrev pub invariant-loop-half : goal.invariant-loop-half
 invariant-loop-half g l = record {
   half : (level : ℕ) × (l.half ≡ 2 ^ level);
   whole : (place : ℕ) × (l.from ≡ place * l.half);
-  kept : AreKeptBehind from_two g.P.Part.blank g.P.Part.tells slot_of l.from l.half l.first l.numbers l.nodes;
+  kept : ArePartsKeptBehind from_two g.P.Part.blank g.P.Part.tells slot_of l.from l.half l.first l.numbers l.nodes;
   others : (p : ℕ) → (p < l.first.node ⊎ nodes_end from_two l.first ≤ p) → get_or l.nodes p g.P.Part.blank ≡ get_or l.initial.nodes p g.P.Part.blank;
   sized : length l.nodes ≡ length l.initial.nodes;
 }

@@ -2,7 +2,7 @@ use Rattle.std.proofs.Common.{◌≡◌, ◌∙◌, ◌+◌, ◌-◌, ◌*◌, �
 use Rattle.std.proofs.lemmas.Nat.{pow_pos}
 use Rattle.std.proofs.lemmas.List.{length-set}
 use Rattle.operator_fns.specs.declared.line_tree.Line.{Line}
-use Rattle.operator_fns.specs.LineTrees.{slot_of, nth_node, segment, numbers_of_block, from_two, node_of, AreKeptIn}
+use Rattle.operator_fns.specs.LineTrees.{slot_of, nth_node, segment, numbers_of_block, from_two, node_of, ArePartsKeptIn}
 use Rattle.operator_fns.specs.LineBlocks.{line_of}
 use Rattle.operator_fns.proofs.BlockRows.{told_on, others_on, line_node, column_away, node_row}
 use Rattle.operator_fns.proofs.LineParts.{widen_even}
@@ -35,7 +35,7 @@ part-requires-clause-kept g c =
     let l = line_of first k in
     let tells = g.P.Part.tells in
     let blank = g.P.Part.blank in
-    subst (λ (m : Line). AreKeptIn from_two tells from half m.count (slot_of m numbers) (node_of from_two blank m nodes)) (sym c.nth-line.ensures)
+    subst (λ (m : Line). ArePartsKeptIn from_two tells from half m.count (slot_of m numbers) (node_of from_two blank m nodes)) (sym c.nth-line.ensures)
     (kept_in_still from_two tells from half first.count (slot_of l numbers) (node_of from_two blank l c.args.nodes.now) (node_of from_two blank l nodes)
     (λ a. c.loop-column.invariant.others (nth_node l a) (column_away first k k a (from + half) below (omega arith)))
     (kept_in_first from_two are_from_two blank tells slot_of from first numbers c.args.nodes.now half k below c.requires.kept))
@@ -54,7 +54,7 @@ part-requires-in-loop-column-clause-kept g c =
     let blank = g.P.Part.blank in
     let p = pow_pos c.requires.half.0 in
     let some : 0 < half = omega (arith, p, c.requires.half.1) in
-    subst (λ (m : Line). AreKeptIn from_two tells (from + half) half m.count (slot_of m numbers) (node_of from_two blank m nodes)) (sym c.nth-line.ensures)
+    subst (λ (m : Line). ArePartsKeptIn from_two tells (from + half) half m.count (slot_of m numbers) (node_of from_two blank m nodes)) (sym c.nth-line.ensures)
     (kept_in_still from_two tells (from + half) half first.count (slot_of l numbers) (node_of from_two blank l c.args.nodes.now) (node_of from_two blank l nodes)
     (λ a. c.loop-column.invariant.others (nth_node l a) (column_away first k k a (from + half) below (omega arith)))
     (kept_in_second from_two are_from_two blank tells slot_of from first numbers c.args.nodes.now half k below some c.requires.kept))

@@ -1,6 +1,6 @@
 use Rattle.std.proofs.Common.{◌≡◌, ◌∙◌, ℕ, ◌+◌, ◌-◌, ◌*◌, ◌/◌, ◌<◌, ◌∷◌, [], length, drop, get_or, ap, sym, subst, arith, rules}
 use Rattle.std.proofs.lemmas.List.{take_at, get_or_append_left}
-use Rattle.operator_fns.specs.LineTrees.{slot_of, nth_node, from_two, node_of, AreKept}
+use Rattle.operator_fns.specs.LineTrees.{slot_of, nth_node, from_two, node_of, ArePartsKept}
 use Rattle.operator_fns.proofs.Halves.{are_from_two}
 use Rattle.operator_fns.proofs.LineEnds.{near_node, kept_beside_last}
 use Rattle.fold_trees.proofs.line_tree.push_line.Goals as goal
@@ -38,7 +38,7 @@ returns-clause-kept g c =
     let line = c.args.line in
     let nodes = c.renew.new.nodes in
     let long : length nodes ≡ c.if-last-eq1.nodes.len = c.renew.ensures.length ∙ c.deref_mut.ensures.len in
-    subst (λ ns. AreKept from_two g.P.Part.tells line.count (slot_of line c.args.numbers.now) (node_of from_two g.P.Part.blank line ns))
+    subst (λ ns. ArePartsKept from_two g.P.Part.tells line.count (slot_of line c.args.numbers.now) (node_of from_two g.P.Part.blank line ns))
     (sym (take_at nodes (drop (length nodes) c.if-last-eq1.nodes.items) c.if-last-eq1.nodes.len long)) c.renew.ensures.kept
 
 pub returns-clause-others : goal.returns-clause-others

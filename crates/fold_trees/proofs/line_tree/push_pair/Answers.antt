@@ -1,7 +1,7 @@
 use Rattle.std.proofs.Common.{◌≡◌, ◌∙◌, ℕ, ◌+◌, ◌<◌, ◌++◌, ◌∷◌, [], length, drop, get_or, pos, ap, sym, subst, arith, rules, to_z, of_z, w64, FitsSigned}
 use Rattle.std.proofs.lemmas.Int.{to_z-of_z}
 use Rattle.std.proofs.lemmas.List.{take_at, length-append, get_or_append_left, get_or_push}
-use Rattle.operator_fns.specs.LineTrees.{slot_at, slot_of, nth_node, segment, from_two, node_of, AreKeptIn, AreKeptUpTo}
+use Rattle.operator_fns.specs.LineTrees.{slot_at, slot_of, nth_node, segment, from_two, node_of, ArePartsKeptIn, ArePartsKeptUpTo}
 use Rattle.operator_fns.proofs.Halves.{are_from_two}
 use Rattle.operator_fns.proofs.LineEnds.{near_slot, near_node, least_more}
 use Rattle.fold_trees.proofs.line_tree.push_pair.Goals as goal
@@ -43,7 +43,7 @@ made g c =
     (c.join-pair.ensures (to_z w64 (of_z w64 (get_or numbers at (pos 0))) ∷ []) (to_z w64 (of_z w64 (get_or numbers (at + 1) (pos 0))) ∷ []) c.of.ensures c.of-2.ensures)
 
 kept : (g : Over) (c : After-deref_mut g)
-    → AreKeptUpTo from_two g.P.Part.tells (c.args.from + 2) 2 c.args.line.count (slot_of c.args.line c.args.numbers.now) (node_of from_two g.P.Part.blank c.args.line c.deref_mut.result.now)
+    → ArePartsKeptUpTo from_two g.P.Part.tells (c.args.from + 2) 2 c.args.line.count (slot_of c.args.line c.args.numbers.now) (node_of from_two g.P.Part.blank c.args.line c.deref_mut.result.now)
 kept g c =
     let blank = g.P.Part.blank in
     let tells = g.P.Part.tells in
@@ -73,7 +73,7 @@ returns-clause-kept g c =
     let x = slot_of line c.args.numbers.now in
     let nodes = c.close_parts.new.nodes in
     let long : length nodes ≡ c.push_node-2.new.nodes.len = c.close_parts.ensures.length ∙ c.deref_mut.ensures.len in
-    subst (λ ns. AreKeptIn from_two g.P.Part.tells 0 (c.args.from + 2) line.count x (node_of from_two g.P.Part.blank line ns))
+    subst (λ ns. ArePartsKeptIn from_two g.P.Part.tells 0 (c.args.from + 2) line.count x (node_of from_two g.P.Part.blank line ns))
     (sym (take_at nodes (drop (length nodes) c.push_node-2.new.nodes.items) c.push_node-2.new.nodes.len long))
     (c.close_parts.ensures.kept x (kept g (goal.at.returns-clause-kept g c).After-deref_mut))
 

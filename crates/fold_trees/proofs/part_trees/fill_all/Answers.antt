@@ -3,7 +3,7 @@ use Rattle.operator_fns.proofs.Halves.{are_from_two}
 use Rattle.operator_fns.proofs.BlockLines.{block_count, block_ends, have_slots, have_nodes, block_kept}
 use Rattle.operator_fns.proofs.LineSpots.{lines_are}
 use Rattle.operator_fns.specs.declared.line_tree.Line.{Line}
-use Rattle.operator_fns.specs.LineTrees.{slot_of, from_two, node_of, AreKept}
+use Rattle.operator_fns.specs.LineTrees.{slot_of, from_two, node_of, ArePartsKept}
 use Rattle.operator_fns.specs.LineBlocks.{line_of, HaveSlots, nodes_end, HaveNodes}
 use Rattle.fold_trees.proofs.part_trees.fill_all.Goals as goal
 
@@ -40,7 +40,7 @@ loop-block-preserved g c =
     let told = c.fill_block.ensures in
     let is = c.nth_block.ensures in
     let here =
-    subst (λ (l : Line). (column : ℕ) → column < l.step → AreKept from_two tells l.count (slot_of (line_of l column) numbers) (node_of from_two blank (line_of l column) after)) is
+    subst (λ (l : Line). (column : ℕ) → column < l.step → ArePartsKept from_two tells l.count (slot_of (line_of l column) numbers) (node_of from_two blank (line_of l column) after)) is
     told.kept in
     let others = subst (λ (l : Line). (p : ℕ) → (p < l.node ⊎ nodes_end from_two l ≤ p) → get_or after p blank ≡ get_or now p blank) is told.others in
     record {

@@ -1,8 +1,8 @@
 use Rattle.std.proofs.Common.{◌≡◌, ◌∙◌, suc, ◌+◌, ◌-◌, ◌*◌, ◌/◌, ◌^◌, ◌<◌, length, get_or, set, ap, sym, subst, arith}
 use Rattle.std.proofs.lemmas.List.{length-set, get_or-set_other}
 use Rattle.std.proofs.lemmas.Nat.{pow_pos}
-use Rattle.operator_fns.specs.SumNodes.{Tells, sums_from, empty, TellsSums}
-use Rattle.operator_fns.specs.LineTrees.{segment, from_four, node_of, AreKeptUpTo}
+use Rattle.operator_fns.specs.SumNodes.{IsSummaryOf, sums_from, empty, TellsSums}
+use Rattle.operator_fns.specs.LineTrees.{segment, from_four, node_of, ArePartsKeptUpTo}
 use Rattle.operator_fns.proofs.LineParts.{sums_joined}
 use Rattle.operator_fns.proofs.Halves.{are_from_four}
 use Rattle.operator_fns.proofs.LineEnds.{near_node, end_is, first_told, second_told, kept_up, kept_within}
@@ -22,7 +22,7 @@ join-requires-clause-here c =
     let is : half ≡ 2 * (2 * 2 ^ inv.half.0) = omega (arith, inv.half.1) in
     let ends = end_is from_four are_from_four empty TellsSums line nodes x end half inv.half.0 is c.loop-half-test.true c.requires.some c.requires.below kept in (
       sums_from x (part * (2 * half)) half,
-      subst (λ k. Tells (get_or nodes k empty) (sums_from x (part * (2 * half)) half)) (first_is line end half inv.half.0 part is ends c.requires.near)
+      subst (λ k. IsSummaryOf (get_or nodes k empty) (sums_from x (part * (2 * half)) half)) (first_is line end half inv.half.0 part is ends c.requires.near)
           (first_told from_four are_from_four empty TellsSums line nodes x end half inv.half.0 is c.loop-half-test.true c.requires.some c.requires.below kept),
     )
 
@@ -39,7 +39,7 @@ join-requires-clause-later c =
     let is : half ≡ 2 * (2 * 2 ^ inv.half.0) = omega (arith, inv.half.1) in
     let ends = end_is from_four are_from_four empty TellsSums line nodes x end half inv.half.0 is c.loop-half-test.true c.requires.some c.requires.below kept in (
       sums_from x (part * (2 * half) + half) half,
-      subst (λ k. Tells (get_or nodes k empty) (sums_from x (part * (2 * half) + half) half)) (second_is line end half inv.half.0 part is ends c.requires.near)
+      subst (λ k. IsSummaryOf (get_or nodes k empty) (sums_from x (part * (2 * half) + half) half)) (second_is line end half inv.half.0 part is ends c.requires.near)
           (second_told from_four are_from_four empty TellsSums line nodes x end half inv.half.0 is c.loop-half-test.true c.requires.some c.requires.below kept),
     )
 
@@ -67,13 +67,13 @@ loop-half-preserved c =
       within = omega (arith, ends);
       kept = λ x h.
           let kept = inv.kept x h in
-          let first = subst (λ k. Tells (get_or nodes k empty) (sums_from x (part * (2 * half)) half)) (first_is line end half low part is ends c.requires.near)
+          let first = subst (λ k. IsSummaryOf (get_or nodes k empty) (sums_from x (part * (2 * half)) half)) (first_is line end half low part is ends c.requires.near)
           (first_told from_four are_from_four empty TellsSums line nodes x end half low is whole c.requires.some c.requires.below kept) in
-          let second = subst (λ k. Tells (get_or nodes k empty) (sums_from x (part * (2 * half) + half) half)) (second_is line end half low part is ends c.requires.near)
+          let second = subst (λ k. IsSummaryOf (get_or nodes k empty) (sums_from x (part * (2 * half) + half) half)) (second_is line end half low part is ends c.requires.near)
           (second_told from_four are_from_four empty TellsSums line nodes x end half low is whole c.requires.some c.requires.below kept) in
-          subst (λ k. AreKeptUpTo from_four TellsSums end (2 * half) line.count x (node_of from_four empty line (set nodes k s))) at
+          subst (λ k. ArePartsKeptUpTo from_four TellsSums end (2 * half) line.count x (node_of from_four empty line (set nodes k s))) at
           (kept_up from_four are_from_four empty TellsSums line nodes x end half low is whole c.requires.some c.requires.below kept s apart (subst (λ k. k < length nodes) (sym at) inside)
-          (subst (Tells s) (sym (sums_joined (segment x (part * (2 * half)) half) (segment x (part * (2 * half) + half) half)))
+          (subst (IsSummaryOf s) (sym (sums_joined (segment x (part * (2 * half)) half) (segment x (part * (2 * half) + half) half)))
           (c.join.ensures (sums_from x (part * (2 * half)) half) (sums_from x (part * (2 * half) + half) half) first second)));
       others = λ q below. get_or-set_other nodes node q s empty (λ e. let no : ⊥ = omega (arith, e, below, ends, inv.half.1, p) in no) ∙ inv.others q below;
       sized = length-set nodes node s ∙ inv.sized;

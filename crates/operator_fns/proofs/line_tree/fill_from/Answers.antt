@@ -1,7 +1,7 @@
 use Rattle.std.proofs.Common.{◌∙◌, suc, ◌*◌, ◌/◌, refl, ap, arith, inl, inr}
 use Rattle.std.proofs.lemmas.Nat.{div-add-mod'}
 use Rattle.operator_fns.specs.SumNodes.{empty, TellsSums}
-use Rattle.operator_fns.specs.LineTrees.{from_four, number_of}
+use Rattle.operator_fns.specs.LineTrees.{from_four, number_in_line}
 use Rattle.operator_fns.proofs.Halves.{are_from_four}
 use Rattle.operator_fns.proofs.BlockParts.{begin_from, end_from}
 use Rattle.operator_fns.proofs.line_tree.fill_from.Goals as goal
@@ -10,7 +10,7 @@ pub loop-half-init : goal.loop-half-init
 loop-half-init c = record {
   half = (0, refl);
   whole = (c.args.from / 2, omega (arith, c.requires.four));
-  kept = begin_from from_four are_from_four empty TellsSums number_of c.args.from c.args.first c.args.slots.now c.args.nodes.now c.requires.four c.requires.kept;
+  kept = begin_from from_four are_from_four empty TellsSums number_in_line c.args.from c.args.first c.args.slots.now c.args.nodes.now c.requires.four c.requires.kept;
   others = λ p away. refl;
   sized = refl;
 }
@@ -36,9 +36,9 @@ loop-half-preserved c =
 pub returns-else-from-half-eq0-clause-kept : goal.returns-else-from-half-eq0-clause-kept
 returns-else-from-half-eq0-clause-kept c =
     let inv = c.loop-half.invariant in
-    end_from from_four are_from_four empty TellsSums number_of c.args.from c.args.first c.args.slots.now c.loop-half.nodes c.loop-half.half inv.half.0 inv.half.1 (inr c.if-from-half-eq0.false) inv.kept
+    end_from from_four are_from_four empty TellsSums number_in_line c.args.from c.args.first c.args.slots.now c.loop-half.nodes c.loop-half.half inv.half.0 inv.half.1 (inr c.if-from-half-eq0.false) inv.kept
 
 pub returns-after-loop-half-clause-kept : goal.returns-after-loop-half-clause-kept
 returns-after-loop-half-clause-kept c =
     let inv = c.loop-half.invariant in
-    end_from from_four are_from_four empty TellsSums number_of c.args.from c.args.first c.args.slots.now c.loop-half.nodes c.loop-half.half inv.half.0 inv.half.1 (inl (omega (arith, c.loop-half-test.false))) inv.kept
+    end_from from_four are_from_four empty TellsSums number_in_line c.args.from c.args.first c.args.slots.now c.loop-half.nodes c.loop-half.half inv.half.0 inv.half.1 (inl (omega (arith, c.loop-half-test.false))) inv.kept

@@ -1,7 +1,7 @@
 use Rattle.std.proofs.Common.{◌≡◌, ◌∙◌, ◌+◌, get_or, pos, ap, subst, arith, rules, to_z, of_z, ◌-ℤ◌, w64, FitsSigned}
 use Rattle.std.specs.Int.{int_wrap}
 use Rattle.std.proofs.lemmas.Int.{to_z-of_z}
-use Rattle.operator_fns.specs.SumNodes.{Tells, single, join}
+use Rattle.operator_fns.specs.SumNodes.{IsSummaryOf, single, join}
 use Rattle.operator_fns.specs.LineTrees.{slot_at, slot_of}
 use Rattle.operator_fns.proofs.BlockRows.{sums_four}
 use Rattle.operator_fns.proofs.LineEnds.{near_slot}
@@ -26,7 +26,7 @@ returns c =
     let x1 : to_z w64 (of_z w64 (get_or slots (at + 1) (pos 0))) ≡ slot_of line slots (from + 1) = to_z-of_z w64 _ f1 ∙ ap (λ p. get_or slots p (pos 0)) a1 in
     let x2 : to_z w64 (of_z w64 (get_or slots (at + 2) (pos 0))) ≡ slot_of line slots (from + 2) = to_z-of_z w64 _ f2 ∙ ap (λ p. get_or slots p (pos 0)) a2 in
     let x3 : to_z w64 (of_z w64 (get_or slots (at + 3) (pos 0))) ≡ slot_of line slots (from + 3) = to_z-of_z w64 _ f3 ∙ ap (λ p. get_or slots p (pos 0)) a3 in
-    subst (Tells c.of_four.result)
+    subst (IsSummaryOf c.of_four.result)
     ((λ i. join (join (single (int_wrap w64 (x0 i -ℤ x1 i))) (single (x1 i))) (join (single (int_wrap w64 (x2 i -ℤ x3 i))) (single (x3 i))))
     ∙ sums_four line slots from c.requires.even c.requires.full)
     c.of_four.ensures

@@ -3,8 +3,8 @@ use Rattle.std.specs.Int.{int_wrap}
 use Rattle.std.proofs.lemmas.Int.{to_z-of_z}
 use Rattle.std.proofs.lemmas.List.{length-set}
 use Rattle.operator_fns.specs.declared.summary.Summary.{Summary}
-use Rattle.operator_fns.specs.SumNodes.{Tells, single, join, sums_from, empty}
-use Rattle.operator_fns.specs.LineTrees.{from_four, slot_at, node_at, slot_of, number_of}
+use Rattle.operator_fns.specs.SumNodes.{IsSummaryOf, single, join, sums_from, empty}
+use Rattle.operator_fns.specs.LineTrees.{from_four, slot_at, node_at, slot_of, number_in_line}
 use Rattle.operator_fns.specs.LineBlocks.{line_of}
 use Rattle.operator_fns.proofs.Halves.{are_from_four}
 use Rattle.operator_fns.proofs.BlockRows.{slot_row, node_row, line_slot, line_node, next_slot, told_on, others_on, sums_four}
@@ -71,13 +71,13 @@ loop-column-preserved c =
     let x1 : to_z w64 (of_z w64 (get_or slots (at + step) (pos 0))) ≡ slot_of l slots (from + 1) = to_z-of_z w64 _ f1 ∙ ap (λ p. get_or slots p (pos 0)) a1 in
     let x2 : to_z w64 (of_z w64 (get_or slots (at + 2 * step) (pos 0))) ≡ slot_of l slots (from + 2) = to_z-of_z w64 _ f2 ∙ ap (λ p. get_or slots p (pos 0)) a2 in
     let x3 : to_z w64 (of_z w64 (get_or slots (at + 3 * step) (pos 0))) ≡ slot_of l slots (from + 3) = to_z-of_z w64 _ f3 ∙ ap (λ p. get_or slots p (pos 0)) a3 in
-    let made : Tells s (sums_from (number_of l slots) from 4) =
-    subst (Tells s)
+    let made : IsSummaryOf s (sums_from (number_in_line l slots) from 4) =
+    subst (IsSummaryOf s)
     ((λ i. join (join (single (int_wrap w64 (x0 i -ℤ x1 i))) (single (x1 i))) (join (single (int_wrap w64 (x2 i -ℤ x3 i))) (single (x3 i))))
     ∙ sums_four l slots from c.requires.even c.requires.full)
     c.of_four.ensures in
     record {
-      told = told_on empty (λ column (t : Summary). Tells t (sums_from (number_of (line_of first column) slots) from 4)) (λ column. node_at (line_of first column) (from + 2)) (node_at first (from + 2))
+      told = told_on empty (λ column (t : Summary). IsSummaryOf t (sums_from (number_in_line (line_of first column) slots) from 4)) (λ column. node_at (line_of first column) (from + 2)) (node_at first (from + 2))
           (λ column. line_node first column ((from + 2) / 2)) nodes k node s here (inside c) inv.told made;
       others = others_on empty nodes c.args.nodes.now (node_at first (from + 2)) k node s here inv.others;
       sized = length-set nodes node s ∙ inv.sized;

@@ -1,7 +1,7 @@
 use Rattle.std.proofs.Common.{◌∙◌, ◌+◌, ◌-◌, ◌%◌, get_or, pos, to_z, of_z, ap, sym, subst, set, ◌+ℤ◌, arith, w64, FitsSigned}
 use Rattle.std.proofs.lemmas.Int.{SFits-int_wrap}
 use Rattle.std.proofs.lemmas.List.Elements.{All-set}
-use Rattle.operator_fns.specs.LineTrees.{slot_of, number_of}
+use Rattle.operator_fns.specs.LineTrees.{slot_of, number_in_line}
 use Rattle.operator_fns.proofs.LineParts.{number_last}
 use Rattle.operator_fns.proofs.LongerLines.{last_sum, numbers_alone, numbers_paired, last_paired}
 use Rattle.operator_fns.proofs.line_tree.pair_last.Goals as goal
@@ -12,7 +12,7 @@ returns-then-place-eq1-clause-numbers c i below =
     let slots = c.args.slots.now in
     let value = to_z w64 ((of_z w64 (get_or slots c.slot_at-before.result (pos 0)) + of_z w64 (get_or slots c.slot_at-here.result (pos 0))) % 18446744073709551616) in
     let sum = last_sum line slots c.slot_at-before.result c.slot_at-here.result c.requires.slots c.requires.fit c.requires.more c.slot_at-before.ensures c.slot_at-here.ensures in
-    ap (λ k. number_of line (set slots k value) i) c.slot_at-before.ensures ∙ numbers_paired line slots c.requires.slots c.requires.fit c.requires.more c.if-place-eq1.true value sum i below
+    ap (λ k. number_in_line line (set slots k value) i) c.slot_at-before.ensures ∙ numbers_paired line slots c.requires.slots c.requires.fit c.requires.more c.if-place-eq1.true value sum i below
 
 pub returns-then-place-eq1-clause-last : goal.returns-then-place-eq1-clause-last
 returns-then-place-eq1-clause-last c =
@@ -20,7 +20,7 @@ returns-then-place-eq1-clause-last c =
     let slots = c.args.slots.now in
     let value = to_z w64 ((of_z w64 (get_or slots c.slot_at-before.result (pos 0)) + of_z w64 (get_or slots c.slot_at-here.result (pos 0))) % 18446744073709551616) in
     let sum = last_sum line slots c.slot_at-before.result c.slot_at-here.result c.requires.slots c.requires.fit c.requires.more c.slot_at-before.ensures c.slot_at-here.ensures in
-    ap (λ k. number_of line (set slots k value) (line.count - 1)) c.slot_at-before.ensures ∙ last_paired line slots c.requires.slots c.requires.fit c.requires.more c.if-place-eq1.true value sum
+    ap (λ k. number_in_line line (set slots k value) (line.count - 1)) c.slot_at-before.ensures ∙ last_paired line slots c.requires.slots c.requires.fit c.requires.more c.if-place-eq1.true value sum
 
 pub returns-then-place-eq1-clause-fit : goal.returns-then-place-eq1-clause-fit
 returns-then-place-eq1-clause-fit c =

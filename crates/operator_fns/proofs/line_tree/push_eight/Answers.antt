@@ -1,8 +1,8 @@
 use Rattle.std.proofs.Common.{◌≡◌, ◌∙◌, ℕ, ◌+◌, ◌/◌, ◌<◌, ◌++◌, ◌∷◌, [], List, length, drop, get_or, ap, sym, subst, arith, rules}
 use Rattle.std.proofs.lemmas.List.{take_at, length-append, get_or_append_left, get_or_push}
 use Rattle.operator_fns.specs.declared.summary.Summary.{Summary}
-use Rattle.operator_fns.specs.SumNodes.{Tells, sums_from, empty, TellsSums}
-use Rattle.operator_fns.specs.LineTrees.{node_at, number_of, from_four, node_of, AreKeptIn, AreKeptUpTo}
+use Rattle.operator_fns.specs.SumNodes.{IsSummaryOf, sums_from, empty, TellsSums}
+use Rattle.operator_fns.specs.LineTrees.{node_at, number_in_line, from_four, node_of, ArePartsKeptIn, ArePartsKeptUpTo}
 use Rattle.operator_fns.proofs.LineParts.{sums_split}
 use Rattle.operator_fns.proofs.LineEnds.{near_node}
 use Rattle.operator_fns.proofs.FourEnds.{eight_more}
@@ -63,11 +63,11 @@ before c p below =
     ap (λ (ns : List Summary). get_or ns p empty) (pushed c)
     ∙ old_ones nodes c.four_from-first.result c.join.result c.four_from-second.result c.four_from-second.result p (omega (arith, long, below))
 
-kept : (c : After-deref_mut) → AreKeptUpTo from_four TellsSums (c.args.from + 8) 8 c.args.line.count (number_of c.args.line c.args.slots.now) (node_of from_four empty c.args.line c.deref_mut.result.now)
+kept : (c : After-deref_mut) → ArePartsKeptUpTo from_four TellsSums (c.args.from + 8) 8 c.args.line.count (number_in_line c.args.line c.args.slots.now) (node_of from_four empty c.args.line c.deref_mut.result.now)
 kept c =
     let line = c.args.line in
     let from = c.args.from in
-    let x = number_of line c.args.slots.now in
+    let x = number_in_line line c.args.slots.now in
     let a = c.four_from-first.result in
     let b = c.join.result in
     let d = c.four_from-second.result in
@@ -79,24 +79,24 @@ kept c =
     let first : node_of from_four empty line now (from + 2) ≡ a = here (node_at line (from + 2)) ∙ first_one nodes a b d d (node_at line (from + 2)) (omega (arith, near_node line ((from + 2) / 2) near, long)) in
     let all : node_of from_four empty line now (from + 4) ≡ b = here (node_at line (from + 4)) ∙ second_one nodes a b d d (node_at line (from + 4)) (omega (arith, near_node line ((from + 4) / 2) near, long)) in
     let second : node_of from_four empty line now (from + 6) ≡ d = here (node_at line (from + 6)) ∙ third_one nodes a b d d (node_at line (from + 6)) (omega (arith, near_node line ((from + 6) / 2) near, long)) in
-    let both : Tells b (sums_from x from 8) =
-    subst (Tells b) (sym (sums_split x from 4 4)) (c.join.ensures (sums_from x from 4) (sums_from x (from + 4) 4) c.four_from-first.ensures c.four_from-second.ensures) in
+    let both : IsSummaryOf b (sums_from x from 8) =
+    subst (IsSummaryOf b) (sym (sums_split x from 4 4)) (c.join.ensures (sums_from x from 4) (sums_from x (from + 4) 4) c.four_from-first.ensures c.four_from-second.ensures) in
     eight_more from line.count x (node_of from_four empty line nodes) (node_of from_four empty line now) c.requires.eight (omega (arith, c.requires.full))
     (λ meeting some below. before c (node_at line meeting) (omega (arith, near_node line (meeting / 2) near, some, below, c.requires.eight)))
-    (subst (λ (t : Summary). Tells t (sums_from x from 4)) (sym first) c.four_from-first.ensures)
-    (subst (λ (t : Summary). Tells t (sums_from x from 8)) (sym all) both)
-    (subst (λ (t : Summary). Tells t (sums_from x (from + 4) 4)) (sym second) c.four_from-second.ensures) c.requires.kept
+    (subst (λ (t : Summary). IsSummaryOf t (sums_from x from 4)) (sym first) c.four_from-first.ensures)
+    (subst (λ (t : Summary). IsSummaryOf t (sums_from x from 8)) (sym all) both)
+    (subst (λ (t : Summary). IsSummaryOf t (sums_from x (from + 4) 4)) (sym second) c.four_from-second.ensures) c.requires.kept
 
 pub close_parts-requires-clause-kept : goal.close_parts-requires-clause-kept
-close_parts-requires-clause-kept c = (number_of c.args.line c.args.slots.now, kept c)
+close_parts-requires-clause-kept c = (number_in_line c.args.line c.args.slots.now, kept c)
 
 pub returns-clause-kept : goal.returns-clause-kept
 returns-clause-kept c =
     let line = c.args.line in
-    let x = number_of line c.args.slots.now in
+    let x = number_in_line line c.args.slots.now in
     let nodes = c.close_parts.new.nodes in
     let long : length nodes ≡ c.push_node-4.new.nodes.len = c.close_parts.ensures.length ∙ c.deref_mut.ensures.len in
-    subst (λ (ns : List Summary). AreKeptIn from_four TellsSums 0 (c.args.from + 8) line.count x (node_of from_four empty line ns)) (sym (take_at nodes (drop (length nodes) c.push_node-4.new.nodes.items) c.push_node-4.new.nodes.len long))
+    subst (λ (ns : List Summary). ArePartsKeptIn from_four TellsSums 0 (c.args.from + 8) line.count x (node_of from_four empty line ns)) (sym (take_at nodes (drop (length nodes) c.push_node-4.new.nodes.items) c.push_node-4.new.nodes.len long))
     (c.close_parts.ensures.kept x (kept (goal.at.returns-clause-kept c).After-deref_mut))
 
 pub returns-clause-others : goal.returns-clause-others

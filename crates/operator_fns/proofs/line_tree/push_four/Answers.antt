@@ -1,8 +1,8 @@
 use Rattle.std.proofs.Common.{◌≡◌, ◌∙◌, ℕ, ◌+◌, ◌/◌, ◌<◌, ◌++◌, ◌∷◌, [], List, length, drop, get_or, ap, sym, subst, arith, rules}
 use Rattle.std.proofs.lemmas.List.{take_at, length-append, get_or_append_left, get_or_push}
 use Rattle.operator_fns.specs.declared.summary.Summary.{Summary}
-use Rattle.operator_fns.specs.SumNodes.{Tells, sums_from, empty, TellsSums}
-use Rattle.operator_fns.specs.LineTrees.{node_at, number_of, from_four, node_of, AreKeptIn, AreKeptUpTo}
+use Rattle.operator_fns.specs.SumNodes.{IsSummaryOf, sums_from, empty, TellsSums}
+use Rattle.operator_fns.specs.LineTrees.{node_at, number_in_line, from_four, node_of, ArePartsKeptIn, ArePartsKeptUpTo}
 use Rattle.operator_fns.proofs.Halves.{are_from_four}
 use Rattle.operator_fns.proofs.LineEnds.{near_node, least_more}
 use Rattle.operator_fns.proofs.line_tree.push_four.Goals as goal
@@ -24,7 +24,7 @@ before c p below =
     ∙ get_or_append_left (nodes ++ s ∷ []) (s ∷ []) empty p (omega (arith, inside, longer))
     ∙ get_or_append_left nodes (s ∷ []) empty p inside
 
-kept : (c : After-deref_mut) → AreKeptUpTo from_four TellsSums (c.args.from + 4) 4 c.args.line.count (number_of c.args.line c.args.slots.now) (node_of from_four empty c.args.line c.deref_mut.result.now)
+kept : (c : After-deref_mut) → ArePartsKeptUpTo from_four TellsSums (c.args.from + 4) 4 c.args.line.count (number_in_line c.args.line c.args.slots.now) (node_of from_four empty c.args.line c.deref_mut.result.now)
 kept c =
     let line = c.args.line in
     let from = c.args.from in
@@ -38,20 +38,20 @@ kept c =
     ap (λ k. get_or now k empty) at ∙ ap (λ (ns : List Summary). get_or ns (line.node + from / 2) empty) (pushed c)
     ∙ get_or_append_left (nodes ++ s ∷ []) (s ∷ []) empty (line.node + from / 2) (omega (arith, long, longer))
     ∙ get_or_push nodes s empty (line.node + from / 2) long in
-    least_more from_four are_from_four TellsSums from line.count (number_of line c.args.slots.now) (node_of from_four empty line nodes) (node_of from_four empty line now) c.requires.four (omega (arith, c.requires.full))
+    least_more from_four are_from_four TellsSums from line.count (number_in_line line c.args.slots.now) (node_of from_four empty line nodes) (node_of from_four empty line now) c.requires.four (omega (arith, c.requires.full))
     (λ meeting some below. before c (node_at line meeting) (omega (arith, near_node line (meeting / 2) c.requires.near, some, below, c.requires.four)))
-    (subst (λ (t : Summary). Tells t (sums_from (number_of line c.args.slots.now) from 4)) (sym here) c.four_from-four.ensures) c.requires.kept
+    (subst (λ (t : Summary). IsSummaryOf t (sums_from (number_in_line line c.args.slots.now) from 4)) (sym here) c.four_from-four.ensures) c.requires.kept
 
 pub close_parts-requires-clause-kept : goal.close_parts-requires-clause-kept
-close_parts-requires-clause-kept c = (number_of c.args.line c.args.slots.now, kept c)
+close_parts-requires-clause-kept c = (number_in_line c.args.line c.args.slots.now, kept c)
 
 pub returns-clause-kept : goal.returns-clause-kept
 returns-clause-kept c =
     let line = c.args.line in
-    let x = number_of line c.args.slots.now in
+    let x = number_in_line line c.args.slots.now in
     let nodes = c.close_parts.new.nodes in
     let long : length nodes ≡ c.push_node-2.new.nodes.len = c.close_parts.ensures.length ∙ c.deref_mut.ensures.len in
-    subst (λ (ns : List Summary). AreKeptIn from_four TellsSums 0 (c.args.from + 4) line.count x (node_of from_four empty line ns)) (sym (take_at nodes (drop (length nodes) c.push_node-2.new.nodes.items) c.push_node-2.new.nodes.len long))
+    subst (λ (ns : List Summary). ArePartsKeptIn from_four TellsSums 0 (c.args.from + 4) line.count x (node_of from_four empty line ns)) (sym (take_at nodes (drop (length nodes) c.push_node-2.new.nodes.items) c.push_node-2.new.nodes.len long))
     (c.close_parts.ensures.kept x (kept (goal.at.returns-clause-kept c).After-deref_mut))
 
 pub returns-clause-others : goal.returns-clause-others

@@ -1,7 +1,7 @@
 use Rattle.std.proofs.Common.{◌≡◌, ◌∙◌, ℕ, ◌+◌, ◌-◌, ◌*◌, ◌/◌, ◌<◌, ◌∷◌, [], List, length, drop, get_or, ap, sym, subst, arith, rules}
 use Rattle.std.proofs.lemmas.List.{take_at, get_or_append_left}
 use Rattle.operator_fns.specs.declared.summary.Summary.{Summary}
-use Rattle.operator_fns.specs.LineTrees.{node_at, number_of, from_four, node_of, AreKept}
+use Rattle.operator_fns.specs.LineTrees.{node_at, number_in_line, from_four, node_of, ArePartsKept}
 use Rattle.operator_fns.proofs.Halves.{are_from_four}
 use Rattle.operator_fns.proofs.LineEnds.{near_node, kept_beside_last}
 use Rattle.operator_fns.proofs.line_tree.push_line.Goals as goal
@@ -24,7 +24,7 @@ before c p below =
 pub renew-requires-clause-kept : goal.renew-requires-clause-kept
 renew-requires-clause-kept c =
     let line = c.args.line in
-    kept_beside_last from_four are_from_four TellsSums (4 * ((line.count - 1) / 4)) line.count (number_of line c.args.slots.now) (node_of from_four empty line c.push_fours.new.nodes.items) (node_of from_four empty line c.deref_mut.result.now) c.requires.some (omega arith) (omega arith)
+    kept_beside_last from_four are_from_four TellsSums (4 * ((line.count - 1) / 4)) line.count (number_in_line line c.args.slots.now) (node_of from_four empty line c.push_fours.new.nodes.items) (node_of from_four empty line c.deref_mut.result.now) c.requires.some (omega arith) (omega arith)
     (λ meeting some below. before c (node_at line meeting) (omega (arith, near_node line (meeting / 2) c.requires.near, some, below)))
     c.push_fours.ensures.kept
 
@@ -33,7 +33,7 @@ returns-clause-kept c =
     let line = c.args.line in
     let nodes = c.renew.new.nodes in
     let long : length nodes ≡ c.if-last-gt1.nodes.len = c.renew.ensures.length ∙ c.deref_mut.ensures.len in
-    subst (λ (ns : List Summary). AreKept from_four TellsSums line.count (number_of line c.args.slots.now) (node_of from_four empty line ns)) (sym (take_at nodes (drop (length nodes) c.if-last-gt1.nodes.items) c.if-last-gt1.nodes.len long))
+    subst (λ (ns : List Summary). ArePartsKept from_four TellsSums line.count (number_in_line line c.args.slots.now) (node_of from_four empty line ns)) (sym (take_at nodes (drop (length nodes) c.if-last-gt1.nodes.items) c.if-last-gt1.nodes.len long))
     c.renew.ensures.kept
 
 pub returns-clause-others : goal.returns-clause-others

@@ -1,6 +1,6 @@
 use Rattle.std.proofs.Common.{◌≡◌, ◌∙◌, suc, ◌+◌, ◌*◌, ◌/◌, ◌<◌, ◌≤◌, ◌⊎◌, ◌-◌, set, min, ap, subst, arith, inl, inr, refl}
-use Rattle.operator_fns.specs.SumNodes.{Tells, sums_from, empty, TellsSums}
-use Rattle.operator_fns.specs.LineTrees.{number_of, from_four, node_of}
+use Rattle.operator_fns.specs.SumNodes.{IsSummaryOf, sums_from, empty, TellsSums}
+use Rattle.operator_fns.specs.LineTrees.{number_in_line, from_four, node_of}
 use Rattle.operator_fns.proofs.LineParts.{climb_start, climb_up}
 use Rattle.operator_fns.proofs.Halves.{are_from_four}
 use Rattle.operator_fns.proofs.LineNodes.{IsStepUp, others_stay, step_up, kept_first, all_kept, kept_beside}
@@ -12,13 +12,13 @@ part-summary-requires-clause-part c = record { level = 1; place = c.args.place /
 
 pub loop-width-init : goal.loop-width-init
 loop-width-init c =
-    let x = number_of c.args.line c.args.slots.now in
+    let x = number_in_line c.args.line c.args.slots.now in
     let start : 2 * (c.args.place / 2) ≡ c.args.place / 2 * 2 = grind arith in
     record {
       climb = climb_up c.args.place c.args.place 1 (climb_start c.args.place);
       wide = omega arith;
       half = (0, refl);
-      told = subst (Tells c.part-summary.result) (λ i. sums_from x (start i) (min 2 (c.args.line.count - start i))) c.part-summary.ensures;
+      told = subst (IsSummaryOf c.part-summary.result) (λ i. sums_from x (start i) (min 2 (c.args.line.count - start i))) c.part-summary.ensures;
       kept = kept_first from_four are_from_four TellsSums c.args.place c.args.line.count x (node_of from_four empty c.args.line c.args.nodes.now) c.requires.kept;
       others = λ p h. refl;
       sized = refl;
@@ -27,12 +27,12 @@ loop-width-init c =
 pub widened-joined-requires-clause-kept : goal.widened-joined-requires-clause-kept
 widened-joined-requires-clause-kept c =
     let inv = c.loop-width.invariant in
-    kept_beside from_four are_from_four TellsSums c.loop-width.width c.args.place c.loop-width.block c.args.line.count (number_of c.args.line c.args.slots.now) (node_of from_four empty c.args.line c.loop-width.nodes) inv.climb inv.kept
+    kept_beside from_four are_from_four TellsSums c.loop-width.width c.args.place c.loop-width.block c.args.line.count (number_in_line c.args.line c.args.slots.now) (node_of from_four empty c.args.line c.loop-width.nodes) inv.climb inv.kept
 
 pub loop-width-preserved : goal.loop-width-preserved
 loop-width-preserved c =
     let line = c.args.line in
-    let x = number_of line c.args.slots.now in
+    let x = number_in_line line c.args.slots.now in
     let block = c.loop-width.block in
     let width = c.loop-width.width in
     let nodes = c.loop-width.nodes in
@@ -68,5 +68,5 @@ loop-width-preserved c =
 pub returns-clause-kept : goal.returns-clause-kept
 returns-clause-kept c =
     let inv = c.loop-width.invariant in
-    all_kept from_four are_from_four TellsSums c.loop-width.width c.args.place c.args.line.count inv.half.0 (number_of c.args.line c.args.slots.now) (node_of from_four empty c.args.line c.loop-width.nodes) inv.half.1
+    all_kept from_four are_from_four TellsSums c.loop-width.width c.args.place c.args.line.count inv.half.0 (number_in_line c.args.line c.args.slots.now) (node_of from_four empty c.args.line c.loop-width.nodes) inv.half.1
     c.loop-width-test.false inv.kept

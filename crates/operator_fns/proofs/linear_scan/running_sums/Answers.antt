@@ -25,10 +25,10 @@ returns-in_err-running-2-clause-is c =
     fault_passed (folded_left least_step) zs s n (scanned (folded (dyadic_on_numbers Sum)) zs s n) c.in_err-running-2.field-0.0 _
     (λ k h. least_leaves zs s n c.args.lines.now.apart c.args.lines.now.some k h) c.in_err-running-2.ensures.read c.from_residual-in_err-running-2.ensures
 
-pub returns-then-are_small-clause-is : goal.returns-then-are_small-clause-is
-returns-then-are_small-clause-is c =
+pub returns-then-are_within-clause-is : goal.returns-then-are_within-clause-is
+returns-then-are_within-clause-is c =
     subst (λ w. IsListAnswerTo w c.running.result)
-    (small_sums c.args.lines.now.numbers.now c.args.lines.now.stride c.args.lines.now.count c.args.lines.now.apart c.args.lines.now.some (c.are_small.ensures c.if-are_small.true) c.if-lines-le-MOST_ITEMS.true)
+    (small_sums c.args.lines.now.numbers.now c.args.lines.now.stride c.args.lines.now.count c.args.lines.now.apart c.args.lines.now.some (c.are_within.ensures c.if-are_within.true) c.if-lines-le-MOST_ITEMS.true)
     c.running.ensures.is
 
 pub returns-clause-is : goal.returns-clause-is

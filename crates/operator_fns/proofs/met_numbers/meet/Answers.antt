@@ -4,7 +4,7 @@ use Rattle.std.proofs.lemmas.Int.{to_z-of_z}
 use Rattle.std.proofs.lemmas.List.{drop_all}
 use Rattle.scalar_fns.proofs.Errors.{passed_on}
 use Rattle.operator_fns.specs.InnerProduct.{all_or_last_error}
-use Rattle.operator_fns.specs.RowByColumn.{entry, met}
+use Rattle.operator_fns.specs.RowByColumn.{entry, all_met}
 use Rattle.operator_fns.proofs.Meetings.{length-met, met_at}
 use Rattle.operator_fns.proofs.MetLists.{one_written, one_failed}
 use Rattle.operator_fns.proofs.met_numbers.meet.Goals as goal
@@ -17,7 +17,7 @@ loop-place-init g c =
     let x = entry (pos 0) c.args.left.now c.args.row in
     let y = entry (pos 0) c.args.right.now c.args.column in
     let long = length-met f x y n in
-    let none = drop_all n (met f x y n) (omega arith) in
+    let none = drop_all n (all_met f x y n) (omega arith) in
     record {
       long = refl;
       low = omega arith;
@@ -30,7 +30,7 @@ returns-in_err-met-clause-failed g c =
     let f = g.G.TwoNumbers.gives c.args.each.now in
     let x = entry (pos 0) c.args.left.now c.args.row in
     let y = entry (pos 0) c.args.right.now c.args.column in
-    let rs = met f x y n in
+    let rs = all_met f x y n in
     let place = c.loop-place.place in
     let k = place - 1 in
     let next : place ≡ k + 1 = omega arith in
@@ -51,7 +51,7 @@ loop-place-preserved g c =
     let f = g.G.TwoNumbers.gives c.args.each.now in
     let x = entry (pos 0) c.args.left.now c.args.row in
     let y = entry (pos 0) c.args.right.now c.args.column in
-    let rs = met f x y n in
+    let rs = all_met f x y n in
     let zs = c.loop-place.met in
     let place = c.loop-place.place in
     let k = place - 1 in

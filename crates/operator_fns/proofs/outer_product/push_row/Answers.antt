@@ -3,7 +3,7 @@ use Rattle.std.proofs.lemmas.List.{length-map, get_or-map, take_all}
 use Rattle.std.proofs.lemmas.Int.{to_z-of_z}
 use Rattle.arrays_core.specs.Items.{all_or_first_error, and_then}
 use Rattle.arrays_core.proofs.Order.{front_more, front_error}
-use Rattle.operator_fns.proofs.Tables.{RowTo, left_error}
+use Rattle.operator_fns.proofs.OuterRows.{RowTo, left_error}
 use Rattle.operator_fns.proofs.outer_product.push_row.Goals as goal
 
 pub returns-in_err-result : goal.returns-in_err-result

@@ -1,5 +1,5 @@
 use Rattle.std.proofs.Common.{map}
-use Rattle.operator_fns.proofs.Tables.{RowTo}
+use Rattle.operator_fns.proofs.OuterRows.{RowTo}
 use Rattle.operator_fns.proofs.outer_product.push_row.Given as goal
 
 abbrev pub invariant-loop-number : goal.invariant-loop-number

@@ -1,6 +1,6 @@
 use Rattle.std.proofs.Common.{◌≡◌, ◌<◌, ◌≤◌, ◌*◌, ◌/◌, ◌^◌, ◌∙◌, ◌⊎◌, ℕ, length, get_or, rules, sym, subst, arith}
 use Rattle.operator_fns.specs.declared.line_tree.Line.{Line}
-use Rattle.operator_fns.specs.LineTrees.{number_of, from_four, node_of, AreKept}
+use Rattle.operator_fns.specs.LineTrees.{number_in_line, from_four, node_of, ArePartsKept}
 use Rattle.operator_fns.specs.LineBlocks.{line_of, HaveSlots, nodes_end, HaveNodes}
 use Rattle.operator_fns.proofs.Halves.{are_from_four}
 use Rattle.operator_fns.proofs.LineSpots.{lines_are}
@@ -37,10 +37,10 @@ loop-block-preserved c =
     let inv = c.loop-block.invariant in
     let told = c.fill_block.ensures in
     let is = c.nth_block.ensures in
-    let here = subst (λ (l : Line). (column : ℕ) → column < l.step → AreKept from_four TellsSums l.count (number_of (line_of l column) slots) (node_of from_four empty (line_of l column) after)) is told.kept in
+    let here = subst (λ (l : Line). (column : ℕ) → column < l.step → ArePartsKept from_four TellsSums l.count (number_in_line (line_of l column) slots) (node_of from_four empty (line_of l column) after)) is told.kept in
     let others = subst (λ (l : Line). (p : ℕ) → (p < l.node ⊎ nodes_end from_four l ≤ p) → get_or after p empty ≡ get_or now p empty) is told.others in
     record {
-      kept = block_kept from_four are_from_four empty TellsSums number_of c.args.count c.args.step slots now after c.loop-block.block c.requires.lines.apart here others inv.kept;
+      kept = block_kept from_four are_from_four empty TellsSums number_in_line c.args.count c.args.step slots now after c.loop-block.block c.requires.lines.apart here others inv.kept;
       sized = told.length ∙ inv.sized;
     }
 

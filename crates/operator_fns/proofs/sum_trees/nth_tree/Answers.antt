@@ -1,6 +1,6 @@
 use Rattle.std.proofs.Common.{◌<◌, ◌^◌, length, rules, sym, subst, arith}
 use Rattle.operator_fns.specs.declared.line_tree.Line.{Line}
-use Rattle.operator_fns.specs.LineTrees.{number_of, from_four, IsIn, node_of, AreKept}
+use Rattle.operator_fns.specs.LineTrees.{number_in_line, from_four, IsIn, node_of, ArePartsKept}
 use Rattle.operator_fns.proofs.Halves.{are_from_four}
 use Rattle.operator_fns.proofs.LineSpots.{in_both, line_fits}
 use Rattle.operator_fns.specs.SumNodes.{empty, TellsSums}
@@ -23,5 +23,5 @@ returns-clause-inside c =
 
 pub returns-clause-kept : goal.returns-clause-kept
 returns-clause-kept c =
-    subst (λ (l : Line). AreKept from_four TellsSums l.count (number_of l c.args.slots.now) (node_of from_four empty l c.args.nodes.now)) (sym c.nth_line-line.ensures)
+    subst (λ (l : Line). ArePartsKept from_four TellsSums l.count (number_in_line l c.args.slots.now) (node_of from_four empty l c.args.nodes.now)) (sym c.nth_line-line.ensures)
     (c.requires.trees.kept c.args.line c.requires.line)

@@ -1,6 +1,6 @@
 use Rattle.std.proofs.Common.{◌≡◌, ◌<◌, ◌≤◌, ◌*◌, ◌/◌, ◌^◌, ◌∙◌, ◌⊎◌, ℕ, length, get_or, pos, rules, sym, subst, arith}
 use Rattle.operator_fns.specs.declared.line_tree.Line.{Line}
-use Rattle.operator_fns.specs.LineTrees.{from_four, slot_of, number_of}
+use Rattle.operator_fns.specs.LineTrees.{from_four, slot_of, number_in_line}
 use Rattle.operator_fns.specs.LineBlocks.{line_of, slots_end, HaveSlots}
 use Rattle.operator_fns.specs.SumTrees.{number_kept}
 use Rattle.operator_fns.proofs.ListTrees.{numbers_are}
@@ -33,7 +33,7 @@ loop-block-preserved c =
     let lines = c.requires.lines in
     let told = c.pair_block.ensures in
     let is = c.nth_block.ensures in
-    let numbers = subst (λ (l : Line). (column : ℕ) → column < l.step → (i : ℕ) → i < l.count → number_of (line_of l column) after i ≡ slot_of (line_of l column) now i) is told.numbers in
+    let numbers = subst (λ (l : Line). (column : ℕ) → column < l.step → (i : ℕ) → i < l.count → number_in_line (line_of l column) after i ≡ slot_of (line_of l column) now i) is told.numbers in
     let others = subst (λ (l : Line). (p : ℕ) → (p < l.slot ⊎ slots_end l ≤ p) → get_or after p (pos 0) ≡ get_or now p (pos 0)) is told.others in
     record {
       done = done_on count step c.args.slots.now now after block lines.some lines.apart numbers others inv.done inv.rest;

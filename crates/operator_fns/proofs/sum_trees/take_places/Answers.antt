@@ -1,6 +1,6 @@
 use Rattle.std.proofs.Common.{◌-◌, sym, subst, arith}
 use Rattle.operator_fns.specs.declared.line_tree.Line.{Line}
-use Rattle.operator_fns.specs.LineTrees.{number_of, shorter, from_four, node_of, AreKept}
+use Rattle.operator_fns.specs.LineTrees.{number_in_line, shorter, from_four, node_of, ArePartsKept}
 use Rattle.operator_fns.proofs.LongerTables.{IsTaken, rest_kept, taken_on}
 use Rattle.operator_fns.specs.SumNodes.{empty, TellsSums}
 use Rattle.operator_fns.proofs.sum_trees.take_places.Goals as goal
@@ -11,7 +11,7 @@ take_last-requires-clause-kept c =
     let nodes_now = c.loop-line.nodes in
     let line = c.loop-line.line in
     let kept = rest_kept c.args.count c.args.step c.args.slots.now now c.args.nodes.now nodes_now line c.loop-line.invariant (c.requires.kept line c.loop-line-test.true) in
-    subst (λ (l : Line). AreKept from_four TellsSums (l.count - 1) (number_of (shorter l) now) (node_of from_four empty (shorter l) nodes_now)) (sym c.nth_line.ensures) kept
+    subst (λ (l : Line). ArePartsKept from_four TellsSums (l.count - 1) (number_in_line (shorter l) now) (node_of from_four empty (shorter l) nodes_now)) (sym c.nth_line.ensures) kept
 
 pub loop-line-preserved : goal.loop-line-preserved
 loop-line-preserved c =

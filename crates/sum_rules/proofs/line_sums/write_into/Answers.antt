@@ -11,7 +11,7 @@ use Rattle.index_region.specs.Patches.{patched}
 use Rattle.index_region.proofs.Patched.{box_within_size, fits_within, patched_sound}
 use Rattle.index_region.proofs.Walks.{offset_of_walk, some_place, walk_within}
 use Rattle.index_region.proofs.Written.{IsWritten, written_none, written_more, written_all}
-use Rattle.sum_rules.specs.LineSums.{array_of}
+use Rattle.sum_rules.specs.LineSums.{array_of_shape}
 use Rattle.sum_rules.proofs.line_sums.write_into.Goals as goal
 
 pub index_at-index-requires-clause-size : goal.index_at-index-requires-clause-size
@@ -32,7 +32,7 @@ index_at-index-requires-clause-below c =
 
 pub loop-before-init : goal.loop-before-init
 loop-before-init c = record {
-  written = written_none (array_of c.args.shape.now.items c.args.trees.now.lines.numbers) c.args.patch.now c.requires.lines;
+  written = written_none (array_of_shape c.args.shape.now.items c.args.trees.now.lines.numbers) c.args.patch.now c.requires.lines;
   function = refl;
   count = refl;
   step = refl;
@@ -61,7 +61,7 @@ loop-before-preserved c =
     let before = c.loop-before.before in
     let below : before < box_size p.region =
     subst (λ (r : List Interval). before < box_size r) c.region-region.ensures (omega (arith, c.loop-before-test.true, c.size-before-end.ensures)) in
-    let more = written_more (array_of shape c.args.trees.now.lines.numbers) p before (array_of shape c.loop-before.trees.lines.numbers) c.requires.fit c.loop-before.invariant.written below in
+    let more = written_more (array_of_shape shape c.args.trees.now.lines.numbers) p before (array_of_shape shape c.loop-before.trees.lines.numbers) c.requires.fit c.loop-before.invariant.written below in
     let here = c.loop-before.invariant.at below in
     let index : c.as_slice.result.now ≡ walk_at p.region before = c.as_slice.ensures.is ∙ here in
     let counted : places_before shape c.as_slice.result.now ≡ places_before shape (walk_at p.region before) = ap (places_before shape) index in
@@ -74,7 +74,7 @@ loop-before-preserved c =
     ≡ set (map (λ (z : ℤ). Num z) c.loop-before.trees.lines.numbers) (places_before shape (walk_at p.region before)) (get_or p.items before (fill p.item_type)) =
     c.set_item.ensures.items ∙ (λ i. set (map (λ (z : ℤ). Num z) c.loop-before.trees.lines.numbers) (place i) (item i)) in
     record {
-      written = subst (λ (xs : List Item). IsWritten (array_of shape c.args.trees.now.lines.numbers) p (before + 1) (record { item_type = Nums; shape = shape; items = xs })) (sym now) more;
+      written = subst (λ (xs : List Item). IsWritten (array_of_shape shape c.args.trees.now.lines.numbers) p (before + 1) (record { item_type = Nums; shape = shape; items = xs })) (sym now) more;
       function = c.set_item.ensures.function ∙ c.loop-before.invariant.function;
       count = c.set_item.ensures.count ∙ c.loop-before.invariant.count;
       step = c.set_item.ensures.step ∙ c.loop-before.invariant.step;
@@ -85,17 +85,17 @@ loop-before-preserved c =
 pub returns-clause-numbers : goal.returns-clause-numbers
 returns-clause-numbers c =
     let p = c.args.patch.now in
-    let a = array_of c.args.shape.now.items c.args.trees.now.lines.numbers in
+    let a = array_of_shape c.args.shape.now.items c.args.trees.now.lines.numbers in
     let all : c.loop-before.before ≡ box_size p.region =
     subst (λ (r : List Interval). c.loop-before.before ≡ box_size r) c.region-region.ensures (omega (arith, c.loop-before-test.false, c.loop-before.auto.before-end, c.size-before-end.ensures)) in
-    written_all a p (array_of c.args.shape.now.items c.loop-before.trees.lines.numbers)
-    (subst (λ (n : ℕ). IsWritten a p n (array_of c.args.shape.now.items c.loop-before.trees.lines.numbers)) all c.loop-before.invariant.written)
+    written_all a p (array_of_shape c.args.shape.now.items c.loop-before.trees.lines.numbers)
+    (subst (λ (n : ℕ). IsWritten a p n (array_of_shape c.args.shape.now.items c.loop-before.trees.lines.numbers)) all c.loop-before.invariant.written)
 
 pub returns-clause-sound : goal.returns-clause-sound
 returns-clause-sound c =
     let p = c.args.patch.now in
-    let a = array_of c.args.shape.now.items c.args.trees.now.lines.numbers in
-    let now = array_of c.args.shape.now.items c.loop-before.trees.lines.numbers in
+    let a = array_of_shape c.args.shape.now.items c.args.trees.now.lines.numbers in
+    let now = array_of_shape c.args.shape.now.items c.loop-before.trees.lines.numbers in
     let all : c.loop-before.before ≡ box_size p.region =
     subst (λ (r : List Interval). c.loop-before.before ≡ box_size r) c.region-region.ensures (omega (arith, c.loop-before-test.false, c.loop-before.auto.before-end, c.size-before-end.ensures)) in
     let same : now ≡ patched a p = written_all a p now (subst (λ (n : ℕ). IsWritten a p n now) all c.loop-before.invariant.written) in

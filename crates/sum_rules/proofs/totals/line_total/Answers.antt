@@ -3,7 +3,7 @@ use Rattle.arrays_core.specs.Shapes.{places_before}
 use Rattle.function_names.specs.Axes.{axis_at}
 use Rattle.index_region.proofs.Patched.{fits_within}
 use Rattle.change_core.specs.Meters.{MeterValue}
-use Rattle.sum_rules.specs.LineSums.{array_of, length_along}
+use Rattle.sum_rules.specs.LineSums.{array_of_shape, length_along}
 use Rattle.sum_rules.proofs.KeptSums.{along_axis}
 use Rattle.sum_rules.proofs.ChangedLines.{place_on, total_on}
 use Rattle.sum_rules.proofs.totals.line_total.Goals as goal
@@ -16,7 +16,7 @@ total_with-total-requires g c =
     let shape = c.args.shape.now.items in
     let t = g.S.LineTotals.trees c.args.sums.now in
     let axis = axis_at (length shape) c.args.fold.along in
-    let there = place_on axis t (array_of shape t.numbers) c.args.patch.now c.requires.lines c.requires.fit c.requires.one c.item_type-one_item_a_place.ensures.sound c.args.index.now c.requires.inside in
+    let there = place_on axis t (array_of_shape shape t.numbers) c.args.patch.now c.requires.lines c.requires.fit c.requires.one c.item_type-one_item_a_place.ensures.sound c.args.index.now c.requires.inside in
     omega (arith, there, c.places_before-place.ensures.is)
 
 pub returns-clause-total : goal.returns-clause-total
@@ -25,7 +25,7 @@ returns-clause-total g c =
     let t = g.S.LineTotals.trees c.args.sums.now in
     let axis = axis_at (length shape) c.args.fold.along in
     let place : c.places_before-place.result ≡ places_before shape c.args.index.now = omega (arith, c.places_before-place.ensures.is) in
-    let total = total_on axis t (array_of shape t.numbers) c.args.patch.now c.requires.lines c.requires.fit c.requires.one c.item_type-one_item_a_place.ensures.sound c.args.index.now c.requires.inside c.args.fold.function (g.S.LineTotals.function c.args.sums.now) c.requires.function (c.places_before-place.result) c.item-item.result place c.item-item.ensures.is in
+    let total = total_on axis t (array_of_shape shape t.numbers) c.args.patch.now c.requires.lines c.requires.fit c.requires.one c.item_type-one_item_a_place.ensures.sound c.args.index.now c.requires.inside c.args.fold.function (g.S.LineTotals.function c.args.sums.now) c.requires.function (c.places_before-place.result) c.item-item.result place c.item-item.ensures.is in
     c.total_with-total.ensures.total ∙ sym total
 
 pub returns-clause-joins : goal.returns-clause-joins

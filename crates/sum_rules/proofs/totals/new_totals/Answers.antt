@@ -10,8 +10,8 @@ use Rattle.change_core.specs.Meters.{ticked}
 use Rattle.change_core.proofs.Collected.{items_are}
 use Rattle.change_core.proofs.Filling.{all_filled, as_many_written, few_places, filled_many, nothing_filled, one_filled, one_more_tick, vector_within}
 use Rattle.change_core.proofs.Walking.{rest_err}
-use Rattle.sum_rules.specs.LineSums.{array_of}
-use Rattle.sum_rules.specs.Totals.{lines_of}
+use Rattle.sum_rules.specs.LineSums.{array_of_shape}
+use Rattle.sum_rules.specs.Totals.{box_of_lines}
 use Rattle.sum_rules.proofs.ChangedLines.{as_many_lines, line_there}
 use Rattle.sum_rules.proofs.totals.new_totals.Goals as goal
 
@@ -38,8 +38,8 @@ loop-line-init g c =
     let p = c.args.patch.now in
     let t = g.S.LineTotals.trees c.args.sums.now in
     let axis = axis_at (length c.args.shape.now.items) c.args.fold.along in
-    let a = array_of c.args.shape.now.items t.numbers in
-    let region = lines_of axis p.region in
+    let a = array_of_shape c.args.shape.now.items t.numbers in
+    let region = box_of_lines axis p.region in
     let as_many = as_many_lines axis t a p c.requires.lines c.requires.fit c.requires.one in
     record {
       ticks = omega arith;
@@ -59,7 +59,7 @@ write_at-requires-clause-high g c =
     let p = c.args.patch.now in
     let t = g.S.LineTotals.trees c.args.sums.now in
     let axis = axis_at (length c.args.shape.now.items) c.args.fold.along in
-    let as_many = as_many_lines axis t (array_of c.args.shape.now.items t.numbers) p c.requires.lines c.requires.fit c.requires.one in
+    let as_many = as_many_lines axis t (array_of_shape c.args.shape.now.items t.numbers) p c.requires.lines c.requires.fit c.requires.one in
     omega (arith, c.loop-line.invariant.many, c.loop-line-test.true, c.size-lines.ensures, ap box_size c.region-region.ensures)
 
 pub returns-clause-totals : goal.returns-clause-totals
@@ -67,8 +67,8 @@ returns-clause-totals g c =
     let p = c.args.patch.now in
     let t = g.S.LineTotals.trees c.args.sums.now in
     let axis = axis_at (length c.args.shape.now.items) c.args.fold.along in
-    let a = array_of c.args.shape.now.items t.numbers in
-    let region = lines_of axis p.region in
+    let a = array_of_shape c.args.shape.now.items t.numbers in
+    let region = box_of_lines axis p.region in
     let item = reduce_item c.args.fold.function c.args.fold.along (patched a p) in
     let as_many = as_many_lines axis t a p c.requires.lines c.requires.fit c.requires.one in
     let ended : box_size region ≤ c.loop-line.line = omega (arith, c.loop-line-test.false, c.size-lines.ensures, ap box_size c.region-region.ensures) in (
@@ -96,8 +96,8 @@ returns-in-Err-clause-totals g c =
     let shape = c.args.shape.now.items in
     let t = g.S.LineTotals.trees c.args.sums.now in
     let axis = axis_at (length shape) c.args.fold.along in
-    let a = array_of shape t.numbers in
-    let region = lines_of axis p.region in
+    let a = array_of_shape shape t.numbers in
+    let region = box_of_lines axis p.region in
     let item = reduce_item c.args.fold.function c.args.fold.along (patched a p) in
     let before = c.loop-line.line in
     let below : before < box_size p.region = omega (arith, c.loop-line-test.true, c.size-lines.ensures, ap box_size c.region-region.ensures) in
@@ -122,8 +122,8 @@ loop-line-preserved g c =
     let shape = c.args.shape.now.items in
     let t = g.S.LineTotals.trees c.args.sums.now in
     let axis = axis_at (length shape) c.args.fold.along in
-    let a = array_of shape t.numbers in
-    let region = lines_of axis p.region in
+    let a = array_of_shape shape t.numbers in
+    let region = box_of_lines axis p.region in
     let item = reduce_item c.args.fold.function c.args.fold.along (patched a p) in
     let before = c.loop-line.line in
     let below : before < box_size p.region = omega (arith, c.loop-line-test.true, c.size-lines.ensures, ap box_size c.region-region.ensures) in

@@ -7,14 +7,14 @@ use Rattle.operator_fns.specs.Reduce.{reduce_item}
 use Rattle.change_core.specs.Meters.{ticked}
 use Rattle.change_core.proofs.Collected.{along, collected}
 use Rattle.change_core.proofs.Walking.{prepend, rest_from}
-use Rattle.sum_rules.specs.LineSums.{array_of, length_along}
-use Rattle.sum_rules.specs.Totals.{AreJoinsWithin, AreJoinsFrom, lines_of}
+use Rattle.sum_rules.specs.LineSums.{array_of_shape, length_along}
+use Rattle.sum_rules.specs.Totals.{AreJoinsWithin, AreJoinsFrom, box_of_lines}
 use Rattle.sum_rules.proofs.totals.new_totals.Given as goal
 
 abbrev pub invariant-loop-line : goal.invariant-loop-line
 invariant-loop-line g l =
-    let item = reduce_item l.fn.fold.function l.fn.fold.along (patched (array_of l.fn.shape.items (g.S.LineTotals.trees l.fn.sums).numbers) l.fn.patch) in
-    let region = lines_of (axis_at (length l.fn.shape.items) l.fn.fold.along) l.fn.patch.region in
+    let item = reduce_item l.fn.fold.function l.fn.fold.along (patched (array_of_shape l.fn.shape.items (g.S.LineTotals.trees l.fn.sums).numbers) l.fn.patch) in
+    let region = box_of_lines (axis_at (length l.fn.shape.items) l.fn.fold.along) l.fn.patch.region in
     record {
       ticks : l.meter.ticks ≤ l.fn.meter.ticks + l.line;
       none : l.line ≡ 0 → l.meter.ticks ≡ l.fn.meter.ticks;

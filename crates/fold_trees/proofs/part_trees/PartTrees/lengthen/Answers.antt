@@ -2,7 +2,7 @@ use Rattle.std.proofs.Common.{◌≡◌, ◌∙◌, ◌+◌, ◌-◌, ◌*◌, �
 use Rattle.std.proofs.lemmas.List.{with_items_is}
 use Rattle.arrays_core.specs.Growth.{IsRoomy, HasRoom}
 use Rattle.operator_fns.specs.SumTrees.{TreesValue, NewPlacesValue, AreLineTrees}
-use Rattle.operator_fns.specs.LineTrees.{slot_of, shorter, from_two, node_of, AreKept, nodes_in_line}
+use Rattle.operator_fns.specs.LineTrees.{slot_of, shorter, from_two, node_of, ArePartsKept, nodes_in_line}
 use Rattle.fold_trees.specs.PartTrees.{ArePartTrees}
 use Rattle.operator_fns.proofs.Halves.{are_from_two}
 use Rattle.operator_fns.proofs.LineTables.{slots_read}
@@ -83,8 +83,8 @@ take_places-requires-clause-kept g c line h =
     let more = c.more.inside.numbers.items in
     let before = (goal.at.take_places-requires-clause-kept g c).After-more in
     let l = shorter (line_at from_two (count + 1) step line) in
-    subst (λ (s : List ℤ). AreKept from_two tells (count + 1 - 1) (slot_of l s) (node_of from_two blank l c.deref_mut.result.now)) (sym (numbers_are g c))
-    (subst (λ (n : List g.row.P.Denot). AreKept from_two tells (count + 1 - 1) (slot_of l (numbers ++ more)) (node_of from_two blank l n)) (sym (nodes_are g c))
+    subst (λ (s : List ℤ). ArePartsKept from_two tells (count + 1 - 1) (slot_of l s) (node_of from_two blank l c.deref_mut.result.now)) (sym (numbers_are g c))
+    (subst (λ (n : List g.row.P.Denot). ArePartsKept from_two tells (count + 1 - 1) (slot_of l (numbers ++ more)) (node_of from_two blank l n)) (sym (nodes_are g c))
     (kept_without from_two are_from_two blank tells slot_of slots_read count step numbers more c.self.inside.nodes.items c.more.inside.more_nodes.items c.self.invariant.trees
     (between g before) line h))
 

@@ -8,7 +8,7 @@ use Rattle.operator_fns.proofs.Halves.{are_from_two}
 use Rattle.operator_fns.proofs.LinePlaces.{line_within}
 use Rattle.operator_fns.proofs.LineSpots.{line_fits, in_both}
 use Rattle.operator_fns.specs.declared.line_tree.Line.{Line}
-use Rattle.operator_fns.specs.LineTrees.{slot_of, from_two, IsIn, node_of, AreKept}
+use Rattle.operator_fns.specs.LineTrees.{slot_of, from_two, IsIn, node_of, ArePartsKept}
 use Rattle.fold_trees.specs.PartTrees.{ArePartTrees}
 use Rattle.fold_trees.proofs.TreeWrites.{IsWritten, written_numbers, written_trees}
 use Rattle.fold_trees.proofs.part_trees.PartTrees.set.Given.{Over}
@@ -67,9 +67,9 @@ write-requires-clause-kept g c =
     let line = line_through count step c.args.place in
     let l = line_at from_two count step line in
     let is = line_is g (goal.at.write-requires-clause-kept g c).After-nth_line-line in
-    subst (λ (l : Line). AreKept from_two tells l.count (slot_of l c.deref_mut.result.now) (node_of from_two blank l c.deref_mut-2.result.now)) (sym is)
-    (subst (λ (s : List ℤ). AreKept from_two tells count (slot_of l s) (node_of from_two blank l c.deref_mut-2.result.now)) (sym c.deref_mut.ensures.value)
-    (subst (λ (n : List g.row.P.Denot). AreKept from_two tells count (slot_of l numbers) (node_of from_two blank l n)) (sym c.deref_mut-2.ensures.value)
+    subst (λ (l : Line). ArePartsKept from_two tells l.count (slot_of l c.deref_mut.result.now) (node_of from_two blank l c.deref_mut-2.result.now)) (sym is)
+    (subst (λ (s : List ℤ). ArePartsKept from_two tells count (slot_of l s) (node_of from_two blank l c.deref_mut-2.result.now)) (sym c.deref_mut.ensures.value)
+    (subst (λ (n : List g.row.P.Denot). ArePartsKept from_two tells count (slot_of l numbers) (node_of from_two blank l n)) (sym c.deref_mut-2.ensures.value)
     (c.self.invariant.trees.kept line (is_below g (goal.at.write-requires-clause-kept g c).After-self))))
 
 -- ---- what is written

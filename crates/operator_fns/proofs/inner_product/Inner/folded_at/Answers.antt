@@ -3,7 +3,7 @@ use Rattle.arrays_core.specs.Items.{fill, and_then}
 use Rattle.scalar_fns.specs.Items.{dyadic_on_items}
 use Rattle.operator_fns.specs.InnerProduct.{row_rank, all_or_last_error}
 use Rattle.operator_fns.specs.RightFold.{fold_right}
-use Rattle.operator_fns.specs.RowByColumn.{entry, met}
+use Rattle.operator_fns.specs.RowByColumn.{entry, all_met}
 use Rattle.operator_fns.proofs.Joined.{long_enough}
 use Rattle.operator_fns.proofs.Meetings.{length-met}
 use Rattle.operator_fns.specs.Laws.InnerPlaces.{passed_inner}
@@ -46,4 +46,4 @@ returns-clause-is c =
     (rw (c.split_at.ensures.back, c.row_rank.ensures) at c.column_line-column.ensures.is) in
     c.fold_row.ensures.is
     ∙ sym (ap (λ rs. and_then (all_or_last_error rs) (fold_right c.args.self.fold)) same
-    ∙ fold_of_some c.args.self.fold (met (dyadic_on_items c.args.self.each) left right count) (omega arith))
+    ∙ fold_of_some c.args.self.fold (all_met (dyadic_on_items c.args.self.each) left right count) (omega arith))

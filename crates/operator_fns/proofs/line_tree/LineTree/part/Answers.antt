@@ -1,8 +1,8 @@
 use Rattle.std.proofs.Common.{◌≡◌, ◌≢◌, ◌∙◌, ◌+◌, ◌-◌, ◌*◌, ◌/◌, ◌%◌, ◌^◌, ◌≤◌, min, sym, ap, subst, pos, get_or, arith, rules, slice_index_or, w64, FitsSigned, ◌-ℤ◌}
 use Rattle.std.specs.Int.{int_wrap}
 use Rattle.std.proofs.lemmas.Int.{to_z-of_z}
-use Rattle.operator_fns.specs.SumNodes.{Tells, single, join, sums_from, empty}
-use Rattle.operator_fns.specs.LineTrees.{number_of, from_four, node_of}
+use Rattle.operator_fns.specs.SumNodes.{IsSummaryOf, single, join, sums_from, empty}
+use Rattle.operator_fns.specs.LineTrees.{number_in_line, from_four, node_of}
 use Rattle.operator_fns.proofs.LineParts.{number_before, number_odd, sums_one, sums_two, least_part, one_level, more_levels}
 use Rattle.std.proofs.lemmas.Nat.{pow_pos}
 use Rattle.operator_fns.proofs.line_tree.LineTree.part.Goals as goal
@@ -10,19 +10,19 @@ use Rattle.operator_fns.proofs.line_tree.LineTree.part.Goals as goal
 pub returns-then-long-eq1 : goal.returns-then-long-eq1
 returns-then-long-eq1 c =
     let tree = c.args.self.now in
-    let x = number_of tree.line tree.slots.now in
+    let x = number_in_line tree.line tree.slots.now in
     let long = sym c.min-long.ensures ∙ c.if-long-eq1.true in
     let f : FitsSigned w64 c.number.result = search rules in
     let number = to_z-of_z w64 _ f ∙ c.number.ensures in
-    subst (λ n. Tells c.of.result (sums_from x c.args.from n)) (sym long)
-    (subst (Tells c.of.result) (ap single number ∙ sym (sums_one x c.args.from)) c.of.ensures)
+    subst (λ n. IsSummaryOf c.of.result (sums_from x c.args.from n)) (sym long)
+    (subst (IsSummaryOf c.of.result) (ap single number ∙ sym (sums_one x c.args.from)) c.of.ensures)
 
 pub returns-then-half-eq1 : goal.returns-then-half-eq1
 returns-then-half-eq1 c =
     let tree = c.args.self.now in
     let slots = tree.slots.now in
     let from = c.args.from in
-    let x = number_of tree.line slots in
+    let x = number_in_line tree.line slots in
     let next = c.next_power_of_two-half.ensures in
     let some = c.if-long-eq1.false in
     let long_is = c.min-long.ensures in
@@ -45,8 +45,8 @@ returns-then-half-eq1 c =
     let second = to_z-of_z w64 _ g ∙ ap (λ k. get_or slots k (pos 0)) c.slot_at-then-half-eq1.ensures in
     let left = sym (number_before tree.line slots from even (omega (arith, long))) in
     let right = sym (number_odd tree.line slots (from + 1) (omega (arith, even))) in
-    subst (λ n. Tells c.of_pair.result (sums_from x from n)) (sym long)
-    (subst (Tells c.of_pair.result)
+    subst (λ n. IsSummaryOf c.of_pair.result (sums_from x from n)) (sym long)
+    (subst (IsSummaryOf c.of_pair.result)
     ((λ i. join (single (int_wrap w64 (first i -ℤ second i))) (single (second i))) ∙ (λ i. join (single (left i)) (single (right i))) ∙ sym (sums_two x from))
     c.of_pair.ensures)
 
@@ -54,7 +54,7 @@ pub returns : goal.returns
 returns c =
     let tree = c.args.self.now in
     let from = c.args.from in
-    let x = number_of tree.line tree.slots.now in
+    let x = number_in_line tree.line tree.slots.now in
     let node = node_of from_four empty tree.line tree.nodes.now in
     let next = c.next_power_of_two-half.ensures in
     let some = c.if-long-eq1.false in
@@ -78,7 +78,7 @@ returns c =
     let upper = next.upper_bound in
     let long : min (2 * (2 * unit)) (tree.line.count - p.place * (2 * (2 * unit))) ≡ min c.args.width (tree.line.count - from) = omega (arith, size, at, within, enough, long_is, below) in
     let kept = c.requires.kept more.0 p.place (omega (arith, at)) (omega (arith, at, size, within)) (omega (arith, at, size, upper, long_is, two, enough, below)) in
-    subst (λ s. Tells s (sums_from x from (min c.args.width (tree.line.count - from))))
+    subst (λ s. IsSummaryOf s (sums_from x from (min c.args.width (tree.line.count - from))))
     (sym (ap (λ k. get_or tree.nodes.now k (record { below = 0; above = 0; total = 0 })) c.node_at.ensures ∙ ap node half))
-    (subst (λ n. Tells (node (p.place * (2 * (2 * unit)) + 2 * unit)) (sums_from x from n)) long
-    (subst (λ f. Tells (node (p.place * (2 * (2 * unit)) + 2 * unit)) (sums_from x f (min (2 * (2 * unit)) (tree.line.count - p.place * (2 * (2 * unit)))))) (sym at) kept))
+    (subst (λ n. IsSummaryOf (node (p.place * (2 * (2 * unit)) + 2 * unit)) (sums_from x from n)) long
+    (subst (λ f. IsSummaryOf (node (p.place * (2 * (2 * unit)) + 2 * unit)) (sums_from x f (min (2 * (2 * unit)) (tree.line.count - p.place * (2 * (2 * unit)))))) (sym at) kept))

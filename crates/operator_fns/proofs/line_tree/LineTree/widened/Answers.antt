@@ -1,6 +1,6 @@
 use Rattle.std.proofs.Common.{◌≡◌, ◌∙◌, ◌+◌, ◌-◌, ◌*◌, ◌/◌, ◌%◌, ◌<◌, min, sym, ap, subst, arith}
-use Rattle.operator_fns.specs.SumNodes.{Tells, TellsSums, sums_of, sums_from, sums_at}
-use Rattle.operator_fns.specs.LineTrees.{number_of, segment, numbers_of_block}
+use Rattle.operator_fns.specs.SumNodes.{IsSummaryOf, TellsSums, sums_of, sums_from, sums_at}
+use Rattle.operator_fns.specs.LineTrees.{number_in_line, segment, numbers_of_block}
 use Rattle.operator_fns.proofs.LineParts.{sums_same, sums_joined, odd_block, even_block, widen_odd, widen_even, widen_alone}
 use Rattle.operator_fns.proofs.line_tree.LineTree.widened.Goals as goal
 
@@ -28,14 +28,14 @@ returns-then-block-eq1-clause-is c x same told =
     let block = c.args.block in
     let width = c.args.width in
     let line = c.args.self.now.line in
-    let numbers = number_of line c.args.self.now.slots.now in
+    let numbers = number_in_line line c.args.self.now.slots.now in
     let odd = c.if-block-eq1.true in
     let at = odd_block block width odd in
     let from = block * width - width in
     let long = min width (line.count - from) in
     let alike = sums_same numbers x from long (λ i low high. same i (omega (arith, at.0, at.1, low)) (omega (arith, at.0, at.1, high, c.requires.from))) in
-    subst (Tells c.join.result) (sym (sums_joined (segment x from long) (numbers_of_block line.count x block width)) ∙ ap sums_of (widen_odd line.count x block width odd c.requires.from))
-    (c.join.ensures (sums_from x from long) (sums_at line.count x block width) (subst (Tells c.part.result) alike c.part.ensures) told)
+    subst (IsSummaryOf c.join.result) (sym (sums_joined (segment x from long) (numbers_of_block line.count x block width)) ∙ ap sums_of (widen_odd line.count x block width odd c.requires.from))
+    (c.join.ensures (sums_from x from long) (sums_at line.count x block width) (subst (IsSummaryOf c.part.result) alike c.part.ensures) told)
 
 pub returns-then-self-from-clause-is : goal.returns-then-self-from-clause-is
 returns-then-self-from-clause-is c x same told =
@@ -55,7 +55,7 @@ returns-clause-is c x same told =
     let block = c.args.block in
     let width = c.args.width in
     let line = c.args.self.now.line in
-    let numbers = number_of line c.args.self.now.slots.now in
+    let numbers = number_in_line line c.args.self.now.slots.now in
     let some = c.if-block-eq1.false in
     let even : c.args.block % 2 ≡ 0 = omega (arith, some) in
     let at = even_block block width even in
@@ -64,5 +64,5 @@ returns-clause-is c x same told =
     let from = block * width + width in
     let long = min width (line.count - from) in
     let alike = sums_same numbers x from long (λ i low high. same i (omega (arith, at.0, at.1, low)) (omega (arith, at.0, at.1, high, below))) in
-    subst (Tells c.join-2.result) (sym (sums_joined (numbers_of_block line.count x block width) (segment x from long)) ∙ ap sums_of (widen_even line.count x block width even below))
-    (c.join-2.ensures (sums_at line.count x block width) (sums_from x from long) told (subst (Tells c.part-2.result) alike c.part-2.ensures))
+    subst (IsSummaryOf c.join-2.result) (sym (sums_joined (numbers_of_block line.count x block width) (segment x from long)) ∙ ap sums_of (widen_even line.count x block width even below))
+    (c.join-2.ensures (sums_at line.count x block width) (sums_from x from long) told (subst (IsSummaryOf c.part-2.result) alike c.part-2.ensures))

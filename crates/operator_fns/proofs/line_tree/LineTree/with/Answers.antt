@@ -1,7 +1,7 @@
 use Rattle.std.proofs.Common.{◌≡◌, ◌∙◌, suc, ◌-◌, ◌*◌, min, sym, ap, subst, arith, inl, inr, refl, to_z, of_z, w64}
 use Rattle.std.proofs.lemmas.Int.{to_z-of_z}
-use Rattle.operator_fns.specs.SumNodes.{Tells, single, sums_from}
-use Rattle.operator_fns.specs.LineTrees.{number_of, replaced}
+use Rattle.operator_fns.specs.SumNodes.{IsSummaryOf, single, sums_from}
+use Rattle.operator_fns.specs.LineTrees.{number_in_line, replaced}
 use Rattle.operator_fns.proofs.LineParts.{climb_start, climb_up, level_up, climb_end, levels_within, replaced_here, other_half_same, even_block, sums_one}
 use Rattle.operator_fns.proofs.line_tree.LineTree.with.Goals as goal
 
@@ -10,13 +10,13 @@ loop-width-init c =
     let line = c.args.self.now.line in
     let place = c.args.place in
     let z = to_z w64 (of_z w64 c.args.number) in
-    let x = replaced (number_of line c.args.self.now.slots.now) place z in
+    let x = replaced (number_in_line line c.args.self.now.slots.now) place z in
     let start : place * 1 ≡ place = omega arith in
     let one : min 1 (line.count - place * 1) ≡ 1 = omega (arith, c.requires.place) in
     record {
       climb = climb_start place;
       few = omega (arith, c.requires.place);
-      told = subst (Tells c.of-summary.result) (ap single (sym (replaced_here (number_of line c.args.self.now.slots.now) place z)) ∙ sym (sums_one x place) ∙ sym (λ i. sums_from x (start i) (one i))) c.of-summary.ensures;
+      told = subst (IsSummaryOf c.of-summary.result) (ap single (sym (replaced_here (number_in_line line c.args.self.now.slots.now) place z)) ∙ sym (sums_one x place) ∙ sym (λ i. sums_from x (start i) (one i))) c.of-summary.ensures;
       most = omega arith;
       none = λ e. (start, inl refl);
     }
@@ -37,7 +37,7 @@ loop-width-preserved c =
     let block = c.loop-width.block in
     let width = c.loop-width.width in
     let z = to_z w64 (of_z w64 c.args.number) in
-    let numbers = number_of line c.args.self.now.slots.now in
+    let numbers = number_in_line line c.args.self.now.slots.now in
     let inv = c.loop-width.invariant in
     let short = c.loop-width-test.true in
     let joined = c.widened-joined.ensures in
@@ -68,13 +68,13 @@ returns-clause-is c =
     let width = c.loop-width.width in
     let z = to_z w64 (of_z w64 c.args.number) in
     let number : z ≡ c.args.number = to_z-of_z w64 c.args.number c.ranges.number in
-    let numbers = number_of line c.args.self.now.slots.now in
+    let numbers = number_in_line line c.args.self.now.slots.now in
     let inv = c.loop-width.invariant in
     let wide = c.loop-width-test.false in
     let first = climb_end line.count place block width inv.climb c.requires.place wide in
     let start : block * width ≡ 0 = ap (λ b. b * width) first ∙ grind arith in
     let all : min width (line.count - block * width) ≡ line.count = omega (arith, start, wide) in
-    subst (Tells c.loop-width.summary) (λ i. sums_from (replaced numbers place (number i)) (start i) (all i)) inv.told
+    subst (IsSummaryOf c.loop-width.summary) (λ i. sums_from (replaced numbers place (number i)) (start i) (all i)) inv.told
 
 pub returns-clause-most : goal.returns-clause-most
 returns-clause-most c digits enough =

@@ -7,8 +7,8 @@ use Rattle.index_region.proofs.Passing.{limited_gives}
 use Rattle.operator_fns.proofs.Outers.{outer_places, outer_of_numbers}
 use Rattle.operator_fns.proofs.outer_product.Outer.of_numbers.Goals as goal
 
-pub invariant_of-table-clause-whole : goal.invariant_of-table-clause-whole
-invariant_of-table-clause-whole c =
+pub invariant_of-outer-clause-whole : goal.invariant_of-outer-clause-whole
+invariant_of-outer-clause-whole c =
     let a = c.args.left.now in
     let b = c.args.right.now in
     let form : Form = form_of c.in_ok-shape.shape.items c.in_ok-shape.field-0-1 in

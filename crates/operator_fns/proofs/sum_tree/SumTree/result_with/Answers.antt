@@ -2,9 +2,9 @@ use Rattle.std.proofs.Common.{◌≡◌, ◌∙◌, ap, sym, subst, length, set,
 use Rattle.std.proofs.lemmas.Int.{to_z-of_z}
 use Rattle.std.proofs.lemmas.List.Elements.{All-set}
 use Rattle.operator_fns.specs.declared.line_tree.Line.{Line}
-use Rattle.operator_fns.specs.SumTree.{IsReductionBySum, one_line, numbers_in}
-use Rattle.operator_fns.specs.SumNodes.{Tells, sums_of, sums_from}
-use Rattle.operator_fns.specs.LineTrees.{number_of, replaced}
+use Rattle.operator_fns.specs.SumTree.{IsReductionBySum, one_line, numbers_in_slots}
+use Rattle.operator_fns.specs.SumNodes.{IsSummaryOf, sums_of, sums_from}
+use Rattle.operator_fns.specs.LineTrees.{number_in_line, replaced}
 use Rattle.operator_fns.proofs.SumEndings.{told_reduction}
 use Rattle.operator_fns.proofs.ListTrees.{length_numbers, sums_listed, numbers_fit, list_replaced}
 use Rattle.operator_fns.proofs.sum_tree.SumTree.result_with.Goals as goal
@@ -25,14 +25,14 @@ returns-clause-result c =
     let slots_are = c.deref.ensures.value in
     let long : c.len.result ≡ length slots = c.len.ensures ∙ sym c.deref.ensures.len ∙ ap (λ (l : List ℤ). length l) slots_are in
     let line : c.one_line-line.result ≡ one_line (length slots) = c.one_line-line.ensures ∙ ap one_line long in
-    let x = number_of (one_line (length slots)) slots in
-    let made = set (numbers_in slots) place c.args.number in
-    let told : Tells c.with-joins.result.0 (sums_of made) =
-    subst (Tells c.with-joins.result.0)
-    ((λ i. sums_from (replaced (number_of (line i) (slots_are i)) place (number i)) 0 ((line i).count))
+    let x = number_in_line (one_line (length slots)) slots in
+    let made = set (numbers_in_slots slots) place c.args.number in
+    let told : IsSummaryOf c.with-joins.result.0 (sums_of made) =
+    subst (IsSummaryOf c.with-joins.result.0)
+    ((λ i. sums_from (replaced (number_in_line (line i) (slots_are i)) place (number i)) 0 ((line i).count))
     ∙ sums_listed (replaced x place c.args.number) 0 (length slots)
     ∙ ap sums_of (list_replaced x (length slots) place c.args.number)) c.with-joins.ensures.is in
-    let fit = All-set (FitsSigned w64) (numbers_in slots) place c.args.number c.ranges.number (numbers_fit slots tree.few tree.fit) in
+    let fit = All-set (FitsSigned w64) (numbers_in_slots slots) place c.args.number c.ranges.number (numbers_fit slots tree.few tree.fit) in
     subst (λ ys. IsReductionBySum (set ys place c.args.number) c.sum.result) c.self.view_is
     (subst (IsReductionBySum made) (sym (c.sum.ensures (sums_of made) told)) (told_reduction made fit))
 

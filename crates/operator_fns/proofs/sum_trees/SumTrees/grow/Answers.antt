@@ -12,7 +12,7 @@ use Rattle.operator_fns.proofs.LineTables.{numbers_moved}
 use Rattle.operator_fns.proofs.MoreLines.{in_all, more_numbers}
 use Rattle.operator_fns.proofs.MoreTrees.{more_trees}
 use Rattle.operator_fns.proofs.sum_trees.SumTrees.grow.Goals.{After-trees}
-use Rattle.operator_fns.specs.LineTrees.{from_four, nodes_in_line, number_of}
+use Rattle.operator_fns.specs.LineTrees.{from_four, nodes_in_line, number_in_line}
 use Rattle.operator_fns.proofs.sum_trees.SumTrees.grow.Goals as goal
 
 -- ---- the new lines are as long as the old ones, their neighbours as far apart, and the room is for them
@@ -27,10 +27,10 @@ same_step : (c : After-trees) → c.trees.inside.step ≡ c.self.inside.step
 same_step c =
     ap (λ (t : TreesValue). t.step) c.trees.view_is ∙ ap (λ (n : NewTreesValue). n.step) c.more.view_is ∙ c.requires.step ∙ sym (ap (λ (t : TreesValue). t.step) c.self.view_is)
 
-new_trees : (c : After-trees) → AreLineTrees from_four empty TellsSums number_of c.self.inside.count c.self.inside.step c.trees.inside.slots.items c.trees.inside.nodes.items
+new_trees : (c : After-trees) → AreLineTrees from_four empty TellsSums number_in_line c.self.inside.count c.self.inside.step c.trees.inside.slots.items c.trees.inside.nodes.items
 new_trees c =
-    subst (λ step. AreLineTrees from_four empty TellsSums number_of c.self.inside.count step c.trees.inside.slots.items c.trees.inside.nodes.items) (same_step c)
-    (subst (λ count. AreLineTrees from_four empty TellsSums number_of count c.trees.inside.step c.trees.inside.slots.items c.trees.inside.nodes.items) (same_count c) c.trees.invariant.trees)
+    subst (λ step. AreLineTrees from_four empty TellsSums number_in_line c.self.inside.count step c.trees.inside.slots.items c.trees.inside.nodes.items) (same_step c)
+    (subst (λ count. AreLineTrees from_four empty TellsSums number_in_line count c.trees.inside.step c.trees.inside.slots.items c.trees.inside.nodes.items) (same_count c) c.trees.invariant.trees)
 
 new_numbers : (c : After-trees) → numbers_kept c.self.inside.count c.self.inside.step c.trees.inside.slots.items ≡ c.more.inside.trees.numbers
 new_numbers c =
@@ -121,10 +121,10 @@ invariant_of-self c =
     let nodes = c.self.inside.nodes.items in
     let more = c.trees.inside.slots.items in
     let more_nodes = c.trees.inside.nodes.items in
-    let all = more_trees from_four are_from_four empty TellsSums number_of numbers_moved count step slots more nodes more_nodes c.self.invariant.trees (new_trees (goal.at.invariant_of-self c).After-trees) in
+    let all = more_trees from_four are_from_four empty TellsSums number_in_line numbers_moved count step slots more nodes more_nodes c.self.invariant.trees (new_trees (goal.at.invariant_of-self c).After-trees) in
     record {
-      trees = subst (λ (l : List ℤ). AreLineTrees from_four empty TellsSums number_of count step l c.put_behind-2.new.items.items) (sym c.put_behind.ensures.items)
-          (subst (λ (l : List Summary). AreLineTrees from_four empty TellsSums number_of count step (slots ++ more) l) (sym c.put_behind-2.ensures.items) all);
+      trees = subst (λ (l : List ℤ). AreLineTrees from_four empty TellsSums number_in_line count step l c.put_behind-2.new.items.items) (sym c.put_behind.ensures.items)
+          (subst (λ (l : List Summary). AreLineTrees from_four empty TellsSums number_in_line count step (slots ++ more) l) (sym c.put_behind-2.ensures.items) all);
       fit = subst (All (FitsSigned w64)) (sym c.put_behind.ensures.items) (All-append (FitsSigned w64) slots more c.self.invariant.fit c.trees.invariant.fit);
       slot_room = c.put_behind.ensures.room;
       node_room = c.put_behind-2.ensures.room;

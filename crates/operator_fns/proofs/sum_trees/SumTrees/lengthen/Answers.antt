@@ -5,7 +5,7 @@ use Rattle.std.proofs.lemmas.List.{with_items_is}
 use Rattle.std.proofs.lemmas.List.Elements.{All-append}
 use Rattle.arrays_core.specs.Growth.{IsRoomy, HasRoom}
 use Rattle.operator_fns.specs.declared.summary.Summary.{Summary}
-use Rattle.operator_fns.specs.LineTrees.{number_of, shorter, slot_of, from_four, node_of, AreKept, nodes_in_line}
+use Rattle.operator_fns.specs.LineTrees.{number_in_line, shorter, slot_of, from_four, node_of, ArePartsKept, nodes_in_line}
 use Rattle.operator_fns.specs.SumTrees.{TreesValue, NewPlacesValue, numbers_kept, with_places, AreSumTrees}
 use Rattle.operator_fns.proofs.KeptNumbers.{kept_count}
 use Rattle.operator_fns.proofs.Halves.{are_from_four}
@@ -41,7 +41,7 @@ slots_in_all c =
 old_nodes : (c : After-more) → nodes_in_line from_four c.more.inside.count * length c.more.inside.numbers.items ≡ length c.self.inside.nodes.items
 old_nodes c =
     (λ i. nodes_in_line from_four (same_count c i) * wide c i)
-    ∙ sym (held_nodes from_four empty TellsSums number_of c.self.inside.count c.self.inside.step c.self.inside.slots.items c.self.inside.nodes.items c.self.invariant.trees (between c))
+    ∙ sym (held_nodes from_four empty TellsSums number_in_line c.self.inside.count c.self.inside.step c.self.inside.slots.items c.self.inside.nodes.items c.self.invariant.trees (between c))
 
 nodes_in_all : (c : After-more) → nodes_in_line from_four (c.more.inside.count + 1) * length c.more.inside.numbers.items ≡ length c.self.inside.nodes.items + length c.more.inside.more_nodes.items
 nodes_in_all c =
@@ -113,9 +113,9 @@ take_places-requires-clause-kept c line h =
     let step = c.self.inside.step in
     let before = (goal.at.take_places-requires-clause-kept c).After-more in
     let l = shorter (line_at from_four (count + 1) step line) in
-    subst (λ (s : List ℤ). AreKept from_four TellsSums (count + 1 - 1) (number_of l s) (node_of from_four empty l c.deref_mut-2.result.now)) (sym (slots_are c))
-    (subst (λ (n : List Summary). AreKept from_four TellsSums (count + 1 - 1) (number_of l (c.self.inside.slots.items ++ c.more.inside.numbers.items)) (node_of from_four empty l n)) (sym (nodes_are c))
-    (kept_without from_four are_from_four empty TellsSums number_of numbers_moved count step c.self.inside.slots.items c.more.inside.numbers.items c.self.inside.nodes.items c.more.inside.more_nodes.items c.self.invariant.trees (between before) line h))
+    subst (λ (s : List ℤ). ArePartsKept from_four TellsSums (count + 1 - 1) (number_in_line l s) (node_of from_four empty l c.deref_mut-2.result.now)) (sym (slots_are c))
+    (subst (λ (n : List Summary). ArePartsKept from_four TellsSums (count + 1 - 1) (number_in_line l (c.self.inside.slots.items ++ c.more.inside.numbers.items)) (node_of from_four empty l n)) (sym (nodes_are c))
+    (kept_without from_four are_from_four empty TellsSums number_in_line numbers_moved count step c.self.inside.slots.items c.more.inside.numbers.items c.self.inside.nodes.items c.more.inside.more_nodes.items c.self.invariant.trees (between before) line h))
 
 -- ---- when all lines have taken theirs
 
@@ -139,7 +139,7 @@ invariant_of-self c =
     let slot_count = told.slot_length ∙ ap (λ (l : List ℤ). length l) c.deref_mut.ensures.value in
     let node_count = told.node_length ∙ ap (λ (l : List Summary). length l) c.deref_mut-2.ensures.value in
     let whole : AreSumTrees (count + 1) step after nodes_after (vec_capacity slot_list) (vec_capacity node_list) = record {
-      trees = longer_trees from_four empty TellsSums number_of (count + 1) step after nodes_after (omega arith) c.self.invariant.trees.lines.apart (told.slot_length ∙ slots_long before) (told.node_length ∙ nodes_count before) told.kept;
+      trees = longer_trees from_four empty TellsSums number_in_line (count + 1) step after nodes_after (omega arith) c.self.invariant.trees.lines.apart (told.slot_length ∙ slots_long before) (told.node_length ∙ nodes_count before) told.kept;
       fit = told.fit;
       slot_room = subst (λ n. IsRoomy n (vec_capacity slot_list)) (sym slot_count) c.put_behind.ensures.room;
       node_room = subst (λ n. IsRoomy n (vec_capacity node_list)) (sym node_count) c.put_behind-2.ensures.room;
@@ -160,7 +160,7 @@ returns c =
     let are = slots_are before in
     let all = longer_numbers count step slots numbers c.self.inside.nodes.items c.more.inside.more_nodes.items c.self.invariant.trees (between first) (wide first) after
     (told.slot_length ∙ ap (λ (l : List ℤ). length l) are)
-    (λ line i h p. told.numbers line i h p ∙ ap (λ (l : List ℤ). number_of (shorter (line_at from_four (count + 1) step line)) l i) are)
+    (λ line i h p. told.numbers line i h p ∙ ap (λ (l : List ℤ). number_in_line (shorter (line_at from_four (count + 1) step line)) l i) are)
     (λ line h. told.last line h ∙ ap (λ (l : List ℤ). slot_of (line_at from_four (count + 1) step line) l (count + 1 - 1)) are) in
     let numbers_are = ap (numbers_kept (count + 1) step) (slots_kept (goal.at.returns c).After-take_places) ∙ all
     ∙ ap (λ (ns : List ℤ). numbers_kept count step slots ++ ns) (ap (λ (n : NewPlacesValue). n.numbers) c.more.view_is) in

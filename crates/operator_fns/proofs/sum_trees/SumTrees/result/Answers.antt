@@ -2,8 +2,8 @@ use Rattle.std.proofs.Common.{◌∙◌, ◌/◌, ◌<◌, ℤ, List, length, ap
 use Rattle.std.specs.List.{All}
 use Rattle.operator_fns.specs.declared.line_tree.Line.{Line}
 use Rattle.operator_fns.specs.SumTree.{IsReductionBySum}
-use Rattle.operator_fns.specs.SumNodes.{Tells, sum_told, sums_from}
-use Rattle.operator_fns.specs.LineTrees.{number_of, HasSlots, from_four}
+use Rattle.operator_fns.specs.SumNodes.{IsSummaryOf, sum_told, sums_from}
+use Rattle.operator_fns.specs.LineTrees.{number_in_line, HasSlots, from_four}
 use Rattle.operator_fns.specs.SumTrees.{TreesValue, line_count, numbers_of_line}
 use Rattle.operator_fns.proofs.KeptNumbers.{seen, kept_count, kept_line, line_sums}
 use Rattle.operator_fns.proofs.ListTrees.{line_fits}
@@ -32,9 +32,9 @@ returns c =
     let inside : line < length slots / count = omega (arith, c.requires, many, is) in
     let read = c.nth_tree-tree.ensures.slots ∙ c.deref.ensures.value in
     let at = c.nth_tree-tree.ensures.line in
-    let told : Tells c.whole.result (sums_from (number_of (line_at from_four count step line) slots) 0 count) =
-    subst (λ (l : Line). Tells c.whole.result (sums_from (number_of l slots) 0 l.count)) at
-    (subst (λ (s : List ℤ). Tells c.whole.result (sums_from (number_of tree.line s) 0 tree.line.count)) read c.whole.ensures) in
+    let told : IsSummaryOf c.whole.result (sums_from (number_in_line (line_at from_four count step line) slots) 0 count) =
+    subst (λ (l : Line). IsSummaryOf c.whole.result (sums_from (number_in_line l slots) 0 l.count)) at
+    (subst (λ (s : List ℤ). IsSummaryOf c.whole.result (sums_from (number_in_line tree.line s) 0 tree.line.count)) read c.whole.ensures) in
     let has : HasSlots (line_at from_four count step line) (length slots) =
     subst (λ (l : Line). HasSlots l (length slots)) at (subst (λ (s : List ℤ). HasSlots tree.line (length s)) read c.nth_tree-tree.ensures.inside.slots) in
     let lines = c.self.invariant.trees.lines in

@@ -4,8 +4,8 @@ use Rattle.std.proofs.lemmas.List.Elements.{All-append, All-cons, All-nil}
 use Rattle.std.proofs.lemmas.Int.{to_z-of_z}
 use Rattle.operator_fns.specs.declared.line_tree.Line.{Line}
 use Rattle.operator_fns.specs.SumTree.{IsReductionBySum}
-use Rattle.operator_fns.specs.SumNodes.{Tells, single, join, sum_told, sums_from}
-use Rattle.operator_fns.specs.LineTrees.{number_of, HasSlots, from_four}
+use Rattle.operator_fns.specs.SumNodes.{IsSummaryOf, single, join, sum_told, sums_from}
+use Rattle.operator_fns.specs.LineTrees.{number_in_line, HasSlots, from_four}
 use Rattle.operator_fns.specs.SumTrees.{TreesValue, line_count, numbers_of_line}
 use Rattle.operator_fns.proofs.KeptNumbers.{seen, kept_count, kept_line, line_sums}
 use Rattle.operator_fns.proofs.ListTrees.{line_fits}
@@ -38,10 +38,10 @@ returns c =
     let inside : line < length slots / count = omega (arith, c.requires, many, is) in
     let read = c.nth_tree-tree.ensures.slots ∙ c.deref.ensures.value in
     let at = c.nth_tree-tree.ensures.line in
-    let before : Tells c.whole.result (sums_from (number_of (line_at from_four count step line) slots) 0 count) =
-    subst (λ (l : Line). Tells c.whole.result (sums_from (number_of l slots) 0 l.count)) at
-    (subst (λ (s : List ℤ). Tells c.whole.result (sums_from (number_of tree.line s) 0 tree.line.count)) read c.whole.ensures) in
-    let new : Tells c.of.result (single z) = subst (λ (y : ℤ). Tells c.of.result (single y)) (to_z-of_z w64 z c.ranges.number) c.of.ensures in
+    let before : IsSummaryOf c.whole.result (sums_from (number_in_line (line_at from_four count step line) slots) 0 count) =
+    subst (λ (l : Line). IsSummaryOf c.whole.result (sums_from (number_in_line l slots) 0 l.count)) at
+    (subst (λ (s : List ℤ). IsSummaryOf c.whole.result (sums_from (number_in_line tree.line s) 0 tree.line.count)) read c.whole.ensures) in
+    let new : IsSummaryOf c.of.result (single z) = subst (λ (y : ℤ). IsSummaryOf c.of.result (single y)) (to_z-of_z w64 z c.ranges.number) c.of.ensures in
     let told = c.join.ensures _ _ before new in
     let has : HasSlots (line_at from_four count step line) (length slots) =
     subst (λ (l : Line). HasSlots l (length slots)) at (subst (λ (s : List ℤ). HasSlots tree.line (length s)) read c.nth_tree-tree.ensures.inside.slots) in

@@ -3,9 +3,9 @@ use Rattle.std.specs.List.{All}
 use Rattle.std.proofs.lemmas.List.Elements.{All-set}
 use Rattle.std.proofs.lemmas.Int.{to_z-of_z}
 use Rattle.operator_fns.specs.declared.line_tree.Line.{Line}
-use Rattle.operator_fns.specs.SumNodes.{Tells, sum_told, sums_from}
+use Rattle.operator_fns.specs.SumNodes.{IsSummaryOf, sum_told, sums_from}
 use Rattle.operator_fns.specs.SumTree.{IsReductionBySum}
-use Rattle.operator_fns.specs.LineTrees.{number_of, replaced, HasSlots, from_four}
+use Rattle.operator_fns.specs.LineTrees.{number_in_line, replaced, HasSlots, from_four}
 use Rattle.operator_fns.specs.SumTrees.{TreesValue, line_through, numbers_through, with_number}
 use Rattle.operator_fns.proofs.KeptNumbers.{seen, kept_count, kept_line, line_set, line_sums_with}
 use Rattle.operator_fns.proofs.LinePlaces.{line_within}
@@ -43,10 +43,10 @@ returns-clause-result c =
     let inside = is_inside (goal.at.returns-clause-result c).After-self in
     let read = c.nth_tree-tree.ensures.slots ∙ c.deref.ensures.value in
     let at = c.nth_tree-tree.ensures.line ∙ ap (line_at from_four count step) c.line_through-line.ensures in
-    let told : Tells all (sums_from (replaced (number_of (line_at from_four count step line) slots) place z) 0 count) =
-    subst (λ (l : Line). Tells all (sums_from (replaced (number_of l slots) place z) 0 l.count)) at
-    (subst (λ (s : List ℤ). Tells all (sums_from (replaced (number_of tree.line s) place z) 0 tree.line.count)) read
-    (subst (λ (y : ℤ). Tells all (sums_from (replaced (number_of tree.line tree.slots.now) place y) 0 tree.line.count)) (to_z-of_z w64 z c.ranges.number) c.with-joins.ensures.is)) in
+    let told : IsSummaryOf all (sums_from (replaced (number_in_line (line_at from_four count step line) slots) place z) 0 count) =
+    subst (λ (l : Line). IsSummaryOf all (sums_from (replaced (number_in_line l slots) place z) 0 l.count)) at
+    (subst (λ (s : List ℤ). IsSummaryOf all (sums_from (replaced (number_in_line tree.line s) place z) 0 tree.line.count)) read
+    (subst (λ (y : ℤ). IsSummaryOf all (sums_from (replaced (number_in_line tree.line tree.slots.now) place y) 0 tree.line.count)) (to_z-of_z w64 z c.ranges.number) c.with-joins.ensures.is)) in
     let has : HasSlots (line_at from_four count step line) (length slots) =
     subst (λ (l : Line). HasSlots l (length slots)) at (subst (λ (s : List ℤ). HasSlots tree.line (length s)) read c.nth_tree-tree.ensures.inside.slots) in
     let numbers = numbers_through (seen count step slots) c.args.place in

@@ -5,7 +5,7 @@ use Rattle.std.specs.Vec.{with_items}
 use Rattle.arrays_core.specs.Growth.{IsRoomy}
 use Rattle.operator_fns.specs.declared.summary.Summary.{Summary}
 use Rattle.operator_fns.specs.declared.line_tree.Line.{Line}
-use Rattle.operator_fns.specs.LineTrees.{number_of, from_four, IsIn, node_of, AreKept}
+use Rattle.operator_fns.specs.LineTrees.{number_in_line, from_four, IsIn, node_of, ArePartsKept}
 use Rattle.operator_fns.specs.SumTrees.{TreesValue, line_through, numbers_kept, with_number, AreSumTrees}
 use Rattle.operator_fns.proofs.Halves.{are_from_four}
 use Rattle.operator_fns.proofs.KeptNumbers.{seen, kept_count}
@@ -63,9 +63,9 @@ write-requires-clause-kept c =
     let slots = c.self.inside.slots.items in
     let line = line_through count step c.args.place in
     let l = line_at from_four count step line in
-    subst (λ (l : Line). AreKept from_four TellsSums l.count (number_of l c.deref_mut.result.now) (node_of from_four empty l c.deref_mut-2.result.now)) (sym (line_is (goal.at.write-requires-clause-kept c).After-nth_line-line))
-    (subst (λ (s : List ℤ). AreKept from_four TellsSums count (number_of l s) (node_of from_four empty l c.deref_mut-2.result.now)) (sym c.deref_mut.ensures.value)
-    (subst (λ (n : List Summary). AreKept from_four TellsSums count (number_of l slots) (node_of from_four empty l n)) (sym c.deref_mut-2.ensures.value)
+    subst (λ (l : Line). ArePartsKept from_four TellsSums l.count (number_in_line l c.deref_mut.result.now) (node_of from_four empty l c.deref_mut-2.result.now)) (sym (line_is (goal.at.write-requires-clause-kept c).After-nth_line-line))
+    (subst (λ (s : List ℤ). ArePartsKept from_four TellsSums count (number_in_line l s) (node_of from_four empty l c.deref_mut-2.result.now)) (sym c.deref_mut.ensures.value)
+    (subst (λ (n : List Summary). ArePartsKept from_four TellsSums count (number_in_line l slots) (node_of from_four empty l n)) (sym c.deref_mut-2.ensures.value)
     (c.self.invariant.trees.kept line (is_below (goal.at.write-requires-clause-kept c).After-self))))
 
 -- ---- what is written

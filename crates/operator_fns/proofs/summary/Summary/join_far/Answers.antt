@@ -1,7 +1,7 @@
 use Rattle.std.proofs.Common.{◌≡◌, sym, subst, arith, to_z, of_z, ◌+ℤ◌}
 use Rattle.std.specs.Int.{w128}
 use Rattle.std.proofs.lemmas.Int.{ints, clamps}
-use Rattle.operator_fns.specs.SumNodes.{IsOrdered, Tells, told, join}
+use Rattle.operator_fns.specs.SumNodes.{IsOrdered, IsSummaryOf, told_sums, join}
 use Rattle.operator_fns.proofs.JoinedSums.{sums_eq, ordered_join, tells_join}
 use Rattle.operator_fns.proofs.summary.Summary.join_far.Goals as goal
 
@@ -10,7 +10,7 @@ made : (c : goal.After-total) → record {
   total = to_z w128 (of_z w128 (to_z w128 (of_z w128 c.total.result) +ℤ to_z w128 (of_z w128 c.total-shift.result)));
   least = to_z w128 (of_z w128 c.min-least.result);
   greatest = to_z w128 (of_z w128 c.max-greatest.result);
-} ≡ join (told c.args.self.now) (told c.args.later.now)
+} ≡ join (told_sums c.args.self.now) (told_sums c.args.later.now)
 made c =
     let shift = c.total-shift.ensures in
     let least = c.least.ensures in
@@ -26,7 +26,7 @@ made c =
     (omega (arith, ints, clamps, shift.is, shift.low, shift.high, greatest.is, greatest.low, greatest.high, greatest2.is, greatest2.low, greatest2.high, max_is))
 
 pub of_sums-requires-clause-ordered : goal.of_sums-requires-clause-ordered
-of_sums-requires-clause-ordered c = subst IsOrdered (sym (made c)) (ordered_join (told c.args.self.now) (told c.args.later.now) c.requires.here.1.sound c.requires.later.1.sound)
+of_sums-requires-clause-ordered c = subst IsOrdered (sym (made c)) (ordered_join (told_sums c.args.self.now) (told_sums c.args.later.now) c.requires.here.1.sound c.requires.later.1.sound)
 
 pub of_sums-requires-clause-low : goal.of_sums-requires-clause-low
 of_sums-requires-clause-low c =
@@ -45,4 +45,4 @@ of_sums-requires-clause-high c =
     omega (arith, ints, clamps, shift.is, shift.low, shift.high, greatest.low, greatest.high, greatest2.low, greatest2.high, max_is)
 
 pub returns : goal.returns
-returns c earlier rest h k = tells_join c.args.self.now c.args.later.now c.of_sums.result earlier rest h k (subst (Tells c.of_sums.result) (made c.before) c.of_sums.ensures)
+returns c earlier rest h k = tells_join c.args.self.now c.args.later.now c.of_sums.result earlier rest h k (subst (IsSummaryOf c.of_sums.result) (made c.before) c.of_sums.ensures)

@@ -1,7 +1,7 @@
 use Rattle.std.proofs.Common.{◌≡◌, subst, to_z, of_z, ◌-ℤ◌, w64}
 use Rattle.std.specs.Int.{int_wrap}
 use Rattle.std.proofs.lemmas.Int.{to_z-of_z}
-use Rattle.operator_fns.specs.SumNodes.{Tells, single, join}
+use Rattle.operator_fns.specs.SumNodes.{IsSummaryOf, single, join}
 use Rattle.operator_fns.proofs.summary.Summary.of_four.Goals as goal
 
 pub returns-then-later_near : goal.returns-then-later_near
@@ -10,7 +10,7 @@ returns-then-later_near c =
     let r : to_z w64 (of_z w64 c.args.right) ≡ c.args.right = to_z-of_z w64 c.args.right c.ranges.right in
     let l : to_z w64 (of_z w64 c.args.later) ≡ c.args.later = to_z-of_z w64 c.args.later c.ranges.later in
     let t : to_z w64 (of_z w64 c.args.last) ≡ c.args.last = to_z-of_z w64 c.args.last c.ranges.last in
-    subst (Tells c.of_near.result)
+    subst (IsSummaryOf c.of_near.result)
     (λ i. join (join (single (int_wrap w64 (s i -ℤ r i))) (single (r i))) (join (single (int_wrap w64 (l i -ℤ t i))) (single (t i))))
     c.of_near.ensures
 
@@ -20,6 +20,6 @@ returns c =
     let r : to_z w64 (of_z w64 c.args.right) ≡ c.args.right = to_z-of_z w64 c.args.right c.ranges.right in
     let l : to_z w64 (of_z w64 c.args.later) ≡ c.args.later = to_z-of_z w64 c.args.later c.ranges.later in
     let t : to_z w64 (of_z w64 c.args.last) ≡ c.args.last = to_z-of_z w64 c.args.last c.ranges.last in
-    subst (Tells c.of_far-below.result)
+    subst (IsSummaryOf c.of_far-below.result)
     (λ i. join (join (single (int_wrap w64 (s i -ℤ r i))) (single (r i))) (join (single (int_wrap w64 (l i -ℤ t i))) (single (t i))))
     c.of_far-below.ensures

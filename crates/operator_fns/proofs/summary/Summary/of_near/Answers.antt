@@ -1,7 +1,7 @@
 use Rattle.std.proofs.Common.{◌≡◌, ◌∙◌, sym, subst, pos, rules, to_z, of_z, ◌+ℤ◌, ◌-ℤ◌, w64}
 use Rattle.std.specs.Int.{int_min, int_max}
 use Rattle.std.proofs.lemmas.Int.{to_z-of_z}
-use Rattle.operator_fns.specs.SumNodes.{IsOrdered, Tells, single, join}
+use Rattle.operator_fns.specs.SumNodes.{IsOrdered, IsSummaryOf, single, join}
 use Rattle.operator_fns.proofs.JoinedSums.{sums_eq, ordered_join, ordered_single}
 use Rattle.operator_fns.proofs.FourSums.{four, four_joined, near_sum, near_difference}
 use Rattle.operator_fns.proofs.summary.Summary.of_near.Goals as goal
@@ -45,7 +45,7 @@ pub returns : goal.returns
 returns c =
     let left = near_difference c.args.sum c.args.right c.requires.sum c.requires.right in
     let later = near_difference c.args.later c.args.last c.requires.later c.requires.last in
-    subst (Tells c.of_narrow.result)
+    subst (IsSummaryOf c.of_narrow.result)
     (made c.before ∙ sym (four_joined c.args.sum c.args.right c.args.later c.args.last)
     ∙ sym (λ i. join (join (single (left i)) (single c.args.right)) (join (single (later i)) (single c.args.last))))
     c.of_narrow.ensures

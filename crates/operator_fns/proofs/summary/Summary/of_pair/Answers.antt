@@ -1,7 +1,7 @@
 use Rattle.std.proofs.Common.{◌≡◌, ap, sym, subst, ◌∙◌, arith, ◌+ℤ◌, ◌-ℤ◌, w64, FitsSigned}
 use Rattle.std.specs.Int.{int_wrap}
 use Rattle.std.proofs.lemmas.Int.{ints, clamps, to_z-of_z, int_wrap_fits}
-use Rattle.operator_fns.specs.SumNodes.{Tells}
+use Rattle.operator_fns.specs.SumNodes.{IsSummaryOf}
 use Rattle.operator_fns.proofs.JoinedSums.{sums_eq}
 use Rattle.operator_fns.proofs.Wrapping.{first_of_two, difference_left}
 use Rattle.operator_fns.proofs.summary.Summary.of_pair.Goals as goal
@@ -38,7 +38,7 @@ returns c =
     let greatest = c.max-2.ensures.value in
     let greatest2 = c.max-3.ensures.value in
     let first = difference_left c.args.sum c.args.right c.ranges.sum c.ranges.right in
-    subst (Tells c.of_sums.result) (sums_eq _ _ (omega (arith, ints)) (omega (arith, ints, clamps)) (omega (arith, ints, clamps))) c.of_sums.ensures
+    subst (IsSummaryOf c.of_sums.result) (sums_eq _ _ (omega (arith, ints)) (omega (arith, ints, clamps)) (omega (arith, ints, clamps))) c.of_sums.ensures
 
 pub returns-in-Some : goal.returns-in-Some
 returns-in-Some c =
@@ -50,4 +50,4 @@ returns-in-Some c =
     let s = to_z-of_z w64 _ c.ranges.sum in
     let y = to_z-of_z w64 _ c.ranges.right in
     let left : int_wrap w64 (c.args.sum -ℤ c.args.right) ≡ c.args.sum -ℤ c.args.right = int_wrap_fits w64 _ (subst (FitsSigned w64) (λ i. s i -ℤ y i) fits) in
-    subst (Tells c.of_narrow.result) (sums_eq _ _ (omega (arith, ints)) (omega (arith, ints, clamps)) (omega (arith, ints, clamps))) c.of_narrow.ensures
+    subst (IsSummaryOf c.of_narrow.result) (sums_eq _ _ (omega (arith, ints)) (omega (arith, ints, clamps)) (omega (arith, ints, clamps))) c.of_narrow.ensures

@@ -7,8 +7,8 @@ use Rattle.arrays_core.specs.declared.fault.ApplyFault.TheVariants.{Kind as Kind
 use Rattle.arrays_core.specs.Items.{all_or_first_error, and_then}
 
 -- a row for each number on the left, of what is given with each on the right
-abbrev pub table : (ℤ → ℤ → Result ℤ Kind) → List ℤ → List ℤ → List (Result ℤ Kind)
-table f xs ys = flat_map (λ x. map (f x) ys) xs
+abbrev pub outer_results : (ℤ → ℤ → Result ℤ Kind) → List ℤ → List ℤ → List (Result ℤ Kind)
+outer_results f xs ys = flat_map (λ x. map (f x) ys) xs
 
 -- some numbers and then all of a list's results, or the first error
 abbrev pub with_results : List ℤ → List (Result ℤ Kind) → Result (List ℤ) Kind

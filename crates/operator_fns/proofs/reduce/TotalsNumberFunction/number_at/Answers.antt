@@ -6,7 +6,7 @@ use Rattle.scalar_fns.specs.Folds.{strided, folded}
 use Rattle.scalar_fns.proofs.RightFolds.{strided_run}
 use Rattle.operator_fns.specs.Strides.{line_start}
 use Rattle.operator_fns.proofs.Reduced.{whole_line}
-use Rattle.operator_fns.proofs.reduce.TotalsNumberRule.number_at.Goals as goal
+use Rattle.operator_fns.proofs.reduce.TotalsNumberFunction.number_at.Goals as goal
 
 pub returns : goal.returns
 returns c =

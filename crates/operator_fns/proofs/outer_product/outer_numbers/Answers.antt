@@ -2,9 +2,9 @@ use Rattle.std.proofs.Common.{◌≡◌, ◌∙◌, ◌+◌, ap, sym, get_or, ma
 use Rattle.std.proofs.lemmas.List.{take_all}
 use Rattle.std.proofs.lemmas.Int.{to_z-of_z}
 use Rattle.arrays_core.specs.Items.{all_or_first_error}
-use Rattle.operator_fns.specs.ResultTable.{table, with_results}
-use Rattle.operator_fns.proofs.Tables.{row_more, rows_left, all_then, error_in_front, row_failed, length-table, as_many_as}
-use Rattle.operator_fns.proofs.outer_product.table_numbers.Goals as goal
+use Rattle.operator_fns.specs.OuterResults.{outer_results, with_results}
+use Rattle.operator_fns.proofs.OuterRows.{row_more, rows_left, all_then, error_in_front, row_failed, length-outer, as_many_as}
+use Rattle.operator_fns.proofs.outer_product.outer_numbers.Goals as goal
 
 pub returns-in_err-push_row-clause-is : goal.returns-in_err-push_row-clause-is
 returns-in_err-push_row-clause-is g c =
@@ -15,11 +15,11 @@ returns-in_err-push_row-clause-is g c =
     let x = get_or xs k (pos 0) in
     let fits : SFits w64 x = search rules in
     let same : to_z w64 (of_z w64 x) ≡ x = to_z-of_z w64 _ fits in
-    let rows = table f (take k xs) ys in
-    row_failed (Unit {0}) (with_results c.loop-number.numbers.items (map (f (to_z w64 (of_z w64 x))) ys)) (all_or_first_error (table f xs ys)) c.push_row.new.row.items c.in_err-push_row.field-0.0 _
+    let rows = outer_results f (take k xs) ys in
+    row_failed (Unit {0}) (with_results c.loop-number.numbers.items (map (f (to_z w64 (of_z w64 x))) ys)) (all_or_first_error (outer_results f xs ys)) c.push_row.new.row.items c.in_err-push_row.field-0.0 _
     (λ e failed.
     ap all_or_first_error (rows_left f ys xs (k + 1))
-    ∙ error_in_front (table f (take (k + 1) xs) ys) (table f (drop (k + 1) xs) ys) e
+    ∙ error_in_front (outer_results f (take (k + 1) xs) ys) (outer_results f (drop (k + 1) xs) ys) e
     (ap all_or_first_error (row_more f ys xs k (omega arith)) ∙ all_then rows (map (f x) ys) c.loop-number.numbers.items c.loop-number.invariant
     ∙ ap (λ z. with_results c.loop-number.numbers.items (map (f z) ys)) (sym same) ∙ failed))
     c.in_err-push_row.ensures c.from_residual-in_err-push_row.ensures
@@ -33,7 +33,7 @@ loop-number-preserved g c =
     let x = get_or xs k (pos 0) in
     let fits : SFits w64 x = search rules in
     let same : to_z w64 (of_z w64 x) ≡ x = to_z-of_z w64 _ fits in
-    let rows = table f (take k xs) ys in
+    let rows = outer_results f (take k xs) ys in
     ap all_or_first_error (row_more f ys xs k (omega arith))
     ∙ all_then rows (map (f x) ys) c.loop-number.numbers.items c.loop-number.invariant
     ∙ (rw same at c.in_ok-push_row.ensures)
@@ -45,5 +45,5 @@ returns-clause-long g c =
     let ys = c.args.right.now in
     let all : take c.loop-number.number-index xs ≡ xs = take_all c.loop-number.number-index xs (omega arith) in
     c.loop-number.numbers.ok.0
-    ∙ as_many_as (table f xs ys) c.loop-number.numbers.items (ap (λ zs. all_or_first_error (table f zs ys)) (sym all) ∙ c.loop-number.invariant)
-    ∙ length-table f ys xs
+    ∙ as_many_as (outer_results f xs ys) c.loop-number.numbers.items (ap (λ zs. all_or_first_error (outer_results f zs ys)) (sym all) ∙ c.loop-number.invariant)
+    ∙ length-outer f ys xs

@@ -6,11 +6,11 @@ use Rattle.std.proofs.lemmas.Int.{to_z-of_z}
 use Rattle.arrays_core.specs.Items.{all_or_first_error}
 use Rattle.arrays_core.proofs.Order.{front_more, front_error}
 use Rattle.scalar_fns.proofs.Errors.{list_error}
-use Rattle.operator_fns.proofs.number_rule.numbers_of.Goals as goal
+use Rattle.operator_fns.proofs.number_function.numbers_of.Goals as goal
 
 pub loop-place-preserved : goal.loop-place-preserved
 loop-place-preserved g c =
-    let f = g.R.NumberRule.number c.args.rule.now in
+    let f = g.F.NumberFunction.number c.args.function.now in
     let n = c.args.places in
     let k = c.loop-place.place in
     let z = c.in_ok-number.number in
@@ -27,7 +27,7 @@ loop-place-preserved g c =
 
 pub returns-in_err-number-clause-is : goal.returns-in_err-number-clause-is
 returns-in_err-number-clause-is g c =
-    let f = g.R.NumberRule.number c.args.rule.now in
+    let f = g.F.NumberFunction.number c.args.function.now in
     let n = c.args.places in
     let k = c.loop-place.place in
     let rs = map f (range_with_len 0 n) in
@@ -39,6 +39,6 @@ returns-in_err-number-clause-is g c =
 
 pub returns-clause-is : goal.returns-clause-is
 returns-clause-is g c =
-    let rs = map (g.R.NumberRule.number c.args.rule.now) (range_with_len 0 c.args.places) in
-    let long : length rs ≡ c.args.places = length-map-range_with_len (g.R.NumberRule.number c.args.rule.now) 0 c.args.places in
+    let rs = map (g.F.NumberFunction.number c.args.function.now) (range_with_len 0 c.args.places) in
+    let long : length rs ≡ c.args.places = length-map-range_with_len (g.F.NumberFunction.number c.args.function.now) 0 c.args.places in
     ap all_or_first_error (sym (take_all c.loop-place.place rs (omega arith))) ∙ c.loop-place.invariant.made

@@ -1,6 +1,6 @@
 use Rattle.std.proofs.Common.{arith}
 use Rattle.operator_fns.proofs.Reduced.{line_below}
-use Rattle.operator_fns.proofs.reduce.LineFoldsNumberRule.number_at.Goals as goal
+use Rattle.operator_fns.proofs.reduce.LineFoldsNumberFunction.number_at.Goals as goal
 
 pub overflow_mul-first-2 : goal.overflow_mul-first-2
 overflow_mul-first-2 g c =

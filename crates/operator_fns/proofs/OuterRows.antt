@@ -1,4 +1,4 @@
--- Tables of numbers, row by row.
+-- Outer products of numbers, row by row.
 use Rattle.std.proofs.Common.{◌≡◌, Vec, ℕ, zero, suc, ◌+◌, ◌*◌, ◌/◌, ◌%◌, ◌<◌, List, [], ◌∷◌, ◌++◌, append-nil, length, get_or, map, take, drop, ℤ, pos, Result, Ok, Err, refl, ap, sym, ◌∙◌, arith}
 use Rattle.std.specs.List.{range_with_len}
 use Rattle.std.proofs.lemmas.List.{length-map, length-append, get_or_append_left, get_or-append-add, get_or-map, ext_get_or, take_more, take-append-drop}
@@ -12,7 +12,7 @@ use Rattle.arrays_core.specs.declared.fault.ApplyFault.{ApplyFault}
 use Rattle.arrays_core.specs.declared.fault.ApplyFault.TheVariants.{Kind as KindFault, NoMemory}
 use Rattle.scalar_fns.specs.NumberLists.{IsListAnswerTo}
 use Rattle.arrays_core.specs.Items.{all_or_first_error, after, and_then}
-use Rattle.operator_fns.specs.ResultTable.{table, with_results, LeavesOrFails}
+use Rattle.operator_fns.specs.OuterResults.{outer_results, with_results, LeavesOrFails}
 
 -- ---- results after others
 
@@ -52,54 +52,54 @@ pub record RowTo (old : List ℤ) (rs : List (Result ℤ Kind)) (k : ℕ) (items
   pub made : all_or_first_error (take k rs) ≡ Ok new
   pub is : items ≡ old ++ new
 
--- ---- the rows of a table
+-- ---- the rows of an outer product
 
 module _ (f : ℤ → ℤ → Result ℤ Kind) (ys : List ℤ) where
   -- one row more
-  pub row_more : (xs : List ℤ) (i : ℕ) → i < length xs → table f (take (i + 1) xs) ys ≡ table f (take i xs) ys ++ map (f (get_or xs i (pos 0))) ys
+  pub row_more : (xs : List ℤ) (i : ℕ) → i < length xs → outer_results f (take (i + 1) xs) ys ≡ outer_results f (take i xs) ys ++ map (f (get_or xs i (pos 0))) ys
   row_more xs i h =
-      ap (λ zs. table f zs ys) (take_more xs i (pos 0) h)
+      ap (λ zs. outer_results f zs ys) (take_more xs i (pos 0) h)
       ∙ flat_map-append (λ x. map (f x) ys) (take i xs) (get_or xs i (pos 0) ∷ [])
-      ∙ ap (λ rs. table f (take i xs) ys ++ rs) (append-nil (map (f (get_or xs i (pos 0))) ys))
+      ∙ ap (λ rs. outer_results f (take i xs) ys ++ rs) (append-nil (map (f (get_or xs i (pos 0))) ys))
 
-  pub rows_left : (xs : List ℤ) (i : ℕ) → table f xs ys ≡ table f (take i xs) ys ++ table f (drop i xs) ys
-  rows_left xs i = ap (λ zs. table f zs ys) (sym (take-append-drop i xs)) ∙ flat_map-append (λ x. map (f x) ys) (take i xs) (drop i xs)
+  pub rows_left : (xs : List ℤ) (i : ℕ) → outer_results f xs ys ≡ outer_results f (take i xs) ys ++ outer_results f (drop i xs) ys
+  rows_left xs i = ap (λ zs. outer_results f zs ys) (sym (take-append-drop i xs)) ∙ flat_map-append (λ x. map (f x) ys) (take i xs) (drop i xs)
 
-  pub length-table : (xs : List ℤ) → length (table f xs ys) ≡ length xs * length ys
-  length-table [] = omega arith
-  length-table (x ∷ xs) =
-      length-append (map (f x) ys) (table f xs ys) ∙ (omega (arith, length-map ys (f x), length-table xs))
+  pub length-outer : (xs : List ℤ) → length (outer_results f xs ys) ≡ length xs * length ys
+  length-outer [] = omega arith
+  length-outer (x ∷ xs) =
+      length-append (map (f x) ys) (outer_results f xs ys) ∙ (omega (arith, length-map ys (f x), length-outer xs))
 
   pub entry_of_row : (xs : List ℤ) (q r : ℕ) (d : Result ℤ Kind) → q < length xs → r < length ys
-      → get_or (table f xs ys) (q * length ys + r) d ≡ f (get_or xs q (pos 0)) (get_or ys r (pos 0))
+      → get_or (outer_results f xs ys) (q * length ys + r) d ≡ f (get_or xs q (pos 0)) (get_or ys r (pos 0))
   entry_of_row [] q r d h low = absurd (omega arith)
   entry_of_row (x ∷ xs) zero r d h low =
       let long = length-map ys (f x) in
       let place : zero * length ys + r ≡ r = omega arith in
-      ap (λ k. get_or (table f (x ∷ xs) ys) k d) place
-      ∙ get_or_append_left (map (f x) ys) (table f xs ys) d r (omega arith)
+      ap (λ k. get_or (outer_results f (x ∷ xs) ys) k d) place
+      ∙ get_or_append_left (map (f x) ys) (outer_results f xs ys) d r (omega arith)
       ∙ get_or-map (f x) ys r (pos 0) d low
   entry_of_row (x ∷ xs) (suc q) r d h low =
       let long = length-map ys (f x) in
       let place : suc q * length ys + r ≡ length (map (f x) ys) + (q * length ys + r) = omega arith in
-      ap (λ k. get_or (table f (x ∷ xs) ys) k d) place
-      ∙ get_or-append-add (map (f x) ys) (table f xs ys) (q * length ys + r) d
+      ap (λ k. get_or (outer_results f (x ∷ xs) ys) k d) place
+      ∙ get_or-append-add (map (f x) ys) (outer_results f xs ys) (q * length ys + r) d
       ∙ entry_of_row xs q r d (omega arith) low
 
   -- place by place
-  pub places_of_table : (xs : List ℤ) (n : ℕ) → n ≡ length xs * length ys
-      → map (λ p. f (get_or xs (p / length ys) (pos 0)) (get_or ys (p % length ys) (pos 0))) (range_with_len 0 n) ≡ table f xs ys
-  places_of_table xs n e =
+  pub places_of_outer : (xs : List ℤ) (n : ℕ) → n ≡ length xs * length ys
+      → map (λ p. f (get_or xs (p / length ys) (pos 0)) (get_or ys (p % length ys) (pos 0))) (range_with_len 0 n) ≡ outer_results f xs ys
+  places_of_outer xs n e =
       let m = length ys in
       let number = λ (p : ℕ). f (get_or xs (p / m) (pos 0)) (get_or ys (p % m) (pos 0)) in
       let long = length-map-range_with_len number 0 n in
       let d : Result ℤ Kind = Ok (pos 0) in
-      ext_get_or d (map number (range_with_len 0 n)) (table f xs ys) (omega (arith, length-table xs)) (λ p h.
+      ext_get_or d (map number (range_with_len 0 n)) (outer_results f xs ys) (omega (arith, length-outer xs)) (λ p h.
       let below : p < n = omega arith in
       let some : 0 < m = some_columns (length xs) m p (omega arith) in
       let q_low : p / m < length xs = (div-lt_iff_lt-mul some).1 (omega arith) in
       get_or-map-range_with_len number 0 n p p d below (omega arith)
-      ∙ sym (ap (λ k. get_or (table f xs ys) k d) (sym (div-add-mod' p m)) ∙ entry_of_row xs (p / m) (p % m) d q_low (mod-lt p some)))
+      ∙ sym (ap (λ k. get_or (outer_results f xs ys) k d) (sym (div-add-mod' p m)) ∙ entry_of_row xs (p / m) (p % m) d q_low (mod-lt p some)))
     where
       some_columns : (n m p : ℕ) → p < n * m → 0 < m
       some_columns n zero p h = absurd (omega arith)
@@ -112,7 +112,7 @@ pub left_error : {U : Type 0} (wanted : Result (List ℤ) Kind) (k : Kind) (left
 left_error wanted k left (Ok u) e h = absurd h.1
 left_error wanted k left (Err f) e h = rw h.1 e
 
--- an error of a row is an error of the table
+-- an error of a row is an error of the outer product
 pub row_failed : {G : Type 0} (U : Type 0) (wanted other : Result (List ℤ) Kind) (left : List ℤ) (fault : ApplyFault) (r : Result (Vec ℤ G) ApplyFault)
     → ((k : Kind) → wanted ≡ Err k → other ≡ Err k) → LeavesOrFails {U = U} wanted left (Err fault) → IsErr r × IsErrAnd r (λ e. e ≡ fault) → IsListAnswerTo other r
 row_failed U wanted other left fault (Ok v) same is h = absurd h.1
