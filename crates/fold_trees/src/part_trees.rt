@@ -1,6 +1,6 @@
 //! The trees of all lines of an array along one axis, in a list of numbers and a list of nodes.
 
-ghost use Rattle.std.specs.Prelude.{◌≡◌, ℕ, ◌+◌, ◌-◌, ◌*◌, ◌/◌, ◌%◌, ◌^◌, ◌<◌, ◌≤◌, ◌==◌, ◌++◌, ◌∷◌, [], length, vec_capacity, IfOk};
+ghost use Rattle.std.specs.Prelude.{◌≡◌, ℕ, ◌+◌, ◌-◌, ◌*◌, ◌/◌, ◌%◌, ◌^◌, ◌<◌, ◌==◌, ◌++◌, ◌∷◌, [], length, vec_capacity, IfOk};
 ghost use Rattle.arrays_core.specs.Growth.{IsRoomy};
 ghost use Rattle.operator_fns.specs.SumTree.{IsWithinDigitsOf};
 ghost use Rattle.operator_fns.specs.SumTrees.{FitBehind, FitNext, with_lines, with_places, line_count, numbers_of_line, numbers_through, with_number, AreLines, AreLineTrees};

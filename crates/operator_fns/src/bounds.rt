@@ -3,8 +3,8 @@
 ghost use Rattle.std.specs.Prelude.{◌≡◌, All, true};
 ghost use Rattle.operator_fns.specs.Sum.{IsWithinBound};
 
-/// Each number of a list is less than a bound, and no further below 0 than that. Where each is moved up by the bound, the numbers
-/// within it lie below twice as much, and all others do not; so do all bits of the former where the bound is a power of two.
+/// Each number of a list is less than a bound, and no further below 0 than that. Where each is moved up by the bound, those within it
+/// lie below twice as much, and all others do not; the bits of all within it, taken together, do so where the bound is a power of two.
 pub(crate) fn are_within(numbers: &[i64], bound: u64) -> bool
     ensures { result ≡ true → All (IsWithinBound bound) numbers.now }
 {

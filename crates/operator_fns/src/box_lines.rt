@@ -7,7 +7,7 @@ ghost use Rattle.arrays_core.specs.Arrays.{IsArray};
 ghost use Rattle.change_core.specs.Parts.{HoldsItems, items_in};
 ghost use Rattle.index_region.specs.Answers.{IsPlaceOf};
 ghost use Rattle.function_names.specs.Axes.{axis_at};
-ghost use Rattle.index_region.specs.Boxes.{box_size, fits, is_within};
+ghost use Rattle.index_region.specs.Boxes.{fits, is_within};
 ghost use Rattle.index_region.specs.Checks.{form_of};
 ghost use Rattle.operator_fns.specs.Scan.{scan_form, scan_item};
 ghost use Rattle.operator_fns.specs.BoxLines.{Holds, IsOneError, FillsBox, LineIsIn};

@@ -26,7 +26,11 @@ pub(crate) trait NumberFunction {
 }
 
 /// The numbers that a function gives, or the error of the first place that has one.
-fn numbers_of<F: NumberFunction>(alloc: Global, function: &F, places: usize) -> Result<Vec<i64>, ApplyFault>
+fn numbers_of<F: NumberFunction>(
+    alloc: Global,
+    function: &F,
+    places: usize,
+) -> Result<Vec<i64>, ApplyFault>
     requires { places ≡ F.places function.now }
     ensures is { IsListAnswerTo (all_or_first_error (map (F.number function.now) (range_with_len 0 places))) result }
     ensures long { IfOk result (λ v. vec_len v ≡ places) }
@@ -40,7 +44,11 @@ fn numbers_of<F: NumberFunction>(alloc: Global, function: &F, places: usize) -> 
 }
 
 /// The array of the list of the numbers that a function gives.
-fn array_of<F: NumberFunction>(alloc: Global, function: &F, shape: &Shape) -> Result<Array, ApplyFault>
+fn array_of<F: NumberFunction>(
+    alloc: Global,
+    function: &F,
+    shape: &Shape,
+) -> Result<Array, ApplyFault>
     requires within { IsWithinLimits shape.now.items }
     requires shaped { size shape.now.items ≡ F.places function.now }
     ensures { IsAnswerTo (with_items Nums shape.now.items (number_items (all_or_first_error (map (F.number function.now) (range_with_len 0 (size shape.now.items)))))) result }

@@ -1,7 +1,7 @@
 //! What a function that gives truth values makes of the numbers of a line so far and of the next one.
 
 ghost use Rattle.std.specs.Prelude.{◌≡◌, Some, None};
-ghost use Rattle.operator_fns.specs.Prefixes.{IsFresh, GivesTruths, chosen, outcome};
+ghost use Rattle.operator_fns.specs.Prefixes.{IsFresh, GivesTruths, outcome};
 
 use crate::prefix::Prefix;
 use arrays_core::Kind;

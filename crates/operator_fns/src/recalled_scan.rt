@@ -3,7 +3,6 @@
 ghost use Rattle.std.specs.Prelude.{◌≡◌, ℕ, ◌<◌, ◌≤◌, pos, length, get_or, Ok, IfOk, vec_len};
 ghost use Rattle.scalar_fns.specs.NumberLists.{IsListAnswerTo};
 ghost use Rattle.operator_fns.specs.AxisLines.{scans_of};
-ghost use Rattle.operator_fns.specs.LinearScan.{run_to};
 ghost use Rattle.operator_fns.specs.Prefixes.{fold_to};
 ghost use Rattle.operator_fns.specs.RecalledScan.{AreRecalled};
 

@@ -1,6 +1,6 @@
 //! Scans by residue of numbers of which none is below 0, or none above.
 
-ghost use Rattle.std.specs.Prelude.{◌≡◌, ◌<◌, ◌≤◌, ◌+◌, length, get_or, Ok, IsTrue, IfSome, Some, IfOk, vec_len};
+ghost use Rattle.std.specs.Prelude.{◌≡◌, ◌<◌, ◌≤◌, ◌+◌, length, Ok, IsTrue, IfSome, Some, IfOk, vec_len};
 ghost use Rattle.std.specs.List.{list_all};
 ghost use Rattle.function_names.specs.declared.scalar.Scalar2.TheVariants.{Residue as ByResidue};
 ghost use Rattle.scalar_fns.specs.Numbers.{dyadic_on_numbers};

@@ -1,6 +1,6 @@
 //! Sums of products of small numbers, which stay within 64 bits in whatever order they are added.
 
-ghost use Rattle.std.specs.Prelude.{◌≡◌, ◌<◌, ◌≤◌, ℕ, ◌+◌, ◌*◌, ◌/◌, ◌%◌, ◌^◌, ◌+ℤ◌, ◌*ℤ◌, true, pos, length, get_or, All, FitsSigned, OnOk, IfOk, vec_len};
+ghost use Rattle.std.specs.Prelude.{◌≡◌, ◌<◌, ◌≤◌, ℕ, ◌+◌, ◌*◌, ◌/◌, ◌%◌, ◌^◌, ◌+ℤ◌, ◌*ℤ◌, true, pos, length, get_or, All, OnOk, IfOk, vec_len};
 ghost use Rattle.operator_fns.specs.SmallProducts.{sum_of_products, IsNoFurther, AddUp, RowFits, AreSums, EndsInSums, IsProduct};
 
 use crate::bounds::are_within;

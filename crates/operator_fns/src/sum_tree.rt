@@ -1,12 +1,14 @@
 //! Sums of lists of which one number at a time is replaced.
 
-ghost use Rattle.std.specs.Prelude.{◌≡◌, ◌<◌, ◌≤◌, ◌-◌, ◌/◌, ◌^◌, ◌==◌, ◌++◌, ◌∷◌, [], ℕ, ℤ, List, All, FitsSigned, length, IfOk, slice_set};
+ghost use Rattle.std.specs.Prelude.{◌≡◌, ◌<◌, ◌-◌, ◌/◌, ◌^◌, ◌==◌, ◌++◌, ◌∷◌, [], ℤ, List, All, FitsSigned, length, IfOk, slice_set};
 ghost use Rattle.std.specs.Int.{w64};
 ghost use Rattle.operator_fns.specs.SumNodes.{empty, TellsSums};
 ghost use Rattle.operator_fns.specs.SumTree.{IsReductionBySum, IsWithinDigitsOf, one_line};
 ghost use Rattle.operator_fns.specs.LineTrees.{number_in_line, from_four, node_of, ArePartsKept};
 
-use crate::line_tree::{Line, LineTree, pair_block, push_line, write};
+use crate::line_block::pair_block;
+use crate::line_tree::{Line, LineTree, write};
+use crate::neighbours::push_line;
 use crate::summary::Summary;
 use arrays_core::Kind;
 use std::alloc::{AllocError, Global};

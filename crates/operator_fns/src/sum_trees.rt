@@ -1,6 +1,6 @@
 //! The trees of sums of all lines of an array along one axis, in two lists.
 
-ghost use Rattle.std.specs.Prelude.{◌≡◌, ℕ, ◌+◌, ◌-◌, ◌*◌, ◌/◌, ◌%◌, ◌^◌, ◌<◌, ◌≤◌, ◌==◌, ◌++◌, ◌∷◌, [], length, vec_capacity, All, FitsSigned, IfOk};
+ghost use Rattle.std.specs.Prelude.{◌≡◌, ℕ, ◌+◌, ◌-◌, ◌*◌, ◌/◌, ◌%◌, ◌^◌, ◌<◌, ◌==◌, ◌++◌, ◌∷◌, [], length, vec_capacity, All, FitsSigned, IfOk};
 ghost use Rattle.std.specs.Int.{w64};
 ghost use Rattle.arrays_core.specs.Growth.{IsRoomy};
 ghost use Rattle.operator_fns.specs.SumNodes.{empty, TellsSums};
@@ -9,7 +9,9 @@ ghost use Rattle.operator_fns.specs.LineBlocks.{block_at, line_at, AreAllKept};
 ghost use Rattle.operator_fns.specs.SumTree.{IsReductionBySum, IsWithinDigitsOf};
 ghost use Rattle.operator_fns.specs.SumTrees.{FitBehind, FitNext, with_lines, with_places, line_through, numbers_kept, line_count, numbers_of_line, numbers_through, with_number, AreLines, AreLineTrees};
 
-use crate::line_tree::{Line, LineTree, fill_block, pair_block, push_line, take_last, write};
+use crate::line_block::{fill_block, pair_block};
+use crate::line_tree::{Line, LineTree, take_last, write};
+use crate::neighbours::push_line;
 use crate::sum_tree::read_all;
 use crate::summary::Summary;
 use arrays_core::{Kind, copied, put_behind, repeated, room_between, room_of, roomy};

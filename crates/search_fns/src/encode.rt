@@ -1,6 +1,6 @@
 //! Encode: the digits of numbers.
 
-ghost use Rattle.std.specs.Prelude.{◌≡◌, ◌≤◌, IsTrue, length};
+ghost use Rattle.std.specs.Prelude.{◌≡◌, ◌≤◌, length};
 ghost use Rattle.std.proofs.Common.{rules};
 ghost use Rattle.arrays_core.specs.Arrays.{IsAnswerTo};
 ghost use Rattle.index_region.specs.ArgumentLists.{of_two_arguments};

@@ -1,6 +1,6 @@
 //! The folds of the lines of an array, by trees.
 
-ghost use Rattle.std.specs.Prelude.{◌≡◌, ◌+◌, ◌*◌, ◌%◌, ◌^◌, ◌<◌, ◌≤◌, [], ◌++◌, suc, length, map, set, drop, true, vec_len, vec_capacity, IsTrue, IfOk};
+ghost use Rattle.std.specs.Prelude.{◌≡◌, ◌+◌, ◌*◌, ◌<◌, length, map, set, true, IfOk};
 ghost use Rattle.arrays_core.specs.declared.item.Item.TheVariants.{Num};
 ghost use Rattle.arrays_core.specs.declared.item.ItemType.TheVariants.{Nums};
 ghost use Rattle.arrays_core.specs.Arrays.{IsArray};
@@ -8,7 +8,6 @@ ghost use Rattle.arrays_core.specs.Items.{type_of};
 ghost use Rattle.arrays_core.specs.Shapes.{size, IsWithinLimits};
 ghost use Rattle.function_names.specs.Axes.{is_axis, axis_at};
 ghost use Rattle.index_region.specs.Patches.{FitsPatch, patched};
-ghost use Rattle.operator_fns.specs.SumTrees.{with_number};
 ghost use Rattle.fold_trees.specs.FoldTrees.{has_trees};
 ghost use Rattle.sum_rules.specs.LineSums.{length_along, line_length, line_step, keeps_sums, summed, array_of_shape, patched_sums, grown_sums, StandFor};
 ghost use Rattle.sum_rules.specs.NewLines.{FitsSums, FitsTrees, trees_grown};

@@ -1,6 +1,6 @@
 //! Trees that tell the total of a line where one number of it is another, or one more comes behind it.
 
-ghost use Rattle.std.specs.Prelude.{◌≡◌, ◌<◌, ◌-◌, ◌/◌, ◌%◌, ◌++◌, ◌∷◌, [], length};
+ghost use Rattle.std.specs.Prelude.{◌<◌, ◌-◌, ◌/◌, ◌%◌, ◌++◌, ◌∷◌, [], length};
 ghost use Rattle.operator_fns.specs.SumTree.{IsWithinDigitsOf};
 ghost use Rattle.operator_fns.specs.SumTrees.{TreesValue, line_count, numbers_of_line, numbers_through, with_number};
 ghost use Rattle.function_names.specs.declared.scalar.Scalar2.{Scalar2 as Function};
