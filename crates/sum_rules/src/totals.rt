@@ -412,22 +412,17 @@ pub fn refresh_sums(
         function: Scalar2::Plus,
         along: Along::Last,
     };
-    if let Delta::Patch(_) = delta {
-        let count = length_along(Along::Last, array.shape().as_slice()) as usize;
-        let trees = TreeALine { count, trees: sums };
-        let arg = (array, delta);
-        refresh_totals_with_cost(alloc, fold, arg, old, &trees, &mut change, meter)?;
-        return Ok(change);
-    }
-    if let Delta::Grown(_) = delta {
-        if array.shape().len() == 1 {
-            let count = length_along(Along::Last, array.shape().as_slice()) as usize - 1;
-            let trees = TreeALine { count, trees: sums };
-            let arg = (array, delta);
-            refresh_totals_with_cost(alloc, fold, arg, old, &trees, &mut change, meter)?;
+    let lengths = array.shape();
+    let long = length_along(Along::Last, lengths.as_slice()) as usize;
+    let count = match delta {
+        Delta::Patch(_) => long,
+        Delta::Grown(_) if lengths.len() == 1 => long - 1,
+        _ => {
+            fold_totals_with_cost(alloc, fold, (array, delta), old, &mut change, meter)?;
             return Ok(change);
         }
-    }
-    fold_totals_with_cost(alloc, fold, (array, delta), old, &mut change, meter)?;
+    };
+    let trees = TreeALine { count, trees: sums };
+    refresh_totals_with_cost(alloc, fold, (array, delta), old, &trees, &mut change, meter)?;
     Ok(change)
 }

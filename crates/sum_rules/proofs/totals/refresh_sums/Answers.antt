@@ -5,38 +5,38 @@ use Rattle.sum_rules.specs.LineSums.{length_along}
 use Rattle.sum_rules.specs.Totals.{AreAllAsLong}
 use Rattle.sum_rules.proofs.Lines.{some_in_line}
 use Rattle.sum_rules.proofs.totals.refresh_sums.Goals as goal
-
-pub invariant_of-trees : goal.invariant_of-trees
-invariant_of-trees c =
-    let p = c.in-Patch.field-0 in
-    let both = c.requires.sums.changed p c.in-Patch.is in
-    let before = both.1.before in
-    let count : c.length_along-count.result ≡ length_along Last c.args.arg.0.shape = c.length_along-count.ensures ∙ ap (length_along Last) (c.as_slice.ensures ∙ c.shape.ensures.is) in
-    let long = some_in_line (axis_at (length before.shape) Last) before.shape both.1.lines.there both.1.lines.some in
-    record {
-      some = omega (arith, count, long, both.1.lines.counted);
-      each = subst (λ k. AreAllAsLong k c.args.sums.now) (sym count) both.0;
-    }
+use Rattle.sum_rules.proofs.totals.refresh_sums.Goals.{in-Patch, in-Grown}
 
 pub overflow_sub-count : goal.overflow_sub-count
 overflow_sub-count c =
-    let tail = c.in-Grown.field-0 in
-    let vector : length c.args.arg.0.shape ≡ 1 = omega (arith, c.len.ensures.value, ap (λ (s : List ℕ). length s) c.shape-in-Grown.ensures.is, c.if-len-eq1.true) in
-    let both = c.requires.sums.grew tail c.in-Grown.is vector in
+    let vector : length c.args.arg.0.shape ≡ 1 = omega (arith, c.len.ensures.value, ap (λ (s : List ℕ). length s) c.shape-lengths.ensures.is, c.if-len-eq1.true) in
+    let both = c.requires.sums.grew c.in-Grown.field-0 c.in-Grown.is vector in
     let before = both.1.before in
-    let count : c.length_along.result ≡ length_along Last c.args.arg.0.shape = c.length_along.ensures ∙ ap (length_along Last) (c.as_slice-then-len-eq1.ensures ∙ c.shape-then-len-eq1.ensures.is) in
-    let long = some_in_line (axis_at (length before.shape) Last) before.shape both.1.lines.there both.1.lines.some in
-    omega (arith, count, long, both.1.lines.counted)
+    let long : c.length_along-long.result ≡ length_along Last c.args.arg.0.shape = c.length_along-long.ensures ∙ ap (length_along Last) (c.as_slice.ensures ∙ c.shape-lengths.ensures.is) in
+    let some = some_in_line (axis_at (length before.shape) Last) before.shape both.1.lines.there both.1.lines.some in
+    omega (arith, long, some, both.1.lines.counted)
 
-pub invariant_of-trees-then-len-eq1 : goal.invariant_of-trees-then-len-eq1
-invariant_of-trees-then-len-eq1 c =
-    let tail = c.in-Grown.field-0 in
-    let vector : length c.args.arg.0.shape ≡ 1 = omega (arith, c.len.ensures.value, ap (λ (s : List ℕ). length s) c.shape-in-Grown.ensures.is, c.if-len-eq1.true) in
-    let both = c.requires.sums.grew tail c.in-Grown.is vector in
-    let before = both.1.before in
-    let count : c.length_along.result ≡ length_along Last c.args.arg.0.shape = c.length_along.ensures ∙ ap (length_along Last) (c.as_slice-then-len-eq1.ensures ∙ c.shape-then-len-eq1.ensures.is) in
-    let long = some_in_line (axis_at (length before.shape) Last) before.shape both.1.lines.there both.1.lines.some in
-    record {
-      some = omega (arith, count, long, both.1.lines.counted);
-      each = subst (λ k. AreAllAsLong (k - 1) c.args.sums.now) (sym count) both.0;
-    }
+pub invariant_of-trees : goal.invariant_of-trees
+invariant_of-trees c =
+    let long : c.length_along-long.result ≡ length_along Last c.args.arg.0.shape = c.length_along-long.ensures ∙ ap (length_along Last) (c.as_slice.ensures ∙ c.shape-lengths.ensures.is) in
+    elim c.match-delta.branch [
+      | in-Patch w ↦
+          let both = c.requires.sums.changed w.in-Patch.field-0 w.in-Patch.is in
+          let before = both.1.before in
+          let count : c.match-delta.count ≡ length_along Last c.args.arg.0.shape = w.count-is ∙ long in
+          let some = some_in_line (axis_at (length before.shape) Last) before.shape both.1.lines.there both.1.lines.some in
+          record {
+            some = omega (arith, count, some, both.1.lines.counted);
+            each = subst (λ k. AreAllAsLong k c.args.sums.now) (sym count) both.0;
+          }
+      | in-Grown w ↦
+          let vector : length c.args.arg.0.shape ≡ 1 = omega (arith, w.len.ensures.value, ap (λ (s : List ℕ). length s) c.shape-lengths.ensures.is, w.if-len-eq1.true) in
+          let both = c.requires.sums.grew w.in-Grown.field-0 w.in-Grown.is vector in
+          let before = both.1.before in
+          let count : c.match-delta.count ≡ length_along Last c.args.arg.0.shape - 1 = w.count-is ∙ ap (λ k. k - 1) long in
+          let some = some_in_line (axis_at (length before.shape) Last) before.shape both.1.lines.there both.1.lines.some in
+          record {
+            some = omega (arith, count, some, both.1.lines.counted);
+            each = subst (λ k. AreAllAsLong k c.args.sums.now) (sym count) both.0;
+          }
+    ]
