@@ -113,50 +113,50 @@ all_ok (Ok y ∷ rs) xs h = all_ok_after rs xs y (all_or_first_error rs) refl h 
         rw same (ap (λ zs. Ok y ∷ zs) rest)
     all_ok_after rs xs y (Err k) e h f = cc
 
-pub with_row_none : {A E : Type 0} (items : List A) (rule : ℕ → Result A E) → with_row items rule 0 ≡ Ok items
-with_row_none {A = A} {E = E} items rule = ap all_or_first_error (append-nil (map (given A E) items)) ∙ all_given A E items
+pub with_row_none : {A E : Type 0} (items : List A) (function : ℕ → Result A E) → with_row items function 0 ≡ Ok items
+with_row_none {A = A} {E = E} items function = ap all_or_first_error (append-nil (map (given A E) items)) ∙ all_given A E items
 
 -- more items of a row
-pub with_row_more : {A E : Type 0} (items now : List A) (rule : ℕ → Result A E) (f : ℕ → A) (k n m : ℕ) → k + n ≡ m
-    → ((j : ℕ) → j < n → rule (k + j + 1) ≡ Ok (f j)) → with_row items rule k ≡ Ok now → with_row items rule m ≡ Ok (now ++ listed n f)
-with_row_more items now rule f k zero m e each so_far =
+pub with_row_more : {A E : Type 0} (items now : List A) (function : ℕ → Result A E) (f : ℕ → A) (k n m : ℕ) → k + n ≡ m
+    → ((j : ℕ) → j < n → function (k + j + 1) ≡ Ok (f j)) → with_row items function k ≡ Ok now → with_row items function m ≡ Ok (now ++ listed n f)
+with_row_more items now function f k zero m e each so_far =
     let same : m ≡ k = omega arith in
     rw (same, append-nil) so_far
-with_row_more {A = A} {E = E} items now rule f k (suc n) m e each so_far =
-    let before : with_row items rule (k + n) ≡ Ok (now ++ listed n f) = with_row_more items now rule f k n (k + n) refl (λ j h. each j (omega arith)) so_far in
+with_row_more {A = A} {E = E} items now function f k (suc n) m e each so_far =
+    let before : with_row items function (k + n) ≡ Ok (now ++ listed n f) = with_row_more items now function f k n (k + n) refl (λ j h. each j (omega arith)) so_far in
     let start = map (given A E) items in
-    let row = map rule (range_with_len 1 (k + n)) in
+    let row = map function (range_with_len 1 (k + n)) in
     let same : m ≡ k + n + 1 = omega arith in
-    let split : map rule (range_with_len 1 (k + n + 1)) ≡ row ++ Ok (f n) ∷ [] =
-    map-range_with_len_more rule 1 (k + n) (k + n + 1) (omega arith) ∙ ap (λ r. row ++ r ∷ []) (each n (omega arith)) in
+    let split : map function (range_with_len 1 (k + n + 1)) ≡ row ++ Ok (f n) ∷ [] =
+    map-range_with_len_more function 1 (k + n) (k + n + 1) (omega arith) ∙ ap (λ r. row ++ r ∷ []) (each n (omega arith)) in
     let more : listed (suc n) f ≡ listed n f ++ f n ∷ [] =
     ap (λ j. listed j f) (let one : suc n ≡ n + 1 = omega arith in one) ∙ map-range_with_len_more f 0 n n (omega arith) in
     rw (same, split, ← append_assoc start row (Ok (f n) ∷ []))
     (ok_more (start ++ row) (now ++ listed n f) (f n) before ∙ ap (λ xs. Ok xs) (append_assoc now (listed n f) (f n ∷ []) ∙ ap (λ xs. now ++ xs) (sym more)))
 
 -- a call that puts a run behind the items has put a row there, or the rest of one
-pub row_put : {A T X E : Type 0} (r : Result T X) (items new : List A) (rule : ℕ → Result A E) (f : ℕ → A) (count : ℕ)
-    → ((j : ℕ) → j < count → rule (0 + j + 1) ≡ Ok (f j)) → OnOk r (new ≡ items ++ listed count f) → OnOk r (with_row items rule count ≡ Ok new)
-row_put r items new rule f count each put =
-    on_ok_weaker r (λ e. with_row_more items items rule f 0 count count (omega arith) each (with_row_none items rule) ∙ ap (λ xs. Ok xs) (sym e)) put
+pub row_put : {A T X E : Type 0} (r : Result T X) (items new : List A) (function : ℕ → Result A E) (f : ℕ → A) (count : ℕ)
+    → ((j : ℕ) → j < count → function (0 + j + 1) ≡ Ok (f j)) → OnOk r (new ≡ items ++ listed count f) → OnOk r (with_row items function count ≡ Ok new)
+row_put r items new function f count each put =
+    on_ok_weaker r (λ e. with_row_more items items function f 0 count count (omega arith) each (with_row_none items function) ∙ ap (λ xs. Ok xs) (sym e)) put
 
-pub row_put_more : {A T X E : Type 0} (r : Result T X) (items now new : List A) (rule : ℕ → Result A E) (f : ℕ → A) (k n m : ℕ) → k + n ≡ m
-    → ((j : ℕ) → j < n → rule (k + j + 1) ≡ Ok (f j)) → with_row items rule k ≡ Ok now → OnOk r (new ≡ now ++ listed n f) → OnOk r (with_row items rule m ≡ Ok new)
-row_put_more r items now new rule f k n m whole each so_far put =
-    on_ok_weaker r (λ e. with_row_more items now rule f k n m whole each so_far ∙ ap (λ xs. Ok xs) (sym e)) put
+pub row_put_more : {A T X E : Type 0} (r : Result T X) (items now new : List A) (function : ℕ → Result A E) (f : ℕ → A) (k n m : ℕ) → k + n ≡ m
+    → ((j : ℕ) → j < n → function (k + j + 1) ≡ Ok (f j)) → with_row items function k ≡ Ok now → OnOk r (new ≡ now ++ listed n f) → OnOk r (with_row items function m ≡ Ok new)
+row_put_more r items now new function f k n m whole each so_far put =
+    on_ok_weaker r (λ e. with_row_more items now function f k n m whole each so_far ∙ ap (λ xs. Ok xs) (sym e)) put
 
 -- a part of a row, and the part behind it
-pub with_row_then : {A E : Type 0} (items now new : List A) (rule : ℕ → Result A E) (k n m : ℕ) → k + n ≡ m → with_row items rule k ≡ Ok now
-    → with_row now (λ i. rule (k + i)) n ≡ Ok new → with_row items rule m ≡ Ok new
-with_row_then {A = A} {E = E} items now new rule k n m e so_far rest =
+pub with_row_then : {A E : Type 0} (items now new : List A) (function : ℕ → Result A E) (k n m : ℕ) → k + n ≡ m → with_row items function k ≡ Ok now
+    → with_row now (λ i. function (k + i)) n ≡ Ok new → with_row items function m ≡ Ok new
+with_row_then {A = A} {E = E} items now new function k n m e so_far rest =
     let start = map (given A E) items in
-    let split : map rule (range_with_len 1 m) ≡ map rule (range_with_len 1 k) ++ map (λ i. rule (k + i)) (range_with_len 1 n) =
-    ap (λ j. map rule (range_with_len 1 j)) (sym e) ∙ range_more rule 1 k n
-    ∙ ap (λ rs. map rule (range_with_len 1 k) ++ rs) (range_shift rule 1 (1 + k) k n (omega arith)) in
-    let before : start ++ map rule (range_with_len 1 k) ≡ map (given A E) now = all_ok (start ++ map rule (range_with_len 1 k)) now so_far in
+    let split : map function (range_with_len 1 m) ≡ map function (range_with_len 1 k) ++ map (λ i. function (k + i)) (range_with_len 1 n) =
+    ap (λ j. map function (range_with_len 1 j)) (sym e) ∙ range_more function 1 k n
+    ∙ ap (λ rs. map function (range_with_len 1 k) ++ rs) (range_shift function 1 (1 + k) k n (omega arith)) in
+    let before : start ++ map function (range_with_len 1 k) ≡ map (given A E) now = all_ok (start ++ map function (range_with_len 1 k)) now so_far in
     ap (λ rs. all_or_first_error (start ++ rs)) split
-    ∙ ap all_or_first_error (sym (append_assoc start (map rule (range_with_len 1 k)) (map (λ i. rule (k + i)) (range_with_len 1 n)))
-    ∙ ap (λ rs. rs ++ map (λ i. rule (k + i)) (range_with_len 1 n)) before) ∙ rest
+    ∙ ap all_or_first_error (sym (append_assoc start (map function (range_with_len 1 k)) (map (λ i. function (k + i)) (range_with_len 1 n)))
+    ∙ ap (λ rs. rs ++ map (λ i. function (k + i)) (range_with_len 1 n)) before) ∙ rest
   where
     range_shift : {B : Type 0} (f : ℕ → B) (a b k n : ℕ) → b ≡ k + a → map f (range_with_len b n) ≡ map (λ i. f (k + i)) (range_with_len a n)
     range_shift f a b k zero e = refl
@@ -205,23 +205,23 @@ row_taken rows row n inside (suc j) h =
     ∙ ap (λ xs. take b is ++ xs) (sym more)
 
 -- a row more
-pub row_collected : {A E : Type 0} (rows row : List ℕ) (n r : ℕ) (rule : List ℕ → Result A E) (items now : List A)
-    → is_index_of rows row ≡ true → places_before rows row ≡ r → with_row items (λ i. rule (row ++ i ∷ [])) n ≡ Ok now
-    → CollectedTo (rows ++ n ∷ []) rule (r * n) items → CollectedTo (rows ++ n ∷ []) rule ((r + 1) * n) now
-row_collected {A = A} {E = E} rows row n r rule items now inside here made c =
+pub row_collected : {A E : Type 0} (rows row : List ℕ) (n r : ℕ) (function : List ℕ → Result A E) (items now : List A)
+    → is_index_of rows row ≡ true → places_before rows row ≡ r → with_row items (λ i. function (row ++ i ∷ [])) n ≡ Ok now
+    → CollectedTo (rows ++ n ∷ []) function (r * n) items → CollectedTo (rows ++ n ∷ []) function ((r + 1) * n) now
+row_collected {A = A} {E = E} rows row n r function items now inside here made c =
     let shape = rows ++ n ∷ [] in
     let is = indices shape in
     let b = places_before rows row * n in
     let index = λ (i : ℕ). row ++ i ∷ [] in
     let taken : take (b + n) is ≡ take b is ++ map index (range_with_len 1 n) = row_taken rows row n inside n (omega arith) in
     let long : (r + 1) * n ≡ b + n = rw here (omega arith) in
-    let before : map rule (take b is) ≡ map (given A E) items = all_ok (map rule (take b is)) items (rw (ap (λ m. m * n) here) c.so_far) in
+    let before : map function (take b is) ≡ map (given A E) items = all_ok (map function (take b is)) items (rw (ap (λ m. m * n) here) c.so_far) in
     record {
-      so_far = ap (λ m. all_or_first_error (map rule (take m is))) long
-          ∙ ap (λ xs. all_or_first_error (map rule xs)) taken
-          ∙ ap all_or_first_error (map-append rule (take b is) (map index (range_with_len 1 n))
-          ∙ ap (λ xs. xs ++ map rule (map index (range_with_len 1 n))) before
-          ∙ ap (λ xs. map (given A E) items ++ xs) (map_map rule index (range_with_len 1 n)))
+      so_far = ap (λ m. all_or_first_error (map function (take m is))) long
+          ∙ ap (λ xs. all_or_first_error (map function xs)) taken
+          ∙ ap all_or_first_error (map-append function (take b is) (map index (range_with_len 1 n))
+          ∙ ap (λ xs. xs ++ map function (map index (range_with_len 1 n))) before
+          ∙ ap (λ xs. map (given A E) items ++ xs) (map_map function index (range_with_len 1 n)))
           ∙ made;
     }
 
@@ -246,7 +246,7 @@ some_rows rows n positive = first_positive (size rows) n (rw size_row at positiv
 
 -- ---- as many items as places
 
-pub items_long : {A E : Type 0} (shape : List ℕ) (rule : List ℕ → Result A E) (items : List A) → all_or_first_error (map rule (indices shape)) ≡ Ok items
+pub items_long : {A E : Type 0} (shape : List ℕ) (function : List ℕ → Result A E) (items : List A) → all_or_first_error (map function (indices shape)) ≡ Ok items
     → length items ≡ size shape
-items_long {A = A} {E = E} shape rule items made =
-    sym (length-map items (given A E)) ∙ ap length (sym (all_ok (map rule (indices shape)) items made)) ∙ length-map (indices shape) rule ∙ length-indices shape
+items_long {A = A} {E = E} shape function items made =
+    sym (length-map items (given A E)) ∙ ap length (sym (all_ok (map function (indices shape)) items made)) ∙ length-map (indices shape) function ∙ length-indices shape

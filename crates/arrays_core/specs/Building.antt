@@ -16,9 +16,9 @@ pub record BuilderValue : Type 0 where
 abbrev pub listed : {A : Type 0} → ℕ → (ℕ → A) → List A
 listed count f = map f (range_with_len 0 count)
 
--- some items, and behind them what a rule gives at 1 to count, or its first error
+-- some items, and behind them what a function gives at 1 to count, or its first error
 abbrev pub with_row : {A E : Type 0} → List A → (ℕ → Result A E) → ℕ → Result (List A) E
-with_row items rule count = all_or_first_error (map (λ x. Ok x) items ++ map rule (range_with_len 1 count))
+with_row items function count = all_or_first_error (map (λ x. Ok x) items ++ map function (range_with_len 1 count))
 
 -- row is an index list of all axes of a shape but the last, which has count places, of which there is one at least
 pub record IsRowOf (shape row : List ℕ) (count : ℕ) : Type 0 where

@@ -10,8 +10,8 @@ ghost use Rattle.index_region.specs.Answers.{IsFormAnswerTo, IsPlaceOf, IsRowIn,
 
 use crate::seen::Seen;
 use arrays_core::{
-    ApplyFault, Array, ArrayBuilder, Item, ItemRule, ItemType, Kind, RowRule, Shape, collect,
-    collect_rows,
+    ApplyFault, Array, ArrayBuilder, Item, ItemFunction, ItemType, Kind, RowFunction, Shape,
+    collect, collect_rows,
 };
 use std::alloc::{AllocError, Global};
 
@@ -65,7 +65,7 @@ struct Applied<'a, 'b, P: Primitive> {
     ghost form: { P.form primitive.now args.now ≡ Ok (form_of shape.now.items item_type) },
 }
 
-impl<'a, 'b, P: Primitive> ItemRule for Applied<'a, 'b, P> {
+impl<'a, 'b, P: Primitive> ItemFunction for Applied<'a, 'b, P> {
     ghost result_shape = { λ r. r.shape.now.items };
 
     ghost result_type = { λ r. r.item_type };
@@ -77,7 +77,7 @@ impl<'a, 'b, P: Primitive> ItemRule for Applied<'a, 'b, P> {
     }
 }
 
-impl<'a, 'b, P: RowPrimitive> RowRule for Applied<'a, 'b, P> {
+impl<'a, 'b, P: RowPrimitive> RowFunction for Applied<'a, 'b, P> {
     fn extend_row(
         &self,
         row: &[u32],

@@ -14,7 +14,7 @@ use crate::characters::{equalities, tell};
 use crate::dispatch::{on_number_lists, on_numbers};
 use crate::items::{one, two};
 use arrays_core::{
-    ApplyFault, Array, Item, ItemRule, ItemType, Kind, Shape, collect, position, repeated,
+    ApplyFault, Array, Item, ItemFunction, ItemType, Kind, Shape, collect, position, repeated,
     shape_of, size,
 };
 use function_names::{Scalar1, Scalar2};
@@ -78,7 +78,7 @@ struct Pairs<'a> {
     ghost right_fits: { size right.now.shape ≢ 1 → right.now.shape ≡ shape.now.items },
 }
 
-impl<'a> ItemRule for Pairs<'a> {
+impl<'a> ItemFunction for Pairs<'a> {
     ghost result_shape = { λ p. p.shape.now.items };
 
     ghost result_type = { λ p. Nums };
@@ -101,7 +101,7 @@ struct Items<'a> {
     array: &'a Array,
 }
 
-impl<'a> ItemRule for Items<'a> {
+impl<'a> ItemFunction for Items<'a> {
     ghost result_shape = { λ p. p.array.now.shape };
 
     ghost result_type = { λ p. Nums };

@@ -20,8 +20,8 @@ use crate::axes::{LONGEST_AXIS, places_along};
 use crate::kept::kept_numbers;
 use crate::numbers::numbers_of;
 use arrays_core::{
-    ApplyFault, Array, ArrayBuilder, Item, ItemRule, ItemType, Kind, RowRule, Shape, collect_rows,
-    index_in_row, places_before, shape_of,
+    ApplyFault, Array, ArrayBuilder, Item, ItemFunction, ItemType, Kind, RowFunction, Shape,
+    collect_rows, index_in_row, places_before, shape_of,
 };
 use index_region::{Along, Primitive, Seen, Source, item_from, limited};
 use std::alloc::{AllocError, Global};
@@ -543,7 +543,7 @@ impl<'a, 'b, 'c> CopyFunction<'a, 'b, 'c> {
     }
 }
 
-impl<'a, 'b, 'c> ItemRule for CopyFunction<'a, 'b, 'c> {
+impl<'a, 'b, 'c> ItemFunction for CopyFunction<'a, 'b, 'c> {
     ghost result_shape = { λ r. r.shape.now.items };
 
     ghost result_type = { λ r. r.array.now.item_type };
@@ -558,7 +558,7 @@ impl<'a, 'b, 'c> ItemRule for CopyFunction<'a, 'b, 'c> {
     }
 }
 
-impl<'a, 'b, 'c> RowRule for CopyFunction<'a, 'b, 'c> {
+impl<'a, 'b, 'c> RowFunction for CopyFunction<'a, 'b, 'c> {
     fn extend_row(
         &self,
         row: &[u32],

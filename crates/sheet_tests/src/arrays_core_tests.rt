@@ -8,7 +8,7 @@ ghost use Rattle.arrays_core.specs.declared.item.ItemType.TheVariants.{Chars};
 
 use crate::fixtures::{are_characters, are_numbers};
 use arrays_core::{
-    Array, Item, ItemRule, ItemType, Kind, Shape, collect, is_within_limits, shape_of, size,
+    Array, Item, ItemFunction, ItemType, Kind, Shape, collect, is_within_limits, shape_of, size,
 };
 use std::alloc::Global;
 
@@ -24,7 +24,7 @@ struct Stars {
     shape: Shape,
 }
 
-impl ItemRule for Stars {
+impl ItemFunction for Stars {
     ghost result_shape = { λ r. r.shape.items };
 
     ghost result_type = { λ r. Chars };
@@ -50,9 +50,9 @@ fn fills_and_collects(rt: HostRuntime) {
         );
         let blanks = Array::filled(alloc, ItemType::Chars, &shape);
         assert!(rt; are_characters(blanks, &[2, 1], &[' ', ' ']));
-        let rule = Stars { shape };
-        let stars = collect(alloc, &rule, ItemType::Chars, &rule.shape);
-        assert!(rt; are_characters(stars, &[2, 1], &['*', '*']));
+        let stars = Stars { shape };
+        let array = collect(alloc, &stars, ItemType::Chars, &stars.shape);
+        assert!(rt; are_characters(array, &[2, 1], &['*', '*']));
     } else {
         assert!(rt; false);
     }

@@ -1,7 +1,7 @@
 use Rattle.std.proofs.Common.{◌≡◌, ◌∙◌, ◌<◌, ◌++◌, ◌∷◌, [], sym, ap, arith}
 use Rattle.arrays_core.specs.Shapes.{size as size_of}
 use Rattle.arrays_core.proofs.Rows.{rows_within, some_rows, items_long}
-use Rattle.arrays_core.proofs.rule.collect_rows.Goals as goal
+use Rattle.arrays_core.proofs.item_function.collect_rows.Goals as goal
 
 pub extend_rows-requires-clause-within : goal.extend_rows-requires-clause-within
 extend_rows-requires-clause-within g c =
@@ -23,4 +23,4 @@ extend_rows-requires-clause-some g c =
 
 pub into_array-requires-clause-one_item_a_place : goal.into_array-requires-clause-one_item_a_place
 into_array-requires-clause-one_item_a_place g c =
-    items_long _ (g.R.ItemRule.item c.args.rule.now) c.extend_rows-2.new.items.items c.in_ok-extend_rows.ensures.items ∙ ap size_of (sym c.requires.shaped)
+    items_long _ (g.F.ItemFunction.item c.args.function.now) c.extend_rows-2.new.items.items c.in_ok-extend_rows.ensures.items ∙ ap size_of (sym c.requires.shaped)

@@ -1,11 +1,11 @@
 use Rattle.std.proofs.Common.{◌≡◌, ◌<◌, ◌*◌, true}
 use Rattle.arrays_core.specs.Shapes.{is_index_of, places_before, size as size_of}
 use Rattle.arrays_core.proofs.Order.{CollectedTo}
-use Rattle.arrays_core.proofs.rule.extend_rows.Given as goal
+use Rattle.arrays_core.proofs.item_function.extend_rows.Given as goal
 
 abbrev pub invariant-loop-before : goal.invariant-loop-before
 invariant-loop-before g l = record {
-  collected : CollectedTo (g.R.ItemRule.result_shape l.rule) (g.R.ItemRule.item l.rule) (l.before * l.count) l.items.items;
+  collected : CollectedTo (g.F.ItemFunction.result_shape l.function) (g.F.ItemFunction.item l.function) (l.before * l.count) l.items.items;
   typed : l.items.item_type ≡ l.fn.items.item_type;
   here : is_index_of l.rows.items l.row.items ≡ true;
   at : l.before < size_of l.rows.items → places_before l.rows.items l.row.items ≡ l.before;

@@ -5,7 +5,7 @@ use Rattle.arrays_core.proofs.Rows.{row_put}
 use Rattle.function_names.specs.Axes.{axis_at}
 use Rattle.selection_fns.specs.Replicate.{replicate_item}
 use Rattle.selection_fns.proofs.CopiedRows.{IsCopyRow, copied, first_copied, before_last, other_item, other_fits, as_many, first_before, last_item, last_fits}
-use Rattle.selection_fns.proofs.replicate.CopyFunctionRowRule.extend_row.Goals as goal
+use Rattle.selection_fns.proofs.replicate.CopyFunctionRowFunction.extend_row.Goals as goal
 
 pub bounds-self-0 : goal.bounds-self-0
 bounds-self-0 c =

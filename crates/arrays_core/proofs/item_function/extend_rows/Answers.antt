@@ -5,7 +5,7 @@ use Rattle.arrays_core.specs.Shapes.{is_index_of, places_before, size as size_of
 use Rattle.arrays_core.proofs.Shapes.{as_long}
 use Rattle.arrays_core.proofs.Order.{CollectedTo, none_collected, all_collected, index_after-within, places_before-index_after}
 use Rattle.arrays_core.proofs.Rows.{row_of, row_collected, size_row}
-use Rattle.arrays_core.proofs.rule.extend_rows.Goals as goal
+use Rattle.arrays_core.proofs.item_function.extend_rows.Goals as goal
 
 refill_all : (xs ws : List ℕ) → length ws ≡ length xs → take (length xs) (ws ++ drop (length ws) xs) ≡ ws
 refill_all xs ws e = take_at ws (drop (length ws) xs) (length xs) e
@@ -13,12 +13,12 @@ refill_all xs ws e = take_at ws (drop (length ws) xs) (length xs) e
 pub loop-before-init : goal.loop-before-init
 loop-before-init g c =
     let rows = c.args.rows.now.items in
-    let shape = g.R.ItemRule.result_shape c.args.rule.now in
-    let rule = g.R.ItemRule.item c.args.rule.now in
+    let shape = g.F.ItemFunction.result_shape c.args.function.now in
+    let function = g.F.ItemFunction.item c.args.function.now in
     let first = c.index_of_position-row.ensures.is in
     let none : 0 * c.args.count ≡ 0 = omega arith in
     record {
-      collected = rw (none, c.requires.none_yet) (none_collected shape rule);
+      collected = rw (none, c.requires.none_yet) (none_collected shape function);
       typed = refl;
       here = rw first (index_after-within rows 0 c.requires.some);
       at = λ h. rw first (places_before-index_after rows 0 c.requires.some);
@@ -32,10 +32,10 @@ pub loop-before-preserved : goal.loop-before-preserved
 loop-before-preserved g c =
     let rows = c.args.rows.now.items in
     let row = c.loop-before.row.items in
-    let rule = g.R.ItemRule.item c.args.rule.now in
+    let function = g.F.ItemFunction.item c.args.function.now in
     let inv = c.loop-before.invariant in
     let e : size_of rows ≡ c.size-places.result = ap size_of (sym c.as_slice.ensures) ∙ sym c.size-places.ensures in
-    let made : with_row c.loop-before.items.items (λ i. rule (row ++ i ∷ [])) c.args.count ≡ Ok c.extend_row.new.items.items =
+    let made : with_row c.loop-before.items.items (λ i. function (row ++ i ∷ [])) c.args.count ≡ Ok c.extend_row.new.items.items =
     rw c.as_slice-in-loop-before.ensures at c.in_ok-extend_row.ensures.items in
     let inside : is_index_of rows c.advance.new.index ≡ true = rw c.as_slice-in-loop-before-2.ensures at c.advance.ensures.inside in
     let next : places_before rows row + 1 < size_of rows → places_before rows c.advance.new.index ≡ places_before rows row + 1 =
@@ -43,9 +43,9 @@ loop-before-preserved g c =
     let same_long : length c.advance.new.index ≡ length row = as_long rows c.advance.new.index inside ∙ sym (as_long rows row inv.here) in
     let back = refill_all row c.advance.new.index same_long in
     let here = inv.at (omega arith) in
-    let before : CollectedTo (rows ++ c.args.count ∷ []) rule (c.loop-before.before * c.args.count) c.loop-before.items.items = rw c.requires.shaped at inv.collected in
+    let before : CollectedTo (rows ++ c.args.count ∷ []) function (c.loop-before.before * c.args.count) c.loop-before.items.items = rw c.requires.shaped at inv.collected in
     record {
-      collected = rw c.requires.shaped (row_collected rows row c.args.count c.loop-before.before rule c.loop-before.items.items c.extend_row.new.items.items inv.here here made before);
+      collected = rw c.requires.shaped (row_collected rows row c.args.count c.loop-before.before function c.loop-before.items.items c.extend_row.new.items.items inv.here here made before);
       typed = c.in_ok-extend_row.ensures.typed ∙ inv.typed;
       here = rw back inside;
       at = λ h. rw back (next (omega arith) ∙ ap (λ n. n + 1) here);
@@ -54,10 +54,10 @@ loop-before-preserved g c =
 pub returns-clause-items : goal.returns-clause-items
 returns-clause-items g c =
     let rows = c.args.rows.now.items in
-    let shape = g.R.ItemRule.result_shape c.args.rule.now in
-    let rule = g.R.ItemRule.item c.args.rule.now in
+    let shape = g.F.ItemFunction.result_shape c.args.function.now in
+    let function = g.F.ItemFunction.item c.args.function.now in
     let inv = c.loop-before.invariant in
     let e : size_of rows ≡ c.size-places.result = ap size_of (sym c.as_slice.ensures) ∙ sym c.size-places.ensures in
     let every : c.loop-before.before ≡ size_of rows = omega arith in
     let sized : size_of shape ≡ c.loop-before.before * c.args.count = ap size_of c.requires.shaped ∙ size_row rows c.args.count ∙ ap (λ n. n * c.args.count) (sym every) in
-    all_collected shape rule (c.loop-before.before * c.args.count) c.loop-before.items.items (omega arith) inv.collected
+    all_collected shape function (c.loop-before.before * c.args.count) c.loop-before.items.items (omega arith) inv.collected
