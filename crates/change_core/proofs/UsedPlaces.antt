@@ -1,6 +1,6 @@
--- Uses by place and by search are covered.
-use Rattle.std.proofs.Common.{◌≡◌, ℕ, suc, zero, ◌+◌, ◌-◌, ◌*◌, ◌%◌, ◌≤◌, ◌<◌, List, [], ◌∷◌, ap, ◌∙◌, sym, subst, arith, true, Bool, Option, inl, inr, nat_lt, min}
-use Rattle.std.proofs.lemmas.Bool.{and_parts, leb-true, ltb-false, false≢true, cases_Bool, cond-true, cond-false, and_from, le-leb, lt-ltb, cases_order, both_ways}
+-- Uses by place are covered.
+use Rattle.std.proofs.Common.{◌≡◌, ℕ, ◌-◌, ◌*◌, ◌%◌, ◌≤◌, ◌<◌, List, [], ◌∷◌, ap, ◌∙◌, subst, arith, true, Option, inl, inr, nat_lt, min}
+use Rattle.std.proofs.lemmas.Bool.{and_parts, leb-true, ltb-false, false≢true, cases_Bool, cond-true, cond-false, lt-ltb}
 use Rattle.std.proofs.lemmas.Nat.{mul-le}
 use Rattle.std.proofs.Math.Nat.{mod-eq_of_lt}
 use Rattle.arrays_core.specs.Shapes.{is_index_of, size, places_before, index_after}
@@ -8,41 +8,9 @@ use Rattle.arrays_core.proofs.Shapes.{places_below}
 use Rattle.arrays_core.proofs.Order.{places_before-index_after}
 use Rattle.index_region.proofs.Least.{within-whole, cover-within}
 use Rattle.change_core.specs.Tightness.{Covered}
-use Rattle.change_core.specs.Places.{by_place, cover_in, first_hit, first_of_box, last_hit, last_of_box, lies_in, searched}
+use Rattle.change_core.specs.Places.{by_place, cover_in, first_of_box, last_of_box}
 use Rattle.change_core.specs.Reaches.{is_moved}
-use Rattle.change_core.specs.Ways.{IsSoundAxis}
 use Rattle.index_region.specs.Boxes.{Interval, is_within}
-
-pub first_hit-le : (test : ℕ → Bool) (from n i : ℕ) → from ≤ i → i < from + n → test i ≡ true → first_hit test from n ≤ i
-first_hit-le test from zero i l u h = absurd (omega arith)
-first_hit-le test from (suc n) i l u h = elim (cases_Bool (test from)) [
-  | inl t ↦ subst (λ (x : ℕ). x ≤ i) (sym (cond-true _ _ _ t)) l
-  | inr f ↦ elim (cases_order from i) [
-    | inl e ↦ absurd (both_ways _ f (ap test e ∙ h))
-    | inr o ↦
-        let later : from + 1 ≤ i = elim o [ inl m ↦ omega arith | inr m ↦ absurd (omega arith) ] in
-        subst (λ (x : ℕ). x ≤ i) (sym (cond-false _ _ _ f)) (first_hit-le test (from + 1) n i later (omega arith) h)
-  ]
-]
-
-pub last_hit-le : (test : ℕ → Bool) (n i : ℕ) → 1 ≤ i → i ≤ n → test i ≡ true → i ≤ last_hit test n
-last_hit-le test zero i l u h = absurd (omega arith)
-last_hit-le test (suc n) i l u h = elim (cases_Bool (test (suc n))) [
-  | inl t ↦ subst (λ (x : ℕ). i ≤ x) (sym (cond-true _ _ _ t)) u
-  | inr f ↦ elim (cases_order i (suc n)) [
-    | inl e ↦ absurd (both_ways _ f (ap test (sym e) ∙ h))
-    | inr o ↦
-        let before : i ≤ n = elim o [ inl m ↦ omega arith | inr m ↦ absurd (omega arith) ] in
-        subst (λ (x : ℕ). i ≤ x) (sym (cond-false _ _ _ f)) (last_hit-le test n i l before h)
-  ]
-]
-
--- an axis by a table
-pub searched-sound : (n : ℕ) (source : ℕ → ℕ) → IsSoundAxis (searched n source)
-searched-sound n source = record {
-  low = λ s i l u f h k. first_hit-le (λ j. lies_in s (source j)) 1 n i l (omega arith) (and_from _ _ (le-leb _ _ h) (le-leb _ _ k));
-  high = λ s i l u f h k. last_hit-le (λ j. lies_in s (source j)) n i l u (and_from _ _ (le-leb _ _ h) (le-leb _ _ k));
-}
 
 -- an index list in the box lies between the box's first and last in the ravel
 pub offset_between : (axes : List ℕ) (region : List Interval) (index : List ℕ) → is_within region index ≡ true → (places_before axes (first_of_box region) ≤ places_before axes index) × (places_before axes index ≤ places_before axes (last_of_box region))

@@ -1,14 +1,25 @@
 -- Each way to use an argument is covered.
-use Rattle.std.proofs.Common.{◌≡◌, ℕ, suc, zero, ◌+◌, ◌≤◌, ◌<◌, List, [], ◌∷◌, ◌++◌, length, map, take, drop, set, get_or, insert, remove, refl, ap, ◌∙◌, sym, subst, arith, true, false, Bool, ◌&&◌, Option, Some, None, inl, inr, nat_le, nat_lt, nat_eq, if◌then◌else◌}
+use Rattle.std.proofs.Common.{◌≡◌, ℕ, suc, zero, ◌+◌, ◌≤◌, ◌<◌, List, [], ◌∷◌, ◌++◌, length, map, take, drop, set, get_or, insert, remove, refl, ap, ◌∙◌, sym, subst, arith, true, false, Bool, ◌&&◌, Some, inl, inr, nat_le, nat_lt, nat_eq, if◌then◌else◌}
 use Rattle.std.specs.List.{range_with_len}
 use Rattle.std.proofs.lemmas.Bool.{and_parts, leb-true, ltb-true, ltb-false, eqb-true, false≢true, cases_Bool, cond-true, cond-false, and_from, le-leb}
 use Rattle.arrays_core.specs.Shapes.{is_index_of}
 use Rattle.change_core.specs.Tightness.{Covered, Each}
 use Rattle.change_core.specs.Reaches.{is_moved}
 use Rattle.change_core.specs.RuleModels.{Use}
-use Rattle.change_core.specs.Ways.{Axis, IsSoundAxis, across, alike, along, back, by_axes, everywhere, front, images, lengths, lines, meet_at, meets, on_box, permuted, read_all, scalar_by_axes, sources, then_by, unread}
+use Rattle.change_core.specs.Ways.{Axis, IsSoundAxis, alike, along, back, everywhere, front, images, lengths, lines, meet_at, meets, sources, unread}
 use Rattle.index_region.specs.Boxes.{Interval, fits, is_within, whole_of}
 pub use Rattle.index_region.proofs.Least.{within-whole}
+
+-- an axis that the argument lacks, of which it uses an interval
+abbrev pub across : ℕ → Interval → Use
+across axis place = record {
+  reads = λ index. if nat_le place.0 (get_or index axis 0) && nat_le (get_or index axis 0) place.1 then remove index axis ∷ [] else [];
+  box = λ region. Some (insert region axis place);
+}
+
+-- each axis of the argument goes to the axis (from 0) that the list says
+abbrev pub permuted : List ℕ → List ℕ → Use
+permuted axes shape = record { reads = λ index. map (λ to. get_or index to 0) axes ∷ []; box = λ region. Some (meets axes region 0 shape) }
 
 pub each_map : {A B : Type 0} (P : B → Type 0) (f : A → B) (xs : List A) → Each (λ x. P (f x)) xs → Each P (map f xs)
 each_map P f [] h = tt
@@ -47,10 +58,6 @@ images-within (x ∷ axes) (m ∷ from) (s ∷ region) (i ∷ index) h fit place
     let low = h.0.low s i (leb-true 1 i p1.0) (leb-true i x.len p1.1) (leb-true 1 s.0 f1.0) (leb-true s.0 (x.source i) i1.0) (leb-true (x.source i) s.1 i1.1) in
     let high = h.0.high s i (leb-true 1 i p1.0) (leb-true i x.len p1.1) (leb-true 1 s.0 f1.0) (leb-true s.0 (x.source i) i1.0) (leb-true (x.source i) s.1 i1.1) in
     and_from _ _ (and_from _ _ (le-leb _ _ low) (le-leb _ _ high)) (images-within axes from region index h.1 fp.1 pp.1 ip.1)
-
--- one fact an axis
-pub by_axes-covered : (from : List ℕ) (axes : List Axis) → Each IsSoundAxis axes → Covered from (lengths axes) (by_axes axes)
-by_axes-covered from axes h region index fit place = (images-within axes from region index h fit place, tt)
 
 index-length : (shape index : List ℕ) → is_index_of shape index ≡ true → length index ≡ length shape
 index-length [] [] h = refl
@@ -180,24 +187,6 @@ back-onto first rest = record {
 pub onto_covered : (from shape : List ℕ) (u : Use) → IsOnto from shape u → Covered from shape u
 onto_covered from shape u h region index fit place = h.covered region index place
 
-each_append : {A : Type 0} (P : A → Type 0) (xs ys : List A) → Each P xs → Each P ys → Each P (xs ++ ys)
-each_append P [] ys h k = k
-each_append P (x ∷ xs) ys h k = (h.0, each_append P xs ys h.1 k)
-
--- inner product
-pub then_by-covered : (from mid shape : List ℕ) (inner outer : Use) → Covered from mid inner → IsOnto mid shape outer → Covered from shape (then_by inner outer)
-then_by-covered from mid shape inner outer h k region index fit place =
-    through (inner.box region) (λ j here. h region j fit here) (k.places index place)
-  where
-    all_through : (mids : List (List ℕ)) (box : Option (List Interval)) → ((j : List ℕ) → is_index_of mid j ≡ true → Each (λ p. is_within region p ≡ true → is_moved box j ≡ true) (inner.reads j)) → Each (λ j. is_index_of mid j ≡ true) mids → Each (λ j. is_moved box j ≡ true → is_moved (on_box outer.box box) index ≡ true) mids → Each (λ p. is_within region p ≡ true → is_moved (on_box outer.box box) index ≡ true) (read_all inner.reads mids)
-    all_through [] box f here there = tt
-    all_through (j ∷ mids) box f here there =
-        each_append _ (inner.reads j) (read_all inner.reads mids) (each_more _ _ (inner.reads j) (λ p g w. there.0 (g w)) (f j here.0)) (all_through mids box f here.1 there.1)
-
-    through : (box : Option (List Interval)) → ((j : List ℕ) → is_index_of mid j ≡ true → Each (λ p. is_within region p ≡ true → is_moved box j ≡ true) (inner.reads j)) → Each (λ j. is_index_of mid j ≡ true) (outer.reads index) → Each (λ p. is_within region p ≡ true → is_moved (on_box outer.box box) index ≡ true) (read_all inner.reads (outer.reads index))
-    through None f here = all_through (outer.reads index) None f here (each_all _ (outer.reads index) (λ j w. absurd (false≢true w)))
-    through (Some q) f here = all_through (outer.reads index) (Some q) f here (k.covered q index place)
-
 meet_at-within : (axes : List ℕ) (region : List Interval) (index : List ℕ) (axis n : ℕ) → 1 ≤ get_or index axis 0 → get_or index axis 0 ≤ n → is_within region (map (λ to. get_or index to 0) axes) ≡ true → ((meet_at axis n axes region).0 ≤ get_or index axis 0) × (get_or index axis 0 ≤ (meet_at axis n axes region).1)
 meet_at-within [] region index axis n low high h = (low, high)
 meet_at-within (to ∷ axes) [] index axis n low high h = (low, high)
@@ -241,17 +230,7 @@ pub permuted-covered : (from axes shape : List ℕ) → Covered from shape (perm
 permuted-covered from axes shape region index fit place =
     (meets-within axes region index 0 shape index (λ k. let e : k ≡ 0 + k = omega arith in ap (λ (m : ℕ). get_or index m 0) e) place, tt)
 
-fits-ones : (axes : List Axis) → fits (whole_of (map (λ _. 1) axes)) (map (λ _. 1) axes) ≡ true
-fits-ones [] = refl
-fits-ones (x ∷ axes) = fits-ones axes
-
 -- what is read under a test alone
 pub each_if : {A : Type 0} (P : A → Type 0) (test : Bool) (x : A) → (test ≡ true → P x) → Each P (if test then x ∷ [] else [])
 each_if P true x h = (h refl, tt)
 each_if P false x h = tt
-
-pub scalar_by_axes-covered : (axes : List Axis) → Each IsSoundAxis axes → Covered [] (lengths axes) (scalar_by_axes axes)
-scalar_by_axes-covered axes h region index fit place =
-    let ones = map {A = Axis} (λ _. 1) axes in
-    each_if (λ (p : List ℕ). is_within region p ≡ true → is_within (images axes (whole_of ones)) index ≡ true) (is_index_of ones (sources axes index)) []
-    (λ t _. images-within axes ones (whole_of ones) index h (fits-ones axes) place (within-whole ones (sources axes index) ∙ t))

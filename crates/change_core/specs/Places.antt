@@ -1,30 +1,12 @@
--- Uses by the place in the ravel, and by a search on an axis.
-use Rattle.std.specs.Prelude.{ℕ, suc, zero, ◌+◌, ◌-◌, ◌%◌, List, [], ◌∷◌, Bool, ◌&&◌, Option, Some, None, if◌then◌else◌, nat_le, nat_lt, map, min}
+-- Uses by the place in the ravel.
+use Rattle.std.specs.Prelude.{ℕ, ◌-◌, ◌%◌, List, [], ◌∷◌, Bool, ◌&&◌, Option, Some, None, if◌then◌else◌, nat_le, nat_lt, map, min}
 use Rattle.arrays_core.specs.Shapes.{size, places_before, index_after}
 use Rattle.change_core.specs.RuleModels.{Use}
-use Rattle.change_core.specs.Ways.{Axis}
 use Rattle.index_region.specs.Boxes.{Interval, whole_of, cover}
 
--- the first of so many places from here on that passes the test, else the one after them
-abbrev pub first_hit : (ℕ → Bool) → ℕ → ℕ → ℕ
-first_hit test from zero = from
-first_hit test from (suc n) = if test from then from else first_hit test (from + 1) n
-
--- the last place up to n that passes the test, else 0
-abbrev pub last_hit : (ℕ → Bool) → ℕ → ℕ
-last_hit test zero = 0
-last_hit test (suc n) = if test (suc n) then suc n else last_hit test n
-
+-- the place lies in the interval
 abbrev pub lies_in : Interval → ℕ → Bool
 lies_in s i = nat_le s.0 i && nat_le i s.1
-
--- an axis whose places come from where a table says: an interval goes to the smallest one with all places that come from it
-abbrev pub searched : ℕ → (ℕ → ℕ) → Axis
-searched n source = record {
-  len = n;
-  source = source;
-  image = λ s. (first_hit (λ i. lies_in s (source i)) 1 n, last_hit (λ i. lies_in s (source i)) n);
-}
 
 -- the first index list of a box, and the last
 abbrev pub first_of_box : List Interval → List ℕ

@@ -1,7 +1,6 @@
 -- The ways in which a result uses an argument.
-use Rattle.std.specs.Prelude.{ℕ, ◌+◌, ◌≤◌, List, [], ◌∷◌, ◌++◌, ◌&&◌, Option, Some, None, if◌then◌else◌, nat_le, nat_eq, length, map, take, drop, set, get_or, insert, remove, min, max}
+use Rattle.std.specs.Prelude.{ℕ, ◌+◌, ◌≤◌, List, [], ◌∷◌, ◌++◌, Some, None, if◌then◌else◌, nat_eq, length, map, take, drop, set, get_or, insert, remove, min, max}
 use Rattle.std.specs.List.{range_with_len}
-use Rattle.arrays_core.specs.Shapes.{is_index_of}
 use Rattle.change_core.specs.RuleModels.{Use}
 use Rattle.index_region.specs.Boxes.{Interval, whole_of}
 
@@ -40,10 +39,6 @@ abbrev pub images : List Axis → List Interval → List Interval
 images (x ∷ axes) (s ∷ intervals) = x.image s ∷ images axes intervals
 images _ _ = []
 
--- axis by axis
-abbrev pub by_axes : List Axis → Use
-by_axes axes = record { reads = λ index. sources axes index ∷ []; box = λ region. Some (images axes region) }
-
 -- a line along an axis (from 0) for each item of a result without that axis
 abbrev pub lines : ℕ → ℕ → Use
 lines axis len = record { reads = λ index. map (insert index axis) (range_with_len 1 len); box = λ region. Some (remove region axis) }
@@ -55,13 +50,6 @@ along axis places image = record {
   box = λ region. Some (set region axis (image (get_or region axis (0, 0))));
 }
 
--- an axis that the argument lacks, of which it uses an interval
-abbrev pub across : ℕ → Interval → Use
-across axis place = record {
-  reads = λ index. if nat_le place.0 (get_or index axis 0) && nat_le (get_or index axis 0) place.1 then remove index axis ∷ [] else [];
-  box = λ region. Some (insert region axis place);
-}
-
 -- the first axes of the result are the argument's
 abbrev pub front : ℕ → List ℕ → Use
 front rank rest = record { reads = λ index. take rank index ∷ []; box = λ region. Some (region ++ whole_of rest) }
@@ -69,18 +57,6 @@ front rank rest = record { reads = λ index. take rank index ∷ []; box = λ re
 -- the last axes of the result are the argument's
 abbrev pub back : List ℕ → Use
 back first = record { reads = λ index. drop (length first) index ∷ []; box = λ region. Some (whole_of first ++ region) }
-
--- the places that one use reads, as another reads them; a box goes through both
-abbrev pub read_all : (List ℕ → List (List ℕ)) → List (List ℕ) → List (List ℕ)
-read_all reads [] = []
-read_all reads (place ∷ places) = reads place ++ read_all reads places
-
-abbrev pub on_box : (List Interval → Option (List Interval)) → Option (List Interval) → Option (List Interval)
-on_box f None = None
-on_box f (Some region) = f region
-
-abbrev pub then_by : Use → Use → Use
-then_by inner outer = record { reads = λ index. read_all inner.reads (outer.reads index); box = λ region. on_box outer.box (inner.box region) }
 
 abbrev pub both_intervals : Interval → Interval → Interval
 both_intervals s t = (max s.0 t.0, min s.1 t.1)
@@ -93,14 +69,3 @@ meet_at axis n _ _ = (1, n)
 abbrev pub meets : List ℕ → List Interval → ℕ → List ℕ → List Interval
 meets axes intervals axis [] = []
 meets axes intervals axis (n ∷ shape) = meet_at axis n axes intervals ∷ meets axes intervals (axis + 1) shape
-
--- each axis of the argument goes to the axis (from 0) that the list says
-abbrev pub permuted : List ℕ → List ℕ → Use
-permuted axes shape = record { reads = λ index. map (λ to. get_or index to 0) axes ∷ []; box = λ region. Some (meets axes region 0 shape) }
-
--- a scalar in place of an array whose axes are of length 1
-abbrev pub scalar_by_axes : List Axis → Use
-scalar_by_axes axes = record {
-  reads = λ index. if is_index_of (map (λ _. 1) axes) (sources axes index) then [] ∷ [] else [];
-  box = λ _. Some (images axes (whole_of (map (λ _. 1) axes)));
-}

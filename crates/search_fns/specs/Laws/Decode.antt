@@ -23,7 +23,7 @@ use Rattle.change_core.proofs.Sourced.{two_arrays_tight}
 use Rattle.change_core.proofs.UsedWays.{each_all, each_map, everywhere-covered}
 use Rattle.search_fns.specs.Decode.{decode_form, decode_item, decoded, digit_at, digit_count, radix_at, decode_rule, digits_use}
 use Rattle.change_core.proofs.ReadAlike.{item_same}
-use Rattle.search_fns.specs.Laws.Reads.{all_same, one_read, with_axes}
+use Rattle.search_fns.specs.Laws.Reads.{all_read_alike, one_read, with_axes}
 
 -- what the checks have shown
 record DecodeFacts (a b : ArrayValue) (f : Form) : Type 0 where
@@ -113,7 +113,7 @@ decode_tight = two_arrays_tight false decode_form decode_item (λ shape a b. eve
   settled = λ c d xs ys f index sound_left sound_right p q e place read_left read_right.
       let facts = decode_facts c d f e in
       let here : is_index_of (drop 1 d.shape) index ≡ true = subst (λ (s : List ℕ). is_index_of s index ≡ true) facts.shaped place in
-      let all : xs ≡ c.items = all_same c xs sound_left.one_item_a_place p.count read_left in
+      let all : xs ≡ c.items = all_read_alike c xs sound_left.one_item_a_place p.count read_left in
       let digits = map_range_same (λ k. (radix_at c k, digit_at (other d ys) index k)) (λ k. (radix_at c k, digit_at d index k)) 1 (digit_count c d) (λ k low below.
       let same = digit_same d.item_type d.shape ys d.items index k here low (facts.counted k (omega arith)) read_right in
       λ i. (radix_at c k, same i)) in

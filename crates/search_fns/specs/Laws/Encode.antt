@@ -21,7 +21,7 @@ use Rattle.change_core.proofs.Sourced.{two_arrays_tight}
 use Rattle.change_core.proofs.UsedWays.{back-onto, each_map, each_range, index-drop, onto_covered, within-whole}
 use Rattle.search_fns.specs.Encode.{carried_through, digit, encode_form, encode_item, radix_place, encode_rule, radices_box, radices_read}
 use Rattle.change_core.proofs.ReadAlike.{item_same}
-use Rattle.search_fns.specs.Laws.Reads.{all_same, one_read, place_read, with_axes}
+use Rattle.search_fns.specs.Laws.Reads.{all_read_alike, one_read, place_read, with_axes}
 
 -- what the checks have shown
 pub record EncodeFacts (a b : ArrayValue) (f : Form) : Type 0 where
@@ -60,7 +60,7 @@ digit_same xs ys d k z long low high same =
 radices_same : (t : ItemType) (shape : List ℕ) (xs ys : List Item) (rest index : List ℕ) (z : ℤ) → length shape ≤ 1 → length ys ≡ size shape → length xs ≡ length ys → is_index_of (shape ++ rest) index ≡ true
     → map (item_if_there (with_axes t shape xs)) (radices_read (with_axes t shape ys) index) ≡ map (item_if_there (with_axes t shape ys)) (radices_read (with_axes t shape ys) index)
     → digit (map number_of xs) (radix_place (with_axes t shape ys) index) z ≡ digit (map number_of ys) (radix_place (with_axes t shape ys) index) z
-radices_same t [] xs ys rest index z list sized long place read = ap (λ (items : List Item). digit (map number_of items) 1 z) (all_same (with_axes t [] ys) xs sized long read)
+radices_same t [] xs ys rest index z list sized long place read = ap (λ (items : List Item). digit (map number_of items) 1 z) (all_read_alike (with_axes t [] ys) xs sized long read)
 radices_same t (n ∷ []) xs ys rest [] z list sized long place read = absurd (false≢true place)
 radices_same t (n ∷ []) xs ys rest (k ∷ index) z list sized long place read =
     let first = and_parts _ _ (and_parts _ _ place).0 in

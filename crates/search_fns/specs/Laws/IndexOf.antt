@@ -15,7 +15,7 @@ use Rattle.change_core.proofs.UsedWays.{alike-covered, everywhere-covered}
 use Rattle.search_fns.specs.IndexOf.{index_of_form, index_of_item, index_of_rule}
 use Rattle.search_fns.specs.SameItem.{same_item}
 use Rattle.change_core.proofs.ReadAlike.{item_same}
-use Rattle.search_fns.specs.Laws.Reads.{all_same, one_read}
+use Rattle.search_fns.specs.Laws.Reads.{all_read_alike, one_read}
 
 -- the result has the shape of the right argument
 form_shape : (a b : ArrayValue) (f : Form) → index_of_form a b ≡ Ok f → f.shape ≡ b.shape
@@ -27,7 +27,7 @@ index_of_tight = two_arrays_tight false index_of_form index_of_item (λ shape a 
   settled = λ c d xs ys f index sound_left sound_right p q e place read_left read_right.
       let inside : is_index_of d.shape index ≡ true = subst (λ (s : List ℕ). is_index_of s index ≡ true) (form_shape c d f e) place in
       let sought : item_of (other d ys) index ≡ item_of d index = item_same (other d ys) d index inside inside (one_read _ _ read_right) in
-      let all : xs ≡ c.items = all_same c xs sound_left.one_item_a_place p.count read_left in
+      let all : xs ≡ c.items = all_read_alike c xs sound_left.one_item_a_place p.count read_left in
       λ i. Ok (Num (pos (suc (position_or_len (same_item (sought i)) (all i)))));
   covered_left = λ a b f e. everywhere-covered a.shape f.shape (λ _. indices a.shape);
   covered_right = λ a b f e. alike-covered b.shape f.shape;

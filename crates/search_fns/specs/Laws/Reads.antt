@@ -32,9 +32,9 @@ read_at a k h =
     ∙ ap (λ (m : ℕ). Some (get_or a.items m (fill a.item_type))) (places_before-index_after a.shape k h)
 
 -- all items of an array
-pub all_same : (a : ArrayValue) (xs : List Item) → length a.items ≡ size a.shape → length xs ≡ length a.items
+pub all_read_alike : (a : ArrayValue) (xs : List Item) → length a.items ≡ size a.shape → length xs ≡ length a.items
     → map (item_if_there (other a xs)) (indices a.shape) ≡ map (item_if_there a) (indices a.shape) → xs ≡ a.items
-all_same a xs sized long read =
+all_read_alike a xs sized long read =
     ext_get_or (fill a.item_type) xs a.items long (λ k h.
     let below : k < size a.shape = omega arith in
     some_same _ _ (sym (read_at (other a xs) k below) ∙ ap (λ (r : List (Option Item)). get_or r k None) read ∙ read_at a k below))
