@@ -1,7 +1,8 @@
 //! The nodes of an expression, each after those whose results it takes.
 
-ghost use Rattle.std.specs.Prelude.{◌≡◌, ◌++◌, [], ◌∷◌, length, map, option_map, IfOk, OnOk};
-ghost use Rattle.apl_expr.specs.Trees.{tree_of, position_of, positions_of, between_arguments};
+ghost use Rattle.std.specs.Prelude.{◌≡◌, ◌++◌, [], ◌∷◌, ℕ, List, length, map, option_map, IfOk, OnOk};
+ghost use Rattle.apl_expr.specs.Trees.{Const as ConstTree, Name as NameTree, tree_of, literal_of, position_of, before_argument, between_arguments};
+ghost use Rattle.formula_core.specs.declared.table.Node.{Node as NodeOf};
 ghost use Rattle.formula_core.specs.declared.table.Operand.TheVariants.{Node as NodeAt};
 ghost use Rattle.formula_core.specs.Holdings.{nodes_of, AreNotWorkedOut};
 ghost use Rattle.formula_core.specs.Sums.{totalled};
@@ -10,7 +11,7 @@ ghost use Rattle.formula_core.specs.Tables.{IsLowered, ArePositionsLowered, appl
 use crate::constant::Constant;
 use crate::kept::Kept;
 use crate::sums::total_of;
-use apl_expr::{Expr, Function1, Function2, Sides};
+use apl_expr::{Expr, Function1, Function2, Literal, Sides};
 use apl_tokens::Name;
 use operator_fns::Reduce;
 use std::alloc::{AllocError, Global};
@@ -73,40 +74,26 @@ pub(crate) fn lower(
     ensures anew { OnOk result (AreNotWorkedOut nodes.old.items → AreNotWorkedOut nodes.new.items) }
 {
     match tree {
-        Expr::Const(literal) => {
-            let constant = Constant::of(alloc, literal)?;
-            Ok(Operand::Literal(Box::new(alloc, constant)?))
-        }
-        Expr::Name(name) => {
-            let place = names.len();
-            names.push(*name)?;
-            Ok(Operand::Name(place))
-        }
+        Expr::Const(literal) => lower_literal(alloc, literal),
+        Expr::Name(name) => push_name(names, *name),
         Expr::Monad(function, right) => {
-            let right = lower(alloc, names, nodes, right)?;
-            push(nodes, Node::Monad(Function1::Monad(*function), right))
+            lower_before(alloc, names, nodes, Function1::Monad(*function), right)
         }
         Expr::Dyad(function, sides) => {
             lower_between(alloc, names, nodes, Function2::Dyad(*function), sides)
         }
-        Expr::Index(operand, positions) => {
-            let operand = lower(alloc, names, nodes, operand)?;
+        Expr::Index(array, positions) => {
+            let array = lower(alloc, names, nodes, array)?;
             let positions = lower_positions(alloc, names, nodes, positions)?;
-            push(nodes, Node::Index(operand, positions))
+            push(nodes, Node::Index(array, positions))
         }
         Expr::Reduce(function, along, right) => {
-            let right = lower(alloc, names, nodes, right)?;
-            push(
-                nodes,
-                Node::Monad(Function1::Reduce(*function, *along), right),
-            )
+            let function = Function1::Reduce(*function, *along);
+            lower_before(alloc, names, nodes, function, right)
         }
         Expr::Scan(function, along, right) => {
-            let right = lower(alloc, names, nodes, right)?;
-            push(
-                nodes,
-                Node::Monad(Function1::Scan(*function, *along), right),
-            )
+            let function = Function1::Scan(*function, *along);
+            lower_before(alloc, names, nodes, function, right)
         }
         Expr::Outer(function, sides) => {
             lower_between(alloc, names, nodes, Function2::Outer(*function), sides)
@@ -115,6 +102,32 @@ pub(crate) fn lower(
             lower_between(alloc, names, nodes, Function2::Inner(*fold, *each), sides)
         }
     }
+}
+
+/// What stands for a literal as an argument. It has no node and no name.
+#[inline(always)]
+fn lower_literal(alloc: Global, literal: &Literal) -> Result<Operand, AllocError>
+    ensures { (names : List (List ℕ)) → (nodes : List NodeOf) → IfOk result (λ operand. IsLowered names names nodes nodes (ConstTree (literal_of literal.now)) operand) }
+{
+    let constant = Constant::of(alloc, literal)?;
+    Ok(Operand::Literal(Box::new(alloc, constant)?))
+}
+
+/// Adds the names and the nodes of a function before its argument behind these, and tells what stands for it as an argument.
+#[cycle(lower)]
+#[inline(always)]
+fn lower_before(
+    alloc: Global,
+    names: &mut Vec<Name>,
+    nodes: &mut Vec<Kept>,
+    function: Function1,
+    right: &Expr,
+) -> Result<Operand, AllocError>
+    ensures anew { OnOk result (AreNotWorkedOut nodes.old.items → AreNotWorkedOut nodes.new.items) }
+    ensures lowered { IfOk result (λ operand. IsLowered names.old.items names.new.items (nodes_of nodes.old.items) (nodes_of nodes.new.items) (before_argument function (tree_of right.now)) operand) }
+{
+    let right = lower(alloc, names, nodes, right)?;
+    push(nodes, Node::Monad(function, right))
 }
 
 /// Adds the names and the nodes of a function between its arguments behind these, and tells what stands for it as an argument.
@@ -216,6 +229,16 @@ fn room_within(positions: &[Option<Expr>]) -> Room {
         }
     }
     room
+}
+
+/// Adds a name, and tells what stands for it as an argument.
+#[inline(always)]
+fn push_name(names: &mut Vec<Name>, name: Name) -> Result<Operand, AllocError>
+    ensures { (nodes : List NodeOf) → IfOk result (λ operand. IsLowered names.old.items names.new.items nodes nodes (NameTree name) operand) }
+{
+    let place = names.len();
+    names.push(name)?;
+    Ok(Operand::Name(place))
 }
 
 /// Adds a node, and tells what stands for it as an argument.
