@@ -54,14 +54,14 @@ pub(crate) struct Stage<'a> {
 impl<'a> Stage<'a> {
     /// An argument of the next node; in a new formula it counts as new.
     #[inline(always)]
-    fn operand(&self, operand: &'a Operand) -> Input<'a>
-        requires within { IsOperand (length self.now.inputs.now) (length self.now.changes.now) operand.now }
+    fn argument(&self, argument: &'a Operand) -> Input<'a>
+        requires within { IsOperand (length self.now.inputs.now) (length self.now.changes.now) argument.now }
         requires staged { StagedBy self.now }
         requires literals { IsLiteralChange self.now.is_new self.now.of_literals.now }
         ensures fit { HasFit result }
-        ensures ready { (c : NamesChange) → (names : List (List ℕ)) → (trees : List Tree) → IsStaged c names trees self.now → GivesItsTree self.now.is_new c (tree_of_operand names trees operand.now) result }
+        ensures ready { (c : NamesChange) → (names : List (List ℕ)) → (trees : List Tree) → IsStaged c names trees self.now → GivesItsTree self.now.is_new c (tree_of_operand names trees argument.now) result }
     {
-        let input = self.taken(operand);
+        let input = self.taken(argument);
         if self.is_new {
             return input.made_anew(self.of_literals);
         }
@@ -70,14 +70,14 @@ impl<'a> Stage<'a> {
 
     /// What an argument gives as it stands.
     #[inline(always)]
-    fn taken(&self, operand: &'a Operand) -> Input<'a>
-        requires within { IsOperand (length self.now.inputs.now) (length self.now.changes.now) operand.now }
+    fn taken(&self, argument: &'a Operand) -> Input<'a>
+        requires within { IsOperand (length self.now.inputs.now) (length self.now.changes.now) argument.now }
         requires few { length self.now.changes.now ≤ length self.now.nodes.now }
         requires fit { AllChangesFit self.now.changes.now (holdings_of self.now.nodes.now) }
         requires literals { IsLiteralChange self.now.is_new self.now.of_literals.now }
-        ensures { IsTaken self.now.inputs.now (holdings_of self.now.nodes.now) self.now.changes.now self.now.of_literals.now operand.now result }
+        ensures { IsTaken self.now.inputs.now (holdings_of self.now.nodes.now) self.now.changes.now self.now.of_literals.now argument.now result }
     {
-        match operand {
+        match argument {
             Operand::Literal(constant) => constant.input(self.of_literals),
             Operand::Name(place) => told(self.inputs, *place),
             Operand::Node(place) => {
@@ -87,18 +87,18 @@ impl<'a> Stage<'a> {
     }
 
     /// The positions of an index that are written. Up to four positions take no memory.
-    fn positions(&self, operands: &'a [Option<Operand>]) -> Result<Positions<'a>, AllocError>
-        requires within { AreOperands (length self.now.inputs.now) (length self.now.changes.now) operands.now }
+    fn positions(&self, arguments: &'a [Option<Operand>]) -> Result<Positions<'a>, AllocError>
+        requires within { AreOperands (length self.now.inputs.now) (length self.now.changes.now) arguments.now }
         requires staged { StagedBy self.now }
         requires literals { IsLiteralChange self.now.is_new self.now.of_literals.now }
         ensures fit { IfOk result (λ positions. AllHaveFit positions.items) }
         ensures ready { IfOk result (λ positions. (c : NamesChange) → (names : List (List ℕ)) → (trees : List Tree) → IsStaged c names trees self.now
-            → GiveTheirTrees self.now.is_new c (map (option_map (tree_of_operand names trees)) operands.now) positions.items) }
+            → GiveTheirTrees self.now.is_new c (map (option_map (tree_of_operand names trees)) arguments.now) positions.items) }
     {
         let mut positions = SmallVec::new(self.alloc);
-        for operand in operands {
-            positions.push(match operand {
-                Some(operand) => Some(self.operand(operand)),
+        for argument in arguments {
+            positions.push(match argument {
+                Some(argument) => Some(self.argument(argument)),
                 None => None,
             })?;
         }
@@ -132,15 +132,15 @@ impl<'a> Stage<'a> {
                 let Some(function) = scalar_before(*applied) else {
                     return None;
                 };
-                let right = self.operand(right);
+                let right = self.argument(right);
                 place_of_each(self.alloc, function, &right, held, meter)
             }
             Node::Dyad(applied, left, right) => {
                 let Some(function) = scalar_between(*applied) else {
                     return None;
                 };
-                let left = self.operand(left);
-                let right = self.operand(right);
+                let left = self.argument(left);
+                let right = self.argument(right);
                 place_of_pairs(self.alloc, function, &left, &right, held, meter)
             }
             _ => None,
@@ -213,14 +213,14 @@ impl<'a> Stage<'a> {
             Node::Constant(constant) => self.change_of_literal(constant, change),
             Node::Name(place) => self.change_of_name(*place, change),
             Node::Monad(function, right) => {
-                let right = self.operand(right);
+                let right = self.argument(right);
                 change_of_monad(
                     self.alloc, *function, &right, kept, made, held, change, meter,
                 )
             }
             Node::Dyad(function, left, right) => {
-                let left = self.operand(left);
-                let right = self.operand(right);
+                let left = self.argument(left);
+                let right = self.argument(right);
                 change_of_both(self.alloc, *function, &left, &right, held, change, meter)
             }
             Node::Index(array, positions) => {
@@ -229,7 +229,7 @@ impl<'a> Stage<'a> {
         }
     }
 
-    /// The change of an index of what these operands give, as `change_of` tells it. It stands alone, since its positions take room that the other
+    /// The change of an index of what these arguments give, as `change_of` tells it. It stands alone, since its positions take room that the other
     /// nodes need not clear.
     #[inline(never)]
     fn change_of_indexed(
@@ -249,7 +249,7 @@ impl<'a> Stage<'a> {
             → IsStep self.now.is_new c (tree_of_index names trees array.now positions.now) meter.old.ticks meter.new.ticks (with_change change.new result) }
         ensures joins { meter.new.joins ≡ meter.old.joins }
     {
-        let array = self.operand(array);
+        let array = self.argument(array);
         let positions = self.positions(positions)?;
         change_of_index(self.alloc, &array, &positions, held, change, meter)
     }
@@ -263,7 +263,7 @@ impl<'a> Stage<'a> {
             → (self.now.is_new ≡ false → kept.now ≡ summed_at c.old (tree_of_node names trees node.now)) → IsSumsStep c (tree_of_node names trees node.now) kept.now s) }
     {
         match node.totalled() {
-            Some((fold, right)) => sums_delta(self.alloc, fold, &self.operand(right), kept),
+            Some((fold, right)) => sums_delta(self.alloc, fold, &self.argument(right), kept),
             None if self.is_new => Ok(SumsDelta::Whole(None)),
             None => Ok(SumsDelta::Same),
         }

@@ -29,23 +29,23 @@ returns-in-Name-clause-step c = λ change names trees staged holds.
 
 pub change_of_monad-requires-clause-kept : goal.change_of_monad-requires-clause-kept
 change_of_monad-requires-clause-kept c =
-    kept_for c.args.self.now c.in-Monad.function c.in-Monad.right (rw c.in-Monad.is at c.requires.node) c.args.kept.now (subst (λ (n : Node). IsKeptBy c.args.self.now n c.args.kept.now) c.in-Monad.is c.requires.kept) c.operand-right.result c.operand-right.ensures.ready
+    kept_for c.args.self.now c.in-Monad.function c.in-Monad.right (rw c.in-Monad.is at c.requires.node) c.args.kept.now (subst (λ (n : Node). IsKeptBy c.args.self.now n c.args.kept.now) c.in-Monad.is c.requires.kept) c.argument-right.result c.argument-right.ensures.ready
 
 pub change_of_monad-requires-clause-made : goal.change_of_monad-requires-clause-made
 change_of_monad-requires-clause-made c =
-    made_for c.args.self.now c.in-Monad.function c.in-Monad.right c.args.made.now (subst (λ (n : Node). IsMadeBy c.args.self.now n c.args.made.now) c.in-Monad.is c.requires.made) c.operand-right.result c.operand-right.ensures.ready
+    made_for c.args.self.now c.in-Monad.function c.in-Monad.right c.args.made.now (subst (λ (n : Node). IsMadeBy c.args.self.now n c.args.made.now) c.in-Monad.is c.requires.made) c.argument-right.result c.argument-right.ensures.ready
 
 pub returns-in-Monad-clause-step : goal.returns-in-Monad-clause-step
 returns-in-Monad-clause-step c = λ change names trees staged holds.
     subst (λ (n : Node). IsStep c.args.self.now.is_new change (tree_of_node names trees n) c.args.meter.now.ticks c.change_of_monad.new.meter.ticks (with_change c.change_of_monad.new.change c.change_of_monad.result)) (sym c.in-Monad.is)
-    (monad_step c.args.self.now.is_new change c.in-Monad.function (tree_of_operand names trees c.in-Monad.right) c.operand-right.result c.args.held.now _ _ (with_change c.change_of_monad.new.change c.change_of_monad.result)
-    (c.operand-right.ensures.ready change names trees staged) (rw c.in-Monad.is at holds) c.change_of_monad.ensures.change)
+    (monad_step c.args.self.now.is_new change c.in-Monad.function (tree_of_operand names trees c.in-Monad.right) c.argument-right.result c.args.held.now _ _ (with_change c.change_of_monad.new.change c.change_of_monad.result)
+    (c.argument-right.ensures.ready change names trees staged) (rw c.in-Monad.is at holds) c.change_of_monad.ensures.change)
 
 pub returns-in-Dyad-clause-step : goal.returns-in-Dyad-clause-step
 returns-in-Dyad-clause-step c = λ change names trees staged holds.
     subst (λ (n : Node). IsStep c.args.self.now.is_new change (tree_of_node names trees n) c.args.meter.now.ticks c.change_of_both.new.meter.ticks (with_change c.change_of_both.new.change c.change_of_both.result)) (sym c.in-Dyad.is)
-    (dyad_step c.args.self.now.is_new change c.in-Dyad.function (tree_of_operand names trees c.in-Dyad.left) (tree_of_operand names trees c.in-Dyad.right) c.operand-left.result c.operand-right-in-Dyad.result c.args.held.now _ _ (with_change c.change_of_both.new.change c.change_of_both.result)
-    (c.operand-left.ensures.ready change names trees staged) (c.operand-right-in-Dyad.ensures.ready change names trees staged) (rw c.in-Dyad.is at holds) c.change_of_both.ensures.change)
+    (dyad_step c.args.self.now.is_new change c.in-Dyad.function (tree_of_operand names trees c.in-Dyad.left) (tree_of_operand names trees c.in-Dyad.right) c.argument-left.result c.argument-right-in-Dyad.result c.args.held.now _ _ (with_change c.change_of_both.new.change c.change_of_both.result)
+    (c.argument-left.ensures.ready change names trees staged) (c.argument-right-in-Dyad.ensures.ready change names trees staged) (rw c.in-Dyad.is at holds) c.change_of_both.ensures.change)
 
 pub returns-in-Index-clause-step : goal.returns-in-Index-clause-step
 returns-in-Index-clause-step c = λ change names trees staged holds.
@@ -68,10 +68,10 @@ returns-in-Name-clause-joins c = λ change names trees staged holds.
 pub returns-in-Monad-clause-joins : goal.returns-in-Monad-clause-joins
 returns-in-Monad-clause-joins c = λ change names trees staged holds.
     let function = c.in-Monad.function in
-    let well = kept_well c.args.self.now function c.in-Monad.right (rw c.in-Monad.is at c.requires.node) c.args.kept.now (subst (λ (n : Node). IsKeptBy c.args.self.now n c.args.kept.now) c.in-Monad.is c.requires.kept) c.operand-right.result c.operand-right.ensures.ready in
+    let well = kept_well c.args.self.now function c.in-Monad.right (rw c.in-Monad.is at c.requires.node) c.args.kept.now (subst (λ (n : Node). IsKeptBy c.args.self.now n c.args.kept.now) c.in-Monad.is c.requires.kept) c.argument-right.result c.argument-right.ensures.ready in
     subst (λ (n : Node). IsJoined c.args.self.now.is_new change (tree_of_node names trees n) c.args.meter.now.joins c.change_of_monad.new.meter.joins (with_change c.change_of_monad.new.change c.change_of_monad.result)) (sym c.in-Monad.is)
-    (monad_joined c.args.self.now.is_new change function (tree_of_operand names trees c.in-Monad.right) c.operand-right.result c.args.held.now _ _ (with_change c.change_of_monad.new.change c.change_of_monad.result)
-    (c.operand-right.ensures.ready change names trees staged) (rw c.in-Monad.is at holds) (λ fold total. c.change_of_monad.ensures.joins fold total (well fold total)) c.change_of_monad.ensures.no_joins)
+    (monad_joined c.args.self.now.is_new change function (tree_of_operand names trees c.in-Monad.right) c.argument-right.result c.args.held.now _ _ (with_change c.change_of_monad.new.change c.change_of_monad.result)
+    (c.argument-right.ensures.ready change names trees staged) (rw c.in-Monad.is at holds) (λ fold total. c.change_of_monad.ensures.joins fold total (well fold total)) c.change_of_monad.ensures.no_joins)
 
 pub returns-in-Dyad-clause-joins : goal.returns-in-Dyad-clause-joins
 returns-in-Dyad-clause-joins c = λ change names trees staged holds.

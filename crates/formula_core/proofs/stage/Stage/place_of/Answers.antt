@@ -21,8 +21,8 @@ returns-in-Some-clause-step c =
     IfSome_then c.place_of_each.result c.place_of_each.ensures.change
     (λ p made change names trees staged holds.
     subst (λ (n : Node). IsStep c.args.self.now.is_new change (tree_of_node names trees n) c.args.meter.now.ticks c.place_of_each.new.meter.ticks (Ok (delta_of_place p, 1))) (sym whole)
-    (monad_step c.args.self.now.is_new change (function1.Monad (monadic.Scalar f)) (tree_of_operand names trees c.in-Monad.right) c.operand-right.result c.args.held.now _ _ (Ok (delta_of_place p, 1))
-    (c.operand-right.ensures.ready change names trees staged) (λ old. rw whole at holds) made))
+    (monad_step c.args.self.now.is_new change (function1.Monad (monadic.Scalar f)) (tree_of_operand names trees c.in-Monad.right) c.argument-right.result c.args.held.now _ _ (Ok (delta_of_place p, 1))
+    (c.argument-right.ensures.ready change names trees staged) (λ old. rw whole at holds) made))
 
 pub returns-in-Some-scalar_between-clause-step : goal.returns-in-Some-scalar_between-clause-step
 returns-in-Some-scalar_between-clause-step c =
@@ -31,5 +31,5 @@ returns-in-Some-scalar_between-clause-step c =
     IfSome_then c.place_of_pairs.result c.place_of_pairs.ensures.change
     (λ p made change names trees staged holds.
     subst (λ (n : Node). IsStep c.args.self.now.is_new change (tree_of_node names trees n) c.args.meter.now.ticks c.place_of_pairs.new.meter.ticks (Ok (delta_of_place p, 1))) (sym whole)
-    (dyad_step c.args.self.now.is_new change (function2.Dyad (dyadic.Scalar f)) (tree_of_operand names trees c.in-Dyad.left) (tree_of_operand names trees c.in-Dyad.right) c.operand-left.result c.operand-right-in-Dyad.result c.args.held.now _ _ (Ok (delta_of_place p, 1))
-    (c.operand-left.ensures.ready change names trees staged) (c.operand-right-in-Dyad.ensures.ready change names trees staged) (λ old. rw whole at holds) made))
+    (dyad_step c.args.self.now.is_new change (function2.Dyad (dyadic.Scalar f)) (tree_of_operand names trees c.in-Dyad.left) (tree_of_operand names trees c.in-Dyad.right) c.argument-left.result c.argument-right-in-Dyad.result c.args.held.now _ _ (Ok (delta_of_place p, 1))
+    (c.argument-left.ensures.ready change names trees staged) (c.argument-right-in-Dyad.ensures.ready change names trees staged) (λ old. rw whole at holds) made))

@@ -10,35 +10,35 @@ use Rattle.formula_core.proofs.Stepping.{fit_more}
 use Rattle.formula_core.proofs.stage.Stage.positions.Goals as goal
 use Rattle.formula_core.proofs.stage.Stage.positions.Goals.{in-Some, in-None}
 
-pub operand-requires-clause-within : goal.operand-requires-clause-within
-operand-requires-clause-within c =
-    operand_within _ _ c.args.operands.now c.requires.within c.loop-operand.operand-index c.in-Some.operand c.loop-operand-test.true
-    (get_or_default c.args.operands.now c.loop-operand.operand-index None c.operand-item.result c.loop-operand-test.true ∙ (sym c.operand-item.is ∙ c.in-Some.is))
+pub argument-requires-clause-within : goal.argument-requires-clause-within
+argument-requires-clause-within c =
+    operand_within _ _ c.args.arguments.now c.requires.within c.loop-argument.argument-index c.in-Some.argument c.loop-argument-test.true
+    (get_or_default c.args.arguments.now c.loop-argument.argument-index None c.argument-item.result c.loop-argument-test.true ∙ (sym c.argument-item.is ∙ c.in-Some.is))
 
-pub loop-operand-preserved : goal.loop-operand-preserved
-loop-operand-preserved c =
+pub loop-argument-preserved : goal.loop-argument-preserved
+loop-argument-preserved c =
     let s = c.args.self.now in
-    let os = c.args.operands.now in
-    let k = c.loop-operand.operand-index in
-    let before = c.loop-operand.positions.items in
+    let os = c.args.arguments.now in
+    let k = c.loop-argument.argument-index in
+    let before = c.loop-argument.positions.items in
     let pushed = c.in_ok-push.ensures.ok in
-    let here = get_or_default os k None c.operand-item.result c.loop-operand-test.true ∙ sym c.operand-item.is in
-    elim c.match-operand.branch [
+    let here = get_or_default os k None c.argument-item.result c.loop-argument-test.true ∙ sym c.argument-item.is in
+    elim c.match-argument.branch [
       | in-Some w ↦
           let more = rw w.push-is at pushed in
           record {
-            fit = subst AllHaveFit (sym more) (fit_more before (Some w.operand.result) c.loop-operand.invariant.fit (w.operand.ensures.fit, tt));
+            fit = subst AllHaveFit (sym more) (fit_more before (Some w.argument.result) c.loop-argument.invariant.fit (w.argument.ensures.fit, tt));
             ready = λ change names trees staged.
                 subst (λ (is : List (Option Input)). GiveTheirTrees s.is_new change (map (option_map (tree_of_operand names trees)) (take (k + 1) os)) is) (sym more)
-                (position_ready s.is_new change (option_map (tree_of_operand names trees)) os k (Some w.in-Some.operand) before (Some w.operand.result) c.loop-operand-test.true (here ∙ w.in-Some.is)
-                (c.loop-operand.invariant.ready change names trees staged) (w.operand.ensures.ready change names trees staged, tt));
+                (position_ready s.is_new change (option_map (tree_of_operand names trees)) os k (Some w.in-Some.argument) before (Some w.argument.result) c.loop-argument-test.true (here ∙ w.in-Some.is)
+                (c.loop-argument.invariant.ready change names trees staged) (w.argument.ensures.ready change names trees staged, tt));
           }
       | in-None w ↦
           let more = rw w.push-is at pushed in
           record {
-            fit = subst AllHaveFit (sym more) (fit_more before None c.loop-operand.invariant.fit tt);
+            fit = subst AllHaveFit (sym more) (fit_more before None c.loop-argument.invariant.fit tt);
             ready = λ change names trees staged.
                 subst (λ (is : List (Option Input)). GiveTheirTrees s.is_new change (map (option_map (tree_of_operand names trees)) (take (k + 1) os)) is) (sym more)
-                (position_ready s.is_new change (option_map (tree_of_operand names trees)) os k None before None c.loop-operand-test.true (here ∙ w.in-None.is) (c.loop-operand.invariant.ready change names trees staged) tt);
+                (position_ready s.is_new change (option_map (tree_of_operand names trees)) os k None before None c.loop-argument-test.true (here ∙ w.in-None.is) (c.loop-argument.invariant.ready change names trees staged) tt);
           }
     ]

@@ -7,8 +7,8 @@ use Rattle.formula_core.specs.Stages.{IsStaged, GiveTheirTrees}
 use Rattle.formula_core.specs.Tables.{tree_of_operand}
 use Rattle.formula_core.proofs.stage.Stage.positions.Given as goal
 
-abbrev pub invariant-loop-operand : goal.invariant-loop-operand
-invariant-loop-operand l = record {
+abbrev pub invariant-loop-argument : goal.invariant-loop-argument
+invariant-loop-argument l = record {
   fit : AllHaveFit l.positions.items;
-  ready : (c : NamesChange) → (names : List (List ℕ)) → (trees : List Tree) → IsStaged c names trees l.fn.self → GiveTheirTrees l.fn.self.is_new c (map (option_map (tree_of_operand names trees)) (take l.operand-index l.fn.operands)) l.positions.items;
+  ready : (c : NamesChange) → (names : List (List ℕ)) → (trees : List Tree) → IsStaged c names trees l.fn.self → GiveTheirTrees l.fn.self.is_new c (map (option_map (tree_of_operand names trees)) (take l.argument-index l.fn.arguments)) l.positions.items;
 }
