@@ -6,7 +6,7 @@ ghost use Rattle.index_region.specs.declared.delta.Delta.TheVariants.{Whole};
 ghost use Rattle.change_rules.specs.Nodes.{is_whole};
 ghost use Rattle.formula_core.specs.Meaning.{of_right, of_both};
 
-use crate::kept::unknown;
+use crate::lent_fault::unknown;
 use crate::refreshing::Operation;
 use apl_expr::{Function1, Function2};
 use arrays_core::{Array, Fault};

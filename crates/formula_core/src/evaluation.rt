@@ -23,8 +23,7 @@ ghost use Rattle.formula_core.specs.Meaning.{eval, eval_positions, applied1, app
 
 use crate::application::{of_both, of_right};
 use crate::input::Input;
-use crate::kept::unknown;
-use crate::lent_fault::LentFault;
+use crate::lent_fault::{LentFault, unknown};
 use crate::literals::array_of;
 use crate::positions::written_of;
 use apl_expr::{Dyadic, Expr, Function1, Function2, Literal, Monadic, Sides};

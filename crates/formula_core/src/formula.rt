@@ -19,8 +19,8 @@ ghost use Rattle.formula_core.specs.Tables.{applies, subtrees, tree_at};
 
 use crate::evaluation::{Shows, errors_shown, inputs_at_rest};
 use crate::input::Input;
-use crate::kept::{Kept, NodeChange, adopt_all, push_place, unknown};
-use crate::lent_fault::LentFault;
+use crate::kept::{Kept, NodeChange, adopt_all, push_place};
+use crate::lent_fault::{LentFault, unknown};
 use crate::plan::Plan;
 use crate::stage::Stage;
 use crate::table::{Node, Operand, lower, room_for};
@@ -247,7 +247,7 @@ impl Formula {
         Ok(1)
     }
 
-    /// The same by the rule of the node. It stands alone, since a change takes room that need not be cleared where one place is all that changes.
+    /// Puts what changes of the node that comes next, as its rule says it, behind what changes of those before it. It stands alone, since a change takes room that need not be cleared where one place is all that changes.
     #[inline(never)]
     fn push_by_rule(
         &self,

@@ -9,9 +9,10 @@ ghost use Rattle.arrays_core.specs.Outcomes.{fault};
 ghost use Rattle.formula_core.specs.declared.sums.SumsDelta.TheVariants.{Same as Stays};
 ghost use Rattle.formula_core.specs.Holdings.{holding, holdings_of, can_be_lent, no_change, place_change, node_taking, IsFit, AllChangesFit};
 
+use crate::lent_fault::unknown;
 use crate::sums::{SumsDelta, take_sums_delta};
 use crate::table::Node;
-use arrays_core::{Array, Fault, Kind};
+use arrays_core::{Array, Fault};
 use change_rules::OnePlace;
 use index_region::{Delta, Patch};
 use std::alloc::AllocError;
@@ -119,13 +120,6 @@ pub(crate) fn push_place(changes: &mut Vec<NodeChange>, place: OnePlace) -> Resu
         Err(kind) => changes.push(NodeChange::of(Delta::Whole(Err(kind.into()))))?,
     }
     Ok(())
-}
-
-/// The error of what was not worked out yet.
-pub(crate) fn unknown() -> Fault
-    ensures { result ≡ fault Value }
-{
-    Kind::Value.into()
 }
 
 /// The result of a node takes its change. No memory is asked for: a patch writes its items where they lie, and a tail brings the room that its

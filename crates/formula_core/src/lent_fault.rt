@@ -5,10 +5,16 @@ ghost use Rattle.arrays_core.specs.declared.item.Kind.TheVariants.{Value};
 ghost use Rattle.arrays_core.specs.Outcomes.{fault};
 ghost use Rattle.formula_core.specs.Outcomes.{arisen_in};
 
-use crate::kept::unknown;
 use apl_tokens::Name;
-use arrays_core::Fault;
+use arrays_core::{Fault, Kind};
 use std::marker::Model;
+
+/// The error of what was not worked out, or is absent: VALUE ERROR.
+pub fn unknown() -> Fault
+    ensures { result ≡ fault Value }
+{
+    Kind::Value.into()
+}
 
 /// An error that is lent, with the name in whose formula it arose, if it is to get that for its origin: an error is large, and this is not.
 #[derive(Drop)]

@@ -21,6 +21,6 @@ mod table;
 pub use evaluation::{Shows, evaluate, evaluate_counted};
 pub use formula::Formula;
 pub use input::Input;
-pub use lent_fault::LentFault;
+pub use lent_fault::{LentFault, unknown};
 pub use literals::array_of;
 pub use plan::Plan;

@@ -2,8 +2,6 @@
 
 ghost use Rattle.std.specs.Prelude.{◌≡◌, IfOk};
 ghost use Rattle.arrays_core.specs.Arrays.{IsArray};
-ghost use Rattle.arrays_core.specs.declared.item.Kind.TheVariants.{Value};
-ghost use Rattle.arrays_core.specs.Outcomes.{fault};
 ghost use Rattle.formula_core.specs.Outcomes.{read};
 ghost use Rattle.sheet_recalc.specs.Entries.{names_of};
 ghost use Rattle.sheet_recalc.specs.Live.{IsCurrent};
@@ -11,8 +9,8 @@ ghost use Rattle.sheet_recalc.specs.Meaning.{val};
 
 use crate::entry::Entry;
 use apl_tokens::Name;
-use arrays_core::{Array, Fault, Kind};
-use formula_core::{Input, LentFault};
+use arrays_core::{Array, Fault};
+use formula_core::{Input, LentFault, unknown};
 use indexmap::IndexMap;
 use smallvec::SmallVec;
 
@@ -27,7 +25,7 @@ pub(crate) fn shown(entries: &IndexMap<Name, Entry>, name: Name) -> Result<&Arra
 {
     match entries.get(&name) {
         Some(entry) => entry.result(name),
-        None => Err(absent()),
+        None => Err(unknown()),
     }
 }
 
@@ -52,15 +50,5 @@ pub(crate) fn shown_is_array(shown: &Result<&Array, Fault>)
 {
     if let Ok(array) = shown {
         let _is_array = array.shape();
-    }
-}
-
-/// The error of an absent name.
-pub(crate) fn absent() -> Fault
-    ensures { result ≡ fault Value }
-{
-    Fault {
-        kind: Kind::Value,
-        origin: None,
     }
 }

@@ -22,7 +22,6 @@ ghost use Rattle.sheet_recalc.specs.Costs.{HasCost, HasTicks, names_at_rest, cha
 use crate::cell::cell_patch;
 use crate::commit::make;
 use crate::entry::Entry;
-use crate::evaluation::absent;
 use crate::growth::growth_for;
 use crate::pending::Pending;
 use crate::planning::{apply_next, begun, functions_in, plan_all, settle};
@@ -36,7 +35,7 @@ use apl_tokens::Name;
 use arrays_core::{Array, Fault};
 use change_core::Meter;
 use dep_order::Users;
-use formula_core::{Formula, Shows, evaluate, evaluate_counted};
+use formula_core::{Formula, Shows, evaluate, evaluate_counted, unknown};
 use index_region::Delta;
 use indexmap::IndexMap;
 use indexmap::map::Keys;
@@ -96,7 +95,7 @@ impl Shows for Sheet {
     fn result_of(&self, name: Name) -> Result<&Array, Fault> {
         match self.value(name) {
             Some(result) => result,
-            None => Err(absent()),
+            None => Err(unknown()),
         }
     }
 }

@@ -14,4 +14,4 @@ returns-in-Some c =
 pub returns-in-None : goal.returns-in-None
 returns-in-None c =
     let es = c.args.entries.now.entries in
-    ap (λ e. Err e) c.absent.ensures ∙ sym (val_absent (names_of es) (length (names_of es)) c.args.name (binding_of_name es c.args.name ∙ ap (option_map binding_of) (sym c.in-None.ensures.value)))
+    ap (λ e. Err e) c.unknown.ensures ∙ sym (val_absent (names_of es) (length (names_of es)) c.args.name (binding_of_name es c.args.name ∙ ap (option_map binding_of) (sym c.in-None.ensures.value)))
