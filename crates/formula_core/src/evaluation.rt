@@ -132,13 +132,10 @@ fn argument<'a, S: Shows>(
             Ok(array) => Ok(Ok(Evaluated::Lent(array))),
             Err(fault) => Ok(Err(fault)),
         },
-        Expr::Monad(function, right) => before(
-            alloc,
-            Function1::Monad(*function),
-            right,
-            names,
-            meter,
-        ),
+        Expr::Monad(function, right) => {
+            let function = Function1::Monad(*function);
+            before(alloc, function, right, names, meter)
+        }
         Expr::Dyad(function, sides) => {
             between(alloc, Function2::Dyad(*function), sides, names, meter)
         }
@@ -148,20 +145,14 @@ fn argument<'a, S: Shows>(
             let given = apply_index(alloc, operand, positions)?;
             Ok(counted(given, meter))
         }
-        Expr::Reduce(function, along, right) => before(
-            alloc,
-            Function1::Reduce(*function, *along),
-            right,
-            names,
-            meter,
-        ),
-        Expr::Scan(function, along, right) => before(
-            alloc,
-            Function1::Scan(*function, *along),
-            right,
-            names,
-            meter,
-        ),
+        Expr::Reduce(function, along, right) => {
+            let function = Function1::Reduce(*function, *along);
+            before(alloc, function, right, names, meter)
+        }
+        Expr::Scan(function, along, right) => {
+            let function = Function1::Scan(*function, *along);
+            before(alloc, function, right, names, meter)
+        }
         Expr::Outer(function, sides) => {
             between(alloc, Function2::Outer(*function), sides, names, meter)
         }
