@@ -1,7 +1,7 @@
 -- Only what the names in a tree show matters to what it gives, to its change and to what that costs.
 use Rattle.std.proofs.Common.{◌≡◌, ℕ, ◌+◌, List, [], ◌∷◌, ◌++◌, Bool, true, false, Result, Ok, Err, refl, ap, ◌∙◌, subst, sym}
 use Rattle.std.specs.List.{Contains, list_all, sum_by}
-use Rattle.std.proofs.lemmas.Bool.{false≢true, cond-true}
+use Rattle.std.proofs.lemmas.Bool.{cond-true}
 use Rattle.std.proofs.lemmas.List.Elements.{Contains-append_left, Contains-append_right, Contains-push}
 use Rattle.std.proofs.lemmas.List.Sums.{sum_by-append, sum_by_push}
 use Rattle.apl_expr.specs.Trees.{Tree, Const, Name, Monad, Dyad, Index, Reduce, Scan, Outer, Inner, Positions, NoPositions, Empty, Filled}
@@ -12,15 +12,15 @@ use Rattle.apl_expr.specs.declared.functions.Function2.TheVariants as function2
 use Rattle.arrays_core.specs.Arrays.{ArrayValue}
 use Rattle.arrays_core.specs.declared.fault.Fault.{Fault}
 use Rattle.index_region.specs.declared.delta.Delta.{Delta}
-use Rattle.index_region.specs.declared.delta.Delta.TheVariants.{Same, Patch, Grown, Whole}
+use Rattle.index_region.specs.declared.delta.Delta.TheVariants.{Same}
 use Rattle.change_core.specs.RuleModels.{RuleModel}
-use Rattle.change_rules.specs.Nodes.{is_same, all_same}
+use Rattle.change_rules.specs.Nodes.{is_same}
 use Rattle.selection_fns.specs.Index.{index_rule}
 use Rattle.arrays_core.specs.Outcomes.{Outcome}
 use Rattle.formula_core.specs.Meaning.{eval, eval_positions, applied1, applied2, indexed, in_front, empty_in_front, names_in, names_in_positions}
 use Rattle.formula_core.specs.Tables.{inside, inside_positions, subtrees}
 use Rattle.formula_core.specs.Rules.{right_rule, both_rule}
-use Rattle.formula_core.specs.Changes.{NamesChange, arguments, paired, operation_delta, operation_cost, written, values_of, change, changes, cost_at, operation_size, tree_size}
+use Rattle.formula_core.specs.Changes.{NamesChange, arguments, operation_delta, operation_cost, written, values_of, change, changes, cost_at, operation_size, tree_size}
 use Rattle.formula_core.specs.Plans.{node_cost_at, tree_cost}
 
 -- what holds of each name in an expression holds of each in a part of it
@@ -227,19 +227,10 @@ node_cost_alike false t c d h = cost_alike t c d h
 pub tree_cost_alike : (is_new : Bool) (t : Tree) (c d : NamesChange) → ((x : List ℕ) → Contains (names_in t) x → IsAlikeAt c d x) → tree_cost is_new c t ≡ tree_cost is_new d t
 tree_cost_alike is_new t c d h = subtree_sums_alike (λ x. IsAlikeAt c d x) (node_cost_at is_new c) (node_cost_at is_new d) (λ u k. node_cost_alike is_new u c d k) t h
 
--- arrays of which nothing changed
-all_paired : (arrays : List ArrayValue) (ds : List Delta) → list_all is_same ds ≡ true → all_same (paired arrays ds) ≡ true
-all_paired [] ds h = refl
-all_paired (a ∷ arrays) [] h = refl
-all_paired (a ∷ arrays) (Same ∷ ds) h = all_paired arrays ds h
-all_paired (a ∷ arrays) (Patch p ∷ ds) h = absurd (false≢true h)
-all_paired (a ∷ arrays) (Grown t ∷ ds) h = absurd (false≢true h)
-all_paired (a ∷ arrays) (Whole r ∷ ds) h = absurd (false≢true h)
-
 -- an operation of whose arguments nothing changed does not change, and costs nothing
 pub operation_unchanged : (p : RuleModel) (r : Result (List ArrayValue) Fault) (ds : List Delta) (held : Outcome) → list_all is_same ds ≡ true
     → (operation_delta p r ds held ≡ Same) × (operation_cost p r ds held ≡ 0)
-operation_unchanged p (Ok arrays) ds held h = let k = all_paired arrays ds h in (cond-true _ _ _ k, cond-true _ _ _ k)
+operation_unchanged p (Ok arrays) ds held h = (cond-true _ _ _ h, cond-true _ _ _ h)
 operation_unchanged p (Err e) ds held h = (cond-true _ _ _ h, refl)
 
 same_in_front : (d : Delta) (ds : List Delta) → d ≡ Same → list_all is_same ds ≡ true → list_all is_same (d ∷ ds) ≡ true

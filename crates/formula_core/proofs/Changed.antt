@@ -41,13 +41,26 @@ use Rattle.selection_fns.specs.Laws.Index.{length-selectors}
 use Rattle.arrays_core.specs.Outcomes.{Outcome, given}
 use Rattle.formula_core.specs.Meaning.{eval, eval_positions, applied1, applied2, in_front, empty_in_front, indexed}
 use Rattle.formula_core.specs.Rules.{right_rule, both_rule}
-use Rattle.formula_core.specs.Changes.{NamesChange, argument_in_front, arguments, result_of, paired, operation_delta, written, values_of, change, changes, FitsIn, FitsNow, IsChanged, IsTreeChanged}
+use Rattle.formula_core.specs.Changes.{NamesChange, argument_in_front, arguments, result_of, result_delta, operation_delta, written, values_of, change, changes, FitsIn, FitsNow}
 use Rattle.formula_core.proofs.Applied.{change_before, change_between, eval_before, eval_between}
 use Rattle.formula_core.proofs.Covering.{rules_cover, rules_grow}
 use Rattle.formula_core.proofs.Fitting.{fit_now, axis_lies}
 use Rattle.formula_core.proofs.Meant.{right_meant, both_meant, index_meant}
+use Rattle.formula_core.proofs.Values.{HaveValues, no_values, paired, values_more, delta_by_values}
 
--- so is each argument
+-- what was, with its change, is what is; both are arrays or errors
+pub record IsChanged (old : Outcome) (d : Delta) (new : Outcome) : Type 0 where
+  pub right : applied d old ≡ new
+  pub fit : FitsIn d old
+  pub sound_old : IfOk old IsArray
+  pub sound_new : IfOk new IsArray
+
+-- what a tree gave, with its change, is what it gives
+pub record IsTreeChanged (c : NamesChange) (t : Tree) : Type 0 where
+  pub right : applied (change c t) (eval t c.old) ≡ eval t c.new
+  pub fit : FitsIn (change c t) (eval t c.old)
+
+-- what each argument was, with its change, is what it is
 abbrev pub AllChanged : List Outcome → List Delta → List Outcome → Type 0
 AllChanged [] [] [] = Unit {0}
 AllChanged (o ∷ os) (d ∷ ds) (n ∷ ns) = IsChanged o d n × AllChanged os ds ns
@@ -92,7 +105,7 @@ unchanged (o ∷ os) (d ∷ ds) [] h k = absurd h
 -- the arguments as a rule takes them
 record Handed (os : List Outcome) (ds : List Delta) (arrays : List ArrayValue) : Type 0 where
   pub shows : Shows os (paired arrays ds)
-  pub seen : views (paired arrays ds) ≡ arrays
+  pub told : HaveValues (paired arrays ds) arrays ds
   pub count : length (paired arrays ds) ≡ length ds
   pub fit : AllFit (views (paired arrays ds)) (moved (paired arrays ds))
   pub axes : HasAxis (paired arrays ds)
@@ -106,13 +119,13 @@ box_fits (Grown t) a arrays ds h rest = (tt, rest)
 box_fits (Whole r) a arrays ds h rest = (tt, rest)
 
 handed : (os : List Outcome) (ds : List Delta) (arrays : List ArrayValue) → AllChanged os ds (map (λ a. Ok a) arrays) → Handed os ds arrays
-handed [] [] [] h = record { shows = tt; seen = refl; count = refl; fit = tt; axes = tt; sound = tt }
+handed [] [] [] h = record { shows = tt; told = no_values; count = refl; fit = tt; axes = tt; sound = tt }
 handed (o ∷ os) (d ∷ ds) (a ∷ arrays) h =
     let rest = handed os ds arrays h.1 in
     let now = subst (λ (n : Outcome). FitsNow d n) h.0.right (fit_now d o h.0.fit) in
     record {
       shows = (record { becomes = h.0.right; sound = h.0.sound_old }, rest.shows);
-      seen = ap (λ xs. a ∷ xs) rest.seen;
+      told = values_more a (record { ref_ptr = (0, 0); now = d }) (paired arrays ds) arrays ds rest.told;
       count = ap suc rest.count;
       fit = box_fits d a arrays ds now rest.fit;
       axes = (axis_lies a d now, rest.axes);
@@ -211,9 +224,11 @@ module _ (p : RuleModel) (law : ReachCovers p) (growing : IsGrowing p p.grows) (
   operation_becomes (Ok arrays) is =
       let given_all = handed os ds arrays (subst (λ (xs : List Outcome). AllChanged os ds xs) (all_arrays ns arrays is) all) in
       let args = paired arrays ds in
-      brings_up_to_date p law growing args (result_of p (arguments os)) (given_all.count ∙ count) (reaches_inside p (views args) (moved args)) given_all.fit given_all.axes given_all.sound os given_all.shows
+      let old = result_of p (arguments os) in
+      ap (λ d. applied d old) (sym (delta_by_values p args arrays ds old given_all.told))
+      ∙ brings_up_to_date p law growing args (result_of p (arguments os)) (given_all.count ∙ count) (reaches_inside p (views args) (moved args)) given_all.fit given_all.axes given_all.sound os given_all.shows
       (λ xs e. ap (λ ys. result_of p (arguments ys)) e ∙ ap (result_of p) (arrays_given xs))
-      ∙ ap (evaluation p) given_all.seen
+      ∙ ap (evaluation p) given_all.told.seen
 
   operation_fits : IfOk (result_of p (arguments os)) IsArray → (r : Result (List ArrayValue) Fault) → arguments ns ≡ r → FitsIn (operation_delta p r ds (result_of p (arguments os))) (result_of p (arguments os))
   operation_fits sound (Err e) is = elim (cases_Bool (list_all is_same ds)) [
@@ -224,8 +239,10 @@ module _ (p : RuleModel) (law : ReachCovers p) (growing : IsGrowing p p.grows) (
       let given_all = handed os ds arrays (subst (λ (xs : List Outcome). AllChanged os ds xs) (all_arrays ns arrays is) all) in
       let args = paired arrays ds in
       let old = result_of p (arguments os) in
-      let seen : evaluation p (views args) ≡ evaluation p arrays = ap (evaluation p) given_all.seen in
-      fit_of p args old (node_delta p args old) refl sound (node_is_right p args old) (operation_becomes (Ok arrays) is ∙ sym seen)
+      let seen : evaluation p (views args) ≡ evaluation p arrays = ap (evaluation p) given_all.told.seen in
+      let same : node_delta p args old ≡ result_delta p arrays ds old = delta_by_values p args arrays ds old given_all.told in
+      subst (λ (d : Delta). FitsIn d old) same
+      (fit_of p args old (node_delta p args old) refl sound (node_is_right p args old) (ap (λ d. applied d old) same ∙ (operation_becomes (Ok arrays) is ∙ sym seen)))
 
 -- what a function gives by its rule is what its expression means
 pub monad_meant : (f : Function1) (o : Outcome) → result_of (right_rule f) (arguments (o ∷ [])) ≡ applied1 f o

@@ -6,7 +6,7 @@ use Rattle.apl_expr.specs.declared.functions.Function2.{Function2}
 use Rattle.apl_expr.specs.declared.expr.Dyadic.TheVariants as dyadic
 use Rattle.apl_expr.specs.declared.functions.Function2.TheVariants as function2
 use Rattle.change_core.specs.Growth.{IsGrowing}
-use Rattle.change_core.specs.Tightness.{IsTight}
+use Rattle.change_core.specs.Tightness.{IsTight, ReachCovers}
 use Rattle.change_core.proofs.Covers.{covers}
 use Rattle.change_core.proofs.Growing.{never_grows}
 use Rattle.scalar_fns.specs.Laws.EachMonadic.{each_monadic_tight}
@@ -39,7 +39,19 @@ use Rattle.operator_fns.specs.Laws.OuterProduct.{outer_tight}
 use Rattle.operator_fns.specs.Laws.OuterProductGrowth.{outer_growing}
 use Rattle.operator_fns.specs.Laws.InnerProduct.{inner_tight}
 use Rattle.formula_core.specs.Rules.{right_rule, both_rule}
-use Rattle.formula_core.specs.Changes.{RulesCover, RulesGrow}
+use Rattle.std.specs.Prelude.{List, Bool}
+
+-- the law of each rule: where arguments agree outside their changed boxes, results agree outside what is reached
+pub record RulesCover : Type 0 where
+  pub of_right : (f : Function1) → ReachCovers (right_rule f)
+  pub of_both : (f : Function2) → ReachCovers (both_rule f)
+  pub of_positions : (positions : List Bool) → ReachCovers (index_rule positions)
+
+-- and where it says that its node grows, the result grows by one place
+pub record RulesGrow : Type 0 where
+  pub of_right : (f : Function1) → IsGrowing (right_rule f) (right_rule f).grows
+  pub of_both : (f : Function2) → IsGrowing (both_rule f) (both_rule f).grows
+  pub of_positions : (positions : List Bool) → IsGrowing (index_rule positions) (index_rule positions).grows
 
 right_tight : (f : Function1) → IsTight (right_rule f)
 right_tight (function1.Monad (monadic.Scalar f)) = each_monadic_tight f

@@ -1,44 +1,33 @@
 -- The operands of an operation, gathered for its rule where none of them is an error.
-use Rattle.std.proofs.Common.{◌≡◌, ℕ, suc, ◌+◌, ◌≤◌, List, [], ◌∷◌, length, map, Bool, ◌&&◌, ◌||◌, not, Option, Some, None, is_some, is_ok, Result, Ok, Err, refl, sym, ap, ◌∙◌, subst, IfOk, OnOk, false, if◌then◌else◌, arith}
+use Rattle.std.proofs.Common.{◌≡◌, ℕ, suc, ◌+◌, ◌≤◌, List, [], ◌∷◌, length, map, Bool, ◌&&◌, Option, Some, None, is_some, Result, Ok, Err, refl, sym, ap, ◌∙◌, subst, IfOk, OnOk, false, if◌then◌else◌, arith}
 use Rattle.std.specs.Borrow.{Bor}
-use Rattle.std.specs.List.{list_all, list_any}
+use Rattle.std.specs.List.{list_all}
 use Rattle.std.specs.Result.{result_err}
 use Rattle.std.specs.declared.alloc.AllocError.{AllocError}
 use Rattle.arrays_core.specs.Arrays.{ArrayValue}
 use Rattle.arrays_core.specs.declared.fault.Fault.{Fault}
 use Rattle.index_region.specs.declared.delta.Delta.{Delta}
 use Rattle.index_region.specs.declared.delta.Delta.TheVariants.{Same, Patch, Grown, Whole}
-use Rattle.index_region.specs.Boxes.{Interval}
 use Rattle.change_core.specs.Reaches.{Fits, AllFit}
 use Rattle.change_core.specs.Meters.{ticked}
-use Rattle.change_core.specs.RuleModels.{RuleModel, form_size}
-use Rattle.change_rules.specs.Nodes.{Argument, is_error as shows_error, views, moved, moved_by, marks, is_same, is_whole, is_grown, is_grown_at_most, any_grown, all_same, node_delta, node_cost, grown_in, grown_size, reached_delta, reached_cost}
+use Rattle.change_core.specs.RuleModels.{RuleModel}
+use Rattle.change_rules.specs.Nodes.{Argument, is_error as shows_error, views, moved, moved_by, is_same, node_delta, node_cost}
 use Rattle.change_rules.specs.Currency.{HasAxis}
-use Rattle.change_rules.specs.Evaluation.{evaluation}
 use Rattle.selection_fns.specs.Index.{count_written}
 use Rattle.formula_core.specs.declared.input.Input.{Input}
 use Rattle.formula_core.specs.declared.input.Input.TheVariants.{Good, Bad}
 use Rattle.arrays_core.specs.Outcomes.{Outcome}
 use Rattle.formula_core.specs.Rules.{with_change, IsRefreshed}
-use Rattle.formula_core.specs.Changes.{FitsNow, argument_in_front, arguments, paired, operation_delta, operation_cost}
+use Rattle.formula_core.specs.Changes.{FitsNow, argument_in_front, arguments, operation_delta, operation_cost}
 use Rattle.formula_core.specs.Inputs.{shown, stays, delta_of, HasFit, AllHaveFit, IsOperationChange, written_inputs, arrays_among, last_error}
 use Rattle.formula_core.proofs.Fitting.{axis_lies}
 use Rattle.formula_core.proofs.Stepping.{stays_same}
-
--- the same arrays with the same changes, wherever those lie
-record AreAlike (xs ys : List Argument) : Type 0 where
-  pub same : all_same xs ≡ all_same ys
-  pub whole : list_any (λ a. is_whole a.1.now) xs ≡ list_any (λ a. is_whole a.1.now) ys
-  pub seen : views xs ≡ views ys
-  pub grown : any_grown xs ≡ any_grown ys
-  pub most : list_all (λ a. is_grown_at_most a.1.now) xs ≡ list_all (λ a. is_grown_at_most a.1.now) ys
-  pub which : marks xs ≡ marks ys
-  pub moves : moved xs ≡ moved ys
+use Rattle.formula_core.proofs.Values.{HaveValues, no_values, values_more, delta_by_values, cost_by_values}
 
 -- the operands are all arrays, and this is what they are
 record IsGathered (inputs : List Input) : Type 0 where
   pub are : arguments (map shown inputs) ≡ Ok (views (arrays_among inputs))
-  pub alike : AreAlike (arrays_among inputs) (paired (views (arrays_among inputs)) (map delta_of inputs))
+  pub told : HaveValues (arrays_among inputs) (views (arrays_among inputs)) (map delta_of inputs)
   pub count : length (arrays_among inputs) ≡ length inputs
 
 none_behind : (a : ArrayValue) (r : Result (List ArrayValue) Fault) → result_err (argument_in_front (Ok a) r) ≡ None → result_err r ≡ None
@@ -50,20 +39,12 @@ some_in_front f (Err e) h = cc
 some_in_front f (Ok arrays) h = cc
 
 gathered : (inputs : List Input) → last_error inputs ≡ None → IsGathered inputs
-gathered [] h = record { are = refl; alike = record { same = refl; whole = refl; seen = refl; grown = refl; most = refl; which = refl; moves = refl }; count = refl }
+gathered [] h = record { are = refl; told = no_values; count = refl }
 gathered (Good a d ∷ inputs) h =
     let rest = gathered inputs (none_behind a (arguments (map shown inputs)) h) in
     record {
       are = ap (argument_in_front (Ok a)) rest.are;
-      alike = record {
-        same = ap (λ b. is_same d.now && b) rest.alike.same;
-        whole = ap (λ b. is_whole d.now || b) rest.alike.whole;
-        seen = ap (λ xs. a ∷ xs) rest.alike.seen;
-        grown = ap (λ b. is_grown d.now || b) rest.alike.grown;
-        most = ap (λ b. is_grown_at_most d.now && b) rest.alike.most;
-        which = ap (λ xs. is_grown d.now ∷ xs) rest.alike.which;
-        moves = ap (λ xs. moved_by d.now ∷ xs) rest.alike.moves;
-      };
+      told = values_more a d (arrays_among inputs) (views (arrays_among inputs)) (map delta_of inputs) rest.told;
       count = ap suc rest.count;
     }
 gathered (Bad f changed ∷ inputs) h = absurd (some_in_front f (arguments (map shown inputs)) h)
@@ -71,27 +52,6 @@ gathered (Bad f changed ∷ inputs) h = absurd (some_in_front f (arguments (map 
 -- an array in front has no error
 pub none_with_array : (a : ArrayValue) (d : Bor Delta) (inputs : List Input) → last_error inputs ≡ None → last_error (Good a d ∷ inputs) ≡ None
 none_with_array a d inputs h = ap (λ r. result_err (argument_in_front (Ok a) r)) (gathered inputs h).are
-
--- only the arrays and their changes count: which are new, which grew, and which boxes changed
-abbrev delta_from : (p : RuleModel) (same whole : Bool) (seen : List ArrayValue) (grown most : Bool) (which : List Bool) (moves : List (Option (List Interval))) (held : Outcome) → Delta
-delta_from p same whole seen grown most which moves held =
-    if same then Same
-    else if whole || not (is_ok held) then Whole (evaluation p seen)
-    else if grown then (if most && p.grows seen which then grown_in (p.form seen) (p.item seen) else Whole (evaluation p seen))
-    else reached_delta p seen moves
-
-abbrev cost_from : (p : RuleModel) (same whole : Bool) (seen : List ArrayValue) (grown most : Bool) (which : List Bool) (moves : List (Option (List Interval))) (held : Outcome) → ℕ
-cost_from p same whole seen grown most which moves held =
-    if same then 0
-    else if whole || not (is_ok held) then form_size (p.form seen)
-    else if grown then (if most && p.grows seen which then grown_size (p.form seen) else form_size (p.form seen))
-    else reached_cost p seen moves
-
-delta_alike : (p : RuleModel) (xs ys : List Argument) (held : Outcome) → AreAlike xs ys → node_delta p xs held ≡ node_delta p ys held
-delta_alike p xs ys held h = λ i. delta_from p (h.same i) (h.whole i) (h.seen i) (h.grown i) (h.most i) (h.which i) (h.moves i) held
-
-cost_alike : (p : RuleModel) (xs ys : List Argument) (held : Outcome) → AreAlike xs ys → node_cost p xs held ≡ node_cost p ys held
-cost_alike p xs ys held h = λ i. cost_from p (h.same i) (h.whole i) (h.seen i) (h.grown i) (h.most i) (h.which i) (h.moves i) held
 
 -- what is so of a cost that is answered, beside the change that was put in place
 pub in_place : (P : Delta × ℕ → Type 0) (change : Delta) (r : Result ℕ AllocError) → IfOk r (λ n. P (change, n)) → IfOk (with_change change r) P
@@ -113,11 +73,11 @@ refreshed_change p inputs held before after r none made =
     let all = gathered inputs none in
     record {
       delta = subst (λ (x : Delta). IfOk r (λ s. s.0 ≡ x))
-          (delta_alike p _ _ held all.alike ∙ ap (λ o. operation_delta p o (map delta_of inputs) held) (sym all.are)) made.delta;
+          (delta_by_values p (arrays_among inputs) (views (arrays_among inputs)) (map delta_of inputs) held all.told ∙ ap (λ o. operation_delta p o (map delta_of inputs) held) (sym all.are)) made.delta;
       cost = subst (λ (x : ℕ). IfOk r (λ s. s.1 ≡ x))
-          (cost_alike p _ _ held all.alike ∙ ap (λ o. operation_cost p o (map delta_of inputs) held) (sym all.are)) made.cost;
+          (cost_by_values p (arrays_among inputs) (views (arrays_among inputs)) (map delta_of inputs) held all.told ∙ ap (λ o. operation_cost p o (map delta_of inputs) held) (sym all.are)) made.cost;
       ticks = subst (λ (x : ℕ). after ≤ before + x)
-          (cost_alike p _ _ held all.alike ∙ ap (λ o. operation_cost p o (map delta_of inputs) held) (sym all.are)) made.ticks;
+          (cost_by_values p (arrays_among inputs) (views (arrays_among inputs)) (map delta_of inputs) held all.told ∙ ap (λ o. operation_cost p o (map delta_of inputs) held) (sym all.are)) made.ticks;
       least = made.least;
       rises = made.rises;
     }

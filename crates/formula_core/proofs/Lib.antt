@@ -6,6 +6,7 @@ pub mod Rooted
 pub mod Meant
 pub mod Covering
 pub mod Fitting
+pub mod Values
 pub mod Changed
 pub mod Alike
 pub mod Stepping

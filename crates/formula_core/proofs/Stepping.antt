@@ -1,9 +1,8 @@
 -- The change of an operation, worked out from what its operands give, is the change of its tree.
-use Rattle.std.proofs.Common.{◌≡◌, ℕ, ◌+◌, ◌≤◌, List, [], ◌∷◌, ◌++◌, length, map, Bool, true, false, ◌&&◌, Option, Some, None, is_some, Result, Ok, Err, refl, sym, ap, ◌∙◌, subst, arith, IfOk, if◌then◌else◌}
+use Rattle.std.proofs.Common.{◌≡◌, ℕ, ◌+◌, ◌≤◌, List, [], ◌∷◌, ◌++◌, map, Bool, true, false, ◌&&◌, Option, Some, None, is_some, Result, Ok, Err, refl, sym, ap, ◌∙◌, subst, IfOk, if◌then◌else◌}
 use Rattle.std.specs.List.{list_all}
 use Rattle.std.specs.declared.alloc.AllocError.{AllocError}
 use Rattle.std.proofs.lemmas.Bool.{false≢true}
-use Rattle.std.proofs.lemmas.List.{length-map}
 use Rattle.apl_expr.specs.Trees.{Tree, Index, before_argument, between_arguments, positions_of}
 use Rattle.apl_expr.specs.declared.functions.Function1.{Function1}
 use Rattle.apl_expr.specs.declared.functions.Function2.{Function2}
@@ -11,16 +10,15 @@ use Rattle.arrays_core.specs.Arrays.{ArrayValue}
 use Rattle.arrays_core.specs.declared.fault.Fault.{Fault}
 use Rattle.index_region.specs.declared.delta.Delta.{Delta}
 use Rattle.index_region.specs.declared.delta.Delta.TheVariants.{Same, Patch, Grown, Whole}
-use Rattle.change_core.specs.RuleModels.{RuleModel, form_size}
-use Rattle.change_rules.specs.Nodes.{views, is_same, is_whole, node_delta, node_cost}
-use Rattle.change_rules.specs.Evaluation.{evaluation}
+use Rattle.change_core.specs.RuleModels.{RuleModel}
+use Rattle.change_rules.specs.Nodes.{is_same, is_whole}
 use Rattle.selection_fns.specs.Index.{index_rule}
 use Rattle.formula_core.specs.declared.input.Input.{Input}
 use Rattle.formula_core.specs.declared.input.Input.TheVariants.{Good, Bad}
 use Rattle.arrays_core.specs.Outcomes.{Outcome}
 use Rattle.formula_core.specs.Meaning.{eval}
 use Rattle.formula_core.specs.Rules.{right_rule, both_rule}
-use Rattle.formula_core.specs.Changes.{NamesChange, arguments, result_of, paired, operation_delta, operation_cost, operation_size, written, values_of, change, changes, cost_at, tree_size}
+use Rattle.formula_core.specs.Changes.{NamesChange, arguments, result_of, result_delta, result_cost, operation_delta, operation_cost, operation_size, written, values_of, change, changes, cost_at, tree_size}
 use Rattle.formula_core.specs.Inputs.{shown, stays, delta_of, written_inputs, AllHaveFit, IsInput, IsOperationChange}
 use Rattle.formula_core.specs.Stages.{GivesItsTree, GiveTheirTrees, IsStep}
 use Rattle.formula_core.proofs.Applied.{change_before, change_between, cost_before, cost_between, eval_before, eval_between, size_before, size_between}
@@ -67,11 +65,11 @@ all_deltas (a ∷ arrays) (d ∷ ds) [] h = absurd h
 
 module _ (p : RuleModel) (os : List Outcome) (ds : List Delta) (is : List Input) (all : AllInputs os ds is) (held : Outcome) where
   delta_by : (r : Result (List ArrayValue) Fault) → arguments os ≡ r → operation_delta p r (map delta_of is) held ≡ operation_delta p r ds held
-  delta_by (Ok arrays) e = ap (λ xs. node_delta p (paired arrays xs) held) (all_deltas arrays ds is (subst (λ (xs : List Outcome). AllInputs xs ds is) (all_arrays os arrays e) all))
+  delta_by (Ok arrays) e = ap (λ xs. result_delta p arrays xs held) (all_deltas arrays ds is (subst (λ (xs : List Outcome). AllInputs xs ds is) (all_arrays os arrays e) all))
   delta_by (Err f) e = ap (λ (b : Bool). if b then Same else Whole (Err f)) (all_stay os ds is all)
 
   cost_by : (r : Result (List ArrayValue) Fault) → arguments os ≡ r → operation_cost p r (map delta_of is) held ≡ operation_cost p r ds held
-  cost_by (Ok arrays) e = ap (λ xs. node_cost p (paired arrays xs) held) (all_deltas arrays ds is (subst (λ (xs : List Outcome). AllInputs xs ds is) (all_arrays os arrays e) all))
+  cost_by (Ok arrays) e = ap (λ xs. result_cost p arrays xs held) (all_deltas arrays ds is (subst (λ (xs : List Outcome). AllInputs xs ds is) (all_arrays os arrays e) all))
   cost_by (Err f) e = refl
 
   pub delta_stepped : operation_delta p (arguments (map shown is)) (map delta_of is) held ≡ operation_delta p (arguments os) ds held
@@ -96,36 +94,21 @@ abbrev pub BeginsAnew : List Input → Type 0
 BeginsAnew [] = ⊥
 BeginsAnew (i ∷ is) = is_whole (delta_of i) ≡ true
 
-views_paired : (arrays : List ArrayValue) (ds : List Delta) → length ds ≡ length arrays → views (paired arrays ds) ≡ arrays
-views_paired [] ds h = refl
-views_paired (a ∷ arrays) [] h = absurd (omega (arith, h))
-views_paired (a ∷ arrays) (d ∷ ds) h = ap (λ xs. a ∷ xs) (views_paired arrays ds (omega (arith, h)))
-
 -- an operation of which an argument is new is worked out whole
 pub record IsWhole (p : RuleModel) (r : Result (List ArrayValue) Fault) (ds : List Delta) (held : Outcome) : Type 0 where
   pub delta : operation_delta p r ds held ≡ Whole (result_of p r)
   pub cost : operation_cost p r ds held ≡ operation_size p r
 
-whole_by : (p : RuleModel) (r : Result (List ArrayValue) Fault) (d : Delta) (ds : List Delta) (held : Outcome) → is_whole d ≡ true → ((arrays : List ArrayValue) → r ≡ Ok arrays → length (d ∷ ds) ≡ length arrays) → IsWhole p r (d ∷ ds) held
-whole_by p r Same ds held w count = absurd (false≢true w)
-whole_by p r (Patch q) ds held w count = absurd (false≢true w)
-whole_by p r (Grown t) ds held w count = absurd (false≢true w)
-whole_by p (Err e) (Whole o) ds held w count = record { delta = refl; cost = refl }
-whole_by p (Ok []) (Whole o) ds held w count = absurd (omega (arith, count [] refl))
-whole_by p (Ok (a ∷ arrays)) (Whole o) ds held w count =
-    let seen : views (paired (a ∷ arrays) (Whole o ∷ ds)) ≡ a ∷ arrays = views_paired (a ∷ arrays) (Whole o ∷ ds) (count (a ∷ arrays) refl) in
-    record {
-      delta = ap (λ xs. Whole (evaluation p xs)) seen;
-      cost = ap (λ xs. form_size (p.form xs)) seen;
-    }
-
-whole_count : (arrays : List ArrayValue) (is : List Input) → map shown is ≡ map (λ a. Ok a) arrays → length (map delta_of is) ≡ length arrays
-whole_count arrays is given = length-map is delta_of ∙ (sym (length-map is shown) ∙ (ap (λ xs. length xs) given ∙ length-map arrays (λ a. Ok a)))
+whole_by : (p : RuleModel) (r : Result (List ArrayValue) Fault) (d : Delta) (ds : List Delta) (held : Outcome) → is_whole d ≡ true → IsWhole p r (d ∷ ds) held
+whole_by p r Same ds held w = absurd (false≢true w)
+whole_by p r (Patch q) ds held w = absurd (false≢true w)
+whole_by p r (Grown t) ds held w = absurd (false≢true w)
+whole_by p (Err e) (Whole o) ds held w = record { delta = refl; cost = refl }
+whole_by p (Ok arrays) (Whole o) ds held w = record { delta = refl; cost = refl }
 
 pub whole_all : (p : RuleModel) (os : List Outcome) (is : List Input) (held : Outcome) → map shown is ≡ os → BeginsAnew is → IsWhole p (arguments (map shown is)) (map delta_of is) held
 whole_all p os [] held shows new = absurd new
 whole_all p os (i ∷ is) held shows new = whole_by p (arguments (map shown (i ∷ is))) (delta_of i) (map delta_of is) held new
-    (λ arrays given. whole_count arrays (i ∷ is) (all_arrays (map shown (i ∷ is)) arrays given))
 
 -- an operation's step where the formula was not worked out yet
 pub new_step : (p : RuleModel) (c : NamesChange) (t : Tree) (os : List Outcome) (is : List Input) (held : Outcome) (before after : ℕ) (r : Result (Delta × ℕ) AllocError) → map shown is ≡ os → BeginsAnew is

@@ -22,7 +22,7 @@ use Rattle.formula_core.specs.declared.table.Node.TheVariants as node
 use Rattle.formula_core.specs.Meaning.{eval}
 use Rattle.arrays_core.specs.Outcomes.{Outcome, fault}
 use Rattle.formula_core.specs.Tables.{tree_at, tree_of_operand, tree_of_node, IsOperand, AreOperands, IsNode}
-use Rattle.formula_core.specs.Changes.{NamesChange, change, changes, values_of, FitsIn, FitsNow, IsChanged, IsNameChanged, IsTreeChanged}
+use Rattle.formula_core.specs.Changes.{NamesChange, change, changes, values_of, FitsIn, FitsNow, IsNameChanged}
 use Rattle.formula_core.specs.Inputs.{shown, HasFit, IsAllOrNothing, IsInput}
 use Rattle.formula_core.specs.Holdings.{Holding, holding_at, holdings_of, not_worked_out, no_change}
 use Rattle.formula_core.specs.Plans.{node_change, AreInputs}
@@ -31,7 +31,7 @@ use Rattle.formula_core.specs.Stages.{IsStaged, IsTaken, IsLiteralChange, GiveTh
 use Rattle.formula_core.specs.Formulas.{is_operation}
 use Rattle.formula_core.proofs.Fitting.{fit_now}
 use Rattle.formula_core.proofs.LiteralArrays.{literal_is_array}
-use Rattle.formula_core.proofs.Changed.{AllChanged, monad_changed, dyad_changed, index_changed}
+use Rattle.formula_core.proofs.Changed.{AllChanged, monad_changed, dyad_changed, index_changed, IsChanged, IsTreeChanged}
 use Rattle.formula_core.proofs.Stepping.{ready_more}
 
 -- an input that says what changed fits

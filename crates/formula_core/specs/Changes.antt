@@ -1,23 +1,19 @@
 -- What a change of the names changes of the result of each node of a formula that holds results.
-use Rattle.std.specs.Prelude.{◌≡◌, ◌<◌, ℕ, List, [], ◌∷◌, Bool, true, false, length, drop, Result, Ok, Err, IfOk, if◌then◌else◌}
-use Rattle.std.specs.List.{list_all}
+use Rattle.std.specs.Prelude.{◌≡◌, ◌<◌, ℕ, List, [], ◌∷◌, ◌&&◌, ◌||◌, not, Bool, true, false, length, map, drop, is_ok, Result, Ok, Err, if◌then◌else◌}
+use Rattle.std.specs.List.{list_all, list_any}
 use Rattle.apl_expr.specs.Trees.{Tree, Const, Name, Monad, Dyad, Index, Reduce, Scan, Outer, Inner, Positions, NoPositions, Empty, Filled}
-use Rattle.apl_expr.specs.declared.functions.Function1.{Function1}
 use Rattle.apl_expr.specs.declared.functions.Function1.TheVariants as function1
-use Rattle.apl_expr.specs.declared.functions.Function2.{Function2}
 use Rattle.apl_expr.specs.declared.functions.Function2.TheVariants as function2
-use Rattle.arrays_core.specs.Arrays.{ArrayValue, IsArray}
+use Rattle.arrays_core.specs.Arrays.{ArrayValue}
 use Rattle.arrays_core.specs.Shapes.{size}
 use Rattle.arrays_core.specs.declared.fault.Fault.{Fault}
 use Rattle.index_region.specs.declared.delta.Delta.{Delta}
 use Rattle.index_region.specs.declared.delta.Delta.TheVariants.{Same, Patch, Grown, Whole}
 use Rattle.index_region.specs.Patches.{FitsPatch}
 use Rattle.index_region.specs.Tails.{TailValue, FitsTail}
-use Rattle.change_core.specs.Growth.{IsGrowing}
-use Rattle.change_core.specs.Tightness.{ReachCovers}
 use Rattle.change_core.specs.RuleModels.{RuleModel, form_size}
 use Rattle.change_rules.specs.Currency.{applied}
-use Rattle.change_rules.specs.Nodes.{Argument, is_same, node_delta, node_cost}
+use Rattle.change_rules.specs.Nodes.{is_same, is_whole, is_grown, is_grown_at_most, moved_by, grown_in, grown_size, reached_delta, reached_cost}
 use Rattle.change_rules.specs.Evaluation.{evaluation}
 use Rattle.selection_fns.specs.Index.{index_rule}
 use Rattle.arrays_core.specs.Outcomes.{Outcome}
@@ -50,19 +46,34 @@ abbrev pub result_of : RuleModel → Result (List ArrayValue) Fault → Outcome
 result_of p (Ok arrays) = evaluation p arrays
 result_of p (Err e) = Err e
 
--- arrays, each with what changed of it, wherever that lies
-abbrev pub paired : List ArrayValue → List Delta → List Argument
-paired (a ∷ arrays) (d ∷ deltas) = (a, record { ref_ptr = (0, 0); now = d }) ∷ paired arrays deltas
-paired _ _ = []
+-- the result grows with these arrays: each is as it was, or grew, and the rule says so
+abbrev pub result_grows : RuleModel → List ArrayValue → List Delta → Bool
+result_grows p arrays deltas = list_all is_grown_at_most deltas && p.grows arrays (map is_grown deltas)
+
+-- the change of a function's result, by its rule, from the arrays that its arguments are now, what changed of each, and what it gave before
+abbrev pub result_delta : RuleModel → List ArrayValue → List Delta → (held : Outcome) → Delta
+result_delta p arrays deltas held =
+    if list_all is_same deltas then Same
+    else if list_any is_whole deltas || not (is_ok held) then Whole (evaluation p arrays)
+    else if list_any is_grown deltas then (if result_grows p arrays deltas then grown_in (p.form arrays) (p.item arrays) else Whole (evaluation p arrays))
+    else reached_delta p arrays (map moved_by deltas)
+
+-- how many items of the result that computes at most
+abbrev pub result_cost : RuleModel → List ArrayValue → List Delta → (held : Outcome) → ℕ
+result_cost p arrays deltas held =
+    if list_all is_same deltas then 0
+    else if list_any is_whole deltas || not (is_ok held) then form_size (p.form arrays)
+    else if list_any is_grown deltas then (if result_grows p arrays deltas then grown_size (p.form arrays) else form_size (p.form arrays))
+    else reached_cost p arrays (map moved_by deltas)
 
 -- the change of an operation, from its arguments as they are now, their changes, and what it gave before
 abbrev pub operation_delta : RuleModel → Result (List ArrayValue) Fault → List Delta → (held : Outcome) → Delta
-operation_delta p (Ok arrays) deltas held = node_delta p (paired arrays deltas) held
+operation_delta p (Ok arrays) deltas held = result_delta p arrays deltas held
 operation_delta p (Err e) deltas held = if list_all is_same deltas then Same else Whole (Err e)
 
 -- what it costs: nothing beside an error
 abbrev pub operation_cost : RuleModel → Result (List ArrayValue) Fault → List Delta → (held : Outcome) → ℕ
-operation_cost p (Ok arrays) deltas held = node_cost p (paired arrays deltas) held
+operation_cost p (Ok arrays) deltas held = result_cost p arrays deltas held
 operation_cost p (Err e) deltas held = 0
 
 -- which positions are written
@@ -112,7 +123,7 @@ abbrev pub operation_size : RuleModel → Result (List ArrayValue) Fault → ℕ
 operation_size p (Ok arrays) = form_size (p.form arrays)
 operation_size p (Err e) = 0
 
--- the same of the node of a tree, where the names show these
+-- how many places the result of the node of a tree has, where the names show these
 abbrev pub tree_size : (List ℕ → Outcome) → Tree → ℕ
 tree_size names (Const l) = 0
 tree_size names (Name x) = 0
@@ -153,31 +164,7 @@ FitsNow (Grown t) (Ok a) = HasGrown a t
 FitsNow (Grown t) (Err e) = ⊥
 FitsNow _ _ = Unit {0}
 
--- what was, with its change, is what is; both are arrays or errors
-pub record IsChanged (old : Outcome) (d : Delta) (new : Outcome) : Type 0 where
-  pub right : applied d old ≡ new
-  pub fit : FitsIn d old
-  pub sound_old : IfOk old IsArray
-  pub sound_new : IfOk new IsArray
-
 -- what a name showed, with its change, is what it shows
 pub record IsNameChanged (c : NamesChange) (x : List ℕ) : Type 0 where
   pub right : applied (c.delta x) (c.old x) ≡ c.new x
   pub fit : FitsIn (c.delta x) (c.old x)
-
--- so is what a tree gave
-pub record IsTreeChanged (c : NamesChange) (t : Tree) : Type 0 where
-  pub right : applied (change c t) (eval t c.old) ≡ eval t c.new
-  pub fit : FitsIn (change c t) (eval t c.old)
-
--- the law of each rule: where arguments agree outside their changed boxes, results agree outside what is reached
-pub record RulesCover : Type 0 where
-  pub of_right : (f : Function1) → ReachCovers (right_rule f)
-  pub of_both : (f : Function2) → ReachCovers (both_rule f)
-  pub of_positions : (positions : List Bool) → ReachCovers (index_rule positions)
-
--- and where it says that its node grows, the result grows by one place
-pub record RulesGrow : Type 0 where
-  pub of_right : (f : Function1) → IsGrowing (right_rule f) (right_rule f).grows
-  pub of_both : (f : Function2) → IsGrowing (both_rule f) (both_rule f).grows
-  pub of_positions : (positions : List Bool) → IsGrowing (index_rule positions) (index_rule positions).grows
