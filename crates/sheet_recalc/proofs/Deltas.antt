@@ -12,10 +12,9 @@ use Rattle.formula_core.proofs.Alike.{change_alike, unchanged_costs_nothing}
 use Rattle.dep_order.specs.Follows.{Follows}
 use Rattle.dep_order.proofs.Following.{follows_has}
 use Rattle.sheet_recalc.specs.Names.{Names, Binding, Data, Formula, binding, Refers}
-use Rattle.sheet_recalc.specs.NameOrder.{IsNameOrder}
 use Rattle.sheet_recalc.specs.Costs.{origin_delta, delta_by, names_change, delta_at, name_delta, sheet_change}
 use Rattle.sheet_recalc.proofs.NameEquality.{equal-true, equal-same}
-use Rattle.sheet_recalc.proofs.Scratch.{settles}
+use Rattle.sheet_recalc.proofs.Scratch.{settles, IsNameOrder}
 
 -- `found` are the name and all that reach it
 module _ (new : Names) (name : List ℕ) (found : List (List ℕ)) (closed : Follows (λ a b. Refers new b a) (λ x. ⊥) found) (named : Contains found name) where

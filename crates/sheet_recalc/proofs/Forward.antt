@@ -22,12 +22,12 @@ use Rattle.sheet_recalc.specs.Costs.{IsNodeCost}
 use Rattle.sheet_recalc.specs.Live.{AreRightOnceTaken, plan_in}
 use Rattle.sheet_recalc.specs.ProposedSheet.{Outline, own_entry, proposed_names, proposed_change, proposed_cost, entry_of}
 use Rattle.sheet_recalc.specs.Costs.{functions_of}
-use Rattle.sheet_recalc.specs.Planning.{IsProposed, IsAffected, IsPlanAt, IsUnderWay, NoneFails, AreMade, IsPlanning, coming_cost, AllWait, IsComingTo, IsComing, IsOnTheWay, waiting_names, functions_at, name_cost, names_cost}
+use Rattle.sheet_recalc.specs.Planning.{IsProposed, IsPlanAt, IsUnderWay, NoneFails, AreMade, IsPlanning, coming_cost, AllWait, IsComingTo, IsComing, IsOnTheWay, waiting_names, functions_at, name_cost, names_cost}
 use Rattle.sheet_recalc.specs.declared.entry.Entry.TheVariants as entry
 use Rattle.sheet_recalc.specs.declared.plans.Plans.{Plans}
 use Rattle.sheet_recalc.proofs.Accounted.{few_ticks}
 use Rattle.sheet_recalc.proofs.PlannedNames.{bound_to, formula_cost, is_new_own}
-use Rattle.sheet_recalc.proofs.Working.{under_way_first, plain_next, plain_costs_nothing, plain_applies_none, cost_split, formula_next, planned_in_the_end}
+use Rattle.sheet_recalc.proofs.Working.{under_way_first, plain_next, plain_costs_nothing, plain_applies_none, cost_split, formula_next, planned_in_the_end, IsAffected}
 
 -- the last of names is one name
 last_of : (xs : List (List ℕ)) (x : List ℕ) → get_or (xs ++ x ∷ []) (length (xs ++ x ∷ []) - 1) [] ≡ x

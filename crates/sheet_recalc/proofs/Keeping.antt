@@ -11,12 +11,12 @@ use Rattle.std.specs.Prelude.{Vec}
 use Rattle.dep_order.specs.Reachability.{Chain}
 use Rattle.sheet_recalc.specs.Names.{Names, binding, Refers}
 use Rattle.sheet_recalc.specs.Meaning.{shown_beside, val}
-use Rattle.sheet_recalc.specs.NameOrder.{IsNameOrder, IsKeptOrder}
+use Rattle.sheet_recalc.specs.NameOrder.{IsKeptOrder}
 use Rattle.dep_order.specs.Follows.{Follows, IsOnce}
 use Rattle.dep_order.specs.Users.{Uses, IsWithin}
 use Rattle.sheet_recalc.specs.Live.{TellsUsers}
 use Rattle.sheet_recalc.proofs.NameEquality.{names_equal, equal-true, equal-same}
-use Rattle.sheet_recalc.proofs.Scratch.{shown_same, val_is, val_absent, cases_binding, front}
+use Rattle.sheet_recalc.proofs.Scratch.{shown_same, val_is, val_absent, cases_binding, front, IsNameOrder}
 use Rattle.dep_order.proofs.Following.{contains_here, contains_there, contains_one, contains_cases, contains_none, follows_append, follows_at, follows_has, follows_kept, follows_backward, backward, backward_has, backward_only}
 
 -- a name is among these, or not

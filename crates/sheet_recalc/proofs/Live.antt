@@ -18,7 +18,7 @@ use Rattle.arrays_core.specs.Outcomes.{Outcome, fault}
 use Rattle.formula_core.specs.Plans.{PlanValue}
 use Rattle.sheet_recalc.specs.Names.{Names, Data, binding, put, without, Refers}
 use Rattle.sheet_recalc.specs.Meaning.{shown_beside, val, val_at}
-use Rattle.sheet_recalc.specs.Entries.{names_of, binding_of, entry_outcome, shown_by, adopting}
+use Rattle.sheet_recalc.specs.Entries.{names_of, binding_of, entry_outcome, adopting}
 use Rattle.sheet_recalc.specs.Live.{IsRightEntry, IsCurrent, IsLive, IsReach, CanAdopt, AreRightOnceTaken, IsAdopting, entry_after, plan_in}
 use Rattle.sheet_recalc.specs.declared.entry.Entry.{Entry}
 use Rattle.sheet_recalc.specs.declared.entry.Entry.TheVariants as entry
@@ -27,6 +27,10 @@ use Rattle.sheet_recalc.proofs.Scratch.{val_absent}
 use Rattle.sheet_recalc.proofs.Putting.{lookup_put}
 use Rattle.sheet_recalc.proofs.Removing.{others, lookup_others, names_of_others}
 use Rattle.dep_order.proofs.Following.{contains_none}
+
+-- what a name shows, by what the entries hold
+abbrev pub shown_by : List (List ℕ × Entry) → List ℕ → Outcome
+shown_by entries name = unwrap_or (option_map (entry_outcome name) (lookup (bytes_eq name) entries)) (Err (fault Value))
 
 pub binding_of_name : (es : List (List ℕ × Entry)) (q : List ℕ) → binding (names_of es) q ≡ option_map binding_of (lookup (bytes_eq q) es)
 binding_of_name [] q = refl

@@ -7,11 +7,11 @@ use Rattle.sheet_recalc.specs.Changes.{SheetChange}
 use Rattle.std.specs.Map.{keys_of}
 use Rattle.sheet_recalc.specs.Costs.{AreAllThatReach}
 use Rattle.sheet_recalc.specs.Planning.{AllWait, CanBe, IsPlanning, IsProposed}
-use Rattle.sheet_recalc.specs.Pending.{HasPlace, IsAllReady, IsLaidOut, IsLaidOutOn, IsPendingOn, names_after, outline_for, steps_left}
+use Rattle.sheet_recalc.specs.Pending.{HasPlace, IsLaidOut, IsLaidOutOn, IsPendingOn, names_after, outline_for, steps_left}
 use Rattle.sheet_recalc.specs.declared.pending.Pending.{Pending}
 use Rattle.sheet_recalc.specs.declared.plans.Plans.{Plans}
 use Rattle.sheet_recalc.proofs.Forward.{all_made}
-use Rattle.sheet_recalc.proofs.Stepped.{begun_of_laid_out, of_laid_out, is_ready}
+use Rattle.sheet_recalc.proofs.Stepped.{begun_of_laid_out, of_laid_out, is_ready, IsAllReady}
 
 -- what was found for a proposal is laid out
 pub laid_out : (t : Tables) (p : Pending) (spent : ℕ) → IsProposed (outline_for t p) → CanBe (outline_for t p) → HasPlace t p.growth p.proposal → IsPlanning (outline_for t p) spent p.plans p.meter.ticks → AllWait p.plans

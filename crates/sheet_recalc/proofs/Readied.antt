@@ -18,7 +18,7 @@ use Rattle.sheet_recalc.specs.Costs.{AreAllThatReach}
 use Rattle.sheet_recalc.specs.Entries.{names_of, binding_of}
 use Rattle.sheet_recalc.specs.Live.{IsLive}
 use Rattle.sheet_recalc.specs.ProposedSheet.{Outline, is_data, data_entry, proposed_entry, proposed_references, own_entry, proposed_names, proposed_change, proposed_delta, proposed_cost}
-use Rattle.sheet_recalc.specs.Planning.{IsProposed, IsProposalAt, IsAffected, names_cost, CanBe}
+use Rattle.sheet_recalc.specs.Planning.{IsProposed, IsProposalAt, names_cost, CanBe}
 use Rattle.sheet_recalc.specs.declared.proposal.Proposal.{Proposal}
 use Rattle.sheet_recalc.specs.declared.proposal.Proposal.TheVariants as proposed
 use Rattle.sheet_recalc.proofs.Keeping.{name_order, distinct_once}
@@ -28,6 +28,7 @@ use Rattle.sheet_recalc.proofs.Refused.{few_put}
 use Rattle.sheet_recalc.proofs.Rebound.{has_order, acyclic, settled, closed_new, all_that_reach, shown_still}
 use Rattle.sheet_recalc.proofs.Deltas.{delta_is, delta_unreached}
 use Rattle.sheet_recalc.proofs.Sums.{cost_found}
+use Rattle.sheet_recalc.proofs.Working.{IsAffected}
 
 -- the names that stand in what a proposal makes are those that stand in it
 pub references_made : (shown : Outcome) (p : Proposal) → option_map_or referred (option_map binding_of (proposed_entry shown p)) [] ≡ proposed_references p

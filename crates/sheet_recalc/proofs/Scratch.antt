@@ -1,6 +1,6 @@
 -- Where each name stands after all that it refers to, one step from what the names show gives what they show: a greater depth
 -- changes nothing. And then nothing reaches itself.
-use Rattle.std.proofs.Common.{◌≡◌, ℕ, zero, suc, ◌<◌, List, [], ◌∷◌, take, length, slice_index_or, Option, Some, None, Err, IsSome, refl, sym, ap, ◌∙◌, subst, arith}
+use Rattle.std.proofs.Common.{◌≡◌, ℕ, zero, suc, ◌<◌, List, [], ◌∷◌, take, length, slice_index_or, Option, Some, None, Err, IsSome, refl, sym, ap, ◌∙◌, subst, arith, ◌≤◌}
 use Rattle.std.specs.List.{Contains}
 use Rattle.std.proofs.lemmas.List.{get_or-take, get_or_default, length-take}
 use Rattle.dep_order.specs.Reachability.{Chain, IsAcyclic}
@@ -11,7 +11,12 @@ use Rattle.formula_core.specs.Meaning.{names_in}
 use Rattle.formula_core.proofs.Alike.{eval_alike}
 use Rattle.sheet_recalc.specs.Names.{Names, Binding, Data, Formula, binding, Refers}
 use Rattle.sheet_recalc.specs.Meaning.{shown_beside, with_origin, val_at, val}
-use Rattle.sheet_recalc.specs.NameOrder.{IsNameOrder}
+
+-- each present name, after all the present names that it refers to
+pub record IsNameOrder (names : Names) (order : List (List ℕ)) : Type 0 where
+  pub all : (a : List ℕ) → IsSome (binding names a) → Contains order a
+  pub after : (i : ℕ) (b : List ℕ) → i < length order → Refers names (slice_index_or order i []) b → IsSome (binding names b) → Contains (take i order) b
+  pub short : length order ≤ length names
 
 pub shown_same : (name : List ℕ) (b : Option Binding) (f g : List ℕ → Outcome) → ((t : Tree) (x : List ℕ) → b ≡ Some (Formula t) → Contains (names_in t) x → f x ≡ g x) → shown_beside name b f ≡ shown_beside name b g
 shown_same name None f g h = refl

@@ -8,12 +8,18 @@ use Rattle.sheet_recalc.specs.Changes.{SheetChange}
 use Rattle.sheet_recalc.specs.Costs.{HasCost, HasTicks, NoItemFails, expression_cost, formulas_cost, changed_name, IsNodeCost, IsStepCost}
 use Rattle.formula_core.specs.Changes as formula
 use Rattle.sheet_recalc.specs.ProposedSheet.{proposed_change}
-use Rattle.sheet_recalc.specs.Planning.{IsOnTheWay}
-use Rattle.sheet_recalc.specs.Pending.{outline_for, names_after, steps_left, IsAllReady, IsBegunOn, IsLaidOut, IsLaidOutOn, IsPendingOn}
+use Rattle.sheet_recalc.specs.Planning.{IsOnTheWay, NoneFails}
+use Rattle.sheet_recalc.specs.Pending.{outline_for, names_after, steps_left, IsBegunOn, IsLaidOut, IsLaidOutOn, IsPendingOn, IsReadyToMake}
 use Rattle.sheet_recalc.specs.declared.pending.Pending.{Pending}
 use Rattle.sheet_recalc.specs.declared.plans.Plans.{Plans}
 use Rattle.sheet_recalc.proofs.Accounted.{expression_more}
 use Rattle.sheet_recalc.proofs.Forward.{all_planned, all_cost, all_few, all_whole}
+
+-- the pending change is worked out, and its cost
+pub record IsAllReady (t : Tables) (p : Pending) : Type 0 where
+  pub ready : IsReadyToMake t p.name p.proposal p.plans.found.entries p.growth
+  pub few : p.ticks ≤ p.plans.cost
+  pub whole : NoneFails (outline_for t p) → p.ticks ≡ p.plans.cost
 
 -- where no step is left, none was cut off
 pub none_cut : (p : Pending) → steps_left p ≡ 0 → p.is_cut ≡ false

@@ -24,7 +24,7 @@ use Rattle.sheet_recalc.specs.Costs.{delta_by, binding_cost}
 use Rattle.sheet_recalc.specs.Entries.{names_of, binding_of, adopting}
 use Rattle.sheet_recalc.specs.Live.{IsRightEntry, AreRightOnceTaken, CanAdopt}
 use Rattle.sheet_recalc.specs.ProposedSheet.{Outline, proposed_names, proposed_change, own_entry, entry_of}
-use Rattle.sheet_recalc.specs.Planning.{IsProposed, IsAffected, IsUntouched, IsPlanAt, NeedsNoPlan, HasItsPlan, IsUnderWay, name_cost, names_cost, functions_at}
+use Rattle.sheet_recalc.specs.Planning.{IsProposed, IsUntouched, IsPlanAt, NeedsNoPlan, HasItsPlan, IsUnderWay, name_cost, names_cost, functions_at}
 use Rattle.sheet_recalc.specs.Costs.{functions_of}
 use Rattle.sheet_recalc.specs.declared.entry.Entry.{Entry}
 use Rattle.sheet_recalc.specs.declared.entry.Entry.TheVariants as entry
@@ -34,6 +34,12 @@ use Rattle.sheet_recalc.proofs.Scratch.{val_absent}
 use Rattle.sheet_recalc.proofs.Keeping.{once_distinct, distinct_once, once_front}
 use Rattle.sheet_recalc.proofs.Live.{val_data, binding_of_name}
 use Rattle.sheet_recalc.proofs.PlannedNames.{at_root, binding_entry, entry_other, delta_other, shows_formula, formula_old, plan_now}
+
+-- the name that is bound anew is among these, each stands after all others that refer to it, and what is not among them is as it was
+pub record IsAffected (o : Outline) (found : List (List ℕ)) : Type 0 where
+  pub named : Contains found o.name
+  pub closed : Follows (λ a b. Refers (proposed_names o) b a) (λ x. ⊥) found
+  pub untouched : (q : List ℕ) → (Contains found q → ⊥) → IsUntouched o q
 
 append_same : {X Y : Type 0} (f g : X → Y) (xs ys : List X) → map f xs ≡ map g xs → map f ys ≡ map g ys → map f (xs ++ ys) ≡ map g (xs ++ ys)
 append_same f g xs ys left right = map-append f xs ys ∙ (ap (λ l. l ++ map f ys) left ∙ (ap (λ r. map g xs ++ r) right ∙ sym (map-append g xs ys)))

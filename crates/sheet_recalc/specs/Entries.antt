@@ -1,14 +1,12 @@
 -- The entries of a sheet, as the list of its names and as what they show.
-use Rattle.std.specs.Prelude.{◌≡◌, ℕ, List, Some, false, Ok, Err, map}
+use Rattle.std.specs.Prelude.{◌≡◌, ℕ, List, Some, false, Ok, map}
 use Rattle.std.specs.Str.{bytes_eq}
 use Rattle.std.specs.Map.{lookup}
-use Rattle.std.specs.Option.{unwrap_or, option_map}
-use Rattle.arrays_core.specs.declared.item.Kind.TheVariants.{Value}
 use Rattle.arrays_core.specs.Arrays.{ArrayValue}
 use Rattle.arrays_core.specs.Growth.{grown_by}
 use Rattle.index_region.specs.Patches.{PatchValue, FitsPatch, patched}
 use Rattle.index_region.specs.Tails.{TailValue, FitsTail}
-use Rattle.arrays_core.specs.Outcomes.{Outcome, fault}
+use Rattle.arrays_core.specs.Outcomes.{Outcome}
 use Rattle.formula_core.specs.Formulas.{root_result}
 use Rattle.formula_core.specs.Holdings.{adopted}
 use Rattle.formula_core.specs.Plans.{PlanValue}
@@ -59,7 +57,3 @@ HasData entries name a = lookup (bytes_eq name) entries ≡ Some (entry.Data a)
 -- the names of a sheet, in their order, each with what it is bound to
 abbrev pub names_of : List (List ℕ × Entry) → Names
 names_of entries = map (λ e. (e.0, binding_of e.1)) entries
-
--- what a name shows, by what the entries hold
-abbrev pub shown_by : List (List ℕ × Entry) → List ℕ → Outcome
-shown_by entries name = unwrap_or (option_map (entry_outcome name) (lookup (bytes_eq name) entries)) (Err (fault Value))

@@ -15,7 +15,7 @@ use Rattle.sheet_recalc.specs.Changes.{SheetChange, Accepts, HasRoomForName}
 use Rattle.sheet_recalc.specs.Costs.{changed_name, asked_change, expression_cost, AreAllThatReach, IsNodeCost}
 use Rattle.sheet_recalc.specs.Entries.{names_of}
 use Rattle.sheet_recalc.specs.Live.{AreRightOnceTaken, plan_in}
-use Rattle.sheet_recalc.specs.Planning.{IsProposalAt, IsProposed, NoneFails, IsPlanning, AllWait, IsOnTheWay}
+use Rattle.sheet_recalc.specs.Planning.{IsProposalAt, IsProposed, IsPlanning, AllWait, IsOnTheWay}
 use Rattle.sheet_recalc.specs.ProposedSheet.{Outline, own_entry, proposed_names, proposed_change}
 use Rattle.sheet_recalc.specs.Tables.{Tables}
 use Rattle.sheet_recalc.specs.declared.growth.Growth.{Growth}
@@ -65,12 +65,6 @@ pub record IsReadyToMake {A : Type 0} (t : Tables) (name : List ℕ) (proposal :
   pub sheet : IsSheet (proposed_names (outline_at t name proposal))
   pub proposal_at : IsProposalAt t.entries.entries name proposal
   pub place : HasPlace t growth proposal
-
--- the pending change is worked out, and its cost
-pub record IsAllReady (t : Tables) (p : Pending) : Type 0 where
-  pub ready : IsReadyToMake t p.name p.proposal p.plans.found.entries p.growth
-  pub few : p.ticks ≤ p.plans.cost
-  pub whole : NoneFails (outline_for t p) → p.ticks ≡ p.plans.cost
 
 -- it is being worked out, and this was spent before: where it was cut off, what came after the last function is not done, and what that has
 -- computed is not told yet

@@ -56,12 +56,6 @@ pub record IsUntouched (o : Outline) (q : List ℕ) : Type 0 where
   pub shows : val (proposed_names o) q ≡ val (names_of o.entries) q
   pub same : (proposed_change o).delta q ≡ Same
 
--- the name that is bound anew is among these, each stands after all others that refer to it, and what is not among them is as it was
-pub record IsAffected (o : Outline) (found : List (List ℕ)) : Type 0 where
-  pub named : Contains found o.name
-  pub closed : Follows (λ a b. Refers (proposed_names o) b a) (λ x. ⊥) found
-  pub untouched : (q : List ℕ) → (Contains found q → ⊥) → IsUntouched o q
-
 -- the plan is one of the name's formula, as the change makes it
 pub record IsPlanAt (o : Outline) (q : List ℕ) (p : formula_plan.PlanValue) : Type 0 where
   pub formula : FormulaValue
@@ -69,7 +63,7 @@ pub record IsPlanAt (o : Outline) (q : List ℕ) (p : formula_plan.PlanValue) : 
   pub of : formula_plan.IsPlanOf formula p
   pub planned : formula_plan.IsPlanned formula (proposed_change o) p
 
--- so is each
+-- each plan is one of its name's formula, as the change makes it
 abbrev pub ArePlans : Outline → (List ℕ → Option formula_plan.PlanValue) → Type 0
 ArePlans o plans = (q : List ℕ) (p : formula_plan.PlanValue) → plans q ≡ Some p → IsPlanAt o q p
 
@@ -147,7 +141,7 @@ pub record ArePlanned (o : Outline) (base waiting : ℕ) (found : List (List ℕ
   pub cost_is : cost ≡ ticked base spent
   pub ticks_are : ticks ≤ base + spent
 
--- so it is with the plans of a change
+-- of the names that a change reaches, those that wait no more have their plans, which cost this with what was spent before
 abbrev pub AreMade : Outline → ℕ → Plans → ℕ → Type 0
 AreMade o base w ticks = ArePlanned o base w.waiting w.found.entries w.cost ticks
 
