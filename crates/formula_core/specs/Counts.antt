@@ -30,7 +30,7 @@ pub record IsCounted {A : Type 0} (cost : ℕ) (Given : Type 0) (before after : 
 abbrev pub IsTreeCounted : {A : Type 0} → (List ℕ → Outcome) → Tree → (before after : ℕ) → Result A AllocError → Type 0
 IsTreeCounted names t before after r = IsCounted (cost_in names t) (IsOk (eval t names)) before after r
 
--- so it is with what positions cost
+-- what positions cost is counted, and nothing has failed in them where each that is written gives an array
 abbrev pub ArePositionsCounted : {A : Type 0} → (List ℕ → Outcome) → Positions → (before after : ℕ) → Result A AllocError → Type 0
 ArePositionsCounted names ps before after r = IsCounted (cost_in_positions names ps) (IsOk (eval_positions ps names)) before after r
 

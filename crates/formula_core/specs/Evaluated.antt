@@ -13,7 +13,7 @@ abbrev pub array_in : Evaluated → ArrayValue
 array_in (Lent a) = a.now
 array_in (Made a) = a
 
--- the same, or the error in its place
+-- the array of an operand, or the error in its place
 abbrev pub outcome_of : Result Evaluated Fault → Outcome
 outcome_of (Ok o) = Ok (array_in o)
 outcome_of (Err e) = Err e
@@ -29,7 +29,7 @@ written_arrays [] = []
 written_arrays (Some o ∷ positions) = array_in o ∷ written_arrays positions
 written_arrays (None ∷ positions) = written_arrays positions
 
--- the same for all positions of an index, or the error in their place
+-- the positions of an index, each with the array of its operand, or the error in their place
 abbrev pub positions_in : Result (Vec (Option Evaluated)) Fault → Result (List Position) Fault
 positions_in (Ok operands) = Ok (map position_in operands.items)
 positions_in (Err e) = Err e

@@ -88,6 +88,6 @@ pub record IsFit (d : NodeChange) (h : Holding) : Type 0 where
   pub delta : FitsIn d.delta h.result
   pub sums : FitsInSums d.sums h.sums
 
--- so it is with each node that has a change
+-- each node that has a change holds what that change fits
 abbrev pub AllChangesFit : List NodeChange → List Holding → Type 0
 AllChangesFit changes held = (k : ℕ) → k < length changes → IsFit (get_or changes k no_change) (get_or held k not_worked_out)

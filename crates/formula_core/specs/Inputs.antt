@@ -59,7 +59,7 @@ pub record IsOperationChange (rule : RuleModel) (operands : List Input) (held : 
   pub least : IfOk r (λ s. is_error s.0 ≡ false → ticked before s.1 ≤ after)
   pub rises : before ≤ after
 
--- so it is with each written position
+-- what changed of each written position lies in what it is now
 abbrev pub AllHaveFit : List (Option Input) → Type 0
 AllHaveFit [] = Unit {0}
 AllHaveFit (Some input ∷ positions) = HasFit input × AllHaveFit positions

@@ -37,7 +37,7 @@ use Rattle.operator_fns.specs.InnerProduct.{inner_whole}
 use Rattle.arrays_core.specs.declared.fault.Fault.{Fault}
 use Rattle.arrays_core.specs.Outcomes.{Outcome, given}
 
--- one number is a scalar, several are a vector; so it is with the characters of a text
+-- one number, or one character of a text, is a scalar, and several are a vector
 abbrev pub array_of : Literal → Result ArrayValue Kind
 array_of (Numbers []) = vector_of []
 array_of (Numbers (n ∷ [])) = Ok (scalar_of n)
@@ -93,7 +93,7 @@ applied2 f right left = and_then right (λ b. and_then left (λ a. given (of_bot
 abbrev pub in_front : Outcome → Result (List Position) Fault → Result (List Position) Fault
 in_front first others = and_then others (λ positions. and_then first (λ p. Ok (Some p ∷ positions)))
 
--- the same for an empty position, which has no error
+-- one more empty position before those that follow: it has no error, and theirs stands
 abbrev pub empty_in_front : Result (List Position) Fault → Result (List Position) Fault
 empty_in_front others = and_then others (λ positions. Ok (None ∷ positions))
 

@@ -62,7 +62,7 @@ pub record IsStaged (c : NamesChange) (names : List (List ℕ)) (trees : List Tr
   pub known : length s.nodes.now ≡ length trees
   pub done : (k : ℕ) → k < length s.changes.now → IsDone s.is_new c (tree_at trees k) (get_or (holdings_of s.nodes.now) k not_worked_out) (get_or s.changes.now k no_change)
 
--- so it is for some change
+-- there is a change of the names from which the stage is as it is
 abbrev pub StagedBy : Stage → Type 0
 StagedBy s = (c : NamesChange) × ((names : List (List ℕ)) × ((trees : List Tree) × IsStaged c names trees s))
 
@@ -96,7 +96,7 @@ pub record GivesItsTree (is_new : Bool) (c : NamesChange) (t : Tree) (i : Input)
   pub shows : is_new ≡ true → shown i ≡ eval t c.new
   pub anew : is_new ≡ true → is_whole (delta_of i) ≡ true
 
--- so does each position of an index that is written
+-- each position of an index that is written gives what its tree does; in a new formula it counts as new
 abbrev pub GiveTheirTrees : Bool → NamesChange → List (Option Tree) → List (Option Input) → Type 0
 GiveTheirTrees is_new c [] [] = Unit {0}
 GiveTheirTrees is_new c (None ∷ ts) (None ∷ is) = GiveTheirTrees is_new c ts is
@@ -118,7 +118,7 @@ pub record IsBegun (f : FormulaValue) (c : NamesChange) (changes : List NodeChan
   pub done : (k : ℕ) → k < length changes → IsDone f.is_new c (tree_at (subtrees f.tree) k) (get_or f.nodes k not_worked_out) (get_or changes k no_change)
   pub costs : cost ≡ ticked 0 (sum_by (node_cost_at f.is_new c) (take (length changes) (subtrees f.tree)))
 
--- so the next node of the formula has its change, behind those of the nodes before it
+-- the next node of the formula has its change, behind those of the nodes before it
 pub record IsOneMore (f : FormulaValue) (c : NamesChange) (changes new : List NodeChange) (items : ℕ) (before after : MeterValue) : Type 0 where
   pub change : NodeChange
   pub pushed : new ≡ changes ++ change ∷ []

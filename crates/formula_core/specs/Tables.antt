@@ -70,13 +70,13 @@ IsOperand names place (operand.Literal literal) = Unit {0}
 IsOperand names place (operand.Name k) = k < names
 IsOperand names place (operand.Node k) = k < place
 
--- so is each that is written
+-- each position that is written is a literal, one of the names, or of the nodes before a place
 abbrev pub AreOperands : ℕ → ℕ → List (Option Operand) → Type 0
 AreOperands names place [] = Unit {0}
 AreOperands names place (None ∷ operands) = AreOperands names place operands
 AreOperands names place (Some o ∷ operands) = IsOperand names place o × AreOperands names place operands
 
--- so are the arguments of the node at the place
+-- each argument of the node at the place is a literal, one of the names, or of the nodes before it
 abbrev pub IsNode : ℕ → ℕ → Node → Type 0
 IsNode names place (node.Constant literal) = Unit {0}
 IsNode names place (node.Name k) = k < names
@@ -84,7 +84,7 @@ IsNode names place (node.Monad f right) = IsOperand names place right
 IsNode names place (node.Dyad f left right) = IsOperand names place left × IsOperand names place right
 IsNode names place (node.Index array positions) = IsOperand names place array × AreOperands names place positions.items
 
--- so are those of all nodes, the first of which stands at the place
+-- each node, the first of which stands at the place, takes literals, names and nodes before it alone
 abbrev pub IsTable : ℕ → ℕ → List Node → Type 0
 IsTable names place [] = Unit {0}
 IsTable names place (node ∷ nodes) = IsNode names place node × IsTable names (suc place) nodes
@@ -97,7 +97,7 @@ pub record IsLowered (names names' : List (List ℕ)) (nodes nodes' : List Node)
   pub table : (count : ℕ) → length names' ≤ count → IsTable count 0 nodes → IsTable count 0 nodes'
   pub below : (count : ℕ) → length names' ≤ count → IsOperand count (length nodes') operand
 
--- the same for the positions of an index
+-- the names and nodes of the positions of an index were added, and these arguments stand for those that are written, whatever names follow
 pub record ArePositionsLowered (names names' : List (List ℕ)) (nodes nodes' : List Node) (positions : List (Option Tree)) (operands : List (Option Operand)) : Type 0 where
   pub named : names' ≡ names ++ names_in_positions (positions_of positions)
   pub trees : (later : List (List ℕ)) → trees_after (names' ++ later) [] nodes' ≡ trees_after (names' ++ later) [] nodes ++ inside_positions (positions_of positions)

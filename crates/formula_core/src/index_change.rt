@@ -1,4 +1,4 @@
-//! The change of an index, from what its operands give.
+//! The change of an index, from what its arguments give.
 
 ghost use Rattle.std.specs.Prelude.{◌≡◌, ◌≤◌, ◌∷◌, IfOk, is_some, suc, length, map, take};
 ghost use Rattle.std.specs.List.{list_all};
@@ -49,7 +49,7 @@ pub(crate) fn change_of_index(
     }
 }
 
-/// The change of an index whose operands are arrays. Up to four positions take no memory.
+/// The change of an index whose arguments are arrays. Up to four positions take no memory.
 fn change_of_arrays(
     alloc: Global,
     indexed: &(Seen, &Delta),

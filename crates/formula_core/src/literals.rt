@@ -1,6 +1,5 @@
 //! The arrays of literals.
 
-ghost use Rattle.std.specs.Prelude.{◌≡◌};
 ghost use Rattle.apl_expr.specs.Trees.{literal_of, Numbers, Text};
 ghost use Rattle.arrays_core.specs.Arrays.{IsAnswerTo};
 ghost use Rattle.formula_core.specs.Meaning.{array_of};
@@ -9,8 +8,7 @@ use apl_expr::Literal;
 use arrays_core::{ApplyFault, Array, copied};
 use std::alloc::Global;
 
-/// The array of a literal: one number is a scalar, several are a vector, and so it is with the characters of a text. More
-/// than 1,048,576 are LIMIT ERROR.
+/// The array of a literal: one number, or one character of a text, is a scalar, and several are a vector. More than 1,048,576 are LIMIT ERROR.
 pub fn array_of(alloc: Global, literal: &Literal) -> Result<Array, ApplyFault>
     ensures { IsAnswerTo (array_of (literal_of literal.now)) result }
 {

@@ -1,4 +1,4 @@
-//! The change of an operation, from what its operands give.
+//! The change of an operation, from what its arguments give. Beside an error among these it is that error.
 
 ghost use Rattle.std.specs.Prelude.{◌≡◌, [], ◌∷◌, Some, None, Ok, Err, IfSome, IsNone, if◌then◌else◌};
 ghost use Rattle.index_region.specs.Boxes.{box_size};
@@ -27,8 +27,7 @@ use scalar_fns::{EachDyadic, EachMonadic};
 use std::alloc::{AllocError, Global};
 use sum_rules::{LineSums, fold_totals_with_cost, read_totals_with_cost, refresh_totals_with_cost};
 
-/// The change of a function of its right argument, put in place of another one, and what it costs; beside an error it is that error. So it is with
-/// the calls below.
+/// The change of a function of its right argument, put in place of another one, and what it costs; beside an error it is that error.
 fn change_of_right(
     alloc: Global,
     function: Function1,
@@ -163,8 +162,7 @@ pub(crate) fn change_of_both(
     }
 }
 
-/// The one place that changes of a scalar function of its argument, where that is known at once; where it is not, nothing is done. So it is with the
-/// next call.
+/// The one place that changes of a scalar function of its argument, where that is known at once; where it is not, nothing is done.
 #[inline(always)]
 pub(crate) fn place_of_each(
     alloc: Global,
@@ -194,7 +192,7 @@ pub(crate) fn place_of_each(
     }
 }
 
-/// The one place that changes of a scalar function of its two arguments.
+/// The one place that changes of a scalar function of its two arguments, where that is known at once; where it is not, nothing is done.
 #[inline(always)]
 pub(crate) fn place_of_pairs(
     alloc: Global,

@@ -35,7 +35,7 @@ pub(crate) struct Operation<'a> {
 }
 
 impl<'a> Operation<'a> {
-    /// Its change, put in place of another one, where it follows this rule; and what it costs. So it is with the calls below.
+    /// Its change, put in place of another one, where it follows this rule; and what it costs.
     #[inline(always)]
     fn by<R: Rule>(
         &self,
@@ -66,7 +66,7 @@ impl<'a> Operation<'a> {
         refreshed_place(rule, self.args, self.held, meter)
     }
 
-    /// The change of a function of one argument.
+    /// The change of a function of one argument, put in place of another one, and what it costs.
     pub(crate) fn of_right(
         &self,
         function: Function1,
@@ -88,7 +88,7 @@ impl<'a> Operation<'a> {
         }
     }
 
-    /// The change of one that is no operator's.
+    /// The change of a function of one argument that is no operator's, put in place of another one, and what it costs.
     #[inline(always)]
     fn of_monadic(
         &self,
@@ -112,7 +112,7 @@ impl<'a> Operation<'a> {
         }
     }
 
-    /// The change of a function of two arguments, the left one first.
+    /// The change of a function of two arguments, the left one first, put in place of another one, and what it costs.
     pub(crate) fn of_both(
         &self,
         function: Function2,
@@ -132,7 +132,7 @@ impl<'a> Operation<'a> {
         }
     }
 
-    /// The change of one that is no operator's.
+    /// The change of a function of two arguments that is no operator's, put in place of another one, and what it costs.
     #[inline(always)]
     fn of_dyadic(
         &self,
@@ -162,7 +162,7 @@ impl<'a> Operation<'a> {
         }
     }
 
-    /// The change of an index: the array, and then the positions that are written.
+    /// The change of an index, put in place of another one, and what it costs: the array, and then the positions that are written.
     pub(crate) fn of_positions(
         &self,
         written: &[bool],

@@ -21,7 +21,7 @@ abbrev pub IsRightEntry : (List ℕ → Outcome) → List ℕ → Entry → Type
 IsRightEntry names q (entry.Data a) = Ok a ≡ names q
 IsRightEntry names q (entry.Formula f) = IsHeld f names × (with_origin q (root_result f.nodes) ≡ names q)
 
--- so it is with each entry, as from scratch
+-- each entry shows what its name shows from scratch, and each result of a formula is what its tree gives
 abbrev pub IsCurrent : List (List ℕ × Entry) → Type 0
 IsCurrent entries = (q : List ℕ) (e : Entry) → lookup (bytes_eq q) entries ≡ Some e → IsRightEntry (val (names_of entries)) q e
 

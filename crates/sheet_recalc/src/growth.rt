@@ -1,8 +1,6 @@
 //! Room that a change needs beyond what the sheet has, brought along by the change.
 
-ghost use Rattle.std.specs.Prelude.{◌≡◌, IfOk};
-ghost use Rattle.std.specs.Str.{bytes_eq};
-ghost use Rattle.dep_order.specs.Users.{Uses, HasRoomFor, HasNoEmptyBut};
+ghost use Rattle.std.specs.Prelude.{IfOk};
 ghost use Rattle.sheet_recalc.specs.Pending.{IsBrought, HasPlace};
 
 use crate::entry::Entry;

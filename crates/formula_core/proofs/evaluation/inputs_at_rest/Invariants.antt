@@ -1,4 +1,4 @@
-use Rattle.std.proofs.Common.{ℕ, List, take, length, ◌≤◌}
+use Rattle.std.proofs.Common.{ℕ, List, take}
 use Rattle.std.specs.List.{Contains}
 use Rattle.formula_core.specs.Changes.{at_rest}
 use Rattle.formula_core.specs.Plans.{AreInputs, IsNameSound}
