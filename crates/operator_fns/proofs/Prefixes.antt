@@ -11,8 +11,12 @@ use Rattle.arrays_core.specs.Items.{and_then}
 use Rattle.scalar_fns.specs.Folds.{folded}
 use Rattle.scalar_fns.proofs.RightFolds.{fold_more}
 use Rattle.operator_fns.specs.LinearScan.{depth, run_to}
-use Rattle.operator_fns.specs.Prefixes.{fold_to, IsFresh, FoldsWithNext, Continues, IsClosed}
+use Rattle.operator_fns.specs.Prefixes.{fold_to, IsFresh, Continues, IsClosed}
 use Rattle.operator_fns.proofs.Runs.{through, as_it_is, run_first, run_more, first_row, later_row}
+
+-- what a list of numbers and one more of 64 bits fold to
+pub record FoldsWithNext (f : ℤ → ℤ → Result ℤ Kind) (gives : ℤ → Result ℤ Kind) (xs : List ℤ) : Type 0 where
+  pub is : (v : ℤ) → FitsSigned w64 v → gives v ≡ folded f (xs ++ v ∷ [])
 
 regroup : {A B C : Type 0} (r : Result A Kind) (g : A → Result B Kind) (h : B → Result C Kind) → and_then (and_then r g) h ≡ and_then r (λ z. and_then (g z) h)
 regroup (Ok z) g h = refl

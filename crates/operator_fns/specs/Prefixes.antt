@@ -1,5 +1,5 @@
 -- The numbers of a line so far, as a function of the number that comes next.
-use Rattle.std.specs.Prelude.{◌≡◌, ◌≤◌, ℕ, unsigned_abs, nat_le, nat_lt, ℤ, pos, negsuc, ◌+ℤ◌, ◌-ℤ◌, ◌*ℤ◌, int_le, ◌&&◌, FitsSigned, List, [], ◌∷◌, ◌++◌, Bool, true, ◌||◌, if◌then◌else◌, Option, Some, None, Result, Ok, Err}
+use Rattle.std.specs.Prelude.{◌≡◌, ◌≤◌, ℕ, unsigned_abs, nat_le, nat_lt, ℤ, pos, negsuc, ◌+ℤ◌, ◌-ℤ◌, ◌*ℤ◌, int_le, ◌&&◌, FitsSigned, List, Bool, true, ◌||◌, if◌then◌else◌, Option, Some, None, Result, Ok, Err}
 use Rattle.std.specs.Int.{w64}
 use Rattle.std.specs.Ordering.{int_eq}
 use Rattle.arrays_core.specs.Items.{and_then}
@@ -16,10 +16,6 @@ fold_to f zs stride count place = folded f (run_to (pos 0) zs stride count place
 -- a number of 64 bits as it is: what no numbers and that one fold to
 pub record IsFresh (gives : ℤ → Result ℤ Kind) : Type 0 where
   pub is : (v : ℤ) → FitsSigned w64 v → gives v ≡ Ok v
-
--- what a list of numbers and one more of 64 bits fold to
-pub record FoldsWithNext (f : ℤ → ℤ → Result ℤ Kind) (gives : ℤ → Result ℤ Kind) (xs : List ℤ) : Type 0 where
-  pub is : (v : ℤ) → FitsSigned w64 v → gives v ≡ folded f (xs ++ v ∷ [])
 
 -- a function of the next number, where another one is applied to it first
 pub record Continues (first before after : ℤ → Result ℤ Kind) : Type 0 where
