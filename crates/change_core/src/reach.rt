@@ -4,7 +4,7 @@ ghost use Rattle.std.specs.Prelude.{◌≡◌, ◌≤◌, ℕ, List, length, Som
 ghost use Rattle.arrays_core.specs.Limits.{most_axes};
 ghost use Rattle.index_region.specs.Boxes.{join_boxes};
 ghost use Rattle.change_core.specs.Reaches.{bounded, as_reach};
-ghost use Rattle.change_core.specs.Growth.{last_place};
+ghost use Rattle.change_core.specs.Growth.{last_place, IsGrowing};
 ghost use Rattle.change_core.specs.Tightness.{ReachCovers, ReachLies};
 
 use crate::rule::Rule;
@@ -68,6 +68,14 @@ pub(crate) fn as_reach(region: Option<IndexBox>) -> Reach
 pub fn reach_covers<R: Rule>(rule: &R)
     ensures covers { ReachCovers (R.model rule.now) }
     ensures lies { ReachLies (R.model rule.now) }
+{
+    let _rule = rule;
+}
+
+/// States the law of growth of a rule: if its marked arguments grew by one place of their first axis and `grows` holds, the result grows by one
+/// place and keeps the items of its old places.
+pub fn growth_extends<R: Rule>(rule: &R)
+    ensures { IsGrowing (R.model rule.now) (R.model rule.now).grows }
 {
     let _rule = rule;
 }
