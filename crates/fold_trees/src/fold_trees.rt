@@ -13,6 +13,7 @@ use arrays_core::Kind;
 use operator_fns::{NewPlaces, NewTrees, SumTrees};
 use scalar_fns::Scalar2;
 use std::alloc::{AllocError, Global};
+use std::cell::Cell;
 use std::marker::Model;
 
 /// Whether folds by a function can be kept as trees: what is kept of two parts tells what is to be kept of both together.
@@ -68,6 +69,8 @@ enum Places {
 #[derive(Drop)]
 pub struct FoldTrees {
     trees: Trees,
+    /// The line that `remember_failing` was given last.
+    failing: Cell<usize>,
 }
 
 impl Model for FoldTrees {
@@ -104,7 +107,10 @@ impl FoldTrees {
             Scalar2::Or => Trees::AnyTrue(PartTrees::build(alloc, numbers, count, step)?),
             _ => unreachable!(),
         };
-        Ok(FoldTrees { trees })
+        Ok(FoldTrees {
+            trees,
+            failing: Cell::new(0),
+        })
     }
 
     /// The function by which the lines are folded.
@@ -156,6 +162,17 @@ impl FoldTrees {
             Trees::AllTrue(trees) => trees.result(line),
             Trees::AnyTrue(trees) => trees.result(line),
         }
+    }
+
+    /// Returns the line that was remembered last, lines counted from 0; the first where none was. No contract speaks of it: the line may not fail
+    /// any more, and may not be there.
+    pub fn failing_line(&self) -> usize {
+        self.failing.get()
+    }
+
+    /// Remembers a line whose fold fails, as the one to look at first.
+    pub fn remember_failing(&self, line: usize) {
+        self.failing.set(line);
     }
 
     /// The fold of the numbers of a line and of one more behind them, from the last to the first, or the error that it meets. It takes one

@@ -113,7 +113,7 @@ record Counts (fold : Reduce) (count : Outcome → Delta → Outcome → ℕ →
   pub folds : (a : ArrayValue) (d : Delta) (held : Outcome) (n : ℕ) → is_narrow (axis_at (length a.shape) fold.along) d ≡ false → count (Ok a) d held n ≡ n * (length_along fold.along a.shape - 1)
 
 none_narrow : (fold : Reduce) (a : ArrayValue) (d : Delta) (held : Outcome) → is_narrow (axis_at (length a.shape) fold.along) d ≡ false → has_trees_for fold a d held ≡ false
-none_narrow fold a d held h = ap (λ (b : Bool). b && (is_ok held && (is_of_numbers a.item_type && had_trees d (length_along fold.along a.shape)))) h
+none_narrow fold a d held h = ap (λ (b : Bool). b && (is_of_numbers a.item_type && had_trees d held (length_along fold.along a.shape))) h
 
 most_counts : (fold : Reduce) → Counts fold (most_joins_of fold)
 most_counts fold = record { error = λ e d other held gave n m. refl; folds = λ a d held n h. cond-false (has_trees_for fold a d held) _ _ (none_narrow fold a d held h) }

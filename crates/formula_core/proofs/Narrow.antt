@@ -13,6 +13,7 @@ use Rattle.index_region.specs.declared.delta.Delta.TheVariants.{Same, Patch, Gro
 use Rattle.index_region.specs.Boxes.{Interval, box_size, fits, is_empty, join_boxes, met, unless_empty}
 use Rattle.index_region.specs.Checks.{Form}
 use Rattle.index_region.specs.Patches.{PatchValue}
+use Rattle.index_region.specs.Tails.{TailValue}
 use Rattle.index_region.proofs.Boxes.{fits_length}
 use Rattle.operator_fns.specs.Reduce.{reduce_form}
 use Rattle.operator_fns.specs.Laws.ReducedShapes.{reduce_facts}
@@ -100,14 +101,16 @@ module _ (fold : Reduce) (a : ArrayValue) (first : axis_at (length a.shape) fold
   places_without_first : form_size (reduce_form fold.along a) ≤ size (drop 1 a.shape)
   places_without_first = places_by (reduce_form fold.along a) refl
 
-pub narrow_within : (fold : Reduce) (a : ArrayValue) (d : Delta) (held : Outcome) → FitsNow d (Ok a) → is_narrow (axis_at (length a.shape) fold.along) d ≡ true → is_ok held ≡ true
-    → operation_cost (total_rule fold) (Ok (a ∷ [])) (d ∷ []) held ≤ new_items d
-narrow_within fold a (Patch p) held fit narrow ok =
-    let arg : Argument = (a, record { ref_ptr = (0, 0); now = Patch p }) in
-    omega (arith, cost_reached (total_rule fold) (arg ∷ []) held refl ok refl, reached_within fold a p fit.inside narrow)
-narrow_within fold a Same held fit narrow ok = absurd (false≢true narrow)
-narrow_within fold a (Grown t) held fit narrow ok =
+-- where it grew along that axis, also after an error
+pub grown_within : (fold : Reduce) (a : ArrayValue) (t : TailValue) (held : Outcome) → FitsNow (Grown t) (Ok a) → is_narrow (axis_at (length a.shape) fold.along) (Grown t) ≡ true
+    → operation_cost (total_rule fold) (Ok (a ∷ [])) (Grown t ∷ []) held ≤ new_items (Grown t)
+grown_within fold a t held fit narrow =
     let arg : Argument = (a, record { ref_ptr = (0, 0); now = Grown t }) in
     let first : axis_at (length a.shape) fold.along ≡ 0 = eqb-true _ _ narrow in
-    omega (arith, cost_grown fold arg t held refl ok first, places_without_first fold a first fit.some_axis, fit.one_place)
-narrow_within fold a (Whole r) held fit narrow ok = absurd (false≢true narrow)
+    omega (arith, cost_grown fold arg t held refl first, places_without_first fold a first fit.some_axis, fit.one_place)
+
+pub patch_within : (fold : Reduce) (a : ArrayValue) (p : PatchValue) (held : Outcome) → FitsNow (Patch p) (Ok a) → is_narrow (axis_at (length a.shape) fold.along) (Patch p) ≡ true → is_ok held ≡ true
+    → operation_cost (total_rule fold) (Ok (a ∷ [])) (Patch p ∷ []) held ≤ new_items (Patch p)
+patch_within fold a p held fit narrow ok =
+    let arg : Argument = (a, record { ref_ptr = (0, 0); now = Patch p }) in
+    omega (arith, cost_reached (total_rule fold) (arg ∷ []) held refl ok refl, reached_within fold a p fit.inside narrow)

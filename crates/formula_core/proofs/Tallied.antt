@@ -1,5 +1,5 @@
 -- How many sums the nodes so far have joined.
-use Rattle.std.proofs.Common.{◌≡◌, ℕ, zero, suc, ◌+◌, ◌-◌, ◌*◌, ◌<◌, ◌≤◌, List, [], ◌∷◌, length, take, nat_lt, Bool, true, false, cond, Option, Some, None, Ok, Err, refl, sym, ap, ◌∙◌, subst, arith, inl, inr, if◌then◌else◌}
+use Rattle.std.proofs.Common.{◌≡◌, ℕ, zero, suc, ◌+◌, ◌-◌, ◌*◌, ◌<◌, ◌≤◌, List, [], ◌∷◌, length, take, min, nat_lt, Bool, true, false, cond, Option, Some, None, Ok, Err, refl, sym, ap, ◌∙◌, subst, arith, inl, inr, if◌then◌else◌}
 use Rattle.std.specs.List.{count_by, sum_by}
 use Rattle.std.specs.Option.{option_map_or}
 use Rattle.std.proofs.lemmas.Bool.{cases_Bool, cond-false, cond-true, false≢true}
@@ -13,6 +13,7 @@ use Rattle.change_rules.specs.Nodes.{is_error}
 use Rattle.operator_fns.specs.declared.reduce.Reduce.{Reduce}
 use Rattle.index_region.specs.declared.delta.Delta.{Delta}
 use Rattle.sum_rules.specs.LineSums.{length_along}
+use Rattle.sum_rules.specs.Totals.{new_items}
 use Rattle.formula_core.specs.declared.kept.NodeChange.{NodeChange}
 use Rattle.formula_core.specs.Changes.{NamesChange}
 use Rattle.formula_core.specs.Formulas.{FormulaValue, is_operation}
@@ -68,8 +69,8 @@ none_of : (fold : Reduce) (o : Outcome) (d : Delta) (held : Outcome) (n : ℕ) �
 none_of fold (Err e) d held n none = refl
 none_of fold (Ok a) d held n none = by (has_trees_for fold a d held) refl
   where
-    two : (b : Bool) → (if b then n else 0) ≡ 0
-    two true = none
+    two : (b : Bool) → (if b then min n (new_items d) else 0) ≡ 0
+    two true = omega (arith, none)
     two false = refl
 
     by : (b : Bool) → has_trees_for fold a d held ≡ b → least_joins_of fold (Ok a) d held n ≡ 0

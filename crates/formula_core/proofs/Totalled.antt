@@ -1,8 +1,8 @@
 -- How many sums are joined for totals.
-use Rattle.std.proofs.Common.{◌≡◌, ℕ, ◌+◌, ◌-◌, ◌*◌, ◌≤◌, ◌<◌, nat_lt, Bool, true, false, ◌&&◌, is_ok, is_some, List, [], ◌∷◌, Some, None, Result, Ok, Err, IfOk, refl, sym, ap, ◌∙◌, subst, arith, inl, inr, length, if◌then◌else◌}
+use Rattle.std.proofs.Common.{◌≡◌, ℕ, ◌+◌, ◌-◌, ◌*◌, ◌≤◌, ◌<◌, min, nat_lt, Bool, true, false, ◌&&◌, ◌||◌, is_ok, is_some, List, [], ◌∷◌, Some, None, Result, Ok, Err, IfOk, refl, sym, ap, ◌∙◌, subst, arith, inl, inr, length, if◌then◌else◌}
 use Rattle.std.specs.Borrow.{Bor}
 use Rattle.std.specs.declared.alloc.AllocError.{AllocError}
-use Rattle.std.proofs.lemmas.Bool.{and_from, and_parts, cases_Bool, cond-false, cond-true, eqb-true, false≢true, lt-ltb, ltb-false, ltb-true}
+use Rattle.std.proofs.lemmas.Bool.{and_from, and_parts, cases_Bool, cond-false, cond-true, eqb-true, false≢true, le-ltb, lt-ltb, ltb-false, ltb-true}
 use Rattle.std.proofs.lemmas.Result.{IfOk-weaker}
 use Rattle.std.proofs.Math.Nat.{mul-le-mul, mul-le-mul_left, mul-le-mul_right}
 use Rattle.apl_expr.specs.declared.functions.Function1.{Function1}
@@ -36,7 +36,7 @@ use Rattle.formula_core.specs.Rules.{right_rule}
 use Rattle.formula_core.specs.Stages.{AreTotalsJoined}
 use Rattle.formula_core.specs.Sums.{AreSumsKept, IsSummedFor, total_of}
 use Rattle.formula_core.proofs.Digits.{few_within_digits, within_digits}
-use Rattle.formula_core.proofs.Narrow.{narrow_within}
+use Rattle.formula_core.proofs.Narrow.{grown_within, patch_within}
 use Rattle.formula_core.proofs.Summed.{kept_of}
 
 -- a total follows the rule of its fold
@@ -63,13 +63,6 @@ total_has (function1.Reduce f k) fold h = elim (cases_Bool (has_trees f)) [
 ]
 total_has f fold h = absurd (false≢true (ap is_some h))
 
--- the trees do not serve
-not_by_trees : (narrow ok numbers : Bool) → (narrow ≡ true → numbers ≡ true) → (narrow && (ok && numbers)) ≡ false → (ok && narrow) ≡ false
-not_by_trees true true numbers given h = absurd (false≢true (sym h ∙ given refl))
-not_by_trees true false numbers given h = refl
-not_by_trees false true numbers given h = refl
-not_by_trees false false numbers given h = refl
-
 -- lines that have places lie along an axis that there is
 has_axis_along : (along : Along) (shape : List ℕ) → 0 < length_along along shape → is_axis (length shape) along ≡ true
 has_axis_along along shape long = elim (cases_Bool (is_axis (length shape) along)) [
@@ -89,20 +82,33 @@ one_more_place along a b t first some same on =
     ∙ longer b.shape some
     ∙ ap (λ k. k + 1) (sym (along_axis along b.shape on ∙ ap (λ k. line_length k b.shape) before))
 
+or_right : (b q : Bool) → q ≡ true → (b || q) ≡ true
+or_right true q h = refl
+or_right false q h = h
+
+or_left : (b q : Bool) → q ≡ false → (b || q) ≡ true → b ≡ true
+or_left true q h e = refl
+or_left false q h e = absurd (false≢true (sym h ∙ e))
+
+not_first : (b q : Bool) → (b ≡ true → q ≡ true) → (b && q) ≡ false → b ≡ false
+not_first true q h e = absurd (false≢true (sym e ∙ h refl))
+not_first false q h e = refl
+
 -- an array whose sums are kept has long lines of numbers, and had them before it grew
-pub kept_serve : (fold : Reduce) (a : ArrayValue) (d : Delta) (s : SummedValue) → IsSummedFor fold (Ok a) d (Some s) → is_narrow (axis_at (length a.shape) fold.along) d ≡ true
-    → ((is_of_numbers a.item_type && had_trees d (length_along fold.along a.shape)) ≡ true) × (1 < length_along fold.along a.shape)
-kept_serve fold a (Patch p) s summed narrow =
+pub kept_serve : (fold : Reduce) (a : ArrayValue) (d : Delta) (held : Outcome) (s : SummedValue) → IsSummedFor fold (Ok a) d (Some s) → is_narrow (axis_at (length a.shape) fold.along) d ≡ true
+    → ((is_of_numbers a.item_type && had_trees d held (length_along fold.along a.shape)) ≡ true) × (1 < length_along fold.along a.shape)
+kept_serve fold a (Patch p) held s summed narrow =
     let was = summed.changed p s refl refl in
     let kept = kept_parts fold.along s.array (kept_of fold (Ok s.array) s (sym was.lines)).long in
     let becomes : Ok a ≡ Ok (patched s.array p) = was.becomes in
     let same : a ≡ patched s.array p = cc in
     let long : length_along fold.along a.shape ≡ line_length (axis_at (length s.array.shape) fold.along) s.array.shape =
     ap (λ (x : ArrayValue). length_along fold.along x.shape) same ∙ along_axis fold.along s.array.shape kept.on_axis in (
-      and_from _ _ (ap (λ (x : ArrayValue). is_of_numbers x.item_type) same ∙ ap is_of_numbers kept.numbers) refl,
+      and_from _ _ (ap (λ (x : ArrayValue). is_of_numbers x.item_type) same ∙ ap is_of_numbers kept.numbers)
+          (or_right (is_ok held) _ (lt-ltb most_without_tree (length_along fold.along a.shape) (omega (arith, long, kept.long)))),
       omega (arith, long, kept.long),
     )
-kept_serve fold a (Grown t) s summed narrow =
+kept_serve fold a (Grown t) held s summed narrow =
     let was = summed.grew t s refl refl in
     let kept = kept_parts fold.along s.array (kept_of fold (Ok s.array) s (sym was.lines)).long in
     let becomes : Ok a ≡ Ok (grown_by s.array t.items) = was.becomes in
@@ -112,8 +118,8 @@ kept_serve fold a (Grown t) s summed narrow =
       and_from _ _ (ap (λ (x : ArrayValue). is_of_numbers x.item_type) same ∙ ap is_of_numbers kept.numbers) (lt-ltb most_without_tree (length_along fold.along a.shape - 1) (omega (arith, long, before, kept.long))),
       omega (arith, long, before, kept.long),
     )
-kept_serve fold a Same s summed narrow = absurd (false≢true narrow)
-kept_serve fold a (Whole r) s summed narrow = absurd (false≢true narrow)
+kept_serve fold a Same held s summed narrow = absurd (false≢true narrow)
+kept_serve fold a (Whole r) held s summed narrow = absurd (false≢true narrow)
 
 -- what holds of an answer, by two facts of it
 both_ok : (r : Result (Delta × ℕ) AllocError) (P Q R : Delta × ℕ → Type 0) → ((s : Delta × ℕ) → P s → Q s → R s) → IfOk r P → IfOk r Q → IfOk r R
@@ -121,8 +127,8 @@ both_ok (Ok s) P Q R step p q = step s p q
 both_ok (Err e) P Q R step p q = tt
 
 -- each line of two numbers joins one sum at least
-at_least : (before after totals long : ℕ) → after ≡ ticked before (totals * (long - 1)) → ticked before (if nat_lt 1 long then totals else 0) ≤ after
-at_least before after totals long is = elim (cases_Bool (nat_lt 1 long)) [
+at_least : (before after totals new long : ℕ) → after ≡ ticked before (totals * (long - 1)) → ticked before (if nat_lt 1 long then min totals new else 0) ≤ after
+at_least before after totals new long is = elim (cases_Bool (nat_lt 1 long)) [
   | inl t ↦
       let two = ltb-true 1 long t in
       let more : totals * 1 ≤ totals * (long - 1) = mul-le-mul_left totals (omega (arith, two)) in
@@ -139,21 +145,21 @@ none_kept : (fold : Reduce) (a : ArrayValue) (d : Delta) (held : Outcome) → Fi
     → operation_cost (total_rule fold) (Ok (a ∷ [])) (d ∷ []) held * (length_along fold.along a.shape - 1) ≤ new_items d * binary_digits (length_along fold.along a.shape - 1)
 none_kept fold a (Patch p) held fit well has =
     let one = and_parts _ _ has in
-    let two = and_parts _ _ one.1 in
     let long = length_along fold.along a.shape in
+    let two = and_parts (is_of_numbers a.item_type) (is_ok held || nat_lt most_without_tree long) one.1 in
     let none : keeps_sums fold.along a ≡ false = sym (well.changed p a refl refl) in
     let some : nat_lt 0 (size a.shape) ≡ true = lt-ltb 0 (size a.shape) (some_items a p fit) in
-    let numbers = (and_parts (is_of_numbers a.item_type) (had_trees (Patch p) long) two.1).0 in
+    let numbers = two.0 in
     let short : long ≤ 3 = elim (cases_Bool (nat_lt most_without_tree long)) [
       | inl t ↦ absurd (false≢true (sym none ∙ and_from _ _ numbers (and_from _ _ some t)))
       | inr f ↦ let few : long ≤ 3 = ltb-false most_without_tree long f in few
     ] in
     let digits : long - 1 ≤ binary_digits (long - 1) = few_within_digits (long - 1) (omega (arith, short)) in
-    mul-le-mul (narrow_within fold a (Patch p) held fit one.0 two.0) digits
+    let ok : is_ok held ≡ true = or_left (is_ok held) (nat_lt most_without_tree long) (le-ltb most_without_tree long short) two.1 in
+    mul-le-mul (patch_within fold a p held fit one.0 ok) digits
 none_kept fold a (Grown t) held fit well has =
     let one = and_parts _ _ has in
-    let two = and_parts _ _ one.1 in
-    let three = and_parts (is_of_numbers a.item_type) (had_trees (Grown t) (length_along fold.along a.shape)) two.1 in
+    let three = and_parts (is_of_numbers a.item_type) (nat_lt most_without_tree (length_along fold.along a.shape - 1)) one.1 in
     let long = length_along fold.along a.shape in
     let before : most_without_tree < long - 1 = ltb-true most_without_tree (long - 1) three.1 in
     let was = well.grew t a refl refl in
@@ -173,7 +179,7 @@ none_kept fold a (Grown t) held fit well has =
     let each : 1 * line_step 0 b.shape ≤ line_length 0 b.shape * line_step 0 b.shape = mul-le-mul_right (line_step 0 b.shape) (omega (arith, long_before, more, before)) in
     let no_lines : line_step 0 b.shape ≡ 0 = omega (arith, each, between b.shape was.fit.some_axis, none) in
     let totals = operation_cost (total_rule fold) (Ok (a ∷ [])) (Grown t ∷ []) held in
-    let few : totals ≤ 0 = omega (arith, narrow_within fold a (Grown t) held fit one.0 two.0, was.fit.one_place, no_lines) in
+    let few : totals ≤ 0 = omega (arith, grown_within fold a t held fit one.0, was.fit.one_place, no_lines) in
     let product : totals * (long - 1) ≤ 0 * (long - 1) = mul-le-mul_right (long - 1) few in
     omega (arith, product)
 none_kept fold a Same held fit well has = absurd (false≢true has)
@@ -197,29 +203,26 @@ module _ (fold : Reduce) (a : ArrayValue) (delta : Bor Delta) (held : Outcome) (
 
   -- by the sums that are kept
   module _ (sums : SummedValue) (summed : IsSummedFor fold (Ok a) d (Some sums)) where
-    parts : has ≡ true → (is_narrow axis d ≡ true) × (is_ok held ≡ true)
-    parts h = let one = and_parts _ _ h in (one.0, (and_parts _ _ one.1).0)
+    narrow : has ≡ true → is_narrow axis d ≡ true
+    narrow h = (and_parts (is_narrow axis d) _ h).0
 
-    otherwise : has ≡ false → (is_ok held && is_narrow axis d) ≡ false
-    otherwise h = not_by_trees (is_narrow axis d) (is_ok held) (is_of_numbers a.item_type && had_trees d long) (λ narrow. (kept_serve fold a d sums summed narrow).0) h
+    otherwise : has ≡ false → is_narrow axis d ≡ false
+    otherwise h = not_first (is_narrow axis d) _ (λ n. (kept_serve fold a d held sums summed n).0) h
 
     pub totalled_by_trees : HasJoins fold (a, delta) held before after → IfOk r (λ s. is_error s.0 ≡ false → HasAllJoins fold (a, delta) held before after) → AreTotalsJoined fold (Good a delta) held before after r
     totalled_by_trees joins all = record {
       most = elim (cases_Bool has) [
         | inl t ↦
-            let by = parts t in
-            subst (λ k. after ≤ before + k) (sym (cond-true has _ _ t)) (joins.trees (and_from _ _ by.1 by.0) (binary_digits (long - 1)) (within_digits (long - 1)))
+            subst (λ k. after ≤ before + k) (sym (cond-true has _ _ t)) (joins.trees (narrow t) (binary_digits (long - 1)) (within_digits (long - 1)))
         | inr f ↦ subst (λ k. after ≤ before + k) (sym (cond-false has _ _ f)) (joins.folds (otherwise f))
       ];
       least = IfOk-weaker r _ _
           (λ s least sound. elim (cases_Bool has) [
             | inl t ↦
-                let by = parts t in
-                let two = (kept_serve fold a d sums summed by.0).1 in
-                let some = (least sound).trees (and_from _ _ by.1 by.0) two in
-                let all_new = narrow_within fold a d held fit by.0 by.1 in
-                let is : least_joins_of fold (Ok a) d held totals ≡ totals = cond-true has _ _ t ∙ cond-true _ _ _ (lt-ltb 1 long two) in
-                subst (λ k. ticked before k ≤ after) (sym is) (omega (arith, some, all_new))
+                let two = (kept_serve fold a d held sums summed (narrow t)).1 in
+                let some = (least sound).trees (narrow t) two in
+                let is : least_joins_of fold (Ok a) d held totals ≡ min totals (new_items d) = cond-true has _ _ t ∙ cond-true _ _ _ (lt-ltb 1 long two) in
+                subst (λ k. ticked before k ≤ after) (sym is) (omega (arith, some))
             | inr f ↦
                 let is : least_joins_of fold (Ok a) d held totals ≡ totals * (long - 1) = cond-false has _ _ f in
                 subst (λ k. ticked before k ≤ after) (sym is) (omega (arith, (least sound).folds (otherwise f)))
@@ -240,8 +243,8 @@ module _ (fold : Reduce) (a : ArrayValue) (delta : Bor Delta) (held : Outcome) (
       least = both_ok r (λ s. s.1 ≡ totals) (λ s. is_error s.0 ≡ false → AreFolds s.1 long before after) (λ s. is_error s.0 ≡ false → ticked before (least_joins_of fold (Ok a) d held totals) ≤ after)
           (λ s costs counted sound. elim (cases_Bool has) [
             | inl t ↦
-                let is : least_joins_of fold (Ok a) d held totals ≡ (if nat_lt 1 long then totals else 0) = cond-true has _ _ t in
-                subst (λ k. ticked before k ≤ after) (sym is) (at_least before after totals long (counted sound ∙ ap (λ k. ticked before (k * (long - 1))) costs))
+                let is : least_joins_of fold (Ok a) d held totals ≡ (if nat_lt 1 long then min totals (new_items d) else 0) = cond-true has _ _ t in
+                subst (λ k. ticked before k ≤ after) (sym is) (at_least before after totals (new_items d) long (counted sound ∙ ap (λ k. ticked before (k * (long - 1))) costs))
             | inr f ↦
                 let is : least_joins_of fold (Ok a) d held totals ≡ totals * (long - 1) = cond-false has _ _ f in
                 subst (λ k. ticked before k ≤ after) (sym is) (omega (arith, counted sound, ap (λ k. ticked before (k * (long - 1))) costs))

@@ -1,5 +1,5 @@
 -- How many sums of parts a change of the names joins, to sum up lines of numbers.
-use Rattle.std.specs.Prelude.{ℕ, ◌-◌, ◌*◌, ◌^◌, nat_le, nat_lt, Bool, true, ◌&&◌, is_ok, Ok, Err, length, if◌then◌else◌}
+use Rattle.std.specs.Prelude.{ℕ, ◌-◌, ◌*◌, ◌^◌, min, nat_le, nat_lt, Bool, true, ◌&&◌, ◌||◌, is_ok, Ok, Err, length, if◌then◌else◌}
 use Rattle.std.specs.List.{count_by, range_with_len, sum_by}
 use Rattle.std.specs.Option.{option_map_or}
 use Rattle.apl_expr.specs.Trees.{Tree, Const, Name, Monad, Dyad, Index, Scan, Outer, Inner}
@@ -24,15 +24,15 @@ use Rattle.formula_core.specs.Tables.{subtrees}
 abbrev pub binary_digits : ℕ → ℕ
 binary_digits n = count_by (λ k. nat_le (2 ^ k) n) (range_with_len 0 n)
 
--- the lines of this length had trees before this change: where they got longer by it, they were long enough
-abbrev pub had_trees : Delta → (long : ℕ) → Bool
-had_trees (Grown t) long = nat_lt most_without_tree (long - 1)
-had_trees _ long = true
+-- the lines of this length had trees before this change: where they got longer by it, they were long enough; shorter ones are folded one by one as fast, but all of them where
+-- the totals held an error
+abbrev pub had_trees : Delta → (held : Outcome) → (long : ℕ) → Bool
+had_trees (Grown t) held long = nat_lt most_without_tree (long - 1)
+had_trees _ held long = is_ok held || nat_lt most_without_tree long
 
--- trees serve for the totals of an array of numbers along an axis: they were an array, and of each line that changed one place did, or each got one more
--- place and had a tree before
+-- trees serve for the totals of an array of numbers along an axis: of each line that changed one place did, or each got one more place and had a tree before
 abbrev pub has_trees_for : Reduce → ArrayValue → Delta → (held : Outcome) → Bool
-has_trees_for fold a d held = is_narrow (axis_at (length a.shape) fold.along) d && (is_ok held && (is_of_numbers a.item_type && had_trees d (length_along fold.along a.shape)))
+has_trees_for fold a d held = is_narrow (axis_at (length a.shape) fold.along) d && (is_of_numbers a.item_type && had_trees d held (length_along fold.along a.shape))
 
 -- how many sums are joined at most for so many totals along an axis of what is this now and changed so, where they were this: by trees as many for each new
 -- number as the length of a line less one has binary digits, else for each total one less than a line has numbers; beside an error none
@@ -40,9 +40,9 @@ abbrev pub most_joins_of : Reduce → Outcome → Delta → (held : Outcome) →
 most_joins_of fold (Ok a) d held totals = if has_trees_for fold a d held then new_items d * binary_digits (length_along fold.along a.shape - 1) else totals * (length_along fold.along a.shape - 1)
 most_joins_of fold (Err e) d held totals = 0
 
--- how many at least where no total fails: by trees one for each where a line has two numbers, else as many as at most
+-- how many at least where no total fails: by trees one for each that is new where a line has two numbers, else as many as at most
 abbrev pub least_joins_of : Reduce → Outcome → Delta → (held : Outcome) → (totals : ℕ) → ℕ
-least_joins_of fold (Ok a) d held totals = if has_trees_for fold a d held then (if nat_lt 1 (length_along fold.along a.shape) then totals else 0) else totals * (length_along fold.along a.shape - 1)
+least_joins_of fold (Ok a) d held totals = if has_trees_for fold a d held then (if nat_lt 1 (length_along fold.along a.shape) then min totals (new_items d) else 0) else totals * (length_along fold.along a.shape - 1)
 least_joins_of fold (Err e) d held totals = 0
 
 -- how many are joined at most for the change of the node of a tree: for totals along an axis those, for any other node none

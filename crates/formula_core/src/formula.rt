@@ -141,9 +141,9 @@ impl Formula {
     /// What the formula changes to where its names show what the inputs say, an input for each of `references`. The
     /// formula still shows what it did: it takes the plan by `adopt`. Where it holds results, each input tells the change
     /// from what the name showed when they were worked out. The meter counts the items that are computed: as many as the plan costs
-    /// where no item fails, and at most as many where one does. Where nothing changed of the names none is computed, but by a new formula. It counts each join of sums of numbers, too:
-    /// a total, as `+/` and `+⌿` are, whose lines keep trees of sums joins, for each new number, at most as many as the length of a line
-    /// has binary digits.
+    /// where no item fails, and at most as many where one does. Where nothing changed of the names none is computed, but by a new formula. The meter
+    /// counts each join of two parts of a line, too, at most `tree_joins`: a fold whose lines keep trees joins, for each new number, at most as many as
+    /// the length of a line less one has binary digits; a line that is folded anew joins one less than it has numbers.
     #[inline(always)]
     pub fn plan(&self, inputs: &[Input], meter: &mut Meter) -> Result<Plan, AllocError>
         requires { (c : NamesChange) × IsTold self.now c inputs.now }

@@ -7,7 +7,7 @@ ghost use Rattle.formula_core.specs.Meaning.{names_in};
 
 use crate::fixtures::{are_characters, are_numbers, tree_of};
 use apl_expr::Literal;
-use arrays_core::{Array, ItemType, Kind, shape_of};
+use arrays_core::{Array, Item, ItemType, Kind, shape_of};
 use change_core::Meter;
 use formula_core::{Formula, Input, array_of, evaluate};
 use index_region::{Delta, IndexBox, Patch, Seen};
@@ -117,18 +117,39 @@ fn joins_of_one(alloc: Global, formula: &mut Formula, array: &Array) -> Option<u
     joins_of(formula, array, &delta)
 }
 
-/// How many sums are joined where one number changes in a row of a thousand whose total a new formula shows.
-fn joins_of_a_total(alloc: Global) -> Option<u64> {
+/// How many sums are joined where one number changes in the first row of an array whose totals a new formula shows.
+fn joins_of_a_total(alloc: Global, array: &Array) -> Option<u64> {
     let tree = tree_of(alloc, "+/D")?;
     let Ok(mut formula) = Formula::build(alloc, tree) else {
         return None;
     };
-    let array = Array::filled(alloc, ItemType::Nums, &shape_of(alloc, &[1, 1000])).ok()?;
-    joins_of_one(alloc, &mut formula, &array)
+    joins_of_one(alloc, &mut formula, array)
+}
+
+/// A row of a thousand numbers.
+fn row_of_a_thousand(alloc: Global) -> Option<Array> {
+    Array::filled(alloc, ItemType::Nums, &shape_of(alloc, &[1, 1000])).ok()
+}
+
+/// A thousand rows of a thousand numbers, of which the total of the last leaves 64 bits.
+fn rows_with_an_error(alloc: Global) -> Option<Array> {
+    let shape = shape_of(alloc, &[1000, 1000]);
+    let mut rows = Array::filled(alloc, ItemType::Nums, &shape).ok()?;
+    rows.write_at(999_001, Item::Num(i64::MAX));
+    rows.write_at(1_000_000, Item::Num(1));
+    Some(rows)
 }
 
 #[test]
 fn a_total_follows_one_number_by_few_joins(rt: HostRuntime) {
-    let joins = joins_of_a_total(rt.alloc());
+    let row = row_of_a_thousand(rt.alloc()).expect(&rt, "a row");
+    let joins = joins_of_a_total(rt.alloc(), &row);
+    assert!(rt; matches!(joins, Some(1..=10)));
+}
+
+#[test]
+fn a_total_beside_an_error_follows_by_few_joins(rt: HostRuntime) {
+    let rows = rows_with_an_error(rt.alloc()).expect(&rt, "rows");
+    let joins = joins_of_a_total(rt.alloc(), &rows);
     assert!(rt; matches!(joins, Some(1..=10)));
 }

@@ -1,11 +1,13 @@
 -- The totals of which one number of the line is new.
-use Rattle.std.proofs.Common.{◌≡◌, ℕ, ◌-◌, ◌*◌, ◌<◌, ◌≤◌, Bool, true, false, ◌&&◌, not, is_ok, List, [], ◌∷◌, length, map, remove, Option, Some, None, Result, Ok, Err, IfOk, OnOk, refl, ap, sym, subst, ◌∙◌, arith}
+use Rattle.std.proofs.Common.{◌≡◌, ℕ, ◌-◌, ◌*◌, ◌<◌, ◌≤◌, Bool, true, false, ◌&&◌, not, if◌then◌else◌, nat_eq, is_ok, List, [], ◌∷◌, length, map, remove, Option, Some, None, Result, Ok, Err, IfOk, OnOk, refl, ap, sym, subst, ◌∙◌, arith}
 use Rattle.std.specs.Prelude.{◌==◌}
 use Rattle.std.specs.List.{range_with_len}
 use Rattle.std.specs.declared.alloc.AllocError.{AllocError}
 use Rattle.std.proofs.lemmas.Bool.{cond-false, false≢true}
-use Rattle.arrays_core.specs.Arrays.{ArrayValue}
-use Rattle.arrays_core.specs.Items.{all_or_first_error}
+use Rattle.arrays_core.specs.Arrays.{ArrayValue, collect}
+use Rattle.arrays_core.specs.Items.{all_or_first_error, and_then}
+use Rattle.arrays_core.specs.declared.item.ItemType.TheVariants.{Nums}
+use Rattle.index_region.specs.Axes.{places_along}
 use Rattle.arrays_core.specs.declared.item.Item.{Item}
 use Rattle.arrays_core.specs.declared.item.Kind.{Kind}
 use Rattle.arrays_core.specs.declared.item.ItemType.{ItemType}
@@ -16,7 +18,7 @@ use Rattle.index_region.specs.Boxes.{Interval, box_size, walk_at, met, unless_em
 use Rattle.index_region.specs.Checks.{Form, form_of}
 use Rattle.index_region.specs.Patches.{PatchValue, patched}
 use Rattle.index_region.specs.Tails.{TailValue}
-use Rattle.operator_fns.specs.Reduce.{reduce_form, reduce_item}
+use Rattle.operator_fns.specs.Reduce.{reduce_form, reduce_item, reduce_whole}
 use Rattle.operator_fns.specs.SumTrees.{TreesValue}
 use Rattle.operator_fns.specs.Laws.ReducedShapes.{reduce_facts}
 use Rattle.change_core.specs.declared.reach.Reach.TheVariants.{Inside, Unmoved}
@@ -99,7 +101,7 @@ module _ (fold : Reduce) (t : TreesValue) (p : PatchValue) (now : ArrayValue) (s
         ∙ cond-false _ _ _ (fit_some (box_of_lines axis p.region) _ fit.rest)
         ∙ ap (λ k. Some (box_of_lines k p.region)) (sym axis_is)
 
-    reach_is : reach_of (total_rule fold) (now ∷ []) (Some p.region ∷ []) ≡ Inside (box_of_lines (axis_at (length now.shape) fold.along) p.region)
+    pub reach_is : reach_of (total_rule fold) (now ∷ []) (Some p.region ∷ []) ≡ Inside (box_of_lines (axis_at (length now.shape) fold.along) p.region)
     reach_is =
         ap (λ (x : Result Form Kind). reach_by x (total_rule fold).uses (now ∷ []) (Some p.region ∷ [])) form
         ∙ ap (λ (m : Option (List Interval)). as_reach (join_boxes m None)) met_is
@@ -127,7 +129,7 @@ delta_is fold arg p old is ok =
     ap (λ (d : Delta). reached_delta (total_rule fold) (arg.0 ∷ []) (moved_by d ∷ [])) (sym is) ∙ delta_reached (total_rule fold) (arg ∷ []) old some ok patched
 
 -- totals of lines that are summed up, where the trees do not serve
-pub folded : (fold : Reduce) (arg : Argument) (held : Outcome) (before after : ℕ) (change : Delta) (r : Result ℕ AllocError) → is_by_trees fold.along arg held ≡ false
+pub folded : (fold : Reduce) (arg : Argument) (held : Outcome) (before after : ℕ) (change : Delta) (r : Result ℕ AllocError) → is_by_trees fold.along arg ≡ false
     → IfOk r (λ n. n ≡ node_cost (total_rule fold) (arg ∷ []) held) → IfOk r (λ n. is_error change ≡ false → AreFolds n (length_along fold.along arg.0.shape) before after)
     → OnOk r (is_error change ≡ false → HasAllJoins fold arg held before after)
 folded fold arg held before after change (Err e) none cost counted = tt
@@ -158,16 +160,43 @@ abbrev grown_to : Argument → TailValue → Argument
 grown_to arg tail = (arg.0, record { ref_ptr = arg.1.ref_ptr; now = Grown tail })
 
 -- so they are worked out as a whole
-pub delta_grown : (fold : Reduce) (arg : Argument) (tail : TailValue) (old : Outcome) → arg.1.now ≡ Grown tail → is_ok old ≡ true → axis_at (length arg.0.shape) fold.along ≡ 0
+pub delta_grown : (fold : Reduce) (arg : Argument) (tail : TailValue) (old : Outcome) → arg.1.now ≡ Grown tail → axis_at (length arg.0.shape) fold.along ≡ 0
     → node_delta (total_rule fold) (arg ∷ []) old ≡ Whole (evaluation (total_rule fold) (arg.0 ∷ []))
-delta_grown fold arg tail (Err e) is ok first = absurd (false≢true ok)
-delta_grown fold arg tail (Ok v) is ok first =
+delta_grown fold arg tail (Err e) is first = ap (λ (d : Delta). node_delta (total_rule fold) ((arg.0, record { ref_ptr = arg.1.ref_ptr; now = d }) ∷ []) (Err e)) is
+delta_grown fold arg tail (Ok v) is first =
     ap (λ (d : Delta). node_delta (total_rule fold) ((arg.0, record { ref_ptr = arg.1.ref_ptr; now = d }) ∷ []) (Ok v)) is
     ∙ cond-false (node_grows (total_rule fold) (grown_to arg tail ∷ [])) _ _ (stay_as_many fold.along arg.0 first)
 
-pub cost_grown : (fold : Reduce) (arg : Argument) (tail : TailValue) (old : Outcome) → arg.1.now ≡ Grown tail → is_ok old ≡ true → axis_at (length arg.0.shape) fold.along ≡ 0
+pub cost_grown : (fold : Reduce) (arg : Argument) (tail : TailValue) (old : Outcome) → arg.1.now ≡ Grown tail → axis_at (length arg.0.shape) fold.along ≡ 0
     → node_cost (total_rule fold) (arg ∷ []) old ≡ form_size ((total_rule fold).form (arg.0 ∷ []))
-cost_grown fold arg tail (Err e) is ok first = absurd (false≢true ok)
-cost_grown fold arg tail (Ok v) is ok first =
+cost_grown fold arg tail (Err e) is first = ap (λ (d : Delta). node_cost (total_rule fold) ((arg.0, record { ref_ptr = arg.1.ref_ptr; now = d }) ∷ []) (Err e)) is
+cost_grown fold arg tail (Ok v) is first =
     ap (λ (d : Delta). node_cost (total_rule fold) ((arg.0, record { ref_ptr = arg.1.ref_ptr; now = d }) ∷ []) (Ok v)) is
     ∙ cond-false (node_grows (total_rule fold) (grown_to arg tail ∷ [])) _ _ (stay_as_many fold.along arg.0 first)
+
+-- and so are the totals that held an error, where a box of the argument is new
+pub delta_anew : (fold : Reduce) (arg : Argument) (p : PatchValue) (old : Outcome) → arg.1.now ≡ Patch p → is_ok old ≡ false
+    → node_delta (total_rule fold) (arg ∷ []) old ≡ Whole (evaluation (total_rule fold) (arg.0 ∷ []))
+delta_anew fold arg p (Ok v) is failed = absurd (false≢true (sym failed))
+delta_anew fold arg p (Err e) is failed = ap (λ (d : Delta). node_delta (total_rule fold) ((arg.0, record { ref_ptr = arg.1.ref_ptr; now = d }) ∷ []) (Err e)) is
+
+pub cost_anew : (fold : Reduce) (arg : Argument) (p : PatchValue) (old : Outcome) → arg.1.now ≡ Patch p → is_ok old ≡ false
+    → node_cost (total_rule fold) (arg ∷ []) old ≡ form_size ((total_rule fold).form (arg.0 ∷ []))
+cost_anew fold arg p (Ok v) is failed = absurd (false≢true (sym failed))
+cost_anew fold arg p (Err e) is failed = ap (λ (d : Delta). node_cost (total_rule fold) ((arg.0, record { ref_ptr = arg.1.ref_ptr; now = d }) ∷ []) (Err e)) is
+
+same_type : (b : Bool) (t : ItemType) → t ≡ Nums → (if b then t else Nums) ≡ Nums
+same_type true t h = h
+same_type false t h = refl
+
+-- the totals of all lines, by the array as its trees and the patch tell it
+pub whole_now : (fold : Reduce) (t : TreesValue) (p : PatchValue) (now : ArrayValue) → StoodFor fold.along t p now → (shape : List ℕ) (type : ItemType) → reduce_form fold.along now ≡ Ok (form_of shape type)
+    → (axes : List ℕ) → axes ≡ now.shape → reduce_whole fold.function fold.along now ≡ collect Nums shape (reduce_item fold.function fold.along (patched (array_of_shape axes t.numbers) p))
+whole_now fold t p now stood shape type form axes shaped =
+    let same : patched (array_of_shape axes t.numbers) p ≡ now = ap (λ (s : List ℕ). patched (array_of_shape s t.numbers) p) shaped ∙ now_is fold.along t p now stood in
+    let numbers : now.item_type ≡ Nums = ap (λ (a : ArrayValue). a.item_type) stood.is ∙ ap (λ (a : ArrayValue). a.item_type) stood.lines.is in
+    let typed : type ≡ Nums = (reduce_facts fold.along now shape type form).typed ∙ same_type (nat_eq (places_along now.shape (axis_at (length now.shape) fold.along)) 1) now.item_type numbers in
+    let items = reduce_item fold.function fold.along in
+    ap (λ (r : Result Form Kind). and_then r (λ g. collect g.item_type g.shape (items now))) form
+    ∙ ap (λ (u : ItemType). collect u shape (items now)) typed
+    ∙ ap (λ (a : ArrayValue). collect Nums shape (items a)) (sym same)

@@ -1,5 +1,5 @@
 -- The totals of the lines of an array whose sums are kept by trees.
-use Rattle.std.specs.Prelude.{◌≡◌, ℕ, ◌+◌, ◌-◌, ◌*◌, ◌<◌, ◌≤◌, ◌^◌, ℤ, pos, nat_eq, Bool, true, false, ◌&&◌, is_ok, List, [], ◌∷◌, ◌++◌, length, get_or, map, remove, All, Result}
+use Rattle.std.specs.Prelude.{◌≡◌, ℕ, ◌+◌, ◌-◌, ◌*◌, ◌<◌, ◌≤◌, ◌^◌, ℤ, pos, nat_eq, Bool, true, false, List, [], ◌∷◌, ◌++◌, length, get_or, map, remove, All, Result}
 use Rattle.std.specs.List.{flat_map, range_with_len}
 use Rattle.function_names.specs.declared.scalar.Scalar2.{Scalar2}
 use Rattle.function_names.specs.declared.scalar.Scalar2.TheVariants.{Plus}
@@ -63,10 +63,10 @@ AreAllAsLong count lines = All (λ line. length line ≡ count) lines
 abbrev pub all_trees : ℕ → List (List ℤ) → TreesValue
 all_trees count lines = record { count = count; step = 1; numbers = flat_map (λ line. line) lines }
 
--- where a box of the argument changed, or it is a vector that grew, these are the lines along the last axis of what it was
+-- where a box of the argument changed, or it is a vector that grew and had numbers, these are the lines along the last axis of what it was
 pub record IsSummedByLines (arg : Argument) (lines : List (List ℤ)) : Type 0 where
   pub changed : (p : PatchValue) → arg.1.now ≡ Patch p → AreAllAsLong (length_along Last arg.0.shape) lines × StoodFor Last (all_trees (length_along Last arg.0.shape) lines) p arg.0
-  pub grew : (tail : TailValue) → arg.1.now ≡ Grown tail → length arg.0.shape ≡ 1
+  pub grew : (tail : TailValue) → arg.1.now ≡ Grown tail → length arg.0.shape ≡ 1 → 1 < length_along Last arg.0.shape
       → AreAllAsLong (length_along Last arg.0.shape - 1) lines × StoodBefore Last (all_trees (length_along Last arg.0.shape - 1) lines) tail arg.0
 
 -- the totals of lines that get one of these numbers each behind their last one
@@ -107,23 +107,23 @@ is_one_a_line axis region = let s = get_or region axis (1, 0) in nat_eq s.0 s.1
 abbrev pub box_of_lines : ℕ → List Interval → List Interval
 box_of_lines axis region = remove region axis
 
--- the trees serve: the totals were an array, and the box that changed has one place a line, or each line got one more place
+-- the trees serve: the box that changed has one place a line, or each line got one more place
 abbrev pub is_narrow : ℕ → Delta → Bool
 is_narrow axis (Patch p) = is_one_a_line axis p.region
 is_narrow axis (Grown t) = nat_eq axis 0
 is_narrow axis _ = false
 
-abbrev pub is_by_trees : Along → Argument → Outcome → Bool
-is_by_trees along arg old = is_ok old && is_narrow (axis_at (length arg.0.shape) along) arg.1.now
+abbrev pub is_by_trees : Along → Argument → Bool
+is_by_trees along arg = is_narrow (axis_at (length arg.0.shape) along) arg.1.now
 
 -- how many joins of sums the change of the totals takes at most: by trees as many for each new item as the length of a line less one has binary digits, else
 -- one less for each line that is folded than it has numbers
 pub record HasJoins (fold : Reduce) (arg : Argument) (held : Outcome) (old new : ℕ) : Type 0 where
-  pub trees : is_by_trees fold.along arg held ≡ true → AreJoinsWithin (new_items arg.1.now) (length_along fold.along arg.0.shape) old new
-  pub folds : is_by_trees fold.along arg held ≡ false → AreFoldsWithin (node_cost (total_rule fold) (arg ∷ []) held) (length_along fold.along arg.0.shape) old new
+  pub trees : is_by_trees fold.along arg ≡ true → AreJoinsWithin (new_items arg.1.now) (length_along fold.along arg.0.shape) old new
+  pub folds : is_by_trees fold.along arg ≡ false → AreFoldsWithin (node_cost (total_rule fold) (arg ∷ []) held) (length_along fold.along arg.0.shape) old new
 
 -- how many it takes where no total fails: by trees at least one for each new item of lines of two numbers and more, else just those of the lines that are
 -- folded
 pub record HasAllJoins (fold : Reduce) (arg : Argument) (held : Outcome) (old new : ℕ) : Type 0 where
-  pub trees : is_by_trees fold.along arg held ≡ true → AreJoinsFrom (new_items arg.1.now) (length_along fold.along arg.0.shape) old new
-  pub folds : is_by_trees fold.along arg held ≡ false → AreFolds (node_cost (total_rule fold) (arg ∷ []) held) (length_along fold.along arg.0.shape) old new
+  pub trees : is_by_trees fold.along arg ≡ true → AreJoinsFrom (new_items arg.1.now) (length_along fold.along arg.0.shape) old new
+  pub folds : is_by_trees fold.along arg ≡ false → AreFolds (node_cost (total_rule fold) (arg ∷ []) held) (length_along fold.along arg.0.shape) old new

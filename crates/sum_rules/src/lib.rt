@@ -1,6 +1,7 @@
 //! Totals of lines that follow changes by trees of the lines.
 #![tactic(auto)]
 
+mod after_error;
 mod line_sums;
 mod line_totals;
 mod new_lines;

@@ -34,6 +34,19 @@ pub trait LineTotals {
         ensures joins { IsWithinDigitsOf ((trees self.now).count - 1) result.1 }
         ensures some { 1 < (trees self.now).count → 0 < result.1 };
 
+    /// The total of a line, lines counted from 0, which joins nothing; or the error that the fold from the right meets.
+    fn total(&self, line: usize) -> Result<i64, Kind>
+        requires { line < line_count (trees self.now) }
+        ensures { IsReductionBy (function self.now) (numbers_of_line (trees self.now) line) result };
+
+    /// Returns the line that was remembered last, lines counted from 0: a hint, of which no contract speaks.
+    fn failing_line(&self) -> usize {
+        0
+    }
+
+    /// Remembers a line whose total is an error.
+    fn remember_failing(&self, _line: usize) {}
+
     /// The total of a line and of one more number behind its last one, lines counted from 0, which takes one join of parts; or the error that
     /// the fold from the right meets.
     fn total_behind(&self, line: usize, number: i64) -> Result<i64, Kind>
@@ -48,6 +61,18 @@ impl LineTotals for FoldTrees {
 
     fn total_with(&self, place: usize, number: i64) -> (Result<i64, Kind>, u32) {
         self.result_with(place, number)
+    }
+
+    fn total(&self, line: usize) -> Result<i64, Kind> {
+        self.result(line)
+    }
+
+    fn failing_line(&self) -> usize {
+        FoldTrees::failing_line(self)
+    }
+
+    fn remember_failing(&self, line: usize) {
+        FoldTrees::remember_failing(self, line);
     }
 
     fn total_behind(&self, line: usize, number: i64) -> Result<i64, Kind> {
@@ -71,6 +96,10 @@ impl<'a> LineTotals for TreeALine<'a> {
 
     fn total_with(&self, place: usize, number: i64) -> (Result<i64, Kind>, u32) {
         self.trees[place / self.count].result_with(place % self.count, number)
+    }
+
+    fn total(&self, line: usize) -> Result<i64, Kind> {
+        self.trees[line].result()
     }
 
     fn total_behind(&self, line: usize, number: i64) -> Result<i64, Kind> {

@@ -25,6 +25,7 @@ ghost use Rattle.change_rules.specs.Currency.{BringsUpToDate, HasAxis, IsRight};
 ghost use Rattle.sum_rules.specs.LineSums.{StandFor, array_of_shape, length_along};
 ghost use Rattle.sum_rules.specs.Totals.{total_rule, longer_totals, StoodFor, StoodBefore, IsSummedUp, IsSummedByLines, AreJoinsWithin, AreJoinsFrom, AreFoldsWithin, AreFolds, HasJoins, HasAllJoins, is_one_a_line, box_of_lines, row_sums};
 
+use crate::after_error::change_after_error;
 use crate::line_sums::length_along;
 use crate::line_totals::{LineTotals, TreeALine};
 use arrays_core::{
@@ -67,7 +68,7 @@ fn total_with<S: LineTotals>(sums: &S, place: usize, item: Item) -> (Result<Item
 }
 
 /// The total of the line of an array of this shape that a place of the box is on, which has a new number there. It takes no memory.
-fn line_total<S: LineTotals>(
+pub(crate) fn line_total<S: LineTotals>(
     fold: Reduce,
     shape: &Shape,
     sums: &S,
@@ -343,9 +344,9 @@ pub fn fold_totals_with_cost(
 }
 
 /// The change of the totals of B by a fold, put in place of another one as `refresh_with_cost` does it, and what it costs: how many totals it works
-/// out at most. Where the totals were an array and the box of B that changed has one place on their axis, each total comes from
-/// the tree of its line, in as many joins of parts as the length of the line less one has binary digits. So it does, in one join,
-/// where B grew along their axis. In every other case the lines are folded.
+/// out at most. Where the box of B that changed has one place on their axis, each new total comes from
+/// the tree of its line, in as many joins of parts as the length of the line less one has binary digits; where they held an error the others are read from
+/// their trees, which joins nothing. In one join each comes from its tree where B grew along their axis. In every other case the lines are folded.
 pub fn refresh_totals_with_cost<S: LineTotals>(
     alloc: Global,
     fold: Reduce,
@@ -372,14 +373,17 @@ pub fn refresh_totals_with_cost<S: LineTotals>(
     // The shape says that it is an array.
     let rank = array.shape().as_slice().len() as u32;
     if let Delta::Patch(patch) = delta {
-        if old.is_ok() && is_one_a_line(fold.along.axis_at(rank), patch.region()) {
+        if is_one_a_line(fold.along.axis_at(rank), patch.region()) {
             // The count says that it is a number of 64 bits.
             let _counted = meter.ticks();
-            return change_by_trees(alloc, fold, &array, patch, sums, change, meter);
+            if old.is_ok() {
+                return change_by_trees(alloc, fold, &array, patch, sums, change, meter);
+            }
+            return change_after_error(alloc, fold, &array, patch, sums, change, meter);
         }
     }
     if let Delta::Grown(tail) = delta {
-        if old.is_ok() && fold.along.axis_at(rank) == 0 {
+        if fold.along.axis_at(rank) == 0 {
             return change_by_growth(alloc, fold, &array, tail, sums, change, meter);
         }
     }
@@ -416,7 +420,7 @@ pub fn refresh_sums(
     let long = length_along(Along::Last, lengths.as_slice()) as usize;
     let count = match delta {
         Delta::Patch(_) => long,
-        Delta::Grown(_) if lengths.len() == 1 => long - 1,
+        Delta::Grown(_) if lengths.len() == 1 && long > 1 => long - 1,
         _ => {
             fold_totals_with_cost(alloc, fold, (array, delta), old, &mut change, meter)?;
             return Ok(change);

@@ -10,9 +10,9 @@ use Rattle.sum_rules.proofs.totals.refresh_sums.Goals.{in-Patch, in-Grown}
 pub overflow_sub-count : goal.overflow_sub-count
 overflow_sub-count c =
     let vector : length c.args.arg.0.shape ≡ 1 = omega (arith, c.len.ensures.value, ap (λ (s : List ℕ). length s) c.shape-lengths.ensures.is, c.if-len-eq1.true) in
-    let both = c.requires.sums.grew c.in-Grown.field-0 c.in-Grown.is vector in
-    let before = both.1.before in
     let long : c.length_along-long.result ≡ length_along Last c.args.arg.0.shape = c.length_along-long.ensures ∙ ap (length_along Last) (c.as_slice.ensures ∙ c.shape-lengths.ensures.is) in
+    let both = c.requires.sums.grew c.in-Grown.field-0 c.in-Grown.is vector (omega (arith, long, c.if-long-gt1.true)) in
+    let before = both.1.before in
     let some = some_in_line (axis_at (length before.shape) Last) before.shape both.1.lines.there both.1.lines.some in
     omega (arith, long, some, both.1.lines.counted)
 
@@ -31,7 +31,7 @@ invariant_of-trees c =
           }
       | in-Grown w ↦
           let vector : length c.args.arg.0.shape ≡ 1 = omega (arith, w.len.ensures.value, ap (λ (s : List ℕ). length s) c.shape-lengths.ensures.is, w.if-len-eq1.true) in
-          let both = c.requires.sums.grew w.in-Grown.field-0 w.in-Grown.is vector in
+          let both = c.requires.sums.grew w.in-Grown.field-0 w.in-Grown.is vector (omega (arith, long, w.if-long-gt1.true)) in
           let before = both.1.before in
           let count : c.match-delta.count ≡ length_along Last c.args.arg.0.shape - 1 = w.count-is ∙ ap (λ k. k - 1) long in
           let some = some_in_line (axis_at (length before.shape) Last) before.shape both.1.lines.there both.1.lines.some in

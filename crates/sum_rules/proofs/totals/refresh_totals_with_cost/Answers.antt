@@ -11,26 +11,28 @@ use Rattle.operator_fns.specs.Laws.Reduce.{reduce_tight}
 use Rattle.sum_rules.specs.Totals.{total_rule, is_by_trees, is_narrow, is_one_a_line}
 use Rattle.function_names.specs.Axes.{is_axis, axis_at}
 use Rattle.arrays_core.specs.Arrays.{ArrayValue}
-use Rattle.sum_rules.proofs.ChangedTotals.{delta_is, folded, not_both, not_patched}
-use Rattle.sum_rules.proofs.totals.refresh_totals_with_cost.Goals.{in-Patch+else-is_ok, else-is_ok-via-then-is_ok+else-is_one_a_line, else-is_ok-via-else-is_ok, in_default}
-use Rattle.sum_rules.proofs.totals.refresh_totals_with_cost.Goals.{in-Grown+else-is_ok-2, else-is_ok-2-via-then-is_ok-2+else-axis_at-eq0, else-is_ok-2-via-else-is_ok-2, in_default-delta}
+use Rattle.sum_rules.proofs.ChangedTotals.{delta_is, folded, not_patched}
+use Rattle.sum_rules.proofs.totals.refresh_totals_with_cost.Goals.{in-Patch+else-is_one_a_line, in_default, in-Grown+else-axis_at-eq0, in_default-delta}
 use Rattle.sum_rules.proofs.totals.refresh_totals_with_cost.Goals as goal
 
-pub returns-then-is_one_a_line-clause-right : goal.returns-then-is_one_a_line-clause-right
-returns-then-is_one_a_line-clause-right g c =
+pub returns-then-is_ok-clause-right : goal.returns-then-is_ok-clause-right
+returns-then-is_ok-clause-right g c =
     let args = c.args.arg ∷ [] in
     let old = c.args.old.now in
     let same = delta_is c.args.fold c.args.arg c.in-Patch.patch old c.in-Patch.is (sym c.is_ok.ensures.value ∙ c.if-is_ok.true) in
     answered (IsRight (total_rule c.args.fold) (views args)) c.change_by_trees.result _ _ c.change_by_trees.ensures.delta (subst (IsRight (total_rule c.args.fold) (views args)) (sym same) (node_is_right (total_rule c.args.fold) args old))
 
-pub returns-then-is_one_a_line-clause-whole : goal.returns-then-is_one_a_line-clause-whole
-returns-then-is_one_a_line-clause-whole g c =
+pub returns-then-is_ok-clause-whole : goal.returns-then-is_ok-clause-whole
+returns-then-is_ok-clause-whole g c =
     let args = c.args.arg ∷ [] in
     let old = c.args.old.now in
     let same = delta_is c.args.fold c.args.arg c.in-Patch.patch old c.in-Patch.is (sym c.is_ok.ensures.value ∙ c.if-is_ok.true) in
     answered (BringsUpToDate (total_rule c.args.fold) args old) c.change_by_trees.result _ _ c.change_by_trees.ensures.delta
     (subst (BringsUpToDate (total_rule c.args.fold) args old) (sym same)
     (brings_up_to_date (total_rule c.args.fold) (covers (total_rule c.args.fold) (reduce_tight c.args.fold.function c.args.fold.along)) (reduce_growing c.args.fold.function c.args.fold.along) args old refl (reaches_inside (total_rule c.args.fold) (views args) (moved args)) c.requires.fit c.requires.axes (c.shape.ensures.sound, tt)))
+
+pub change_after_error-requires-clause-function : goal.change_after_error-requires-clause-function
+change_after_error-requires-clause-function g c = (c.requires.sums.changed c.in-Patch.patch c.in-Patch.is).0
 
 pub change_by_trees-requires-clause-function : goal.change_by_trees-requires-clause-function
 change_by_trees-requires-clause-function g c = (c.requires.sums.changed c.in-Patch.patch c.in-Patch.is).0
@@ -40,8 +42,8 @@ axis_at-requires g c =
     let stood = (c.requires.sums.changed c.in-Patch.patch c.in-Patch.is).1 in
     ap (λ (s : List ℕ). is_axis (length s) c.args.fold.along) (c.as_slice.ensures ∙ c.shape.ensures.is ∙ ap (λ (a : ArrayValue). a.shape) stood.is) ∙ stood.on_axis
 
-pub axis_at-requires-then-is_ok-2 : goal.axis_at-requires-then-is_ok-2
-axis_at-requires-then-is_ok-2 g c =
+pub axis_at-requires-in-Grown : goal.axis_at-requires-in-Grown
+axis_at-requires-in-Grown g c =
     let stood = (c.requires.sums.grew c.in-Grown.tail c.in-Grown.is).1 in
     ap (λ (s : List ℕ). is_axis (length s) c.args.fold.along) (c.as_slice.ensures ∙ c.shape.ensures.is ∙ ap (λ (a : ArrayValue). a.shape) stood.is)
     ∙ ap (λ n. is_axis n c.args.fold.along) (rank_longer stood.before.shape) ∙ stood.on_axis
@@ -56,24 +58,15 @@ returns-clause-least g c =
     let held = c.args.old.now in
     let axis = axis_at (length arg.0.shape) along in
     let axes = ap (λ (s : List ℕ). axis_at (length s) along) (c.as_slice.ensures ∙ c.shape.ensures.is) in
-    let none : is_by_trees along arg held ≡ false = elim c.match-delta.branch [
-      | in-Patch+else-is_ok w ↦ elim w.else-is_ok.branch [
-        | else-is_ok-via-then-is_ok+else-is_one_a_line x ↦
-            let meant : x.axis_at.result ≡ axis = x.axis_at.ensures.is ∙ axes in
-            let wide : is_one_a_line axis w.in-Patch.patch.region ≡ false =
-            (λ i. is_one_a_line (sym meant i) (sym x.region.ensures i)) ∙ sym x.is_one_a_line.ensures ∙ x.if-is_one_a_line.false in
-            not_both (is_ok held) (is_narrow axis arg.1.now) (ap (is_narrow axis) w.in-Patch.is ∙ wide)
-        | else-is_ok-via-else-is_ok x ↦ ap (λ (b : Bool). b && is_narrow axis arg.1.now) (sym w.is_ok.ensures.value ∙ x.if-is_ok.false)
-      ]
+    let none : is_by_trees along arg ≡ false = elim c.match-delta.branch [
+      | in-Patch+else-is_one_a_line w ↦
+          let meant : w.axis_at.result ≡ axis = w.axis_at.ensures.is ∙ axes in
+          ap (is_narrow axis) w.in-Patch.is ∙ (λ i. is_one_a_line (sym meant i) (sym w.region.ensures i)) ∙ sym w.is_one_a_line.ensures ∙ w.if-is_one_a_line.false
       | in_default w ↦ elim c.match-delta-2.branch [
-        | in-Grown+else-is_ok-2 v ↦ elim v.else-is_ok-2.branch [
-          | else-is_ok-2-via-then-is_ok-2+else-axis_at-eq0 x ↦
-              let meant : x.axis_at-then-is_ok-2.result ≡ axis = x.axis_at-then-is_ok-2.ensures.is ∙ axes in
-              let later : nat_eq axis 0 ≡ false = ne_eqb axis 0 (λ e. x.if-axis_at-eq0.false (meant ∙ e)) in
-              not_both (is_ok held) (is_narrow axis arg.1.now) (ap (is_narrow axis) v.in-Grown.is ∙ later)
-          | else-is_ok-2-via-else-is_ok-2 x ↦ ap (λ (b : Bool). b && is_narrow axis arg.1.now) (sym v.is_ok-in-Grown.ensures.value ∙ x.if-is_ok-2.false)
-        ]
-        | in_default-delta v ↦ not_both (is_ok held) (is_narrow axis arg.1.now) (not_patched axis arg.1.now w.in_default.not-Patch v.in_default-delta.not-Grown)
+        | in-Grown+else-axis_at-eq0 v ↦
+            let meant : v.axis_at-in-Grown.result ≡ axis = v.axis_at-in-Grown.ensures.is ∙ axes in
+            ap (is_narrow axis) v.in-Grown.is ∙ ne_eqb axis 0 (λ e. v.if-axis_at-eq0.false (meant ∙ e))
+        | in_default-delta v ↦ not_patched axis arg.1.now w.in_default.not-Patch v.in_default-delta.not-Grown
       ]
     ] in
     folded c.args.fold arg held c.args.meter.now.joins c.fold_totals_with_cost.new.meter.joins c.fold_totals_with_cost.new.change c.fold_totals_with_cost.result none c.fold_totals_with_cost.ensures.cost c.fold_totals_with_cost.ensures.folds

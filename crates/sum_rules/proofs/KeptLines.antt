@@ -1,0 +1,150 @@
+-- The lines of an array in which a patch that has one place a line changes nothing.
+use Rattle.std.proofs.Common.{◌≡◌, ◌∙◌, ℕ, zero, suc, ◌+◌, ◌-◌, ◌*◌, ◌/◌, ◌<◌, ◌≤◌, ℤ, pos, true, false, List, [], ◌∷◌, length, get_or, map, remove, insert, refl, ap, sym, subst, arith, inl, inr, Result}
+use Rattle.std.specs.List.{range_with_len}
+use Rattle.arrays_core.specs.declared.item.Kind.{Kind}
+use Rattle.arrays_core.specs.Items.{all_or_first_error}
+use Rattle.change_core.proofs.Collected.{along as items_along, collected, collected_is}
+use Rattle.change_core.proofs.Walking.{box_size-whole, walk_is}
+use Rattle.std.proofs.lemmas.Bool.{and_from, and_parts, cases_Bool, cond-false, eqb-true, false≢true}
+use Rattle.std.proofs.lemmas.List.{length-map, ext_get_or, get_or_default}
+use Rattle.std.proofs.lemmas.List.FromFn.{length-map-range_with_len, get_or-map-range_with_len}
+use Rattle.std.proofs.Math.ListN.{get_or-map}
+use Rattle.arrays_core.specs.declared.item.Item.{Item}
+use Rattle.arrays_core.specs.declared.item.Item.TheVariants.{Num}
+use Rattle.arrays_core.specs.Arrays.{ArrayValue, item_of}
+use Rattle.arrays_core.specs.Items.{fill}
+use Rattle.arrays_core.specs.Shapes.{indices, is_index_of, places_before, size}
+use Rattle.arrays_core.proofs.Shapes.{places_below}
+use Rattle.std.proofs.Math.Nat.{mul-div_cancel}
+use Rattle.function_names.specs.declared.scalar.Scalar2.{Scalar2}
+use Rattle.scalar_fns.specs.Folds.{strided}
+use Rattle.scalar_fns.proofs.RightFolds.{length-strided, get_or-strided}
+use Rattle.index_region.specs.Axes.{places_along}
+use Rattle.index_region.specs.Boxes.{Interval, box_offset, box_size, is_within, walk_at, whole_of}
+use Rattle.index_region.proofs.Walks.{offset_below, walk_of_offset, walk_within}
+use Rattle.index_region.specs.Patches.{PatchValue, FitsPatch, patched}
+use Rattle.index_region.proofs.Boxes.{fits_length}
+use Rattle.index_region.proofs.Patched.{patched_at}
+use Rattle.operator_fns.specs.Strides.{line_start}
+use Rattle.operator_fns.specs.SumTrees.{TreesValue, line_count, numbers_of_line}
+use Rattle.operator_fns.specs.Laws.LineIndices.{inside}
+use Rattle.operator_fns.proofs.Lines.{long_with_axis, stride}
+use Rattle.operator_fns.proofs.Reduced.{lines_whole, start_is}
+use Rattle.operator_fns.specs.RightFold.{fold_right, line}
+use Rattle.sum_rules.specs.LineSums.{StandFor, line_length, line_step}
+use Rattle.sum_rules.specs.Totals.{box_of_lines, is_one_a_line}
+use Rattle.sum_rules.proofs.OneAxis.{size_with_one, walk_with_one}
+use Rattle.sum_rules.proofs.Lines.{some_step}
+
+-- a place of a box is in it on the other axes
+within_rest : (axis : ℕ) (region : List Interval) (index : List ℕ) (j : ℕ) → axis < length region → length index + 1 ≡ length region → is_within region (insert index axis j) ≡ true → is_within (remove region axis) index ≡ true
+within_rest axis [] index j h e inside = absurd (omega arith)
+within_rest zero (s ∷ region) index j h e inside = (and_parts _ _ inside).1
+within_rest (suc axis) (s ∷ region) [] j h e inside = absurd (omega arith)
+within_rest (suc axis) (s ∷ region) (i ∷ index) j h e inside =
+    let here = and_parts _ _ inside in
+    and_from _ _ here.0 (within_rest axis region index j (omega arith) (omega arith) here.1)
+
+-- and where it has one place on that axis, each that it has on the others is in it there
+pub within_one : (axis : ℕ) (region : List Interval) (index : List ℕ) → axis < length region → is_one_a_line axis region ≡ true → is_within (box_of_lines axis region) index ≡ true
+    → is_within region (insert index axis (get_or region axis (1, 0)).0) ≡ true
+within_one axis region index on one within =
+    let same = eqb-true _ _ one in
+    let rest = remove region axis in
+    let before = box_offset rest index in
+    let below = offset_below rest index within in
+    let many = size_with_one axis region on same in
+    let at : walk_at region before ≡ insert index axis (get_or region axis (1, 0)).0 =
+    walk_with_one axis region before on same below ∙ ap (λ (i : List ℕ). insert i axis (get_or region axis (1, 0)).0) (walk_of_offset rest index within) in
+    subst (λ (i : List ℕ). is_within region i ≡ true) at (walk_within region before (omega (arith, below, many)))
+
+-- a line is one of those that have trees
+pub line_below : (axis : ℕ) (t : TreesValue) (a : ArrayValue) → StandFor t axis a → (index : List ℕ) → is_index_of (remove a.shape axis) index ≡ true → places_before (remove a.shape axis) index < line_count t
+line_below axis t a stand index on =
+    let others = remove a.shape axis in
+    let parts = lines_whole axis a.shape others t.count t.step stand.there refl stand.counted stand.apart stand.some in
+    let places : length t.numbers ≡ size others * t.count =
+    sym (length-map t.numbers (λ (y : ℤ). Num y)) ∙ sym (ap (λ (b : ArrayValue). length b.items) stand.is) ∙ stand.sound.one_item_a_place ∙ sym parts.1 in
+    let many : line_count t ≡ size others = ap (λ k. k / t.count) places ∙ mul-div_cancel (size others) parts.0 in
+    omega (arith, many, places_below others index on)
+
+-- the items of all index lists are those of the walk of the whole
+pub items_walked : (shape : List ℕ) (item : List ℕ → Result Item Kind) → all_or_first_error (map item (indices shape)) ≡ collected (map (λ (q : ℕ). item (walk_at (whole_of shape) q)) (range_with_len 0 (size shape)))
+items_walked shape item =
+    ap (λ (rs : List (Result Item Kind)). all_or_first_error rs) (sym (walk_is shape item))
+    ∙ sym (collected_is (items_along item (whole_of shape)))
+    ∙ ap (λ k. collected (map (λ (q : ℕ). item (walk_at (whole_of shape) q)) (range_with_len 0 k))) (box_size-whole shape)
+
+module _ (axis : ℕ) (t : TreesValue) (a : ArrayValue) (p : PatchValue) (stand : StandFor t axis a) (fit : FitsPatch a p) (index : List ℕ) (on : is_index_of (remove a.shape axis) index ≡ true)
+    (away : is_within (box_of_lines axis p.region) index ≡ false) where
+  abbrev n : ℕ
+  n = line_length axis a.shape
+
+  abbrev step : ℕ
+  step = line_step axis a.shape
+
+  abbrev which : ℕ
+  which = places_before (remove a.shape axis) index
+
+  abbrev first : ℕ
+  first = places_before a.shape (insert index axis 1)
+
+  long : length index + 1 ≡ length a.shape
+  long = long_with_axis a.shape index axis stand.there on
+
+  as_many_axes : length p.region ≡ length a.shape
+  as_many_axes = fits_length p.region a.shape fit.inside
+
+  place_at : (k : ℕ) → places_before a.shape (insert index axis (k + 1)) ≡ first + k * step
+  place_at k =
+      let less : k + 1 - 1 ≡ k = omega arith in
+      stride axis a.shape index (k + 1) stand.there long ∙ ap (λ m. first + m * step) less
+
+  outside : (j : ℕ) → is_within p.region (insert index axis j) ≡ false
+  outside j = elim (cases_Bool (is_within p.region (insert index axis j))) [
+    | inl w ↦ absurd (false≢true (sym away ∙ within_rest axis p.region index j (omega (arith, stand.there, as_many_axes)) (omega (arith, long, as_many_axes)) w))
+    | inr f ↦ f
+  ]
+
+  item_now : (k : ℕ) → k < n → item_of (patched a p) (insert index axis (k + 1)) ≡ Num (get_or t.numbers (first + k * step) (pos 0))
+  item_now k under =
+      patched_at a p (insert index axis (k + 1)) (inside axis a.shape index (k + 1) stand.there on (omega arith) (omega (arith, under)))
+      ∙ cond-false _ _ _ (outside (k + 1))
+      ∙ ap (λ (b : ArrayValue). get_or b.items (places_before a.shape (insert index axis (k + 1))) (fill b.item_type)) stand.is
+      ∙ ap (λ m. get_or (map (λ (y : ℤ). Num y) t.numbers) m (Num (pos 0))) (place_at k)
+      ∙ get_or-map (λ (y : ℤ). Num y) t.numbers (first + k * step) (pos 0)
+
+  kept_line : line (patched a p) axis index ≡ map (λ (y : ℤ). Num y) (strided (pos 0) t.numbers first step n)
+  kept_line =
+      let item = λ (j : ℕ). item_of (patched a p) (insert index axis j) in
+      let along : places_along a.shape axis ≡ n = get_or_default a.shape axis 1 0 stand.there in
+      let many = length-map-range_with_len item 1 (places_along a.shape axis) in
+      let numbers = strided (pos 0) t.numbers first step n in
+      let as_many : length (map (λ (y : ℤ). Num y) numbers) ≡ n = length-map numbers (λ (y : ℤ). Num y) ∙ length-strided (pos 0) t.numbers first step n in
+      ext_get_or (Num (pos 0)) (line (patched a p) axis index) (map (λ (y : ℤ). Num y) numbers) (many ∙ along ∙ sym as_many) (λ k h.
+      let under : k < n = omega (arith, h, many, along) in
+      get_or-map-range_with_len item 1 (places_along a.shape axis) k (k + 1) (Num (pos 0)) (omega (arith, under, along)) (omega arith)
+      ∙ item_now k under
+      ∙ sym (get_or-map (λ (y : ℤ). Num y) numbers k (pos 0) ∙ ap (λ (y : ℤ). Num y) (get_or-strided (pos 0) t.numbers first step n k (pos 0) under)))
+
+  told : numbers_of_line t which ≡ strided (pos 0) t.numbers first step n
+  told =
+      let start : first ≡ line_start step n which = start_is axis a.shape index stand.there on (some_step axis a.shape stand.some) in
+      (λ i. strided (pos 0) t.numbers (line_start (stand.apart i) (stand.counted i) which) (stand.apart i) (stand.counted i))
+      ∙ ap (λ k. strided (pos 0) t.numbers k step n) (sym start)
+
+  -- its total is what its tree tells
+  pub kept_total : (f h : Scalar2) → h ≡ f → fold_right f (line (patched a p) axis index) ≡ fold_right h (map (λ (y : ℤ). Num y) (numbers_of_line t which))
+  kept_total f h same =
+      let line_is = kept_line ∙ ap (map (λ (y : ℤ). Num y)) (sym told) in
+      λ i. fold_right (sym same i) (line_is i)
+
+some_factor : (n m k : ℕ) → n * m ≡ k → 0 < k → 0 < n
+some_factor zero m k e h = absurd (omega (arith, e, h))
+some_factor (suc n) m k e h = omega arith
+
+-- there are some lines
+pub some_lines : (axis : ℕ) (t : TreesValue) (a : ArrayValue) → StandFor t axis a → 0 < size (remove a.shape axis)
+some_lines axis t a stand =
+    let parts = lines_whole axis a.shape (remove a.shape axis) t.count t.step stand.there refl stand.counted stand.apart stand.some in
+    some_factor (size (remove a.shape axis)) t.count (size a.shape) parts.1 stand.some

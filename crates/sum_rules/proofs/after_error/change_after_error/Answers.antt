@@ -1,0 +1,76 @@
+use Rattle.std.proofs.Common.{◌≡◌, ◌∙◌, ℕ, List, [], ◌∷◌, length, remove, sym, ap, subst, arith, Ok, Err, Some}
+use Rattle.arrays_core.specs.Arrays.{ArrayValue}
+use Rattle.arrays_core.specs.Outcomes.{given}
+use Rattle.arrays_core.specs.Shapes.{size}
+use Rattle.function_names.specs.Axes.{axis_at}
+use Rattle.index_region.specs.declared.delta.Delta.TheVariants.{Whole}
+use Rattle.index_region.specs.Checks.{form_of}
+use Rattle.operator_fns.specs.Reduce.{reduce_form}
+use Rattle.operator_fns.specs.Laws.ReducedShapes.{reduce_facts}
+use Rattle.change_core.specs.RuleModels.{form_size}
+use Rattle.change_core.specs.declared.reach.Reach.TheVariants.{Inside}
+use Rattle.change_core.specs.Reaches.{reach_of}
+use Rattle.sum_rules.specs.Totals.{total_rule, box_of_lines}
+use Rattle.sum_rules.proofs.ChangedTotals.{reach_is, reached_box, whole_now}
+use Rattle.sum_rules.proofs.Outcomes.{outcome_given}
+use Rattle.sum_rules.proofs.KeptLines.{some_lines}
+use Rattle.sum_rules.proofs.after_error.change_after_error.Goals as goal
+use Rattle.sum_rules.proofs.after_error.change_after_error.Goals.{After-shape-axes}
+use Rattle.sum_rules.proofs.after_error.change_after_error.Given.{Over}
+
+-- the lines of the box that changed
+lines_are : (g : Over) (c : After-shape-axes g) → c.in-Inside.lines ≡ box_of_lines (axis_at (length c.shape-axes.result.now.items) c.args.fold.along) c.args.patch.now.region
+lines_are g c =
+    let fold = c.args.fold in
+    let p = c.args.patch.now in
+    let seen : c.again.result ≡ c.args.array.now = c.again.ensures in
+    let changed : c.copy.result ≡ p.region = c.copy.ensures ∙ c.region.ensures in
+    let form = subst (λ (a : ArrayValue). reduce_form fold.along a ≡ Ok (form_of c.in-Ok.form.0.items c.in-Ok.form.1)) seen c.in-Ok.ensures.0 in
+    let reach : Inside c.in-Inside.lines ≡ reach_of (total_rule fold) (c.args.array.now ∷ []) (Some p.region ∷ []) =
+    c.in-Inside.ensures ∙ (λ i. reach_of (total_rule fold) (seen i ∷ []) (Some (changed i) ∷ [])) in
+    reached_box fold (g.S.LineTotals.trees c.args.sums.now) p c.args.array.now c.requires.lines c.requires.one c.in-Ok.form.0.items c.in-Ok.form.1 form c.in-Inside.lines reach
+    ∙ ap (λ (s : List ℕ). box_of_lines (axis_at (length s) fold.along) p.region) (sym c.shape-axes.ensures.is)
+
+pub failure_elsewhere-requires-clause-changed : goal.failure_elsewhere-requires-clause-changed
+failure_elsewhere-requires-clause-changed g c = lines_are g (goal.at.failure_elsewhere-requires-clause-changed g c).After-shape-axes
+
+pub totals_now-totals-requires-clause-changed : goal.totals_now-totals-requires-clause-changed
+totals_now-totals-requires-clause-changed g c = lines_are g (goal.at.totals_now-totals-requires-clause-changed g c).After-shape-axes
+
+pub unreachable-requires : goal.unreachable-requires
+unreachable-requires g c =
+    let fold = c.args.fold in
+    let p = c.args.patch.now in
+    let seen : c.again.result ≡ c.args.array.now = c.again.ensures in
+    let changed : c.copy.result ≡ p.region = c.copy.ensures ∙ c.region.ensures in
+    let form = subst (λ (a : ArrayValue). reduce_form fold.along a ≡ Ok (form_of c.in-Ok.form.0.items c.in-Ok.form.1)) seen c.in-Ok.ensures.0 in
+    c.in_default.not-Inside (box_of_lines (axis_at (length c.args.array.now.shape) fold.along) p.region)
+    (c.reach_in.ensures ∙ (λ i. reach_of (total_rule fold) (seen i ∷ []) (Some (changed i) ∷ []))
+    ∙ reach_is fold (g.S.LineTotals.trees c.args.sums.now) p c.args.array.now c.requires.lines c.requires.one c.in-Ok.form.0.items c.in-Ok.form.1 form)
+
+pub returns-clause-delta : goal.returns-clause-delta
+returns-clause-delta g c =
+    let fold = c.args.fold in
+    let form = subst (λ (a : ArrayValue). reduce_form fold.along a ≡ Ok (form_of c.in-Ok.form.0.items c.in-Ok.form.1)) c.again.ensures c.in-Ok.ensures.0 in
+    let whole = whole_now fold (g.S.LineTotals.trees c.args.sums.now) c.args.patch.now c.args.array.now c.requires.lines c.in-Ok.form.0.items c.in-Ok.form.1 form c.shape-axes.result.now.items c.shape-axes.ensures.is in
+    ap Whole (outcome_given _ c.totals_now-totals.result c.in_ok-outcome-in-Inside.field-0 c.totals_now-totals.ensures.totals c.in_ok-outcome-in-Inside.ensures) ∙ sym (ap (λ r. Whole (given r)) whole)
+
+-- an error elsewhere is what the whole comes to
+pub returns-in-Some-clause-delta : goal.returns-in-Some-clause-delta
+returns-in-Some-clause-delta g c =
+    let fold = c.args.fold in
+    let form = subst (λ (a : ArrayValue). reduce_form fold.along a ≡ Ok (form_of c.in-Ok.form.0.items c.in-Ok.form.1)) c.again.ensures c.in-Ok.ensures.0 in
+    let whole = whole_now fold (g.S.LineTotals.trees c.args.sums.now) c.args.patch.now c.args.array.now c.requires.lines c.in-Ok.form.0.items c.in-Ok.form.1 form c.shape-axes.result.now.items c.shape-axes.ensures.is in
+    ap (λ e. Whole (Err e)) c.into-in-Some.ensures ∙ sym (ap (λ r. Whole (given r)) (whole ∙ c.in-Some.ensures))
+
+pub returns-in-Some-clause-ticks : goal.returns-in-Some-clause-ticks
+returns-in-Some-clause-ticks g c =
+    let fold = c.args.fold in
+    let t = g.S.LineTotals.trees c.args.sums.now in
+    let stood = c.requires.lines in
+    let form = subst (λ (a : ArrayValue). reduce_form fold.along a ≡ Ok (form_of c.in-Ok.form.0.items c.in-Ok.form.1)) c.again.ensures c.in-Ok.ensures.0 in
+    let now_shape : c.args.array.now.shape ≡ stood.before.shape = ap (λ (a : ArrayValue). a.shape) stood.is in
+    let shaped = (reduce_facts fold.along c.args.array.now c.in-Ok.form.0.items c.in-Ok.form.1 form).shaped in
+    let many = ap size (shaped ∙ ap (λ (s : List ℕ). remove s (axis_at (length s) fold.along)) now_shape) in
+    let some = some_lines (axis_at (length stood.before.shape) fold.along) t stood.before stood.lines in
+    omega (arith, some, many, ap form_size form, c.tick.ensures.by_one)

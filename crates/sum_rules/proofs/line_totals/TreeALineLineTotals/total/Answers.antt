@@ -1,0 +1,24 @@
+use Rattle.std.proofs.Common.{◌≡◌, [], ℤ, List, get_or, sym, subst, arith}
+use Rattle.std.proofs.lemmas.List.{get_or_default}
+use Rattle.operator_fns.specs.SumTree.{IsReductionBySum}
+use Rattle.sum_rules.proofs.TreeLines.{line_below, line_told}
+use Rattle.sum_rules.proofs.line_totals.TreeALineLineTotals.total.Goals as goal
+
+pub bounds-self-line : goal.bounds-self-line
+bounds-self-line c = line_below c.args.self.now.count c.args.self.now.trees.now c.args.line c.args.self.now.each c.args.self.now.some c.requires
+
+pub offset_bounds-self-line : goal.offset_bounds-self-line
+offset_bounds-self-line c =
+    let there = line_below c.args.self.now.count c.args.self.now.trees.now c.args.line c.args.self.now.each c.args.self.now.some c.requires in
+    let small = c.type_inv.self.1.0.0.1.1 in
+    record { fits = omega (arith, there, small) }
+
+pub returns : goal.returns
+returns c =
+    let count = c.args.self.now.count in
+    let trees = c.args.self.now.trees.now in
+    let line = c.args.line in
+    let there = line_below count trees line c.args.self.now.each c.args.self.now.some c.requires in
+    let told : get_or trees line c.index-self-line.result ≡ get_or trees line [] = get_or_default trees line c.index-self-line.result [] there in
+    subst (λ (l : List ℤ). IsReductionBySum l c.result.result) (sym (line_told count trees line c.args.self.now.each c.args.self.now.some c.requires))
+    (subst (λ (l : List ℤ). IsReductionBySum l c.result.result) told c.result.ensures)
