@@ -21,6 +21,7 @@ pub mod Refused
 pub mod Removing
 pub mod Rows
 pub mod Scratch
+mod Solution
 pub mod Stepped
 pub mod Sums
 pub mod Working

@@ -26,6 +26,14 @@ val_at (suc depth) names name = shown_beside name (binding names name) (val_at d
 abbrev pub val : Names → List ℕ → Outcome
 val names name = val_at (length names) names name
 
--- what each name shows is one step from what all of them show
+-- an assignment of outcomes to names satisfies the sheet: each name has the outcome that it shows beside the others
+abbrev pub Satisfies : Names → (List ℕ → Outcome) → Type 0
+Satisfies names f = (q : List ℕ) → f q ≡ shown_beside q (binding names q) f
+
+-- the values from scratch satisfy the sheet
 abbrev pub IsSettled : Names → Type 0
-IsSettled names = (q : List ℕ) → val names q ≡ shown_beside q (binding names q) (val names)
+IsSettled names = Satisfies names (val names)
+
+-- they do, and no other assignment does
+abbrev pub IsOnlySolution : Names → Type 0
+IsOnlySolution names = Satisfies names (val names) × ((f : List ℕ → Outcome) → Satisfies names f → (q : List ℕ) → f q ≡ val names q)

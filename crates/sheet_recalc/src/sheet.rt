@@ -11,7 +11,7 @@ ghost use Rattle.formula_core.specs.Outcomes.{read};
 ghost use Rattle.formula_core.specs.Meaning.{eval};
 ghost use Rattle.formula_core.specs.Plans.{tree_cost};
 ghost use Rattle.sheet_recalc.specs.Names.{Names, binding, IsSheet};
-ghost use Rattle.sheet_recalc.specs.Meaning.{val};
+ghost use Rattle.sheet_recalc.specs.Meaning.{val, IsOnlySolution};
 ghost use Rattle.sheet_recalc.specs.ProposedSheet.{names_with};
 ghost use Rattle.sheet_recalc.specs.Planning.{IsProposalAt};
 ghost use Rattle.sheet_recalc.specs.declared.proposal.Proposal.TheVariants.{Removed};
@@ -120,9 +120,10 @@ impl Sheet {
     }
 
     /// What a name shows: exactly what evaluating all the formulas from scratch gives for it, the array or the error with the
-    /// name where it arose. An absent name shows nothing.
+    /// name where it arose. An absent name shows nothing. No other assignment of outcomes to names satisfies all formulas.
     pub fn value(&self, name: Name) -> Option<Result<&Array, Fault>>
         ensures is { option_map read result ≡ (if is_some (binding self.now.names name) then Some (val self.now.names name) else None) }
+        ensures solution { IsOnlySolution self.now.names }
         ensures sound { IsSheet self.now.names }
     {
         match self.entries.get(&name) {
