@@ -1,3 +1,4 @@
+mod Arising
 mod Asked
 pub mod Accounted
 pub mod Binding
@@ -10,6 +11,7 @@ pub mod Forward
 pub mod Indices
 pub mod Keeping
 pub mod Live
+mod Locality
 pub mod Making
 pub mod NameEquality
 pub mod PlannedNames

@@ -6,6 +6,7 @@ pub mod Rows
 pub mod Changes
 pub mod History
 pub mod Costs
+pub mod Locality
 -- What proofs and bodies use.
 pub mod Entries
 pub mod ProposedSheet

@@ -9,6 +9,7 @@ mod cycle;
 mod entry;
 mod evaluation;
 mod growth;
+mod laws;
 mod pending;
 mod planning;
 mod plans;
@@ -18,6 +19,7 @@ mod refusal;
 mod row;
 mod sheet;
 
+pub use laws::{errors_arise_where_reached, unreached_names_stay};
 pub use pending::Pending;
 pub use refusal::Refusal;
 pub use sheet::{MOST_NAMES, Sheet};

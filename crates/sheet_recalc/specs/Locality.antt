@@ -1,0 +1,35 @@
+-- How far a change reaches, and where an error arises.
+use Rattle.std.specs.Prelude.{◌≡◌, ◌≢◌, ◌⊎◌, ℕ, List, Option, Some, None, Err}
+use Rattle.dep_order.specs.Reachability.{Reaches}
+use Rattle.apl_expr.specs.Trees.{Tree}
+use Rattle.arrays_core.specs.declared.fault.Fault.{Fault}
+use Rattle.arrays_core.specs.declared.item.Kind.{Kind}
+use Rattle.arrays_core.specs.declared.item.Kind.TheVariants.{Value}
+use Rattle.arrays_core.specs.Outcomes.{fault}
+use Rattle.formula_core.specs.Meaning.{eval}
+use Rattle.sheet_recalc.specs.Names.{Names, Formula, binding, Refers, IsSheet}
+use Rattle.sheet_recalc.specs.Meaning.{val}
+use Rattle.sheet_recalc.specs.Changes.{SheetChange, Accepts}
+use Rattle.sheet_recalc.specs.Costs.{changed_name}
+
+-- q is another name than this one, and does not reach it
+abbrev pub IsApartFrom : Names → List ℕ → List ℕ → Type 0
+IsApartFrom names name q = (q ≢ name) × (Reaches (Refers names) q name → ⊥)
+
+-- an accepted change keeps the value of each name that is apart from the changed name
+abbrev pub StaysWhereUnreached : Type 0
+StaysWhereUnreached = (old new : Names) (change : SheetChange) → IsSheet old → Accepts old change new →
+    (q : List ℕ) → IsApartFrom old (changed_name change) q → val new q ≡ val old q
+
+-- the formula of a name fails by itself: its error is of this kind, and has no origin yet
+abbrev pub FormulaFails : Names → List ℕ → Kind → Type 0
+FormulaFails names name kind = (t : Tree) × (binding names name ≡ Some (Formula t)) × (eval t (val names) ≡ Err (fault kind))
+
+-- an error that q shows arises in the formula of its origin, which is q or a name that q reaches; without an origin, q is absent
+abbrev pub ArisesAt : Names → List ℕ → Kind → Option (List ℕ) → Type 0
+ArisesAt names q kind None = (binding names q ≡ None) × (kind ≡ Value)
+ArisesAt names q kind (Some origin) = ((q ≡ origin) ⊎ Reaches (Refers names) q origin) × FormulaFails names origin kind
+
+-- each error that a name shows arises so
+abbrev pub ErrorsAriseWhereReached : Type 0
+ErrorsAriseWhereReached = (names : Names) → IsSheet names → (q : List ℕ) (e : Fault) → val names q ≡ Err e → ArisesAt names q e.kind e.origin
