@@ -5,6 +5,7 @@ pub mod Binding
 pub mod CellPatches
 pub mod Cycles
 pub mod Deltas
+mod Dependents
 mod Entered
 pub mod Examples
 pub mod Forward

@@ -5,7 +5,7 @@ use Rattle.change_core.specs.Meters.{ticked, MeterValue}
 use Rattle.sheet_recalc.specs.Names.{SheetValue}
 use Rattle.sheet_recalc.specs.Tables.{Tables}
 use Rattle.sheet_recalc.specs.Changes.{SheetChange}
-use Rattle.sheet_recalc.specs.Costs.{HasCost, HasTicks, NoItemFails, expression_cost, formulas_cost, changed_name, IsNodeCost, IsStepCost}
+use Rattle.sheet_recalc.specs.Costs.{HasCost, HasTicks, NoItemFails, expression_cost, formulas_cost, changed_name, own_delta, IsNodeCost, IsStepCost}
 use Rattle.formula_core.specs.Changes as formula
 use Rattle.sheet_recalc.specs.ProposedSheet.{proposed_change}
 use Rattle.sheet_recalc.specs.Planning.{IsOnTheWay, NoneFails}
@@ -13,6 +13,7 @@ use Rattle.sheet_recalc.specs.Pending.{outline_for, names_after, steps_left, IsB
 use Rattle.sheet_recalc.specs.declared.pending.Pending.{Pending}
 use Rattle.sheet_recalc.specs.declared.plans.Plans.{Plans}
 use Rattle.sheet_recalc.proofs.Accounted.{expression_more}
+use Rattle.sheet_recalc.proofs.Dependents.{cost_of_dependents}
 use Rattle.sheet_recalc.proofs.Forward.{all_planned, all_cost, all_few, all_whole}
 
 -- the pending change is worked out, and its cost
@@ -62,8 +63,13 @@ whole_ticks s change p h none =
     let cost = whole_cost s change p h none in
     let ready = is_ready s.tables p h.base h.begun none in
     let new = names_after s.tables p in
+    let most = subst (λ n. p.ticks ≤ n) cost ready.few in
     record {
-      most = subst (λ n. p.ticks ≤ n) cost ready.few;
+      most = most;
+      dependents = λ found every.
+          let name = changed_name change in
+          let same = cost_of_dependents s.names new name (own_delta change new) found every h.begun.sheet.distinct in
+          subst (λ n. p.ticks ≤ ticked 0 (expression_cost s.names change + n)) same most;
       all = λ good.
           let same = subst (λ (name : List ℕ). NoItemFails name (proposed_change (outline_for s.tables p)) new) (sym h.name_is)
           (subst (λ (c : formula.NamesChange). NoItemFails (changed_name change) c new) (sym h.makes) good) in

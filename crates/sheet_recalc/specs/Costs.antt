@@ -1,7 +1,7 @@
 -- What a change changes of each name, and what it costs.
-use Rattle.std.specs.Prelude.{◌≡◌, ◌⊎◌, ◌↔◌, ◌+◌, ◌<◌, ◌≤◌, ℕ, zero, suc, List, [], ◌∷◌, map, length, true, Option, Some, Ok, Err, if◌then◌else◌}
+use Rattle.std.specs.Prelude.{◌≡◌, ◌⊎◌, ◌↔◌, ◌||◌, ◌+◌, ◌<◌, ◌≤◌, ℕ, zero, suc, List, [], ◌∷◌, map, length, filter, Bool, true, Option, Some, Ok, Err, if◌then◌else◌}
 use Rattle.std.specs.Str.{bytes_eq}
-use Rattle.std.specs.List.{Contains, IsDistinct, sum_by}
+use Rattle.std.specs.List.{Contains, IsDistinct, list_any, sum_by}
 use Rattle.std.specs.Option.{option_map_or}
 use Rattle.dep_order.specs.Reachability.{Reaches}
 use Rattle.arrays_core.specs.declared.item.Item.{Item}
@@ -10,6 +10,7 @@ use Rattle.index_region.specs.declared.delta.Delta.{Delta}
 use Rattle.index_region.specs.declared.delta.Delta.TheVariants.{Same, Patch, Grown, Whole}
 use Rattle.index_region.specs.Patches.{PatchValue}
 use Rattle.change_core.specs.Meters.{ticked}
+use Rattle.formula_core.specs.Meaning.{names_in}
 use Rattle.formula_core.specs.Changes as formula
 use Rattle.formula_core.specs.Formulas.{operations}
 use Rattle.arrays_core.specs.Outcomes.{Outcome}
@@ -111,15 +112,35 @@ HasCost old change new cost = cost ≡ ticked 0 (change_cost old change new)
 abbrev pub NoItemFails : List ℕ → formula.NamesChange → Names → Type 0
 NoItemFails name c names = (q : List ℕ) (t : Tree) → binding names q ≡ Some (Formula t) → AllComputed (bytes_eq q name) c t
 
--- so many items were computed in the change: no more than it costs, and as many where none of them fails
-pub record HasTicks (old : Names) (change : SheetChange) (new : Names) (ticks : ℕ) : Type 0 where
-  pub most : ticks ≤ ticked 0 (change_cost old change new)
-  pub all : NoItemFails (changed_name change) (asked_change old change new) new → ticks ≡ ticked 0 (change_cost old change new)
-
 -- these names, each once, are this one and all that reach it
 pub record AreAllThatReach (names : Names) (name : List ℕ) (found : List (List ℕ)) : Type 0 where
   pub once : IsDistinct bytes_eq found
   pub exact : (q : List ℕ) → Contains found q ↔ ((q ≡ name) ⊎ Reaches (Refers names) q name)
+
+-- one of these names stands in a tree
+abbrev pub has_any : List (List ℕ) → Tree → Bool
+has_any found t = list_any (λ x. list_any (bytes_eq x) found) (names_in t)
+
+-- a node depends on a change that reaches these names: one of them stands in its tree, or its formula is new
+abbrev pub node_depends : (is_new : Bool) → List (List ℕ) → Tree → Bool
+node_depends is_new found t = is_new || has_any found t
+
+-- the cost of the nodes of one name that depend on the change
+abbrev pub dependent_cost : List ℕ → formula.NamesChange → List (List ℕ) → List ℕ × Binding → ℕ
+dependent_cost name c found (q, Data a) = 0
+dependent_cost name c found (q, Formula t) = sum_by (node_cost_at (bytes_eq q name) c) (filter (node_depends (bytes_eq q name) found) (subtrees t))
+
+-- and of all names that it reaches
+abbrev pub dependents_cost : List ℕ → formula.NamesChange → Names → List (List ℕ) → ℕ
+dependents_cost name c names found = sum_by (λ q. option_map_or (λ b. dependent_cost name c found (q, b)) (binding names q) 0) found
+
+-- the count of items that were computed in the change: at most its cost, and exactly its cost where no item fails; at most the cost of the expression
+-- of stored data and of the nodes that depend on the change
+pub record HasTicks (old : Names) (change : SheetChange) (new : Names) (ticks : ℕ) : Type 0 where
+  pub most : ticks ≤ ticked 0 (change_cost old change new)
+  pub all : NoItemFails (changed_name change) (asked_change old change new) new → ticks ≡ ticked 0 (change_cost old change new)
+  pub dependents : (found : List (List ℕ)) → AreAllThatReach new (changed_name change) found
+      → ticks ≤ ticked 0 (expression_cost old change + dependents_cost (changed_name change) (asked_change old change new) new found)
 
 -- how many functions what a name is bound to applies
 abbrev pub functions_of : Binding → ℕ

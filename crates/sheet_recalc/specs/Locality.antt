@@ -1,16 +1,18 @@
 -- How far a change reaches, and where an error arises.
 use Rattle.std.specs.Prelude.{◌≡◌, ◌≢◌, ◌⊎◌, ℕ, List, Option, Some, None, Err}
+use Rattle.std.specs.List.{Contains}
 use Rattle.dep_order.specs.Reachability.{Reaches}
 use Rattle.apl_expr.specs.Trees.{Tree}
 use Rattle.arrays_core.specs.declared.fault.Fault.{Fault}
 use Rattle.arrays_core.specs.declared.item.Kind.{Kind}
 use Rattle.arrays_core.specs.declared.item.Kind.TheVariants.{Value}
 use Rattle.arrays_core.specs.Outcomes.{fault}
-use Rattle.formula_core.specs.Meaning.{eval}
+use Rattle.formula_core.specs.Meaning.{eval, names_in}
+use Rattle.formula_core.specs.Changes.{cost_at}
 use Rattle.sheet_recalc.specs.Names.{Names, Formula, binding, Refers, IsSheet}
 use Rattle.sheet_recalc.specs.Meaning.{val}
 use Rattle.sheet_recalc.specs.Changes.{SheetChange, Accepts}
-use Rattle.sheet_recalc.specs.Costs.{changed_name}
+use Rattle.sheet_recalc.specs.Costs.{changed_name, asked_change}
 
 -- q is another name than this one, and does not reach it
 abbrev pub IsApartFrom : Names → List ℕ → List ℕ → Type 0
@@ -33,3 +35,8 @@ ArisesAt names q kind (Some origin) = ((q ≡ origin) ⊎ Reaches (Refers names)
 -- each error that a name shows arises so
 abbrev pub ErrorsAriseWhereReached : Type 0
 ErrorsAriseWhereReached = (names : Names) → IsSheet names → (q : List ℕ) (e : Fault) → val names q ≡ Err e → ArisesAt names q e.kind e.origin
+
+-- in the formula of another name, a node costs nothing where each name in its tree is apart from the changed name
+abbrev pub CostsNothingWhereUnreached : Type 0
+CostsNothingWhereUnreached = (old new : Names) (change : SheetChange) (t : Tree) →
+    ((x : List ℕ) → Contains (names_in t) x → IsApartFrom new (changed_name change) x) → cost_at (asked_change old change new) t ≡ 0

@@ -1,5 +1,5 @@
 //! Laws of the sheet, which follow from its definitions alone.
-ghost use Rattle.sheet_recalc.specs.Locality.{ErrorsAriseWhereReached, StaysWhereUnreached};
+ghost use Rattle.sheet_recalc.specs.Locality.{CostsNothingWhereUnreached, ErrorsAriseWhereReached, StaysWhereUnreached};
 
 /// An accepted change keeps the value of every other name that does not reach the changed name.
 pub fn unreached_names_stay()
@@ -10,4 +10,10 @@ pub fn unreached_names_stay()
 /// an origin.
 pub fn errors_arise_where_reached()
     ensures { ErrorsAriseWhereReached }
+{}
+
+/// In the formula of any other name than the changed one, a node costs nothing unless the changed name, or a name that reaches it, stands in the node's
+/// tree.
+pub fn unreached_nodes_cost_nothing()
+    ensures { CostsNothingWhereUnreached }
 {}

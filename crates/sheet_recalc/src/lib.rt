@@ -19,7 +19,7 @@ mod refusal;
 mod row;
 mod sheet;
 
-pub use laws::{errors_arise_where_reached, unreached_names_stay};
+pub use laws::{errors_arise_where_reached, unreached_names_stay, unreached_nodes_cost_nothing};
 pub use pending::Pending;
 pub use refusal::Refusal;
 pub use sheet::{MOST_NAMES, Sheet};
