@@ -127,12 +127,13 @@ pub record IsOpened (d : DeskValue) (k : ℤ) (change : SheetChange) (n : ℕ) (
   pub few : ticks ≤ expression_cost d.names change
   pub next_is : next ≡ with_held d k (Some (record { change = change; is_stale = false; left = left; ticks = ticks }))
 
--- one step less is left of the change in a slot; no more items were computed than some one function of the change costs
+-- one step less is left of the change in a slot; its ticks rise by no more than some one function of the change costs, and never fall
 pub record IsOneStep (d : DeskValue) (k : ℤ) (s : SlotValue) (next : DeskValue) : Type 0 where
   pub cost : ℕ
   pub of_one : IsStepCost d.names s.change cost
   pub ticks : ℕ
   pub few : ticks ≤ s.ticks + cost
+  pub rises : s.ticks ≤ ticks
   pub next_is : next ≡ with_held d k (Some (record { change = s.change; is_stale = false; left = s.left - 1; ticks = ticks }))
 
 -- a step is done: where none is left, nothing happens

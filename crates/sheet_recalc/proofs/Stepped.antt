@@ -85,11 +85,11 @@ module _ (p : Pending) (w : Plans) (cut : Bool) (ticks : ℕ) (m : MeterValue) w
   abbrev IsUntold : Tables → Type 0
   IsUntold t = cut ≡ true → (cost : ℕ) × IsNodeCost p.name (proposed_change (outline_for t p)) (names_after t p) cost × (m.ticks ≤ ticks + cost)
 
-  begun_on : (t : Tables) (base : ℕ) → IsBegunOn t p base → IsOnTheWay (outline_for t p) base w (not cut) m.ticks → (cut ≡ false → ticks ≡ m.ticks) → IsUntold t → ticks < 18446744073709551616 → IsBegunOn t after base
-  begun_on t base h way told untold small = record { proposed = h.proposed; kept = h.kept; sheet = h.sheet; place = h.place; way = way; told = told; untold = untold; small = small }
+  begun_on : (t : Tables) (base : ℕ) → IsBegunOn t p base → IsOnTheWay (outline_for t p) base w (not cut) m.ticks → (cut ≡ false → ticks ≡ m.ticks) → IsUntold t → ticks ≤ m.ticks → ticks < 18446744073709551616 → IsBegunOn t after base
+  begun_on t base h way told untold rises small = record { proposed = h.proposed; kept = h.kept; sheet = h.sheet; place = h.place; way = way; told = told; untold = untold; rises = rises; small = small }
 
-  pub pending_on : (s : SheetValue) (change : SheetChange) (h : IsPendingOn s change p) → IsOnTheWay (outline_for s.tables p) h.base w (not cut) m.ticks → (cut ≡ false → ticks ≡ m.ticks) → IsUntold s.tables → ticks < 18446744073709551616 → IsPendingOn s change after
-  pending_on s change h way told untold small = record { base = h.base; begun = begun_on s.tables h.base h.begun way told untold small; base_is = h.base_is; accepts = h.accepts; name_is = h.name_is; makes = h.makes }
+  pub pending_on : (s : SheetValue) (change : SheetChange) (h : IsPendingOn s change p) → IsOnTheWay (outline_for s.tables p) h.base w (not cut) m.ticks → (cut ≡ false → ticks ≡ m.ticks) → IsUntold s.tables → ticks ≤ m.ticks → ticks < 18446744073709551616 → IsPendingOn s change after
+  pending_on s change h way told untold rises small = record { base = h.base; begun = begun_on s.tables h.base h.begun way told untold rises small; base_is = h.base_is; accepts = h.accepts; name_is = h.name_is; makes = h.makes }
 
 -- a change that was laid out, where its plans have come to a rest
 pub begun_of_laid_out : (t : Tables) (p : Pending) (base : ℕ) → IsLaidOut t p base → (w : Plans) (ticks : ℕ) (m : MeterValue) → IsOnTheWay (outline_for t p) base w true m.ticks → ticks ≡ m.ticks
@@ -102,6 +102,7 @@ begun_of_laid_out t p base h w ticks m way told small = record {
   way = subst (λ b. IsOnTheWay (outline_for t p) base w (not b) m.ticks) (sym h.whole) way;
   told = λ e. told;
   untold = λ cut. absurd (false≢true (sym h.whole ∙ cut));
+  rises = omega (arith, told);
   small = small;
 }
 

@@ -76,6 +76,7 @@ pub record IsBegunOn (t : Tables) (p : Pending) (base : ℕ) : Type 0 where
   pub way : IsOnTheWay (outline_for t p) base p.plans (not p.is_cut) p.meter.ticks
   pub told : p.is_cut ≡ false → p.ticks ≡ p.meter.ticks
   pub untold : p.is_cut ≡ true → (cost : ℕ) × IsNodeCost p.name (proposed_change (outline_for t p)) (names_after t p) cost × (p.meter.ticks ≤ p.ticks + cost)
+  pub rises : p.ticks ≤ p.meter.ticks
   pub small : p.ticks < 18446744073709551616
 
 -- it is laid out, and this was spent before: what it reaches is found, and no plan begun
@@ -90,6 +91,11 @@ pub record IsLaidOut (t : Tables) (p : Pending) (base : ℕ) : Type 0 where
   pub whole : p.is_cut ≡ false
   pub told : p.ticks ≡ p.meter.ticks
   pub small : p.ticks < 18446744073709551616
+
+-- the change is between two steps: no function is applied ahead of its step, and the ticks are all that the meter counted
+pub record IsBetweenSteps (p : Pending) : Type 0 where
+  pub whole : p.is_cut ≡ false
+  pub counted : p.ticks ≡ p.meter.ticks
 
 -- how many steps are left
 abbrev pub steps_left : Pending → ℕ

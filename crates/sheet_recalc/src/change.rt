@@ -5,7 +5,7 @@ ghost use Rattle.sheet_recalc.specs.Changes.{Accepts, Refuses};
 ghost use Rattle.sheet_recalc.specs.Costs.{HasCost, HasTicks, changed_name, expression_cost, IsStepCount};
 ghost use Rattle.sheet_recalc.specs.Names.{Names};
 ghost use Rattle.sheet_recalc.specs.History.{Run, change_of, sheet_state_of};
-ghost use Rattle.sheet_recalc.specs.Pending.{IsLaidOutOn, IsPendingOn, steps_left};
+ghost use Rattle.sheet_recalc.specs.Pending.{IsBetweenSteps, IsLaidOutOn, IsPendingOn, steps_left};
 
 use crate::pending::Pending;
 use crate::refusal::Refusal;
@@ -20,6 +20,7 @@ impl Sheet {
         ensures ok { IfOk result (IsPendingOn self.now (change_of change)) }
         ensures steps { IfOk result (λ pending. (new : Names) × Accepts self.now.names (change_of change) new × IsStepCount new (changed_name (change_of change)) (steps_left pending)) }
         ensures ticks { IfOk result (λ pending. pending.ticks ≤ expression_cost self.now.names (change_of change)) }
+        ensures between { IfOk result IsBetweenSteps }
         ensures refused { IfErr result (Refuses self.now.names (change_of change)) }
     {
         self.begin_lent(&change)
@@ -30,6 +31,7 @@ impl Sheet {
         ensures ok { IfOk result (IsPendingOn self.now (change_of change.now)) }
         ensures steps { IfOk result (λ pending. (new : Names) × Accepts self.now.names (change_of change.now) new × IsStepCount new (changed_name (change_of change.now)) (steps_left pending)) }
         ensures ticks { IfOk result (λ pending. pending.ticks ≤ expression_cost self.now.names (change_of change.now)) }
+        ensures between { IfOk result IsBetweenSteps }
         ensures refused { IfErr result (Refuses self.now.names (change_of change.now)) }
     {
         let mut pending = self.laid_out(change)?;

@@ -237,6 +237,7 @@ pub(crate) fn apply_next(
     ensures way { OnOk result ((base : ℕ) → IsOnTheWay (outline_of proposed.now) base plans.old true meter.old.ticks → IsOnTheWay (outline_of proposed.now) base plans.new false meter.new.ticks) }
     ensures left { OnOk result (plans.new.left + 1 ≡ plans.old.left) }
     ensures ticks { OnOk result ((cost : ℕ) × IsNodeCost proposed.now.name (proposed_change (outline_of proposed.now)) (proposed_names (outline_of proposed.now)) cost × (meter.new.ticks ≤ meter.old.ticks + cost)) }
+    ensures rises { meter.old.ticks ≤ meter.new.ticks }
     ensures err { OnErr result (plans.new ≡ plans.old) }
     ensures err_meter { OnErr result (meter.new ≡ meter.old) }
 {
@@ -279,6 +280,7 @@ fn apply_to(
         → meter.new.ticks ≡ ticked meter.old.ticks (node_cost_at formula.now.is_new (proposed_change (outline_of proposed.now)) (tree_at (subtrees formula.now.tree) (length plan.old.changes)))) }
     ensures cost { OnOk result (plan.new.cost ≡ ticked plan.old.cost
         (node_cost_at formula.now.is_new (proposed_change (outline_of proposed.now)) (tree_at (subtrees formula.now.tree) (length plan.old.changes)))) }
+    ensures rises { meter.old.ticks ≤ meter.new.ticks }
     ensures err { OnErr result (plan.new ≡ plan.old) }
     ensures err_meter { OnErr result (meter.new ≡ meter.old) }
 {

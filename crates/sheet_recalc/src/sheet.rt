@@ -15,7 +15,7 @@ ghost use Rattle.sheet_recalc.specs.Meaning.{val, IsOnlySolution};
 ghost use Rattle.sheet_recalc.specs.ProposedSheet.{names_with};
 ghost use Rattle.sheet_recalc.specs.Planning.{IsProposalAt};
 ghost use Rattle.sheet_recalc.specs.declared.proposal.Proposal.TheVariants.{Removed};
-ghost use Rattle.sheet_recalc.specs.Pending.{IsLaidOutOn, IsPendingOn, IsProposedOn, LaysOut, steps_left};
+ghost use Rattle.sheet_recalc.specs.Pending.{IsBetweenSteps, IsLaidOutOn, IsPendingOn, IsProposedOn, LaysOut, steps_left};
 ghost use Rattle.sheet_recalc.specs.Changes.{SheetChange, Accepts, Refuses, Define, Store, Put, SetCell, AddRow, Erase, CannotBecome};
 ghost use Rattle.sheet_recalc.specs.Costs.{HasCost, HasTicks, names_at_rest, changed_name, expression_cost, IsStepCost, IsStepCount};
 
@@ -207,6 +207,8 @@ impl Sheet {
         ensures one { OnOk result (steps_left pending.new ≡ steps_left pending.old - 1) }
         ensures kept { (change : SheetChange) → IsPendingOn self.now change pending.old → IsPendingOn self.now change pending.new }
         ensures ticks { OnOk result (0 < steps_left pending.old → (change : SheetChange) → IsPendingOn self.now change pending.old → (cost : ℕ) × IsStepCost self.now.names change cost × (pending.new.ticks ≤ pending.old.ticks + cost)) }
+        ensures rises { pending.old.ticks ≤ pending.new.ticks }
+        ensures between { OnOk result (IsBetweenSteps pending.new) }
         ensures none { steps_left pending.old ≡ 0 → pending.new ≡ pending.old }
         ensures err { OnErr result (steps_left pending.new ≡ steps_left pending.old) }
         ensures err_ticks { OnErr result (pending.new.ticks ≡ pending.old.ticks) }
@@ -253,6 +255,8 @@ impl Sheet {
         ensures kept { (change : SheetChange) → IsPendingOn self.now change pending.old → IsPendingOn self.now change pending.new }
         ensures one { OnOk result (steps_left pending.new + 1 ≡ steps_left pending.old) }
         ensures ticks { OnOk result ((change : SheetChange) → IsPendingOn self.now change pending.old → (cost : ℕ) × IsStepCost self.now.names change cost × (pending.new.ticks ≤ pending.old.ticks + cost)) }
+        ensures rises { pending.old.ticks ≤ pending.new.ticks }
+        ensures between { OnOk result (IsBetweenSteps pending.new) }
         ensures err { OnErr result (steps_left pending.new ≡ steps_left pending.old) }
         ensures err_ticks { OnErr result (pending.new.ticks ≡ pending.old.ticks) }
     {
@@ -273,6 +277,7 @@ impl Sheet {
         ensures begun { OnOk result ((change : SheetChange) → IsLaidOutOn self.now change pending.old → IsPendingOn self.now change pending.new) }
         ensures steps { OnOk result ((change : SheetChange) → IsLaidOutOn self.now change pending.old → (new : Names) × Accepts self.now.names change new × IsStepCount new (changed_name change) (steps_left pending.new)) }
         ensures ticks { pending.new.ticks ≡ pending.old.ticks }
+        ensures between { OnOk result (IsBetweenSteps pending.new) }
     {
         let proposed = ProposedSheet {
             entries: &self.entries,

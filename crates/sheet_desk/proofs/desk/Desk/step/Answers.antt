@@ -105,6 +105,7 @@ returns c =
         of_one = subst (λ (d : DeskValue). IsStepCost d.names (change_of s.change) cost.0) c.self.view_is cost.1;
         ticks = c.advance.new.pending.ticks;
         few = cost.2;
+        rises = c.in_ok-advance.ensures.rises;
         next_is =
             put_seen (placed_fresh at) (Some after)
             ∙ ap (λ (now : SlotValue). with_held c.args.self.now c.args.number (Some now))

@@ -32,7 +32,7 @@ returns-clause-kept c = λ change h.
     let after = subst (λ (t : Tables). IsOnTheWay (outline_for t p) h.base c.apply_next.new.plans false c.apply_next.new.meter.ticks) tables (c.in_ok-apply_next.ensures.way h.base before) in
     let k = subst (λ (t : Tables). (cost : ℕ) × IsNodeCost p.name (proposed_change (outline_for t p)) (names_after t p) cost × (c.apply_next.new.meter.ticks ≤ p.meter.ticks + cost)) tables c.in_ok-apply_next.ensures.ticks in
     let told : p.ticks ≡ p.meter.ticks = h.begun.told c.if-pending.false in
-    pending_on p c.apply_next.new.plans true p.ticks c.apply_next.new.meter c.args.self.now change h after (λ e. absurd (false≢true (sym e))) (λ e. (k.0, k.1, omega (arith, told, k.2))) h.begun.small
+    pending_on p c.apply_next.new.plans true p.ticks c.apply_next.new.meter c.args.self.now change h after (λ e. absurd (false≢true (sym e))) (λ e. (k.0, k.1, omega (arith, told, k.2))) (omega (arith, told, c.in_ok-apply_next.ensures.rises)) h.begun.small
 
 pub returns-in_err-apply_next-clause-kept : goal.returns-in_err-apply_next-clause-kept
 returns-in_err-apply_next-clause-kept c = λ change h.

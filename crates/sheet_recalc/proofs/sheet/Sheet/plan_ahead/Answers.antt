@@ -1,4 +1,4 @@
-use Rattle.std.proofs.Common.{◌+◌, ◌≤◌, sym, ap, subst, not, true, false}
+use Rattle.std.proofs.Common.{◌+◌, ◌≤◌, sym, ap, subst, arith, not, true, false}
 use Rattle.std.proofs.lemmas.Bool.{false≢true}
 use Rattle.sheet_recalc.specs.Names.{SheetValue}
 use Rattle.sheet_recalc.specs.Tables.{Tables}
@@ -29,7 +29,7 @@ returns-in_err-settle-clause-kept c = λ change h.
     (subst (λ b. IsOnTheWay (outline_for c.args.self.now.tables p) h.base p.plans (not b) p.meter.ticks) c.requires.cut h.begun.way) in
     let after = subst (λ (t : Tables). IsOnTheWay (outline_for t p) h.base c.settle.new.plans false p.meter.ticks) tables (c.in_err-settle.ensures.err h.base p.meter.ticks before) in
     pending_on p c.settle.new.plans p.is_cut p.ticks p.meter c.args.self.now change h
-    (subst (λ b. IsOnTheWay (outline_for c.args.self.now.tables p) h.base c.settle.new.plans (not b) p.meter.ticks) (sym c.requires.cut) after) h.begun.told h.begun.untold h.begun.small
+    (subst (λ b. IsOnTheWay (outline_for c.args.self.now.tables p) h.base c.settle.new.plans (not b) p.meter.ticks) (sym c.requires.cut) after) h.begun.told h.begun.untold h.begun.rises h.begun.small
 
 pub returns-clause-kept : goal.returns-clause-kept
 returns-clause-kept c = λ change h.
@@ -38,7 +38,7 @@ returns-clause-kept c = λ change h.
     let before = subst (λ (t : Tables). IsOnTheWay (outline_for t p) h.base p.plans false p.meter.ticks) (sym tables)
     (subst (λ b. IsOnTheWay (outline_for c.args.self.now.tables p) h.base p.plans (not b) p.meter.ticks) c.requires.cut h.begun.way) in
     let after = subst (λ (t : Tables). IsOnTheWay (outline_for t p) h.base c.settle.new.plans true p.meter.ticks) tables (c.in_ok-settle.ensures.settled h.base p.meter.ticks before) in
-    pending_on p c.settle.new.plans false c.ticks-pending.result p.meter c.args.self.now change h after (λ e. c.ticks-pending.ensures) (λ e. absurd (false≢true e)) c.ticks-pending.type_inv
+    pending_on p c.settle.new.plans false c.ticks-pending.result p.meter c.args.self.now change h after (λ e. c.ticks-pending.ensures) (λ e. absurd (false≢true e)) (omega (arith, c.ticks-pending.ensures)) c.ticks-pending.type_inv
 
 pub returns-clause-ticks : goal.returns-clause-ticks
 returns-clause-ticks c = λ change h.
