@@ -8,3 +8,4 @@ pub mod Kept
 pub mod Counted
 pub mod Causes
 pub mod OneAnswer
+pub mod AsPlain

@@ -7,6 +7,7 @@ use Rattle.arrays_core.specs.Outcomes.{Outcome}
 use Rattle.sheet_recalc.specs.Names.{Names}
 use Rattle.sheet_recalc.specs.Meaning.{val}
 use Rattle.sheet_recalc.specs.Changes.{SheetChange, Accepts}
+use Rattle.sheet_recalc.specs.Costs.{NoItemFails, changed_name, asked_change}
 use Rattle.sheet_recalc.specs.declared.refusal.Refusal.TheVariants as why
 use Rattle.sheet_desk.specs.Slots.{slot_in, with_slot}
 use Rattle.sheet_desk.specs.Desk.{DeskValue, SlotValue, Event, Open, Commit, Drop, Plain, Show, Answer, Done, Left, Shown, Refused, held_in, IsEvent, AreEvents}
@@ -88,6 +89,18 @@ HoldsStale d k change is_stale = (s : SlotValue) × (held_in d k ≡ Some (Some 
 abbrev pub StaleWhereChanged : Type 0
 StaleWhereChanged = (d mid new : DeskValue) (k : ℤ) (change : SheetChange) (n : ℕ) (events : List Event) (answers : List Answer) →
     IsEvent d (Open k change) (Left n) mid → AreEvents mid events answers new → AllKeep k events answers → HoldsStale new k change (make_change events answers)
+
+-- two desks after one change of these names: the names and the cost are the same, and the ticks where no item of a formula fails
+pub record IsSameChange (old : Names) (change : SheetChange) (a b : DeskValue) : Type 0 where
+  pub names : a.names ≡ b.names
+  pub cost : a.cost ≡ b.cost
+  pub ticks : NoItemFails (changed_name change) (asked_change old change a.names) a.names → a.ticks ≡ b.ticks
+
+-- a change that is opened and committed, with no other change made between, makes the same change of the desk as a plain change does
+abbrev pub OpenedIsAsPlain : Type 0
+OpenedIsAsPlain = (d mid new last plain : DeskValue) (k : ℤ) (change : SheetChange) (n : ℕ) (events : List Event) (answers : List Answer) →
+    IsEvent d (Open k change) (Left n) mid → AreEvents mid events answers new → AllKeep k events answers → make_change events answers ≡ false →
+    IsEvent new (Commit k) Done last → IsEvent d (Plain change) Done plain → IsSameChange d.names change last plain
 
 -- what answers tell of a change that is open: not how many items were computed for it
 abbrev pub told_of_slot : SlotValue → SheetChange × Bool × ℕ

@@ -9,6 +9,6 @@ mod slot;
 pub use desk::{Desk, SLOTS};
 pub use event::{Answer, Event};
 pub use laws::{
-    each_event_has_one_answer, names_are_of_changes_committed, shows_are_of_changes_committed,
-    stale_where_changed,
+    each_event_has_one_answer, names_are_of_changes_committed, opened_is_as_plain,
+    shows_are_of_changes_committed, stale_where_changed,
 };
