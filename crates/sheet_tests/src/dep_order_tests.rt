@@ -36,6 +36,12 @@ fn finds_a_cycle(rt: HostRuntime) {
 #[test]
 fn finds_dependents(rt: HostRuntime) {
     let graph = chain(rt.alloc()).expect(&rt, "a graph");
-    let found = dependents(rt.alloc(), &graph, 1);
-    assert!(rt; matches!(&found, Ok(nodes) if nodes.as_slice() == [2].as_slice()));
+    for (node, wanted) in [
+        (0, [1, 2].as_slice()),
+        (1, [2].as_slice()),
+        (2, [].as_slice()),
+    ] {
+        let found = dependents(rt.alloc(), &graph, node);
+        assert!(rt; matches!(&found, Ok(nodes) if nodes.as_slice() == wanted));
+    }
 }
