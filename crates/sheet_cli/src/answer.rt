@@ -8,6 +8,7 @@ ghost use Rattle.sheet_recalc.specs.Meaning.{val};
 ghost use Rattle.sheet_cli.specs.Answer.{state_of, shown_text, IsCarriedOut, IsTextAnswer, IsAnswer};
 ghost use Rattle.sheet_cli.specs.Lines.{strip_cr};
 ghost use Rattle.sheet_cli.specs.Printed.{printed_bytes};
+ghost use Rattle.sheet_cli.specs.Refusals.{TakesNoMemory};
 
 use crate::count_line::CountLine;
 use crate::printed::Printed;
@@ -63,7 +64,7 @@ fn answer_text(
     }
 }
 
-/// Does what a line asks for. A change and an expression are lent where they were read; any other command is taken from there.
+/// Carries out a command. A change and an expression are borrowed where they were read; any other command is moved out of there.
 #[inline(always)]
 fn carry_out_lent(
     alloc: Global,
@@ -71,6 +72,7 @@ fn carry_out_lent(
     command: &mut Command,
 ) -> Result<Printed, AllocError>
     ensures ok { IfOk result (λ text. IsCarriedOut (state_of desk.old) (meaning command.old) (printed_bytes text) (state_of desk.new)) }
+    ensures no_memory { TakesNoMemory desk.old (meaning command.old) → IsOk result }
     ensures err { OnErr result (desk.new ≡ desk.old) }
 {
     match command {
@@ -80,13 +82,14 @@ fn carry_out_lent(
     }
 }
 
-/// Does what a command asks for, which is taken from where it was read.
+/// Carries out a command that is moved out of where it was read.
 fn carry_out_taken(
     alloc: Global,
     desk: &mut Desk,
     command: &mut Command,
 ) -> Result<Printed, AllocError>
     ensures ok { IfOk result (λ text. IsCarriedOut (state_of desk.old) (meaning command.old) (printed_bytes text) (state_of desk.new)) }
+    ensures no_memory { TakesNoMemory desk.old (meaning command.old) → IsOk result }
     ensures err { OnErr result (desk.new ≡ desk.old) }
 {
     carry_out(alloc, desk, mem::replace(command, Command::Nothing))
@@ -102,13 +105,10 @@ fn shown(alloc: Global, sheet: &Sheet, expr: &Expr) -> Result<Printed, AllocErro
     }
 }
 
-/// Does what a line asks for. What is printed for an edit that is carried out, for a count of steps and for the cost needs no memory, and making or
-/// giving up a change that is open takes none.
+/// Carries out a command. `TakesNoMemory` lists the commands that are never refused memory.
 fn carry_out(alloc: Global, desk: &mut Desk, command: Command) -> Result<Printed, AllocError>
     ensures ok { IfOk result (λ text. IsCarriedOut (state_of desk.old) (meaning command) (printed_bytes text) (state_of desk.new)) }
-    ensures cost { meaning command ≡ Cost → IsOk result }
-    ensures commit { (number : ℤ) → meaning command ≡ Commit number → IsOk result }
-    ensures given_up { (number : ℤ) → meaning command ≡ Drop number → IsOk result }
+    ensures no_memory { TakesNoMemory desk.old (meaning command) → IsOk result }
     ensures err { OnErr result (desk.new ≡ desk.old) }
 {
     match command {

@@ -34,6 +34,7 @@ pub(crate) fn count_text(
 ) -> Result<Printed, AllocError>
     ensures text { IfOk result (λ text. IsPrintedFor (count_answer outcome) (printed_bytes text)) }
     ensures done { IsOk outcome → IsOk result }
+    ensures always { IfErr outcome (λ cause. is_always_there cause ≡ true → IsOk result) }
 {
     match outcome {
         Ok(count) => Ok(Printed::Count(CountLine::new(u64::from(count)))),
