@@ -8,8 +8,7 @@ use Rattle.arrays_core.specs.Shapes.{size}
 use Rattle.arrays_core.specs.declared.item.Kind.{Kind}
 use Rattle.function_names.specs.Axes.{axis_at}
 use Rattle.operator_fns.specs.declared.reduce.Reduce.{Reduce}
-use Rattle.index_region.specs.declared.delta.Delta.{Delta}
-use Rattle.index_region.specs.declared.delta.Delta.TheVariants.{Same, Patch, Grown, Whole}
+use Rattle.index_region.specs.declared.delta.Delta.TheVariants.{Patch, Grown}
 use Rattle.index_region.specs.Boxes.{Interval, box_size, fits, is_empty, join_boxes, met, unless_empty}
 use Rattle.index_region.specs.Checks.{Form}
 use Rattle.index_region.specs.Patches.{PatchValue}

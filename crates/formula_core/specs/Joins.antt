@@ -1,5 +1,5 @@
 -- How many sums of parts a change of the names joins, to sum up lines of numbers.
-use Rattle.std.specs.Prelude.{ℕ, ◌-◌, ◌*◌, ◌^◌, min, nat_le, nat_lt, Bool, true, ◌&&◌, ◌||◌, is_ok, Ok, Err, length, if◌then◌else◌}
+use Rattle.std.specs.Prelude.{ℕ, ◌-◌, ◌*◌, ◌^◌, min, nat_le, nat_lt, Bool, ◌&&◌, ◌||◌, is_ok, Ok, Err, length, if◌then◌else◌}
 use Rattle.std.specs.List.{count_by, range_with_len, sum_by}
 use Rattle.std.specs.Option.{option_map_or}
 use Rattle.apl_expr.specs.Trees.{Tree, Const, Name, Monad, Dyad, Index, Scan, Outer, Inner}

@@ -1,5 +1,5 @@
 //! The answer to one line.
-ghost use Rattle.std.specs.Prelude.{◌≡◌, ℤ, IfOk, OnErr, IsOk};
+ghost use Rattle.std.specs.Prelude.{◌≡◌, IfOk, OnErr, IsOk};
 ghost use Rattle.std.specs.Str.{chars};
 ghost use Rattle.apl_expr.specs.Lines.{meaning, Cost, Commit, Drop};
 ghost use Rattle.apl_expr.specs.Trees.{tree_of};

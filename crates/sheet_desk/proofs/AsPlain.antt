@@ -1,9 +1,9 @@
 -- A change that is opened and committed makes the same change of the desk as a plain change does.
-use Rattle.std.proofs.Common.{◌≡◌, ℕ, ℤ, Bool, true, false, ◌||◌, List, [], ◌∷◌, ◌++◌, Option, Some, None, refl, sym, ap, subst, ◌∙◌}
+use Rattle.std.proofs.Common.{◌≡◌, Bool, true, false, ◌||◌, List, [], ◌∷◌, ◌++◌, Option, Some, None, refl, sym, ap, subst, ◌∙◌}
 use Rattle.std.proofs.lemmas.Bool.{false≢true}
 use Rattle.sheet_recalc.specs.Names.{Names}
 use Rattle.sheet_recalc.specs.Changes.{SheetChange, Accepts}
-use Rattle.sheet_recalc.specs.Costs.{HasCost, HasTicks, NoItemFails, changed_name, asked_change}
+use Rattle.sheet_recalc.specs.Costs.{HasCost, HasTicks}
 use Rattle.sheet_desk.specs.Desk.{DeskValue, SlotValue, Event, Open, Step, Commit, Drop, Plain, Show, Answer, Done, Left, Shown, Refused, with_held, AreEvents, IsMade}
 use Rattle.sheet_desk.specs.Histories.{makes_change, make_change, made_by, opened_after, committed, open_changes, AreAccepted, IsSameChange, OpenedIsAsPlain}
 use Rattle.sheet_desk.proofs.Committed.{names_committed}

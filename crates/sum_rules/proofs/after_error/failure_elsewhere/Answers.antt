@@ -11,7 +11,7 @@ use Rattle.index_region.proofs.Patched.{patched_sound}
 use Rattle.operator_fns.specs.RightFold.{fold_right}
 use Rattle.operator_fns.specs.SumTrees.{numbers_of_line}
 use Rattle.sum_rules.specs.LineSums.{array_of_shape}
-use Rattle.sum_rules.proofs.KeptLines.{kept_total, line_below, some_lines}
+use Rattle.sum_rules.proofs.KeptLines.{kept_total, line_below}
 use Rattle.sum_rules.proofs.Failures.{one_decides}
 use Rattle.sum_rules.proofs.after_error.failure_elsewhere.Goals as goal
 

@@ -1,7 +1,6 @@
-use Rattle.std.proofs.Common.{◌≡◌, ◌∙◌, ◌+◌, true, ℕ, ℤ, map, List, length, get_or, remove, insert, ap, sym, subst, arith}
-use Rattle.arrays_core.specs.Arrays.{ArrayValue}
+use Rattle.std.proofs.Common.{◌≡◌, ◌∙◌, true, ℕ, ℤ, map, List, length, get_or, remove, insert, ap, sym, arith}
 use Rattle.function_names.specs.Axes.{axis_at}
-use Rattle.index_region.specs.Boxes.{Interval, is_within}
+use Rattle.index_region.specs.Boxes.{is_within}
 use Rattle.index_region.specs.Patches.{patched}
 use Rattle.index_region.proofs.Boxes.{fits_length}
 use Rattle.arrays_core.specs.declared.item.Item.TheVariants.{Num}

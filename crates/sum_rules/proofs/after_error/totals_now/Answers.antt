@@ -1,4 +1,4 @@
-use Rattle.std.proofs.Common.{◌≡◌, ◌∙◌, ◌<◌, ◌≤◌, ◌+◌, ◌-◌, true, ℕ, List, take, length, remove, refl, ap, sym, subst, arith, inl, inr, Ok, Err}
+use Rattle.std.proofs.Common.{◌≡◌, ◌∙◌, ◌<◌, ◌≤◌, ◌+◌, ◌-◌, true, ℕ, List, take, length, refl, ap, sym, subst, arith, inl, inr, Ok, Err}
 use Rattle.std.proofs.lemmas.Bool.{cases_Bool}
 use Rattle.std.proofs.lemmas.List.{length-replicate}
 use Rattle.arrays_core.specs.declared.item.ItemType.TheVariants.{Nums}
@@ -7,7 +7,7 @@ use Rattle.arrays_core.specs.Items.{fill}
 use Rattle.arrays_core.specs.Shapes.{is_index_of, size, index_after, places_before}
 use Rattle.arrays_core.proofs.Order.{index_after-within, places_before-index_after}
 use Rattle.function_names.specs.Axes.{axis_at}
-use Rattle.index_region.specs.Boxes.{Interval, box_size, fits, is_within, walk_at, whole_of}
+use Rattle.index_region.specs.Boxes.{box_size, fits, is_within, walk_at, whole_of}
 use Rattle.index_region.specs.Patches.{patched}
 use Rattle.operator_fns.specs.Reduce.{reduce_item}
 use Rattle.change_core.specs.Meters.{ticked}
