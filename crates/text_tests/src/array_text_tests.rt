@@ -2,7 +2,7 @@
 
 use apl_tokens::Name;
 use array_text::{print, print_fault};
-use arrays_core::{Array, Fault, Kind};
+use arrays_core::{Array, Fault, Kind, is_within_limits, shape_of, size};
 use std::alloc::Global;
 
 #[test]
@@ -21,14 +21,34 @@ fn prints_faults(rt: HostRuntime) {
     }
 }
 
-/// The text of a vector of two numbers.
-fn text_of(alloc: Global, numbers: [i64; 2]) -> Option<String> {
-    let array = Array::vector(alloc, numbers.as_slice().to_vec(alloc).ok()?).ok()?;
+/// The text of an array of numbers, if they are as many as its places.
+fn text_of(alloc: Global, axes: &[u32], numbers: &[i64]) -> Option<String> {
+    if !is_within_limits(axes) || size(axes) as usize != numbers.len() {
+        return None;
+    }
+    let numbers = numbers.to_vec(alloc).ok()?;
+    let array = Array::from_numbers(&shape_of(alloc, axes), numbers).ok()?;
     print(alloc, &array).ok()
 }
 
 #[test]
-fn prints_an_array(rt: HostRuntime) {
-    let printed = text_of(rt.alloc(), [7, -8]);
-    assert!(rt; matches!(&printed, Some(text) if text.as_str() == "7 ¯8\n"));
+fn prints_arrays(rt: HostRuntime) {
+    for (axes, numbers, wanted) in [
+        ([2].as_slice(), [7, -8].as_slice(), "7 ¯8\n"),
+        (
+            [2, 2].as_slice(),
+            [5, 11, 11, 25].as_slice(),
+            " 5 11\n11 25\n",
+        ),
+        (
+            [2, 1, 2].as_slice(),
+            [1, 2, 3, 4].as_slice(),
+            "1 2\n\n3 4\n",
+        ),
+        ([3, 0].as_slice(), [].as_slice(), "\n\n\n"),
+        ([0, 3].as_slice(), [].as_slice(), ""),
+    ] {
+        let printed = text_of(rt.alloc(), axes, numbers);
+        assert!(rt; matches!(&printed, Some(text) if text.as_str() == wanted));
+    }
 }
