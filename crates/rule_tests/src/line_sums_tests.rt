@@ -1,17 +1,20 @@
 //! The change of totals by trees of the sums of lines.
 
-ghost use Rattle.std.specs.Prelude.{◌≡◌, length, IfSome};
+ghost use Rattle.std.specs.Prelude.{◌≡◌, ◌∷◌, ◌++◌, [], length, IfOk, IfSome};
+ghost use Rattle.std.specs.List.{flat_map};
 ghost use Rattle.function_names.specs.Axes.{axis_at as axis_meant};
 ghost use Rattle.function_names.specs.declared.along.Along.TheVariants.{Last as LastAxis};
 ghost use Rattle.index_region.specs.Patches.{FitsPatch};
 ghost use Rattle.function_names.specs.declared.scalar.Scalar2.TheVariants.{Plus as Sum};
+ghost use Rattle.sum_rules.specs.LineSums.{array_of_shape};
+ghost use Rattle.sum_rules.specs.Totals.{AreAllAsLong};
 
 use crate::fixtures::{patch_of, tail_of};
 use arrays_core::{Array, Fault, Item, ItemType, Kind, is_within_limits, shape_of, size};
 use change_core::Meter;
 use fold_trees::{FoldTrees, has_trees};
 use index_region::{Along, Delta, Patch, Seen};
-use operator_fns::Reduce;
+use operator_fns::{Reduce, SumTree};
 use scalar_fns::Scalar2;
 use std::alloc::Global;
 use sum_rules::{LineSums, NewLines, refresh_sums, refresh_totals_with_cost};
@@ -298,6 +301,81 @@ fn a_line_that_is_summed_up_joins_all_its_numbers(rt: HostRuntime) {
     assert_eq!(rt; joins_anew(rt.alloc(), three), Some((4, 2)));
     let long = array_of(rt.alloc(), &[5, 20], &[], 1);
     assert_eq!(rt; joins_anew(rt.alloc(), long), Some((95, 5)));
+}
+
+/// The change of the sums of the lines of a matrix over which a patch is laid, by a tree for each line.
+fn sums_by_trees(
+    alloc: Global,
+    shown: &Result<Array, Fault>,
+    moved: &Delta,
+    trees: &[SumTree],
+    meter: &mut Meter,
+) -> Option<Delta>
+    requires lines { IfOk shown.now (λ a. a ≡ array_of_shape (2 ∷ 5 ∷ []) (flat_map (λ line. line) trees.now)) }
+    requires long { AreAllAsLong 5 trees.now }
+{
+    let (Ok(array), Delta::Patch(patch)) = (shown, moved) else {
+        return None;
+    };
+    if !patch.region().lies_in(array.shape().as_slice()) || patch.item_type() != array.item_type() {
+        return None;
+    }
+    let arg = (Seen::patched(array, patch), moved);
+    refresh_sums(alloc, arg, shown, trees, meter).ok()
+}
+
+/// The matrix of two lines, if each has five numbers.
+fn matrix_of(alloc: Global, first: &[i64], second: &[i64]) -> Option<Array>
+    ensures array { IfSome result (λ a. a ≡ array_of_shape (2 ∷ 5 ∷ []) (first.now ++ second.now)) }
+    ensures first { IfSome result (λ _. length first.now ≡ 5) }
+    ensures second { IfSome result (λ _. length second.now ≡ 5) }
+{
+    if first.len() != 5 || second.len() != 5 {
+        return None;
+    }
+    let mut numbers = first.to_vec(alloc).ok()?;
+    numbers.extend_from_slice(second).ok()?;
+    Array::from_numbers(&shape_of(alloc, &[2, 5]), numbers).ok()
+}
+
+/// The tree of a line.
+fn tree_of(alloc: Global, numbers: &[i64]) -> Option<SumTree>
+    ensures { IfSome result (λ t. t ≡ numbers.now) }
+{
+    SumTree::build(alloc, numbers).ok()
+}
+
+/// The change of the sums of a matrix of two lines where one number of the second line is another.
+fn sums_beside(
+    alloc: Global,
+    first: &[i64],
+    second: &[i64],
+    changed: (u32, i64),
+    meter: &mut Meter,
+) -> Option<Delta> {
+    let array = matrix_of(alloc, first, second)?;
+    let one = tree_of(alloc, first)?;
+    let other = tree_of(alloc, second)?;
+    let (place, number) = changed;
+    let moved = Delta::Patch(patch_of(alloc, &array, &[(2, 2), (place, place)], &[number])?);
+    sums_by_trees(alloc, &Ok(array), &moved, &[one, other], meter)
+}
+
+#[test]
+fn one_number_of_two_lines_changes_one_sum(rt: HostRuntime) {
+    for (place, wanted) in [(1, 104), (3, 102), (5, 100)] {
+        let mut meter = Meter::new();
+        let delta = sums_beside(
+            rt.alloc(),
+            &[1; 5],
+            &[1, 2, 3, 4, 5],
+            (place, 90),
+            &mut meter,
+        );
+        assert_eq!(rt; item_in(delta, &[2]), Some(Item::Num(wanted)));
+        assert_eq!(rt; meter.ticks(), 1);
+        assert!(rt; 1 <= meter.joins() && meter.joins() <= 3);
+    }
 }
 
 #[test]

@@ -74,6 +74,15 @@ fn a_limit_on_the_way_is_the_limit_of_the_whole(rt: HostRuntime) -> Result<(), F
 }
 
 #[test]
+fn numbers_are_added_from_the_last(rt: HostRuntime) -> Result<(), Fail> {
+    let tree = SumTree::build(rt.alloc(), &[1, i64::MAX, -1])?;
+    assert_eq!(rt; tree.result(), Ok(9_223_372_036_854_775_807));
+    let tree = SumTree::build(rt.alloc(), &[-1, 1, i64::MAX])?;
+    assert_eq!(rt; tree.result(), Err(Kind::Limit));
+    Ok(())
+}
+
+#[test]
 fn one_number_is_not_joined(rt: HostRuntime) -> Result<(), Fail> {
     let tree = SumTree::build(rt.alloc(), &[i64::MIN])?;
     assert_eq!(rt; tree.result(), Ok(i64::MIN));
