@@ -102,8 +102,8 @@ pub record Setting (R S W : Type 0) : Type 0 where
 abbrev pub IsIdle : {R S W : Type 0} → Setting R S W → Type 0
 IsIdle s = (s.input₂ ≡ s.input₁) × (s.output₂ ≡ s.output₁)
 
--- what all comes to that the words ask for: lines are answered, of the script where there is one and else of the input. Of several faults the ending
--- is that of the words, then that of the table, then that of the script
+-- what all comes to that the words ask for: lines are answered, of the script where there is one and else of the input. Of several faults,
+-- one of the words is the ending, else one of the table, else one of the script
 pub data ComesTo {R S W : Type 0} (s : Setting R S W) : Ending → Type 0 where
   bad_words : {ending : Ending} → RefusesWords s.host ending → IsIdle s → ComesTo s ending
   no_table : {ending : Ending} (asked : Words) → AsksFor s.host asked → FailsToBegin s.host asked.table ending → IsIdle s → ComesTo s ending
