@@ -1,7 +1,7 @@
 //! The answer to one line.
 ghost use Rattle.std.specs.Prelude.{◌≡◌, IfOk, OnErr, IsOk};
 ghost use Rattle.std.specs.Str.{chars};
-ghost use Rattle.apl_expr.specs.Lines.{meaning, Cost, Commit, Drop};
+ghost use Rattle.apl_expr.specs.Lines.{meaning};
 ghost use Rattle.apl_expr.specs.Trees.{tree_of};
 ghost use Rattle.formula_core.specs.Meaning.{eval};
 ghost use Rattle.sheet_recalc.specs.Meaning.{val};
