@@ -14,7 +14,6 @@ use Rattle.arrays_core.specs.declared.fault.Fault.{Fault}
 use Rattle.arrays_core.specs.declared.item.Kind.{Kind}
 use Rattle.arrays_core.specs.declared.item.Kind.TheVariants.{Value}
 use Rattle.arrays_core.specs.Outcomes.{Outcome, fault, given}
-use Rattle.selection_fns.specs.Index.{index_whole}
 use Rattle.formula_core.specs.Meaning.{eval, eval_positions, names_in, names_in_positions, array_of, of_right, of_both, applied1, applied2}
 use Rattle.formula_core.specs.Outcomes.{arisen_in}
 use Rattle.sheet_recalc.specs.Names.{Names, Binding, Data, Formula, binding, Refers}
@@ -31,6 +30,13 @@ given_fresh (Err kind) e h = let this : fault kind ≡ e = cc in ap (λ (f : Fau
 and_then_fails : {A B : Type 0} (r : Result A Fault) (next : A → Result B Fault) (e : Fault) → and_then r next ≡ Err e → (r ≡ Err e) ⊎ ((a : A) × (next a ≡ Err e))
 and_then_fails (Ok a) next e h = inr (a, h)
 and_then_fails (Err d) next e h = let this : d ≡ e = cc in inl (ap Err this)
+
+-- the positions fail, or what they index does, or the index itself, whose error is new
+indexed_fails : {P A : Type 0} (others : Result P Fault) (operand : Result A Fault) (index : A → P → Result ArrayValue Kind) (e : Fault)
+    → and_then others (λ positions. and_then operand (λ a. given (index a positions))) ≡ Err e → (others ≡ Err e) ⊎ ((operand ≡ Err e) ⊎ (e.origin ≡ None))
+indexed_fails others operand index e h =
+    ⊎_elim (λ r. inl r) (λ n. inr (⊎_elim (λ l. inl l) (λ m. inr (given_fresh (index m.0 n.0) e m.1)) (and_then_fails operand (λ a. given (index a n.0)) e n.1)))
+    (and_then_fails others (λ positions. and_then operand (λ a. given (index a positions))) e h)
 
 -- the error is new, or one of these names shows it
 abbrev IsFrom : (List ℕ → Outcome) → List (List ℕ) → Fault → Type 0
@@ -62,9 +68,8 @@ module _ (f : List ℕ → Outcome) (e : Fault) where
     error_from (Dyad g a b) h = of_two (function2.Dyad g) a b (error_from a) (error_from b) h
     error_from (Index a ps) h =
         ⊎_elim (λ r. from_right f (names_in a) (names_in_positions ps) e (positions_error_from ps r))
-        (λ n. ⊎_elim (λ l. from_left f (names_in a) (names_in_positions ps) e (error_from a l)) (λ m. inl (given_fresh (index_whole m.0 n.0) e m.1))
-        (and_then_fails (eval a f) (λ x. given (index_whole x n.0)) e n.1))
-        (and_then_fails (eval_positions ps f) (λ positions. and_then (eval a f) (λ x. given (index_whole x positions))) e h)
+        (λ n. ⊎_elim (λ l. from_left f (names_in a) (names_in_positions ps) e (error_from a l)) (λ m. inl m) n)
+        (indexed_fails (eval_positions ps f) (eval a f) _ e h)
     error_from (Reduce g k b) h = of_one (function1.Reduce g k) b (error_from b) h
     error_from (Scan g k b) h = of_one (function1.Scan g k) b (error_from b) h
     error_from (Outer g a b) h = of_two (function2.Outer g) a b (error_from a) (error_from b) h
