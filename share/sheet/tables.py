@@ -49,7 +49,7 @@ class Table:
             return self.records, self.width
         fields = self.columns(wanted)
         text = "\n".join(fields)
-        if not self.records and ("" in fields or "," in text or not is_plain(text)):
+        if not self.records and ("" in fields or "," in text or text.count("\n") >= len(fields) or not is_plain(text)):
             for place, field in enumerate(fields):
                 self.check(field, place // len(wanted) + self.first, wanted[place % len(wanted)])
             fields = [it.strip(" \t").lstrip("+") for it in fields]
@@ -75,7 +75,9 @@ class Table:
 
 def is_plain(text, separator=","):
     """Whether all fields are up to 18 digits with - or nothing before them, as in most tables. It is quick: a million in some milliseconds."""
-    raw = text.encode() if separator == "," else text.encode().replace(separator.encode(), b",")
+    if separator != "," and "," in text:  # a field has it, and below it would pass for a separator
+        return False
+    raw = text.encode().replace(separator.encode(), b",")
     signs = b"\n" + raw.translate(DIGITS) + b"\n"
     return not signs.translate(None, b"0-,\n") and not any(it in signs for it in NOT_PLAIN)
 
