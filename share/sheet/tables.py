@@ -136,7 +136,7 @@ def cut_titles(text, separator):
 
 def plain_table(file, titles, text, separator):
     """The table of plain records, which stand one on each line."""
-    records = [*filter(None, text.replace(separator, " ").replace("-", "¯").split("\n"))]
+    records = [*filter(None, text.replace(separator, " ").split("\n"))]
     widths = [len(titles)] * bool(titles) + [it + 1 for it in map(str.count, records, repeat(" "))]
     check_widths(file, widths)
     return Table(file, widths[0] if widths else 0, 2 if titles else 1, records)
