@@ -6,34 +6,45 @@ ERRORS = "SYNTAX|VALUE|AXIS|RANK|LENGTH|DOMAIN|INDEX|LIMIT"
 REFUSALS = "CYCLE|NOT FOUND|NOT DATA|SHEET FULL|NO MEMORY|NOT TEXT|LINE TOO LONG|STALE|NOT READY|NO SLOT|SLOT IN USE"
 FAULT = re.compile(f"(?P<kind>(?:{ERRORS}) ERROR)(?: IN (?P<origin>[^ ]+))?|(?P<refusal>{REFUSALS})")
 
-# What the answer is made of where it is no fault; a change that is accepted has none. Names have no blanks, and faults of )NAMES do.
-WELL = {"names": "[^ ]*", "cost": "[0-9]+", "open": "[0-9]+", "step": "[0-9]+", "csv": "[-0-9,]*", "show": ".*"}
+# What is printed for a line that is no fault, but for a value; for other kinds of lines nothing is. Names have no blanks, and faults do.
+WELL = {"names": "[^ ]*", "cost": "[0-9]+\n", "open": "[0-9]+\n", "step": "[0-9]+\n", "csv": "[-0-9,\n]*"}
 
 
 class Answer:
-    """What the program printed for a line: `lines`, and `fault`, the match of FAULT where it is an error or a refusal, else None."""
+    """What the program printed for a line.
 
-    def __init__(self, line, lines, fault):
-        self.line, self.lines, self.fault = line, lines, fault
+    lines     what was printed
+    is_fault  whether it is an error or a refusal
+    kind      which one, where it is a known one, else None
+    origin    the name in whose formula the error arose; None where it arose in the line itself
+    """
 
-    @property
-    def kind(self):
-        return self.fault and (self.fault["kind"] or self.fault["refusal"])
-
-    @property
-    def origin(self):
-        """The name in whose formula the error arose; None where it arose in the line itself."""
-        return self.fault and self.fault["origin"]
+    def __init__(self, line, lines, is_fault):
+        self.line, self.lines, self.is_fault = line, lines, is_fault
+        known = fault_of(lines) if is_fault else None
+        self.kind = known and (known["kind"] or known["refusal"])
+        self.origin = known and known["origin"]
 
 
 def answer(program, line):
-    """Gives the line to the program, and returns its answer."""
+    """Gives the line to the program, and returns its answer.
+
+    A value can be any text; so of other errors than those of FAULT, only those are told from it that stand in the place of a known answer.
+    """
     lines = program.ask(line.text)
-    fault = FAULT.fullmatch(lines[0]) if len(lines) == 1 else None
-    well = WELL.get(line.kind, "")
-    if fault and re.fullmatch(well, lines[0]) and (line.kind != "show" or is_value(program, line, lines)):
-        fault = None
-    return Answer(line, lines, fault)
+    if line.kind == "show":
+        return Answer(line, lines, bool(fault_of(lines)) and not is_value(program, line, lines))
+    return Answer(line, lines, not re.fullmatch(WELL.get(line.kind, ""), "".join(f"{it}\n" for it in lines)))
+
+
+def fault_of(lines):
+    """The match of FAULT where what was printed reads like a known error or refusal, else None."""
+    return FAULT.fullmatch(lines[0]) if len(lines) == 1 else None
+
+
+def first_refusal(printed):
+    """What was printed for the first of several changes that is refused, or None: for a change that is accepted nothing is printed."""
+    return next(("\n".join(lines) for lines in printed if lines), None)
 
 
 def is_value(program, line, lines):
@@ -42,4 +53,9 @@ def is_value(program, line, lines):
     The question is a sign longer than the line. Where that is beyond a limit, which the answer to the line was not, it counts as a fault.
     """
     shape = program.ask("⍴" + line.text)
-    return shape != lines and all(set(it) <= set("0123456789 ") for it in shape)
+    return shape != lines and is_shape(shape)
+
+
+def is_shape(lines):
+    """Whether what was printed can be a shape: numbers on one line, or none of them."""
+    return len(lines) == 1 and set(lines[0]) <= set("0123456789 ")

@@ -56,6 +56,8 @@ def of_fault(session, answer):
     about = {"VALUE ERROR": of_value, "CYCLE": of_cycle, "NOT DATA": of_formula, "NOT FOUND": of_absent, "SYNTAX ERROR": of_syntax}
     about.update({"LENGTH ERROR": of_shapes, "RANK ERROR": of_shapes, "INDEX ERROR": of_shapes, "DOMAIN ERROR": of_items})
     about.update({"LINE TOO LONG": of_length})
+    if answer.kind is None:
+        return ["no such answer is known, so the line counts as refused"]
     if answer.kind not in about:
         return [REFUSED[answer.kind]] if answer.kind in REFUSED else []
     return about[answer.kind](session, answer) + of_slip(answer.line) * (answer.kind != "SYNTAX ERROR")

@@ -4,7 +4,7 @@ import contextlib
 import signal
 
 from . import commands, notes, storing
-from .answers import answer
+from .answers import answer, first_refusal
 from .errors import Mistake, Stopped
 from .journal import Change, Journal, Place
 from .lines import Line
@@ -54,8 +54,8 @@ class Session:
     def answer(self, line, place):
         """Answers a line of the language."""
         found = answer(self.program, line)
-        if found.fault:
-            self.complain(place, line.text, found.lines[0], notes.of_fault(self, found))
+        if found.is_fault:
+            self.complain(place, line.text, "\n".join(found.lines), notes.of_fault(self, found))
             return
         if not self.is_check:
             for it in found.lines:
@@ -86,9 +86,8 @@ class Session:
 
     def change(self, title, lines, bound):
         """Gives the program lines that make one change, all or none of them; a Mistake where one of them is refused."""
-        printed = self.program.ask_all(lines)
-        refused = next((it[0] for it in printed if it), None)
-        if refused:
+        refused = first_refusal(self.program.ask_all(lines))
+        if refused is not None:
             self.begin_again()
             raise Mistake(refused)
         self.journal.add(Change(title, lines, bound))
@@ -101,8 +100,8 @@ class Session:
             self.program.stop()
             try:
                 self.program.start()
-                printed = self.program.ask_all(self.journal.lines)
-                if refused := next((it[0] for it in printed if it), None):
+                refused = first_refusal(self.program.ask_all(self.journal.lines))
+                if refused is not None:
                     raise ProgramFailed(f"{self.program.words[0]} refuses what it took before: {refused}")
             except ProgramFailed as why:
                 kept = storing.keep_unsaved(self.journal)
@@ -128,8 +127,8 @@ class Session:
         """Tells of each name that shows an error which arose in its own formula, as if the line that binds it were one."""
         for name, binding in self.journal.bindings.items():
             found = answer(self.program, Line(name))
-            if found.fault and found.origin == name:
-                self.complain(binding.place, binding.text, found.lines[0], notes.of_fault(self, found))
+            if found.is_fault and found.origin == name:
+                self.complain(binding.place, binding.text, "\n".join(found.lines), notes.of_fault(self, found))
 
 
 @contextlib.contextmanager

@@ -6,7 +6,7 @@ import time
 from itertools import product
 from pathlib import Path
 
-from .answers import FAULT
+from .answers import is_shape
 from .errors import Mistake
 from .tables import lines_of_array
 
@@ -17,7 +17,7 @@ class Array:
     def __init__(self, program, name):
         shape, kind = program.ask_all([f"⍴{name}", f"0=1↑0⍴{name}"])
         self.program, self.name = program, name
-        self.error = shape[0] if len(shape) == 1 and FAULT.fullmatch(shape[0]) else None
+        self.error = None if is_shape(shape) else " ".join(shape)
         self.shape = [] if self.error else [int(it) for it in shape[0].split()]
         self.is_text = kind == ["0"]
 
