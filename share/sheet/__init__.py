@@ -10,5 +10,6 @@
   storing     sheets in files
   notes       what is said beside an error: absent names, cycles, shapes, and hints for the usual slips
   terminal    line editing, history and completion
+  interrupts  the signals that stop a line or end the session
   starting    the words of bin/sheet
 """

@@ -79,21 +79,12 @@ class Journal:
 
     def add(self, change):
         self.changes.append(change)
-        self.bind(change)
-
-    def bind(self, change):
-        for name, binding in change.bound:
-            if binding:
-                self.bindings[name] = binding
-            else:
-                self.bindings.pop(name, None)
+        bind(self.bindings, change)
 
     def take_back(self):
         """Takes the last change back, and returns it."""
         change = self.changes.pop()
-        self.bindings = {}
-        for it in self.changes:
-            self.bind(it)
+        self.bindings = bindings_of(self.changes)
         return change
 
     def join(self, first, title):
@@ -102,3 +93,20 @@ class Journal:
         if joined:
             bound = [it for change in joined for it in change.bound]
             self.changes[first:] = [Change(title, [it for change in joined for it in change.lines], bound)]
+
+
+def bindings_of(changes):
+    """What each name is bound to by these changes."""
+    bindings = {}
+    for it in changes:
+        bind(bindings, it)
+    return bindings
+
+
+def bind(bindings, change):
+    """Takes what a change binds into the bindings of a sheet."""
+    for name, binding in change.bound:
+        if binding:
+            bindings[name] = binding
+        else:
+            bindings.pop(name, None)

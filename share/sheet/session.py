@@ -1,11 +1,9 @@
 """A sheet in use: lines go in, and answers come out."""
 
-import contextlib
-import signal
-
 from . import commands, notes, storing
 from .answers import answer, first_refusal
 from .errors import Mistake, Stopped
+from .interrupts import signals, without_interrupts
 from .journal import Change, Journal, Place
 from .lines import Line
 from .program import ProgramFailed
@@ -19,12 +17,13 @@ class Session:
     show      called with each line that is an answer
     tell      called with each line that tells of something else: errors, refusals, notes
     is_check  whether only what is wrong is wanted, and no file is written
+    is_typed  whether lines are typed at a terminal: then the sheet is kept at the end, where it was not saved
     faults    how many lines were refused or were errors
     """
 
     def __init__(self, program, show, tell, is_check=False):
         self.program, self.show, self.tell, self.is_check = program, show, tell, is_check
-        self.journal, self.faults, self.depth = Journal(), 0, 0
+        self.journal, self.is_typed, self.faults, self.depth = Journal(), False, 0, 0
 
     def take(self, text, place=None):
         """Answers a line, whatever it is. Where the program dies over it or is stopped, the sheet is as it was before the line.
@@ -44,6 +43,7 @@ class Session:
             self.begin_again()
         except KeyboardInterrupt:
             self.complain(place, text, "STOPPED" if place else "\nSTOPPED")  # the terminal has shown ^C
+            signals.release()
             self.begin_again()
             if place:
                 raise Stopped from None
@@ -104,6 +104,7 @@ class Session:
                 if refused is not None:
                     raise ProgramFailed(f"{self.program.words[0]} refuses what it took before: {refused}")
             except ProgramFailed as why:
+                signals.hold()
                 kept = storing.keep_unsaved(self.journal)
                 self.journal.mark_saved()
                 raise SystemExit(f"sheet: {why}; " + (f"the sheet is kept in {kept}" if kept else "nothing was unsaved")) from None
@@ -129,16 +130,6 @@ class Session:
             found = answer(self.program, Line(name))
             if found.is_fault and found.origin == name:
                 self.complain(binding.place, binding.text, "\n".join(found.lines), notes.of_fault(self, found))
-
-
-@contextlib.contextmanager
-def without_interrupts():
-    """Ctrl-C does nothing meanwhile."""
-    kept = signal.signal(signal.SIGINT, signal.SIG_IGN)
-    try:
-        yield
-    finally:
-        signal.signal(signal.SIGINT, kept)
 
 
 def lines_of(source):

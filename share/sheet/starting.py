@@ -1,6 +1,7 @@
 """The words of bin/sheet, and what it does with them."""
 
 import argparse
+import contextlib
 import os
 import signal
 import sys
@@ -8,6 +9,7 @@ from pathlib import Path
 
 from . import storing
 from .errors import End, Stopped
+from .interrupts import signals
 from .program import Program, ProgramFailed
 from .session import Session
 from .terminal import Terminal
@@ -35,13 +37,12 @@ def main(top):
     given = words().parse_args()
     for stream in (sys.stdin, sys.stdout, sys.stderr):
         stream.reconfigure(encoding="utf-8", errors="surrogateescape", line_buffering=True)
-    for sign in (signal.SIGTERM, signal.SIGHUP):
-        signal.signal(sign, lambda number, _: sys.exit(128 + number))
+    signals.install()
     program = Program([given.program or str(Path(top, "bin", "aplsheet"))])
     session = Session(program, show, tell, given.check)
     try:
         program.start()
-        answer(session, given.scripts or ["-"])
+        answer_and_keep(session, given.scripts or ["-"])
     except ProgramFailed as why:
         sys.exit(f"sheet: {why}")
     except (KeyboardInterrupt, Stopped):
@@ -51,12 +52,27 @@ def main(top):
         return 1
     finally:
         program.stop()
-    return int(session.faults > 0)
+    return signals.status or int(session.faults > 0)
+
+
+def answer_and_keep(session, scripts):
+    """Answers the lines of each script, and keeps the sheet, whatever ends them: no signal cuts off the keeping.
+
+    A signal that raises holds the others itself. So they are held below also where one raises just before the call that holds them.
+    """
+    try:
+        try:
+            answer(session, scripts)
+        finally:
+            signals.hold()
+    finally:
+        if session.is_typed and (kept := storing.keep_unsaved(session.journal)):
+            with contextlib.suppress(OSError):  # the terminal may be gone
+                tell(f"the sheet was not saved; it is kept, and `sheet {kept} -` goes on with it")
 
 
 def answer(session, scripts):
-    """Answers the lines of each script. At a terminal the sheet is kept at the end, where it was not saved."""
-    is_typed = False
+    """Answers the lines of each script."""
     try:
         for script in scripts:
             if script != "-":
@@ -64,7 +80,7 @@ def answer(session, scripts):
                     session.run(script, source)
                 session.journal.mark_saved()
             elif sys.stdin.isatty() and sys.stdout.isatty():
-                is_typed = True
+                session.is_typed = True
                 Terminal(session).run()
                 session.faults = 0
             else:
@@ -75,9 +91,6 @@ def answer(session, scripts):
         sys.exit(f"sheet: {error.filename} cannot be read: {error.strerror}")
     except End:
         pass
-    finally:
-        if is_typed and (kept := storing.keep_unsaved(session.journal)):
-            tell(f"the sheet was not saved; it is kept, and `sheet {kept} -` goes on with it")
     if session.is_check:
         session.check_names()
 

@@ -8,6 +8,7 @@ from pathlib import Path
 
 from .answers import is_shape
 from .errors import Mistake
+from .journal import bindings_of
 from .tables import lines_of_array
 
 
@@ -90,8 +91,11 @@ def state_folder():
 
 
 def keep_unsaved(journal):
-    """Writes the lines of a sheet that was not saved into a new file, and returns that; None where there is nothing to keep."""
-    if journal.is_saved or not journal.bindings:
+    """Writes the lines of a sheet that was not saved into a new file, and returns that; None where there is nothing to keep.
+
+    It looks at the changes alone: a signal may have come when one was added, and its name was not yet bound.
+    """
+    if journal.is_saved or not bindings_of(journal.changes):
         return None
     name = time.strftime("unsaved-%Y%m%d-%H%M%S")
     for place, number in product((state_folder, Path.cwd, lambda: Path(os.environ.get("TMPDIR", "/tmp"))), range(1, 100)):

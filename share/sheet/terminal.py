@@ -1,11 +1,13 @@
 """A terminal: line editing, the keys of the symbols, history and completion, by readline."""
 
+import contextlib
 import locale
 import os
 import re
 
 from . import commands, keys, storing
 from .errors import End
+from .interrupts import signals
 from .lines import NAME
 
 PROMPT = " " * 6  # so that answers, which begin at the left edge, stand out
@@ -73,12 +75,14 @@ class Terminal:
         self.session.tell("aplsheet: ]help tells of the commands, ]keys of the keys of the symbols; Ctrl-D ends")
         while True:
             try:
+                signals.release()
                 for line in self.read().split("\n"):
                     self.session.take(line)
             except KeyboardInterrupt:
                 self.session.tell("")
             except EOFError:
-                self.session.tell("")
+                with contextlib.suppress(OSError):  # the terminal may be gone
+                    self.session.tell("")
                 return
             except End:
                 return
