@@ -5,8 +5,9 @@
   answers     whether what was printed is a value, or an error, or a refusal
   journal     the lines that were accepted, and what they bound
   session     a sheet in use: lines go in, answers come out; undo, and what happens when the program dies
-  commands    the lines that begin with ]
-  tables      tables in files, and arrays as lines
+  commands    the lines that begin with ]: their forms; each NAME_commands has those of a subject
+  tables      tables in files
+  arrays      arrays as lines
   storing     sheets in files
   notes       what is said beside an error: absent names, cycles, shapes, and hints for the usual slips
   terminal    line editing, history and completion

@@ -1,6 +1,7 @@
 """A sheet in use: lines go in, and answers come out."""
 
 from . import commands, notes, storing
+from . import name_commands, file_commands, table_commands, change_commands, help_commands  # noqa: F401: each puts its commands into commands
 from .answers import answer, first_refusal
 from .errors import Mistake, Stopped
 from .interrupts import signals, without_interrupts

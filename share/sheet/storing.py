@@ -9,7 +9,7 @@ from pathlib import Path
 from .answers import is_shape
 from .errors import Mistake
 from .journal import bindings_of
-from .tables import lines_of_array
+from .arrays import lines_of_array
 
 
 class Array:

@@ -1,0 +1,132 @@
+"""Ends of a session: terminals that are closed, and signals at any time."""
+
+from __future__ import annotations
+
+import os
+import random
+import shlex
+import shutil
+import signal
+import subprocess
+import time
+
+from .rooms import SECONDS, Outcome, Room, Test, named_tests
+from .screens import PROMPT, Screen, wait_for_end
+
+
+def hang_up(room: Room) -> Outcome:
+    """Where the terminal goes, the sheet is kept."""
+    screen = Screen(room)
+    screen.keys("A`[5\n")
+    time.sleep(1)  # as above
+    screen.process.send_signal(1)
+    screen.read(lambda: False)
+    return (screen.process.wait(SECONDS), room.kept()), (129, ["A←5\n"])
+
+
+def closed_terminal(room: Room, times: int, shell: str) -> Outcome:
+    """Where the terminal is closed in which a shell runs it, each line is kept behind which a prompt was shown."""
+    lines, wrong = [f"A{it}←{it}\n" for it in range(30)], []
+    for _ in range(times):
+        shutil.rmtree(room.folder / "state", ignore_errors=True)
+        screen = Screen(room, shell=shell)
+        screen.keys(lines[0].replace("←", "`["))
+        before = len(screen.shown)
+        os.write(screen.master, "".join(random.choice((lines[1:], []))).replace("←", "`[").encode())
+        until = time.monotonic() + random.random() / 4
+        screen.read(lambda: time.monotonic() > until)
+        shown = 1 + screen.shown.count(PROMPT, before)
+        screen.close()
+        kept = room.kept()
+        if len(kept) != 1 or kept[0] not in ("".join(lines[:it]) for it in range(shown, len(lines) + 1)):
+            wrong.append((shown, kept))
+    return wrong, []
+
+
+def killed_tmux_session(room: Room, times: int) -> Outcome:
+    """The same where tmux ends the session in whose window a shell runs it."""
+    tmux, found = ["tmux", "-u", "-f", "/dev/null", "-S", str(room.folder / "socket")], []
+    how = {"cwd": room.folder, "env": room.environment, "capture_output": True, "text": True, "timeout": SECONDS}
+    for _ in range(times):
+        shutil.rmtree(room.folder / "state", ignore_errors=True)
+        pipe, opening = room.watch()
+        subprocess.run([*tmux, "new-session", "-d", "-x", "200", "-y", "50", f"{opening}{shlex.join(room.words())}; true"], **how)
+        for keys, shown in (("", "Ctrl-D ends\n"), ("A`[5+1\nA\n", "\n6\n")):
+            subprocess.run([*tmux, "send-keys", "-l", keys.replace("\n", "\r")], **how)
+            begun = time.monotonic()
+            while shown not in subprocess.run([*tmux, "capture-pane", "-p"], **how).stdout:
+                if time.monotonic() - begun > SECONDS:
+                    raise TimeoutError(f"tmux does not show {shown}")
+                time.sleep(0.05)
+        time.sleep(random.random() / 4)
+        subprocess.run([*tmux, "kill-session"], **how)
+        wait_for_end(pipe)
+        found.append(room.kept())
+    return found, [["A←5+1\n"]] * times
+
+
+# Makes each file slow to be written: Python reads it as sitecustomize.
+SLOW_DISK = "import os, time\nwritten = os.fsync\nos.fsync = lambda file: (time.sleep(0.7), written(file))\n"
+ENDS = {"Ctrl-D": b"\x04", "]off": b"]off\n", "SIGTERM": signal.SIGTERM, "SIGHUP": signal.SIGHUP}
+
+
+def signals_while_kept(room: Room, end: bytes | signal.Signals) -> Outcome:
+    """Signals of each kind do not cut off the keeping, whatever has begun it."""
+    room.put("sitecustomize.py", SLOW_DISK)
+    room.environment["PYTHONPATH"] = str(room.folder)
+    screen = Screen(room)
+    screen.keys("A`[5\n")
+    time.sleep(1)  # as above
+    if isinstance(end, bytes):
+        os.write(screen.master, end)
+    else:
+        screen.process.send_signal(end)
+    while not room.kept():
+        time.sleep(0.01)
+    for sign in (signal.SIGINT, signal.SIGHUP, signal.SIGINT, signal.SIGTERM, signal.SIGHUP, signal.SIGTERM):
+        screen.process.send_signal(sign)
+        time.sleep(0.02)
+    screen.read(lambda: False)
+    is_told = "the sheet was not saved; it is kept" in screen.shown
+    first = signal.SIGHUP if isinstance(end, bytes) else end
+    return (screen.process.wait(SECONDS), is_told, room.kept()), (128 + first, True, ["A←5\n"])
+
+
+def signals_at_any_time(room: Room, times: int, *signs: signal.Signals) -> Outcome:
+    """Signals that come one behind the other, at any time, do not cut it off. One just before readline waits is seen at the next key."""
+    found = []
+    for _ in range(times):
+        shutil.rmtree(room.folder / "state", ignore_errors=True)
+        screen = Screen(room)
+        screen.keys("A`[5\n")
+        for sign in signs:
+            time.sleep(random.choice((0, random.random() / 100)))
+            screen.process.send_signal(sign)
+        screen.end()
+        found.append(room.kept())
+    return found, [["A←5\n"]] * times
+
+
+def interrupted_end(room: Room, times: int) -> Outcome:
+    """Ctrl-C behind Ctrl-D does not either, where there is much to be kept: 600,000 numbers."""
+    text, found = "".join(f")DATA D{at}←{'7 ' * 2000}\n" for at in range(300)), []
+    room.put("large.apl", text)
+    for _ in range(times):
+        shutil.rmtree(room.folder / "state", ignore_errors=True)
+        screen = Screen(room, "large.apl", "-", program=room.fake())
+        screen.keys("A`[5\n")
+        os.write(screen.master, b"\x04")
+        time.sleep(random.random() / 50)
+        screen.end("\x03")
+        found.append(room.kept() == [text + "A←5\n"])
+    return found, [True] * times
+
+
+def tests(times: int) -> list[Test]:
+    shells = [shell for shell in ("bash", "dash") if shutil.which(shell)]
+    closed = [Test(f"closed terminal: {shell}", closed_terminal, (times, shell)) for shell in shells]
+    closed += [Test("killed tmux session", killed_tmux_session, (times,))] * bool(shutil.which("tmux"))
+    kept = [Test(f"signals while it is kept: {name}", signals_while_kept, (end,)) for name, end in ENDS.items()]
+    pairs = [(signal.SIGTERM, signal.SIGHUP), (signal.SIGHUP, signal.SIGINT), (signal.SIGINT, signal.SIGTERM, signal.SIGINT)]
+    kept += [Test(f"signals at any time: {signs}", signals_at_any_time, (3 * times, *signs)) for signs in pairs]
+    return [*named_tests([hang_up]), *closed, *kept, Test("interrupted end", interrupted_end, (3 * times,))]

@@ -1,0 +1,37 @@
+"""The session and the calls of docs/SHEET.md."""
+
+from __future__ import annotations
+
+import re
+import shlex
+import subprocess
+
+from .rooms import SECONDS, TOP, Outcome, Room, Test, named_tests
+from .screens import PROMPT, Screen
+
+
+def transcript(room: Room) -> Outcome:
+    """The blocks of docs/SHEET.md that ```text opens: what is typed stands behind the prompt, and what is shown in the lines below."""
+    page = (TOP / "docs/SHEET.md").read_text()
+    for file in (TOP / "examples/tutorial").iterdir():
+        room.put(file.name, file.read_bytes())
+    wanted = "".join(re.findall("^```text\n(.*?)^```$", page, re.MULTILINE | re.DOTALL))
+    screen, shown = Screen(room), ""
+    for line in wanted.splitlines():
+        if line.startswith(PROMPT):
+            shown += PROMPT + screen.keys(line[len(PROMPT) :] + "\n")
+    return (shown, screen.end()[0], bool(wanted)), (wanted, 0, True)
+
+
+def commands_of_manual(room: Room) -> Outcome:
+    """The calls of docs/SHEET.md: the lines of the blocks that ```console opens."""
+    blocks = "".join(re.findall("^```console\n(.*?)^```$", (TOP / "docs/SHEET.md").read_text(), re.MULTILINE | re.DOTALL))
+    calls = re.findall(r"^\$ (.*)\n((?:(?!\$ ).*\n)*)", blocks, re.MULTILINE)
+    begin = " ".join(map(shlex.quote, room.words()))
+    how = {"shell": True, "cwd": TOP, "stdout": subprocess.PIPE, "stderr": subprocess.STDOUT, "text": True, "timeout": SECONDS}
+    found = [subprocess.run(line.replace("bin/sheet", begin), env=room.environment, **how).stdout for line, _ in calls]
+    return (found, bool(calls)), ([wanted for _, wanted in calls], True)
+
+
+def tests(_times: int) -> list[Test]:
+    return named_tests([transcript, commands_of_manual])

@@ -1,0 +1,108 @@
+"""Folders in which a test runs the front end, and a program that only seems to be one."""
+
+from __future__ import annotations
+
+import os
+import subprocess
+import sys
+from pathlib import Path
+from typing import Callable, NamedTuple, Optional, Sequence, Tuple, Union
+
+SECONDS = 60  # the most that one call or one answer may take
+TOP = Path(__file__).resolve().parents[2]
+SHEET = [sys.executable, str(TOP / "bin/sheet")]
+
+# A program that answers as aplsheet does where nothing is to be worked out. What a line says in capitals it does.
+FAKE = """#!{python}
+import os, sys
+is_refused = False
+for line in sys.stdin.buffer:
+    line = line.decode("utf-8", "replace").rstrip("\\n")
+    if is_refused or line == "REFUSE":
+        print("NO MEMORY")
+        is_refused = line == "REFUSE"
+    elif line == "DIE":
+        sys.exit(3)
+    elif line == "KILL":
+        os.kill(os.getpid(), 9)
+    elif line == "VANISH":
+        os.remove(sys.argv[0])
+        sys.exit(4)
+    elif "UNKNOWN←" in line or line == ")COMMIT 7":
+        print("DEPTH ERROR\\nAT SIGN 1")
+    elif "EMPTY←" in line:
+        print()
+    elif line.startswith(")OPEN"):
+        print(0)
+    elif line.startswith("'"):
+        print(line[1:-1])
+    elif "←" not in line:
+        print("VALUE " + line)
+    sys.stdout.flush()
+"""
+
+
+class Room:
+    """A folder of its own for one test, with the files that the test needs, in which the front end keeps its history too."""
+
+    def __init__(self, program: str, folder: str) -> None:
+        self.program, self.folder = program, Path(folder)
+        own = {"XDG_STATE_HOME": str(self.folder / "state"), "TERM": "dumb", "LC_ALL": "C.UTF-8", "INPUTRC": "/dev/null"}
+        self.environment = {**os.environ, **own, "HOME": folder}
+
+    def put(self, name: str, text: Union[str, bytes]) -> str:
+        """Makes a file, and returns its name."""
+        path = self.folder / name
+        path.write_bytes(text if isinstance(text, bytes) else text.encode())
+        return name
+
+    def fake(self) -> str:
+        """Makes the program that only seems to be one, and returns its path."""
+        path = self.folder / "fake"
+        path.write_text(FAKE.format(python=sys.executable))
+        path.chmod(0o755)
+        return str(path)
+
+    def words(self, *words: str, program: Optional[str] = None) -> list[str]:
+        return [*SHEET, "--program", program or self.program, *words]
+
+    def watch(self) -> Tuple[int, str]:
+        """Makes a pipe, which a shell opens by the words that are returned too; what it starts then has it open until its end."""
+        pipe = self.folder / f"pipe{len(os.listdir(self.folder))}"
+        os.mkfifo(pipe)
+        return os.open(pipe, os.O_RDONLY | os.O_NONBLOCK), f"exec 9> {pipe}; "
+
+    def kept(self) -> list[str]:
+        """The texts of the sheets that were not saved, of half-written ones too."""
+        return [path.read_text() for path in (self.folder / "state/aplsheet").glob("*unsaved*")]
+
+    def call(self, *words: str, lines: Union[str, bytes] = "", program: Optional[str] = None) -> Tuple[int, str, str]:
+        """Returns the status, standard output and standard error of a call."""
+        typed = lines if isinstance(lines, bytes) else lines.encode()
+        command = self.words(*words, program=program)
+        ran = subprocess.run(command, input=typed, capture_output=True, timeout=SECONDS, cwd=self.folder, env=self.environment)
+        return ran.returncode, ran.stdout.decode(), ran.stderr.decode("utf-8", "replace")
+
+    def answers(self, *lines: str) -> str:
+        """Returns the standard output for these lines."""
+        return self.call(lines="\n".join(lines))[1]
+
+    def messages(self, *lines: str) -> str:
+        """Returns the standard error for these lines."""
+        return self.call(lines="\n".join(lines))[2]
+
+
+Outcome = Tuple[object, object]  # what came, and what is wanted
+
+
+class Test(NamedTuple):
+    """A test: its name, and the call that makes its outcome in a room of its own, with further arguments."""
+
+    name: str
+    call: Callable[..., Outcome]
+    arguments: Tuple[object, ...] = ()
+
+
+def named_tests(calls: Sequence[Callable[..., Outcome]]) -> list[Test]:
+    """Returns tests that are named for their functions."""
+    return [Test(call.__name__, call) for call in calls]
