@@ -1,16 +1,22 @@
 """The front end of aplsheet for persons: it stands around the program, which answers every line. Nothing is worked out here.
 
-  lines       what a line is, as far as its text tells
+  lines       kinds of lines, as far as their text tells
   program     the program over pipes, and how many lines of output each answer has
-  answers     whether what was printed is a value, or an error, or a refusal
-  journal     the lines that were accepted, and what they bound
-  session     a sheet in use: lines go in, answers come out; undo, and what happens when the program dies
-  commands    the lines that begin with ]: their forms; each NAME_commands has those of a subject
+  answers     values told from errors and refusals
+  journal     the changes that were accepted, and the bindings of names by them
+  session     a sheet in use: lines go in, answers come out; undo, redo, and a program that dies
+  recovery    the log of a session, by which one that was not saved goes on
+  commands    the forms of the lines that begin with ]; each NAME_commands has those of one subject
   tables      tables in files
   arrays      arrays as lines
-  storing     sheets in files
-  notes       what is said beside an error: absent names, cycles, shapes, and hints for the usual slips
+  storing     the array of a name
+  scripts     the lines by which a sheet is saved
+  files       files, read and written without losing what is there
+  notes       notes beside an error: absent names, cycles, shapes, and hints for the usual slips
+  watching    names that are shown again after changes
   terminal    line editing, history and completion
+  pager       values beyond the screen
+  progress    how much of a long task is done
   interrupts  the signals that stop a line or end the session
   starting    the words of bin/sheet
 """

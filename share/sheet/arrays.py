@@ -33,3 +33,7 @@ def lines_of_array(name, shape, items, spare, each=1):
     lines = [f")DATA {spare}←1 {room * each}⍴{parts[0]}", *[f")ROW {spare} {it}" for it in parts[1:rows]]]
     lines.append(f"{begin}(,{spare}),{parts[-1]}" if rest else f"{begin}{spare}")
     return lines + [f")ERASE {spare}"] * (spare != name)
+
+
+def rows_of_array(name, shape, items, spare):
+    return lines_of_array(name, shape, items, spare)

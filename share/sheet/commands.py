@@ -2,66 +2,123 @@
 
 from __future__ import annotations
 
-import argparse
 import os
 import re
 import shlex
 from difflib import get_close_matches
+from typing import TYPE_CHECKING, Callable, Dict, List, NamedTuple, Sequence, Union
 
 from .errors import Mistake
 from .lines import BLANKS
 
-COMMANDS = {}  # by the word behind the ]
+if TYPE_CHECKING:
+    from .session import Session
+
+Value = Union[str, bool, None, List[str]]
+PART = re.compile(r"\[(?P<flag>--\w+)(?: (?P<example>[^\]]+))?\]|(?P<optional>\[)?(?P<word>[A-Z]+)(?P<many>\.\.)?\]?")
+# a blank in it, and a ⍝ within quotes or within a word, begins no comment
+COMMENT = re.compile(r"""((?:'[^']*'|"(?:\\.|[^"\\])*"|\\.|(?<=[^\s])⍝|[^'"\\⍝])*)⍝.*""", re.DOTALL)
 
 
-class Words(argparse.ArgumentParser):
-    """What stands behind the word of a command, as its form says: words in capitals, flags, and flags with a word, in brackets."""
+class Word(NamedTuple):
+    """A word of a form: its name, whether it may be left out, and whether it stands for any number of words."""
 
-    def __init__(self, form):
-        super().__init__(prog=form, add_help=False, allow_abbrev=False)
-        self.form = form
-        for flag, value, name in re.findall(r"\[(--\w+)(?: ([^\]]+))?\]|\b([A-Z]+)", form):
-            if name:
-                self.add_argument(name.lower(), metavar=name)
-            elif value:
-                self.add_argument(flag, metavar=value)
+    name: str
+    is_optional: bool
+    is_many: bool
+
+
+class Form:
+    """The form of a command.
+
+    Words in capitals are needed, in brackets not; NAME.. stands for several words. A flag is in brackets, with an example of the word that
+    follows it, if one does.
+    """
+
+    def __init__(self, text: str) -> None:
+        self.text = text
+        parts = [*PART.finditer(text, text.find(" ") if " " in text else len(text))]
+        self.flags = {part["flag"]: bool(part["example"]) for part in parts if part["flag"]}
+        self.words = [Word(part["word"], bool(part["optional"]), bool(part["many"])) for part in parts if part["word"]]
+
+    def mistake(self, what: str) -> Mistake:
+        return Mistake(f"{what}; the form is {self.text}")
+
+    def values(self, texts: Sequence[str]) -> Dict[str, Value]:
+        """Returns the values of words and flags by their names, in small letters; a Mistake where the form is another one."""
+        values: Dict[str, Value] = {flag[2:]: None if takes_word else False for flag, takes_word in self.flags.items()}
+        waiting, words = [*texts], []
+        while waiting:
+            text = waiting.pop(0)
+            if not text.startswith("--"):
+                words.append(text)
+            elif text not in self.flags:
+                raise self.mistake(f"there is no {text} here")
+            elif self.flags[text] and not waiting:
+                raise self.mistake(f"a word is missing behind {text}")
             else:
-                self.add_argument(flag, action="store_true")
+                values[text[2:]] = waiting.pop(0) if self.flags[text] else True
+        return {**values, **self.values_of_words(words)}
 
-    def error(self, message):
-        raise Mistake(f"{message}; the form is {self.form}")
+    def values_of_words(self, texts: List[str]) -> Dict[str, Value]:
+        """Returns the values of the words that are no flags."""
+        values: Dict[str, Value] = {}
+        for word in self.words:
+            if word.is_many:
+                values[f"{word.name.lower()}s"], texts = texts, []
+            elif texts:
+                values[word.name.lower()], texts = in_home(texts[0]) if word.name == "FILE" else texts[0], texts[1:]
+            else:
+                values[word.name.lower()] = None
+            if not values.get(word.name.lower(), values.get(f"{word.name.lower()}s")) and not word.is_optional:
+                raise self.mistake(f"{word.name} is missing")
+        if texts:
+            raise self.mistake(f"{texts[0]} is too much")
+        return values
 
 
-class Command:
-    """A command: its form, what it does in a sentence, and the function that does it with a session and the words."""
+class Command(NamedTuple):
+    """A command: its form, a sentence about it, and the function that carries it out with a session and the values of the form."""
 
-    def __init__(self, form, sentence, run):
-        self.form, self.sentence, self.run, self.words = form, sentence, run, Words(form)
+    form: Form
+    sentence: str
+    carry_out: Callable[..., None]
 
 
-def command(form, sentence):
+COMMANDS: Dict[str, Command] = {}  # by the word behind the ]
+
+
+def command(form: str, sentence: str) -> Callable[[Callable[..., None]], Callable[..., None]]:
     """Puts a function among the commands."""
 
-    def kept(run):
-        COMMANDS[form[1:].split()[0]] = Command(form, sentence, run)
-        return run
+    def register(carry_out: Callable[..., None]) -> Callable[..., None]:
+        COMMANDS[form[1:].split()[0]] = Command(Form(form), sentence, carry_out)
+        return carry_out
 
-    return kept
+    return register
 
 
-def run(session, text):
-    """Does what the line says; a Mistake where it cannot be done."""
-    word, rest = re.match(rf"[{BLANKS}]*\][{BLANKS}]*(\w*)(.*)", re.sub(r"(^|\s)⍝.*", "", text), re.DOTALL).groups()
+def run(session: Session, text: str) -> None:
+    """Carries a line out; a Mistake where that is not possible."""
+    _, _, line = text.partition("]")
+    comment = COMMENT.match(line)
+    word, rest = re.fullmatch(rf"[{BLANKS}]*(\w*)(.*)", comment[1] if comment else line, re.DOTALL).groups()  # type: ignore[union-attr]
     if word not in COMMANDS:
         near = get_close_matches(word, COMMANDS, 1) or ["help"]
         raise Mistake(f"there is no ]{word}; is ]{near[0]} meant?")
-    found = COMMANDS[word]
+    chosen = COMMANDS[word]
     try:
-        words = [os.path.expanduser(it) for it in shlex.split(rest.strip(BLANKS))]
+        words = shlex.split(rest.strip(BLANKS))
     except ValueError:
         raise Mistake("a quote is not closed") from None
-    found.run(session, **vars(found.words.parse_args(words)))
+    chosen.carry_out(session, **chosen.form.values(words))
 
 
-def named(number, what):
-    return f"{number} {what}{'s' * (number != 1)}"
+def in_home(path: str) -> str:
+    """Returns a path in which ~ stands for the home folder."""
+    return os.path.expanduser(path)
+
+
+def counted(number: int, noun: str) -> str:
+    """Returns a number with its noun."""
+    return f"{number} {noun}{'s' * (number != 1)}"

@@ -1,13 +1,23 @@
-"""What ends a command, or the session."""
+"""Exceptions that end a command, a script or the session."""
+
+from __future__ import annotations
 
 
 class Mistake(Exception):
-    """What a person asked for cannot be done: one sentence, and perhaps how to mend it in lines below."""
+    """A request that cannot be carried out: one sentence, and perhaps lines below that tell how to mend it."""
 
 
 class Stopped(Exception):
-    """The person has stopped a script, by Ctrl-C."""
+    """Ctrl-C has stopped a script."""
 
 
 class End(Exception):
-    """The person has ended the session."""
+    """The person has ended the session, or a file that is loaded has ended itself."""
+
+
+class Lost(Exception):
+    """The program cannot be started again, so the session ends: one sentence, which tells where the sheet is kept."""
+
+
+class OutputFailed(Exception):
+    """Standard output takes no more: the reason, which is empty where nobody reads it any more."""

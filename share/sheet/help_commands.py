@@ -18,7 +18,7 @@ def show_help(session):
     session.show("NAME←EXPR is a formula, )DATA NAME←EXPR data, NAME[2]←5 an edit; an expression shows its value.")
     session.show("A backquote, then a key, is a symbol: `[ is ←. docs/TUTORIAL.md begins, docs/LANGUAGE.md has all, docs/SHEET.md this:")
     for it in COMMANDS.values():
-        session.show(f"{it.form}\n    {it.sentence}")
+        session.show(f"{it.form.text}\n    {it.sentence}")
 
 
 @command("]off", "ends, as Ctrl-D does")

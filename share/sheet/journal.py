@@ -1,111 +1,243 @@
-"""The lines that were accepted, in their order, and what each name is bound to by them."""
+"""The changes that the program has accepted, in their order, and the binding of each name by them."""
+
+from __future__ import annotations
+
+import functools
+import os
+from itertools import count
+from typing import Dict, Iterable, List, NamedTuple, Optional, Sequence
 
 from .lines import BLANKS, Line
 
 
-class Place:
+class Place(NamedTuple):
     """A line of a script: the file, which is None for standard input, and the number of the line."""
 
-    def __init__(self, file, number):
-        self.file, self.number = file, number
+    file: Optional[str]
+    number: int
 
-    def __str__(self):
+    def __str__(self) -> str:
         return f"{self.file}:{self.number}" if self.file else f"line {self.number}"
 
 
+class Source(NamedTuple):
+    """A table file: its path, the time of its last change in nanoseconds, and its length."""
+
+    file: str
+    changed: int
+    length: int
+
+    @classmethod
+    def of(cls, file: str) -> Optional[Source]:
+        """Returns a file as it is; None where it is not there."""
+        try:
+            status = os.stat(file)
+        except (OSError, ValueError):
+            return None
+        return cls(file, status.st_mtime_ns, status.st_size)
+
+
 class Binding:
-    """What a name is bound to: whether it is data, the line that made it (None where no line alone does) and where that stands."""
+    """The binding of a name.
 
-    def __init__(self, is_data, text=None, place=None):
+    is_data  whether it is data, and not a formula
+    text     the line that makes it; None where no line alone does
+    place    the last line of a script that had a part in it, or None
+    source   the table file that it was read from, as it was then, or None
+    """
+
+    def __init__(self, is_data: bool, text: Optional[str] = None, place: Optional[Place] = None) -> None:
         self.is_data, self.text, self.place = is_data, text, place
+        self.source: Optional[Source] = None
 
-    @property
-    def references(self):
+    @functools.cached_property
+    def references(self) -> List[str]:
         """The names that its formula refers to; data refers to none."""
-        return [] if self.is_data else Line(self.text).references
+        return [] if self.is_data or self.text is None else Line(self.text).references
 
 
 class Change:
-    """What ]undo takes back in one piece: its title, its lines, and what they bind, a name and a binding (None where it is erased)."""
+    """A change that ]undo takes back in one piece.
 
-    def __init__(self, title, lines, bound):
-        self.title, self.lines, self.bound = title, lines, bound
+    title    the text by which messages name it
+    lines    its lines
+    bound    the names that it binds, in their order, each with its binding; None where it is erased
+    places   the places of the lines of scripts from which it comes
+    inverse  lines that undo it while it is the last change; None where the sheet has to be made again without it
+    before   the bindings of these names before it, None where a name was not there
+    parts    the changes that it joins
+    """
+
+    def __init__(self, title: str, lines: List[str], bound: Dict[str, Optional[Binding]], places: Sequence[Place] = ()) -> None:
+        self.title, self.lines, self.bound, self.places = title, lines, bound, places
+        self.inverse: Optional[List[str]] = None
+        self.before: Dict[str, Optional[Binding]] = {}
+        self.parts: Sequence[Change] = ()
+
+    @property
+    def erases(self) -> bool:
+        """Whether it removes a name that was there before it, or a part of it does."""
+        is_erased = any(binding is None and self.before.get(name) for name, binding in self.bound.items())
+        return is_erased or any(part.erases for part in self.parts)
 
 
-def change_of(line, place):
-    """The change that an accepted line makes."""
+def change_of(line: Line, place: Optional[Place] = None) -> Change:
+    """Returns the change that an accepted line makes."""
     text = line.text.strip(BLANKS)
-    if line.kind == "erase":
-        binding = None
-    elif line.kind == "definition":
+    binding: Optional[Binding] = None
+    if line.kind == "definition":
         binding = Binding(False, text, place)
-    else:
+    elif line.kind != "erase":
         is_whole = line.kind == "data" and not line.references
         binding = Binding(True, text if is_whole else None, place)
-    return Change(text, [line.text], [(line.name, binding)])
+    return Change(text, [line.text], {line.name or "": binding}, [place] if place else [])
+
+
+def joined(title: str, changes: Sequence[Change]) -> Change:
+    """Returns one change in place of several that follow one another. It has an inverse where all of them have one."""
+    bound: Dict[str, Optional[Binding]] = {}
+    before: Dict[str, Optional[Binding]] = {}
+    for change in changes:
+        for name, binding in change.bound.items():
+            if binding is None or bound.get(name, binding) is None:
+                bound.pop(name, None)  # a name that comes after its removal goes last
+            bound[name] = binding
+            before.setdefault(name, change.before.get(name))
+    places = [place for change in changes for place in change.places]
+    whole = Change(title, [line for change in changes for line in change.lines], bound, places)
+    whole.before, whole.parts = before, changes
+    if all(change.inverse is not None for change in changes):
+        whole.inverse = [line for change in reversed(changes) for line in change.inverse or ()]
+    return whole
+
+
+class OpenChange(NamedTuple):
+    """A change that is open in a slot: its line, and how many changes were made before it was opened."""
+
+    line: Line
+    after: int
 
 
 class Journal:
     """The changes of a sheet since it was empty.
 
     bindings  each name that is present, in the order that the program has: a new one goes last, and one that is there stays in its place
-    slots     the lines of the changes that are open
+    slots     the changes that are open, by their slots
+    undone    the changes that were taken back since the last one was made; the last of them is first to be made again
     """
 
-    def __init__(self):
-        self.changes, self.bindings, self.slots, self.saved = [], {}, {}, None
+    def __init__(self, changes: Iterable[Change] = ()) -> None:
+        self.changes: List[Change] = []
+        self.bindings: Dict[str, Binding] = {}
+        self.slots: Dict[str, OpenChange] = {}
+        self.undone: List[Change] = []
+        self.saved: Optional[Change] = None
+        for change in changes:
+            self.add(change)
 
     @property
-    def lines(self):
+    def lines(self) -> List[str]:
+        """The lines of all changes."""
         return [line for change in self.changes for line in change.lines]
 
     @property
-    def is_saved(self):
-        return self.saved is (self.changes[-1] if self.changes else None)
+    def last(self) -> Optional[Change]:
+        return self.changes[-1] if self.changes else None
 
-    def mark_saved(self):
-        self.saved = self.changes[-1] if self.changes else None
+    @property
+    def is_saved(self) -> bool:
+        """Whether nothing would be lost: the last change is saved, or there are no names."""
+        return self.saved is self.last or not self.bindings
 
-    def accept(self, line, place):
-        """Takes in a line that the program has accepted, whatever kind of line it is."""
+    def mark_saved(self) -> None:
+        self.saved = self.last
+
+    def made_by(self, line: Line) -> Optional[Line]:
+        """Returns the line whose change a line makes: itself, or for )COMMIT the line of the slot; None where it makes none."""
         if line.is_change:
-            self.add(change_of(line, place))
-        elif line.kind == "open":
-            self.slots[line.slot] = line.opened
-        elif line.kind == "drop":
+            return line
+        opened = self.slots.get(line.slot or "") if line.kind == "commit" else None
+        return opened.line if opened else None
+
+    def accept(self, line: Line, place: Optional[Place] = None, inverse: Optional[List[str]] = None) -> Optional[Change]:
+        """Takes in a line of any kind that the program has accepted; returns the change that it makes, if it makes one."""
+        made = self.made_by(line)
+        if line.slot and line.kind in ("commit", "drop"):
             self.slots.pop(line.slot, None)
-        elif line.kind == "commit" and (opened := self.slots.pop(line.slot, None)):
-            self.add(change_of(opened, place))
+        elif line.slot and line.kind == "open":
+            self.slots[line.slot] = OpenChange(line.opened, len(self.changes))
+        if not made:
+            return None
+        change = change_of(made, place)
+        change.inverse = inverse
+        return self.add(change)
 
-    def add(self, change):
+    def add(self, change: Change) -> Change:
+        """Appends a change, and returns it."""
+        change.before = {name: self.bindings.get(name) for name in change.bound}
         self.changes.append(change)
+        self.undone.clear()
         bind(self.bindings, change)
-
-    def take_back(self):
-        """Takes the last change back, and returns it."""
-        change = self.changes.pop()
-        self.bindings = bindings_of(self.changes)
         return change
 
-    def join(self, first, title):
-        """Makes one change of those from the first on."""
-        joined = self.changes[first:]
-        if joined:
-            bound = [it for change in joined for it in change.bound]
-            self.changes[first:] = [Change(title, [it for change in joined for it in change.lines], bound)]
+    def opened_last(self) -> Optional[str]:
+        """Returns the slot of the change that was opened last, if no change was made since."""
+        slots = [slot for slot, opened in self.slots.items() if opened.after == len(self.changes)]
+        return slots[-1] if slots else None
+
+    def take_back(self) -> Change:
+        """Takes the last change back, and returns it."""
+        change = self.changes.pop()
+        self.undone.append(change)
+        if change.erases:
+            self.bindings = Journal(self.changes).bindings
+        else:
+            bind(self.bindings, Change(change.title, [], change.before))
+        return change
+
+    def without_last(self) -> Journal:
+        """Returns a journal in which the last change is taken back, and no change is open."""
+        shorter = Journal(self.changes[:-1])
+        shorter.saved, shorter.undone = self.saved, [*self.undone, self.changes[-1]]
+        return shorter
+
+    def make_again(self) -> Change:
+        """Makes the change again that was taken back last, and returns it."""
+        change, rest = self.undone[-1], self.undone[:-1]
+        self.add(change)
+        self.undone = rest
+        return change
+
+    def join(self, first: int, title: str) -> int:
+        """Makes one change of those from number `first` on; returns how many these are."""
+        changes = self.changes[first:]
+        if changes:
+            self.changes[first:] = [joined(title, changes)]
+        return len(changes)
+
+    def spare_name(self) -> str:
+        """Returns a name that no name of the sheet has, and no formula refers to."""
+        taken = {*self.bindings, *(reference for binding in self.bindings.values() for reference in binding.references)}
+        return next(name for name in map("∆{}".format, count(1)) if name not in taken)
+
+    def reached(self, names: Iterable[str]) -> Dict[str, None]:
+        """Returns these names, and all whose formulas refer to one of them, directly or through others."""
+        users: Dict[str, List[str]] = {}
+        for name, binding in self.bindings.items():
+            for reference in binding.references:
+                users.setdefault(reference, []).append(name)
+        reached = dict.fromkeys(names)
+        waiting = [*reached]
+        while waiting:
+            new = [user for user in users.get(waiting.pop(), ()) if user not in reached]
+            reached.update(dict.fromkeys(new))
+            waiting += new
+        return reached
 
 
-def bindings_of(changes):
-    """What each name is bound to by these changes."""
-    bindings = {}
-    for it in changes:
-        bind(bindings, it)
-    return bindings
-
-
-def bind(bindings, change):
-    """Takes what a change binds into the bindings of a sheet."""
-    for name, binding in change.bound:
+def bind(bindings: Dict[str, Binding], change: Change) -> None:
+    """Takes the bindings of a change into those of a sheet."""
+    for name, binding in change.bound.items():
         if binding:
             bindings[name] = binding
         else:

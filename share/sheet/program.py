@@ -1,14 +1,18 @@
-"""The program over pipes. Behind each line goes a second one, whose answer is known: what is printed before that answers the first."""
+"""The program over pipes. Behind each line goes a fence, whose answer is known: the output before that answer answers the line."""
 
+from __future__ import annotations
+
+import contextlib
 import os
 import queue
 import re
 import signal
 import subprocess
 import threading
+from typing import IO, Iterator, List, NoReturn, Optional, Sequence, Set
 
 NO_MEMORY = "NO MEMORY"
-SECONDS = 1  # how long a second fence is waited with, where the first one may have been refused memory
+SECONDS = 1  # how long a second fence is waited for, where the first one may have been refused memory
 HIGHEST = 0x10FFFD  # fences are of a character of this plane, the last of Unicode: in bytes of UTF-8 it begins with F4
 OF_PLANE = re.compile(rb"\xf4[\x80-\x8f][\x80-\xbf][\x80-\xbf]")
 
@@ -20,109 +24,142 @@ class ProgramFailed(Exception):
 class Program:
     """A running program.
 
-    A fence is a text, which the program prints as it is. Its first character stands in no line that this program was ever given, and no
-    function of the language makes a character that was not given: so no other answer holds it. Fences are numbered, so that each is
-    known for what it is also where one before it was refused memory.
+    A fence is a text, which the program prints as it is. Its first character stands in no line that this program was ever sent, and no
+    function of the language makes a character that was not in a line: so no other answer holds it. Fences are numbered, so that each is
+    recognized also where one before it was refused memory.
 
+    words       the command that starts it
     is_in_step  whether every answer was read whole; it is not after Ctrl-C, and after a failure
     """
 
-    def __init__(self, words):
-        self.words, self.process, self.printed, self.environment = words, None, None, {**os.environ}
-        self.fence, self.number, self.given, self.is_in_step = "", 0, set(), False
+    process: subprocess.Popen[bytes]
+    printed: queue.SimpleQueue[Optional[str]]
 
-    def start(self):
+    def __init__(self, words: Sequence[str]) -> None:
+        self.words, self.environment = list(words), {**os.environ}
+        self.fence, self.number, self.is_started, self.is_in_step = "", 0, False, False
+        self.characters: Set[str] = set()  # of the plane of fences, in the lines so far
+
+    def start(self) -> None:
         """Starts it, and waits until it answers."""
-        pipes = {"stdin": subprocess.PIPE, "stdout": subprocess.PIPE, "start_new_session": True, "env": self.environment}
+        pipe = subprocess.PIPE
         try:
-            self.process = subprocess.Popen(self.words, **pipes)
-        except OSError as error:
-            raise ProgramFailed(f"{self.words[0]} does not start: {error.strerror}") from None
-        self.printed, self.given = queue.SimpleQueue(), set()
+            self.process = subprocess.Popen(self.words, stdin=pipe, stdout=pipe, start_new_session=True, env=self.environment)
+        except (OSError, ValueError) as error:
+            raise ProgramFailed(f"{self.words[0]} does not start: {getattr(error, 'strerror', error)}") from None
+        self.is_started, self.printed, self.characters = True, queue.SimpleQueue(), set()
         threading.Thread(target=pass_lines, args=(self.process.stdout, self.printed), daemon=True).start()
         self.write([])
         if self.next_line() != self.fence:
             self.stop()
             raise ProgramFailed(f"{self.words[0]} does not answer as aplsheet does")
         self.is_in_step = True
-        self.environment["APLSHEET_TOLD"] = "1"  # bin/aplsheet tells once what build it is
+        self.environment["APLSHEET_TOLD"] = "1"  # bin/aplsheet tells once which build it is
 
-    def stop(self):
-        """Ends it, whatever it is doing, and all that it has started."""
-        if not self.process:
+    def another(self) -> Program:
+        """Returns a program with the same words, which is not started."""
+        other = Program(self.words)
+        other.environment = self.environment
+        return other
+
+    @property
+    def is_ready(self) -> bool:
+        """Whether it runs, and every answer was read whole."""
+        return self.is_started and self.is_in_step and self.process.poll() is None
+
+    def signal(self, number: int) -> None:
+        """Sends a signal to the program and to all that it has started; any thread may call this."""
+        with contextlib.suppress(ProcessLookupError):
+            os.killpg(self.process.pid, number)
+
+    def interrupt(self) -> None:
+        """Ends it, whatever it is doing; the thread that waits for an answer gets ProgramFailed. Any thread may call this."""
+        self.signal(signal.SIGTERM)
+
+    def stop(self) -> None:
+        """Ends it, whatever it is doing, and waits for the end."""
+        if not self.is_started:
             return
+        self.is_in_step = False
+        self.interrupt()
         try:
-            self.process.stdin.close()
-        except OSError:  # what was not yet written to it
-            pass
-        for sign in (signal.SIGTERM, signal.SIGKILL):
-            try:
-                os.killpg(self.process.pid, sign)
-                self.process.wait(SECONDS)
-            except (ProcessLookupError, subprocess.TimeoutExpired):
-                continue
-            break
-        self.process.wait()
+            self.process.wait(SECONDS)
+        except subprocess.TimeoutExpired:
+            self.signal(signal.SIGKILL)
+            self.process.wait()
+        if self.process.stdin:
+            with contextlib.suppress(OSError):  # bytes that were not sent yet
+                self.process.stdin.close()
 
-    def ask(self, line):
-        """Returns what is printed for a line: a list of lines. A fence that is refused memory prints one line, and is asked for anew."""
+    def ask(self, line: str) -> List[str]:
+        """Returns the lines that are printed for a line. A fence that is refused memory prints one line, and is sent again."""
         self.write([line])
         fences, lines = [self.fence], []
         while True:
-            got = self.next_line(SECONDS if lines and lines[-1] == NO_MEMORY else None)
-            if got == fences[-1]:
+            printed = self.next_line(SECONDS if lines and lines[-1] == NO_MEMORY else None)
+            if printed == fences[-1]:
                 break
-            if got is None:
+            if printed is None:
                 self.write([])
                 fences.append(self.fence)
             else:
-                lines.append(got)
-        at = next((at for at, it in enumerate(lines) if it in fences), len(lines))
-        refused = fences.index(lines[at]) if at < len(lines) else len(fences) - 1
+                lines.append(printed)
+        end = next((place for place, text in enumerate(lines) if text in fences), len(lines))
+        refused = fences.index(lines[end]) if end < len(lines) else len(fences) - 1
         self.is_in_step = True
-        return lines[: at - refused]
+        return lines[: end - refused]
 
-    def ask_all(self, lines):
-        """Returns what is printed for each of many lines, which are given without waiting for an answer in between."""
+    def ask_all(self, lines: Sequence[str]) -> List[List[str]]:
+        """Returns the lines that are printed for each of many lines, which are sent without waiting for an answer in between."""
+        return [*self.answers(lines)]
+
+    def answers(self, lines: Sequence[str]) -> Iterator[List[str]]:
+        """Yields the lines that are printed for each of many lines, as they come."""
         if not lines:
-            return []
+            return
         first = self.number + 1
         self.write(lines)
-        answers = [self.until(first + place) for place in range(len(lines))]
+        for place in range(len(lines)):
+            yield self.until(first + place)
         self.is_in_step = True
-        return answers
 
-    def until(self, number):
-        """Returns what is printed before the fence of that number."""
-        lines, wanted = [], f"{self.fence[0]}{number}"
+    def until(self, number: int) -> List[str]:
+        """Returns the lines that are printed before the fence of that number."""
+        lines: List[str] = []
+        fence = f"{self.fence[0]}{number}"
         while True:
-            got = self.next_line()
-            if got == wanted:
+            printed = self.next_line()
+            if printed == fence:
                 return lines
-            if self.fence[0] in got:
+            if printed is None or self.fence[0] in printed:
                 raise ProgramFailed(f"{self.words[0]} has no memory left")
-            lines.append(got)
+            lines.append(printed)
 
-    def write(self, lines):
-        """Writes each line, and a fence behind each; a fence alone where there is no line."""
+    def write(self, lines: Sequence[str]) -> None:
+        """Sends each line, and a fence behind each; a fence alone where there is no line."""
         self.is_in_step = False
-        given = [f"{it}\n".encode("utf-8", "surrogateescape") for it in lines] or [b""]
-        for line in given:
+        raw = [f"{line}\n".encode("utf-8", "surrogateescape") for line in lines] or [b""]
+        for line in raw:
             if b"\xf4" in line:
-                self.given |= {it.decode("utf-8", "replace") for it in OF_PLANE.findall(line)}
-        sign = next(it for it in map(chr, range(HIGHEST, 0x100000, -1)) if it not in self.given)
+                self.characters |= {character.decode("utf-8", "replace") for character in OF_PLANE.findall(line)}
+        sign = next(character for character in map(chr, range(HIGHEST, 0x100000, -1)) if character not in self.characters)
         fenced = []
-        for line in given:
+        for line in raw:
             self.number += 1
             self.fence = f"{sign}{self.number}"
             fenced += [line, f"'{self.fence}'\n".encode()]
+        self.send(b"".join(fenced))
+
+    def send(self, raw: bytes) -> None:
+        """Writes bytes to its standard input."""
+        assert self.process.stdin
         try:
-            self.process.stdin.write(b"".join(fenced))
+            self.process.stdin.write(raw)
             self.process.stdin.flush()
         except OSError:
             self.fail()
 
-    def next_line(self, seconds=None):
+    def next_line(self, seconds: Optional[float] = None) -> Optional[str]:
         """Returns the next line that is printed, or None where none comes in time."""
         try:
             line = self.printed.get(timeout=seconds)
@@ -130,8 +167,8 @@ class Program:
             return None
         return self.fail() if line is None else line
 
-    def fail(self):
-        """The program has ended, or has closed its output."""
+    def fail(self) -> NoReturn:
+        """Raises ProgramFailed: the program has ended, or has closed its output."""
         try:
             status = self.process.wait(SECONDS)
         except subprocess.TimeoutExpired:
@@ -141,8 +178,10 @@ class Program:
         raise ProgramFailed(f"{self.words[0]} {how}")
 
 
-def pass_lines(output, lines):
-    """Hands on what is printed, a line at a time, and None at the end."""
-    for line in output:
-        lines.put(line.decode("utf-8", "surrogateescape").rstrip("\n"))
-    lines.put(None)
+def pass_lines(output: IO[bytes], lines: queue.SimpleQueue[Optional[str]]) -> None:
+    """Puts the lines that are printed into a queue one by one, and None at the end, for whatever reason it comes."""
+    try:
+        for line in output:
+            lines.put(line.decode("utf-8", "surrogateescape").rstrip("\n"))
+    finally:
+        lines.put(None)

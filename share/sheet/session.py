@@ -1,140 +1,322 @@
 """A sheet in use: lines go in, and answers come out."""
 
-from . import commands, notes, storing
-from . import name_commands, file_commands, table_commands, change_commands, help_commands  # noqa: F401: each puts its commands into commands
-from .answers import answer, first_refusal
-from .errors import Mistake, Stopped
-from .interrupts import signals, without_interrupts
-from .journal import Change, Journal, Place
+from __future__ import annotations
+
+import os
+import traceback
+from typing import Callable, Iterable, List, Optional, Sequence, Tuple
+
+from . import notes, pager
+from . import change_commands, file_commands, help_commands, name_commands, table_commands  # noqa: F401: they fill commands.COMMANDS
+from .answers import Answer, answer, first_refusal
+from .arrays import literal
+from .commands import run
+from .errors import End, Lost, Mistake, OutputFailed, Stopped
+from .files import Home, lines_of
+from .interrupts import signals
+from .journal import Binding, Change, Journal, Place, Source, change_of, joined
 from .lines import Line
-from .program import ProgramFailed
+from .program import Program, ProgramFailed
+from .progress import Progress
+from .recovery import Log, event_of, is_open_elsewhere, joined_to, redone, saved, undone
+from .storing import one_line
+from .watching import Watch
+
+CELLS = 1000  # edits of one change that have an inverse each; more are undone by making the sheet again
 
 
 class Session:
     """A sheet in use.
 
-    program   the program that answers
-    journal   the lines that it has accepted
-    show      called with each line that is an answer
-    tell      called with each line that tells of something else: errors, refusals, notes
-    is_check  whether only what is wrong is wanted, and no file is written
-    is_typed  whether lines are typed at a terminal: then the sheet is kept at the end, where it was not saved
-    faults    how many lines were refused or were errors
+    program     the program that answers
+    journal     the changes that it has accepted
+    home        the script that the sheet was loaded from or saved to, if there is one
+    log         the log of the session; None where lines are not typed
+    show        called with each line that is an answer
+    tell        called with each line that tells of something else: errors, refusals, notes
+    is_check    whether only errors and refusals are wanted, and no file is written
+    faults      how many lines were refused or were errors
+    place       the place of the line that is answered, if it is of a script
+    loading     the files that are being loaded
+    watch       the names that are shown after each change that reaches them
+    draft       a line that is given back to the person to be edited
+    is_settled  whether the journal has what the program has accepted
     """
 
-    def __init__(self, program, show, tell, is_check=False):
+    def __init__(self, program: Program, show: Callable[[str], None], tell: Callable[[str], None], is_check: bool = False) -> None:
         self.program, self.show, self.tell, self.is_check = program, show, tell, is_check
-        self.journal, self.is_typed, self.faults, self.depth = Journal(), False, 0, 0
+        self.journal, self.watch = Journal(), Watch()
+        self.home: Optional[Home] = None
+        self.log: Optional[Log] = None
+        self.place: Optional[Place] = None
+        self.faults, self.draft, self.is_settled = 0, "", True
+        self.loading: List[str] = []
 
-    def take(self, text, place=None):
+    @property
+    def is_typed(self) -> bool:
+        """Whether lines are typed at a terminal."""
+        return self.log is not None
+
+    def take(self, text: str, place: Optional[Place] = None) -> None:
         """Answers a line, whatever it is. Where the program dies over it or is stopped, the sheet is as it was before the line.
 
         A line of a script that is stopped by Ctrl-C stops the script too.
         """
+        outer, self.place = self.place, place
         try:
-            if not self.program.is_in_step:
-                self.begin_again()
-            line = Line(text)
-            if line.kind == "user":
-                self.command(line, place)
-            else:
-                self.answer(line, place)
-        except ProgramFailed as why:
-            self.complain(place, text, f"PROGRAM FAILED: {why}")
-            self.begin_again()
+            self.make_ready()
+            self.answer(text)
+        except ProgramFailed as failure:
+            self.complain(text, f"PROGRAM FAILED: {failure}")
+            self.make_ready()
         except KeyboardInterrupt:
-            self.complain(place, text, "STOPPED" if place else "\nSTOPPED")  # the terminal has shown ^C
+            self.complain(text, "STOPPED" if place else "\nSTOPPED")  # the terminal has shown ^C
             signals.release()
-            self.begin_again()
+            self.make_ready()
             if place:
                 raise Stopped from None
         except Stopped:
             if place:
                 raise
+        except (End, Lost, OutputFailed):
+            raise
+        except Exception as fault:
+            self.complain(text, f"FAULT OF THE FRONT END: {told_of(fault)}")
+            self.begin_again()
+        finally:
+            self.place = outer
 
-    def answer(self, line, place):
-        """Answers a line of the language."""
-        found = answer(self.program, line)
-        if found.is_fault:
-            self.complain(place, line.text, "\n".join(found.lines), notes.of_fault(self, found))
+    def answer(self, text: str) -> None:
+        """Answers a line, and tells of its faults and slips."""
+        line = Line(text)
+        if line.kind == "user":
+            try:
+                run(self, text)
+            except Mistake as mistake:
+                self.complain(text, str(mistake))
             return
-        if not self.is_check:
-            for it in found.lines:
-                self.show(it)
-        self.journal.accept(line, place)
-        for it in notes.of_slip(line):
-            self.tell(f"{place}: note: {it}" if place else f"  {it}")
+        reply, remarks = self.reply(line)
+        if reply.is_fault:
+            self.complain(text, "\n".join(reply.lines), remarks)
+            return
+        self.show_value(reply.lines)
+        for remark in remarks:
+            self.tell(f"{self.place}: note: {remark}" if self.place else f"  {remark}")
 
-    def command(self, line, place):
-        """Does what a line says that begins with ]."""
-        try:
-            commands.run(self, line.text)
-        except Mistake as mistake:
-            self.complain(place, line.text, str(mistake))
+    def show_value(self, lines: Sequence[str]) -> None:
+        """Shows a value, in the pager if it is beyond the screen."""
+        if self.is_typed and pager.is_wanted(lines):
+            pager.show(lines)
+            return
+        for line in lines * (not self.is_check):
+            self.show(line)
 
-    def complain(self, place, text, what, said=()):
-        """Tells of a line that was refused or is an error: where it stands, if in a script, and what is said of it besides."""
+    def reply(self, line: Line) -> Tuple[Answer, List[str]]:
+        """Gives a line of the language to the program, takes in what it changes, and returns the answer, and notes on it."""
+        made = None if self.place else self.journal.made_by(line)
+        inverse = self.inverse(made) if made else None
+        self.is_settled = False
+        reply = answer(self.program, line)
+        with signals.held():
+            change = None if reply.is_fault else self.journal.accept(line, self.place, inverse)
+            self.settle(event_of(change) if change else [])
+        if reply.is_fault:
+            return reply, notes.of_fault(self, reply)
+        if change:
+            self.watch.show(self, change.bound)
+        return reply, notes.of_slip(line)
+
+    def settle(self, events: Sequence[str]) -> None:
+        """Logs events that the journal has taken in; signals are held."""
+        if self.log and events:
+            self.log.append(events, self.journal, self.home)
+        self.is_settled = True
+
+    def complain(self, text: str, what: str, remarks: Sequence[str] = ()) -> None:
+        """Tells of a line that was refused or is an error: its place and text if it is of a script, and remarks on it."""
         self.faults += 1
-        self.tell(f"{place}: {what}" if place else what)
-        for it in [text.strip()] * bool(place) + [*said]:
-            self.tell(f"  {it}")
+        self.tell(f"{self.place}: {what}" if self.place else what)
+        for remark in [text.strip()] * bool(self.place) + [*remarks]:
+            self.tell(f"  {remark}")
 
-    def binding(self, name):
-        """What the name is bound to; a Mistake where it is not there."""
+    def binding(self, name: str) -> Binding:
+        """Returns the binding of a name; a Mistake where it is not there."""
         if name not in self.journal.bindings:
             raise Mistake(notes.absent(name, self.journal.bindings))
         return self.journal.bindings[name]
 
-    def change(self, title, lines, bound):
-        """Gives the program lines that make one change, all or none of them; a Mistake where one of them is refused."""
+    def change(self, title: str, lines: Sequence[str], source: Optional[str] = None) -> None:
+        """Gives the program lines that make one change, all or none of them; a Mistake where one of them is refused.
+
+        `source` is the table file from which the names are read that it binds.
+        """
+        parsed = [Line(line) for line in lines]
+        change = joined(title, [change_of(line, self.place) for line in parsed])
+        change.inverse = None if self.place else self.inverse_of(parsed, change)
+        for binding in change.bound.values():
+            if binding and source:
+                binding.source = Source.of(source)
+        self.is_settled = False
         refused = first_refusal(self.program.ask_all(lines))
         if refused is not None:
             self.begin_again()
             raise Mistake(refused)
-        self.journal.add(Change(title, lines, bound))
+        with signals.held():
+            self.journal.add(change)
+            self.settle(event_of(change))
+        self.watch.show(self, change.bound)
 
-    def begin_again(self):
+    def come_home(self, home: Optional[Home]) -> None:
+        """Makes a file the home of the sheet, which is as that file has it; tells where another session has it too."""
+        with signals.held():
+            self.home = home
+            self.journal.mark_saved()
+            self.settle(saved(home) if home else [])
+        self.tell_of_others()
+
+    def tell_of_others(self) -> None:
+        """Tells where another session has the same file."""
+        if self.home and self.log and is_open_elsewhere(self.home, self.log.path):
+            self.tell("  another session has this file too: the first that saves it wins, and the other one is told")
+
+    def join(self, first: int, title: str) -> None:
+        """Makes one change of those from number `first` on."""
+        with signals.held():
+            number = self.journal.join(first, title)
+            self.settle(joined_to(number, title) if number else [])
+
+    def inverse(self, line: Line) -> Optional[List[str]]:
+        """Returns lines that undo the change of a line, as far as they are known before it is made; else None."""
+        name = line.name or ""
+        binding = self.journal.bindings.get(name)
+        if line.kind == "edit" and binding:
+            cell = line.code.partition("←")[0]
+            item, kind = self.program.ask_all([cell, f"0=1↑0⍴{name}"])
+            text = item[0] if len(item) == 1 else ""
+            return [f"{cell}←{literal(text) if kind == ['0'] else text}"]
+        if line.kind == "row" and binding:
+            return [f")DATA {name}←{'¯1 0' if self.program.ask(f'⍴⍴{name}') == ['2'] else '¯1'}↓{name}"]
+        if line.kind in ("definition", "data"):
+            return self.inverse_of_binding(name)
+        return None
+
+    def inverse_of_binding(self, name: str) -> Optional[List[str]]:
+        """Returns lines that bind a name as it is bound, or erase it where it is not there; None where one line is too short."""
+        binding = self.journal.bindings.get(name)
+        if binding is None:
+            return [f")ERASE {name}"]
+        return [binding.text] if binding.text else one_line(self.program, name)
+
+    def inverse_of(self, lines: Sequence[Line], change: Change) -> Optional[List[str]]:
+        """Returns lines that undo a change of several lines, where they are known; else None."""
+        if all(line.kind == "edit" for line in lines):
+            inverses = [self.inverse(line) for line in lines] if len(lines) <= CELLS else [None]
+        elif any(binding is None and name in self.journal.bindings for name, binding in change.bound.items()):
+            return None  # a removed name would come back in another place
+        else:
+            inverses = [self.inverse_of_binding(name) for name, binding in change.bound.items() if binding]
+        if None in inverses:
+            return None
+        return [line for inverse in reversed(inverses) for line in inverse or ()]
+
+    def make_ready(self) -> None:
+        """Starts the program anew where it has ended, was stopped in the midst of an answer, or has more than the journal."""
+        if not self.is_settled or not self.program.is_ready:
+            self.begin_again()
+
+    def begin_again(self) -> None:
         """Starts the program anew, and gives it the changes of the journal; they were accepted before, so they are again."""
-        lost = ", ".join(sorted(self.journal.slots))
-        self.journal.slots = {}
-        with without_interrupts():
+        with signals.without_interrupts():
             self.program.stop()
             try:
-                self.program.start()
-                refused = first_refusal(self.program.ask_all(self.journal.lines))
-                if refused is not None:
-                    raise ProgramFailed(f"{self.program.words[0]} refuses what it took before: {refused}")
-            except ProgramFailed as why:
-                signals.hold()
-                kept = storing.keep_unsaved(self.journal)
-                self.journal.mark_saved()
-                raise SystemExit(f"sheet: {why}; " + (f"the sheet is kept in {kept}" if kept else "nothing was unsaved")) from None
+                self.take_over(self.program, self.journal)
+            except ProgramFailed as failure:
+                self.log = self.log or (None if self.is_check else Log(self.tell))
+                raise Lost(str(failure)) from None
+
+    def take_over(self, program: Program, journal: Journal, events: Sequence[str] = ()) -> None:
+        """Starts a program, gives it the changes of a journal, and goes on with both; ProgramFailed where that is not possible."""
+        lines = journal.lines
+        program.start()
+        for printed in Progress("the sheet is made again", len(lines), self.is_typed).over(program.answers(lines)):
+            if printed:
+                raise ProgramFailed(f"{program.words[0]} refuses a line that it took before: {first_refusal([printed])}")
+        with signals.held():
+            lost = ", ".join(sorted(self.journal.slots))
+            self.program, self.journal = program, journal
+            self.journal.slots.clear()
+            self.settle(events)
         if lost:
             self.tell(f"  the changes that were open are given up: {lost}")
 
-    def undo(self):
-        """Takes back the last change, and returns its title."""
-        if not self.journal.changes:
-            raise Mistake("there is no change to take back")
-        change = self.journal.take_back()
-        self.begin_again()
-        return change.title
+    def remake(self, journal: Journal, events: Sequence[str]) -> None:
+        """Goes on with another journal in a new program. Where that fails or is stopped, the sheet is as it was."""
+        former, program = self.program, self.program.another()
+        try:
+            self.take_over(program, journal, events)
+        except ProgramFailed as failure:
+            raise Mistake(f"the sheet is as it was: {failure}") from None
+        finally:
+            (former if self.program is program else program).stop()
 
-    def run(self, file, source):
+    def undo(self) -> str:
+        """Takes back the last change, or gives up the change that was opened since; returns a sentence about it."""
+        if slot := self.journal.opened_last():
+            text = self.journal.slots[slot].line.text.strip()
+            self.reply(Line(f")DROP {slot}"))
+            return f"given up: {text}"
+        change = self.journal.last
+        if not change:
+            raise Mistake("there is no change to take back")
+        if not self.is_inverted(change):
+            self.remake(self.journal.without_last(), undone(change))
+        self.watch.show(self, change.bound)
+        return f"taken back: {change.title}"
+
+    def is_inverted(self, change: Change) -> bool:
+        """Undoes the last change by its inverse; returns whether it has one that the program accepts."""
+        if change.inverse is None:
+            return False
+        self.is_settled = False
+        if first_refusal(self.program.ask_all(change.inverse)) is not None:
+            self.begin_again()
+            return False
+        with signals.held():
+            self.journal.take_back()
+            self.settle(undone(change))
+        return True
+
+    def redo(self) -> str:
+        """Makes the change again that was taken back last; returns a sentence about it."""
+        if not self.journal.undone:
+            raise Mistake("there is no change to make again")
+        self.is_settled = False
+        refused = first_refusal(self.program.ask_all(self.journal.undone[-1].lines))
+        if refused is not None:
+            self.begin_again()
+            raise Mistake(refused)
+        with signals.held():
+            change = self.journal.make_again()
+            self.settle(redone(change))
+        self.watch.show(self, change.bound)
+        return f"made again: {change.title}"
+
+    def run(self, file: Optional[str], source: Iterable[bytes]) -> None:
         """Answers the lines of a script, which is read from a binary file; its name is None where that is standard input."""
         for number, text in enumerate(lines_of(source), 1):
             self.take(text, Place(file, number))
 
-    def check_names(self):
+    def check_names(self) -> None:
         """Tells of each name that shows an error which arose in its own formula, as if the line that binds it were one."""
         for name, binding in self.journal.bindings.items():
-            found = answer(self.program, Line(name))
-            if found.is_fault and found.origin == name:
-                self.complain(binding.place, binding.text, "\n".join(found.lines), notes.of_fault(self, found))
+            reply = answer(self.program, Line(name))
+            if reply.is_fault and reply.origin == name:
+                self.place = binding.place
+                self.complain(binding.text or "", "\n".join(reply.lines), notes.of_fault(self, reply))
 
 
-def lines_of(source):
-    """The lines of a script: they end with LF, and one byte order mark at the start is skipped."""
-    for number, line in enumerate(source):
-        line = line[:-1] if line.endswith(b"\n") else line
-        yield line[3 if number == 0 and line.startswith(b"\xef\xbb\xbf") else 0 :].decode("utf-8", "surrogateescape")
+def told_of(fault: Exception) -> str:
+    """Returns the kind and the text of an exception, and where in the front end it arose."""
+    frames = traceback.extract_tb(fault.__traceback__)
+    where = f" ({os.path.basename(frames[-1].filename)}:{frames[-1].lineno})" if frames else ""
+    return f"{type(fault).__name__}: {fault}{where}"

@@ -1,4 +1,6 @@
-"""The words of bin/sheet, and what it does with them."""
+"""The words of bin/sheet, and how they are carried out."""
+
+from __future__ import annotations
 
 import argparse
 import contextlib
@@ -6,11 +8,13 @@ import os
 import signal
 import sys
 from pathlib import Path
+from typing import Sequence
 
-from . import storing
-from .errors import End, Stopped
+from . import file_commands, files, recovery
+from .errors import End, Lost, OutputFailed, Stopped
 from .interrupts import signals
 from .program import Program, ProgramFailed
+from .recovery import Log
 from .session import Session
 from .terminal import Terminal
 
@@ -22,85 +26,145 @@ go to standard error, each with the line of the script where it stands; then the
 """
 
 
-def words():
-    """The words that the front end takes."""
-    found = argparse.ArgumentParser(prog="sheet", description=WORDS, formatter_class=argparse.RawDescriptionHelpFormatter)
-    found.add_argument("scripts", nargs="*", metavar="SCRIPT", help="a file of lines, or - for standard input")
+def words() -> argparse.ArgumentParser:
+    """Returns the words that the front end takes."""
+    parser = argparse.ArgumentParser(prog="sheet", description=WORDS, formatter_class=argparse.RawDescriptionHelpFormatter)
+    parser.add_argument("scripts", nargs="*", metavar="SCRIPT", help="a file of lines, or - for standard input")
     check = "tell of errors and refusals alone, also of names that show an error, and write no file"
-    found.add_argument("--check", action="store_true", help=check)
-    found.add_argument("--program", metavar="PROGRAM", help="the program that answers; as a rule the one beside this one")
-    return found
+    parser.add_argument("--check", action="store_true", help=check)
+    parser.add_argument("--program", metavar="PROGRAM", help="the program that answers; as a rule the one beside this one")
+    return parser
 
 
-def main(top):
+class Output:
+    """Where output goes: the answers to standard output, and all else to standard error, behind the answers so far."""
+
+    def __init__(self) -> None:
+        self.answers = sys.stdout
+
+    def part(self) -> None:
+        """Keeps standard output for the answers where it is no terminal; lines are then edited at the terminal of standard input."""
+        if not self.answers.isatty():
+            self.answers = open(os.dup(1), "w", encoding="utf-8", errors="surrogateescape", buffering=1)
+            os.dup2(0, 1)
+
+    def show(self, line: str) -> None:
+        """Writes a line of an answer."""
+        try:
+            print(line, file=self.answers)
+        except OSError as error:
+            raise OutputFailed("" if isinstance(error, BrokenPipeError) else error.strerror) from None
+
+    def flush(self) -> None:
+        """Writes the answers so far."""
+        try:
+            self.answers.flush()
+        except OSError as error:
+            raise OutputFailed("" if isinstance(error, BrokenPipeError) else error.strerror) from None
+
+    def tell(self, line: str) -> None:
+        """Writes a line that is no answer."""
+        self.flush()
+        print(line, file=sys.stderr, flush=True)
+
+
+def main(top: Path) -> int:
     """Runs the front end whose program is in bin/ of this folder. Returns the status."""
-    given = words().parse_args()
-    for stream in (sys.stdin, sys.stdout, sys.stderr):
-        stream.reconfigure(encoding="utf-8", errors="surrogateescape", line_buffering=True)
+    options = words().parse_args()
+    open_streams()
     signals.install()
-    program = Program([given.program or str(Path(top, "bin", "aplsheet"))])
-    session = Session(program, show, tell, given.check)
+    output, program = Output(), Program([options.program or str(Path(top, "bin", "aplsheet"))])
+    session = Session(program, output.show, output.tell, options.check)
     try:
         program.start()
-        answer_and_keep(session, given.scripts or ["-"])
-    except ProgramFailed as why:
-        sys.exit(f"sheet: {why}")
+        answer_and_keep(session, options.scripts or ["-"], output)
+        output.flush()
+    except (ProgramFailed, Lost) as failure:
+        sys.exit(f"sheet: {failure}")
     except (KeyboardInterrupt, Stopped):
         return 128 + signal.SIGINT
-    except BrokenPipeError:
-        os.dup2(os.open(os.devnull, os.O_WRONLY), sys.stdout.fileno())  # nobody reads the answers any more
-        return 1
+    except OutputFailed as failure:
+        os.dup2(os.open(os.devnull, os.O_WRONLY), 1)  # for what is not written yet
+        sys.exit(f"sheet: standard output: {failure}" if str(failure) else 1)
     finally:
-        program.stop()
+        session.program.stop()
     return signals.status or int(session.faults > 0)
 
 
-def answer_and_keep(session, scripts):
-    """Answers the lines of each script, and keeps the sheet, whatever ends them: no signal cuts off the keeping.
+def open_streams() -> None:
+    """Opens the three streams where they are closed, and makes them UTF-8."""
+    for number, name, mode in ((0, "stdin", "r"), (1, "stdout", "w"), (2, "stderr", "w")):
+        if getattr(sys, name) is None:
+            with contextlib.suppress(OSError):
+                os.dup2(os.open(os.devnull, os.O_RDWR), number)
+            setattr(sys, name, open(os.devnull, mode))
+        getattr(sys, name).reconfigure(encoding="utf-8", errors="surrogateescape", line_buffering=True)
+
+
+def answer_and_keep(session: Session, scripts: Sequence[str], output: Output) -> None:
+    """Answers the lines of each script, and ends the log of the session, whatever ends them: no signal cuts that off.
 
     A signal that raises holds the others itself. So they are held below also where one raises just before the call that holds them.
     """
     try:
         try:
-            answer(session, scripts)
+            answer(session, scripts, output)
         finally:
             signals.hold()
     finally:
-        if session.is_typed and (kept := storing.keep_unsaved(session.journal)):
-            with contextlib.suppress(OSError):  # the terminal may be gone
-                tell(f"the sheet was not saved; it is kept, and `sheet {kept} -` goes on with it")
+        if session.log:
+            end(session, session.log)
 
 
-def answer(session, scripts):
+def end(session: Session, log: Log) -> None:
+    """Ends the log of a session, and tells how a sheet that is not saved can be gone on with."""
+    path = log.end(session.journal, session.home)
+    if not session.journal.is_saved:
+        with contextlib.suppress(OSError, OutputFailed):  # the terminal may be gone
+            lost = "the sheet is lost: no file can be written"
+            session.tell(f"the sheet was not saved; ]recover goes on with it, from {path}" if path else lost)
+
+
+def answer(session: Session, scripts: Sequence[str], output: Output) -> None:
     """Answers the lines of each script."""
     try:
         for script in scripts:
             if script != "-":
-                with open(script, "rb") as source:
-                    session.run(script, source)
-                session.journal.mark_saved()
-            elif sys.stdin.isatty() and sys.stdout.isatty():
-                session.is_typed = True
-                Terminal(session).run()
-                session.faults = 0
+                run_script(session, script, scripts)
+            elif sys.stdin.isatty():
+                answer_typed(session, output)
             else:
                 session.run(None, sys.stdin.buffer)
-    except OSError as error:
-        if error.filename is None:
-            raise
-        sys.exit(f"sheet: {error.filename} cannot be read: {error.strerror}")
     except End:
         pass
     if session.is_check:
         session.check_names()
 
 
-def show(line):
-    """Writes a line of an answer."""
-    print(line)
+def run_script(session: Session, script: str, scripts: Sequence[str]) -> None:
+    """Answers the lines of a script; if there is no other one, the sheet comes from it."""
+    try:
+        with open(script, "rb") as source:
+            session.run(script, source)
+    except (OSError, ValueError) as error:
+        sys.exit(f"sheet: {script} cannot be read: {files.reason(error)}")
+    is_alone = [script] == [name for name in scripts if name != "-"]
+    session.come_home(files.home_of(script, session.journal) if is_alone else None)
 
 
-def tell(line):
-    """Writes a line that tells of something else, behind the answers so far."""
-    sys.stdout.flush()
-    print(line, file=sys.stderr, flush=True)
+def answer_typed(session: Session, output: Output) -> None:
+    """Answers the lines that are typed at a terminal, and logs the session. It ends at once only if the sheet is kept then."""
+    output.part()
+    session.log = Log(output.tell)
+    session.log.begin(session.journal, session.home)
+    session.tell_of_others()
+    for offer in file_commands.offers([*recovery.unended()]):
+        output.tell(f"not saved: {offer}")
+    output.tell("aplsheet: ]help tells of the commands, ]keys of the keys of the symbols; Ctrl-D ends")
+    typed, is_warned = Terminal(session), False
+    typed.run()
+    while not (is_warned or session.journal.is_saved or session.log.is_written(session.journal, session.home)):
+        is_warned = True
+        output.tell("the sheet is not saved, and no file can be written; ]save FILE elsewhere, or end once more and lose it")
+        typed.run()
+    session.faults = 0

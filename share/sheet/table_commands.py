@@ -3,12 +3,10 @@
 from __future__ import annotations
 
 import re
-from itertools import count
 
 from .arrays import lines_of_array
-from .commands import command, named
+from .commands import command, counted
 from .errors import Mistake
-from .journal import Binding
 from .lines import NAME
 from .tables import read_table
 
@@ -21,7 +19,7 @@ def put_table(session, name, file, header, columns, separator):
     table = table_of(file, header, separator)
     wanted = columns_of(columns, table.width) if columns else [*range(1, table.width + 1)]
     numbers, each = table.numbers(wanted)
-    put_array(session, f"]table {name} {file}", name, [table.height, len(wanted)], numbers, each)
+    put_array(session, file, f"]table {name} {file}", name, [table.height, len(wanted)], numbers, each)
 
 
 @command(
@@ -33,7 +31,7 @@ def put_labels(session, name, file, column, header, separator):
     if len(wanted := columns_of(column, table.width)) != 1:
         raise Mistake(f"COLUMN is one number, and not {column}")
     items, width = table.labels(wanted[0])
-    put_array(session, f"]labels {name} {file} {column}", name, [table.height, width], items)
+    put_array(session, file, f"]labels {name} {file} {column}", name, [table.height, width], items)
 
 
 def table_of(file, header, separator):
@@ -57,14 +55,11 @@ def columns_of(text, width):
     return columns
 
 
-def put_array(session, title, name, shape, items, each=1):
+def put_array(session, file, title, name, shape, items, each=1):
     """Binds a name to data that comes from a file."""
     if not re.fullmatch(NAME, name):
         raise Mistake(f"{name} is no name")
-    bindings = session.journal.bindings
-    taken = {*bindings, *(it for binding in bindings.values() for it in binding.references)}
-    spare = next(it for it in map("∆{}".format, count(1)) if it not in taken)
     try:
-        session.change(title, lines_of_array(name, shape, items, spare, each), [(name, Binding(True))])
+        session.change(title, lines_of_array(name, shape, items, session.journal.spare_name(), each), file)
     except Mistake as refused:
-        raise Mistake(f"{refused}: {named(shape[0], 'record')} of {shape[1]} are not taken in") from None
+        raise Mistake(f"{refused}: {counted(shape[0], 'record')} of {shape[1]} are not taken in") from None

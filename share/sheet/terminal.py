@@ -1,78 +1,98 @@
 """A terminal: line editing, the keys of the symbols, history and completion, by readline."""
 
+from __future__ import annotations
+
 import contextlib
 import locale
 import os
 import re
+from types import ModuleType
+from typing import List, Optional
 
-from . import commands, keys, storing
+from . import commands, keys, recovery
 from .errors import End
 from .interrupts import signals
-from .lines import NAME
+from .lines import KINDS, NAME
+from .session import Session
 
 PROMPT = " " * 6  # so that answers, which begin at the left edge, stand out
-WORDS = [f"){it}" for it in ("DATA", "ROW", "ERASE", "NAMES", "COST", "CSV", "OPEN", "STEP", "COMMIT", "DROP")]
-TAKES_FILE = re.compile(r"\s*\](save|load|table\s+\S+|labels\s+\S+)\s+\S*$")
+TAKES_FILE = re.compile(r"\s*\](?:save|load|table\s+\S+|labels\s+\S+)\s+(?P<path>(?:\\.|[^\s\\])*)$")
 
 
 class Terminal:
-    """Reads the lines that a person types, and gives them to a session."""
+    """Reads the lines that a person types, and gives them to a session.
 
-    def __init__(self, session):
-        self.session, self.readline, self.history, self.found = session, None, None, []
+    readline     the module, where this Python has it
+    history      the file of the lines of earlier sessions; None where there can be none
+    completions  those of the word that is being completed
+    """
+
+    def __init__(self, session: Session) -> None:
+        self.session, self.history, self.completions = session, "", [""]
+        self.readline: Optional[ModuleType] = None
         if locale.nl_langinfo(locale.CODESET) != "UTF-8":
             os.environ["LC_ALL"] = "C.UTF-8"  # so that readline takes the symbols for what they are
-        try:
+        with contextlib.suppress(ImportError):  # without it, lines are read as they come
             import readline
-        except ImportError:  # a Python without it: lines are read as they come
-            return
-        self.readline = readline
+
+            self.readline = readline
+            self.set_up(readline)
+
+    def set_up(self, readline: ModuleType) -> None:
+        """Sets the keys, completion and history of readline."""
         if keys.FILE.exists():
             readline.read_init_file(str(keys.FILE))
         readline.parse_and_bind("tab: complete")
         readline.set_completer_delims(" \t")
         readline.set_completer(lambda text, number: self.complete(readline.get_line_buffer()[: readline.get_endidx()], text, number))
-        self.take_history()
-
-    def take_history(self):
-        """Takes in the lines of earlier sessions."""
-        self.readline.set_history_length(10000)
+        readline.set_startup_hook(self.put_draft)
+        readline.set_history_length(10000)
         try:
-            self.history = storing.state_folder() / "history"
-            self.history.touch(0o600)
-            self.readline.read_history_file(str(self.history))
+            history = recovery.state_folder() / "history"
+            history.touch(0o600)
+            readline.read_history_file(str(history))
+            self.history = str(history)
         except OSError as error:
             self.session.tell(f"there is no history of earlier sessions: {error.strerror}")
-            self.history = None
 
-    def read(self):
+    def put_draft(self) -> None:
+        """Puts the line that ]edit gives back where a line is typed."""
+        if self.readline and self.session.draft:
+            self.readline.insert_text(self.session.draft)
+        self.session.draft = ""
+
+    def read(self) -> str:
         """Reads a line, and keeps it in the history."""
-        known = self.readline and self.readline.get_current_history_length()
-        typed = input(PROMPT)
-        if self.history and self.readline.get_current_history_length() > known:
-            self.readline.append_history_file(1, str(self.history))
+        known = self.readline.get_current_history_length() if self.readline else 0
+        typed = read_line()
+        if self.readline and self.history and self.readline.get_current_history_length() > known:
+            try:
+                self.readline.append_history_file(1, self.history)
+            except OSError as error:
+                self.session.tell(f"  lines are not kept for later sessions: {error.strerror}")
+                self.history = ""
         return typed
 
-    def complete(self, line, text, number):
-        """The completion of that number of the word `text`, with which the line ends so far."""
+    def complete(self, line: str, text: str, number: int) -> Optional[str]:
+        """Returns the completion of that number of the word `text`, with which the line ends so far."""
         if number == 0:
-            self.found = self.completions(line, text)
-        return self.found[number] if number < len(self.found) else None
+            self.completions = self.completions_of(line, text)
+        return self.completions[number] if number < len(self.completions) else None
 
-    def completions(self, line, text):
-        """Whole words that begin so: a command at the beginning, a file where a command takes one, and names."""
+    def completions_of(self, line: str, text: str) -> List[str]:
+        """Returns whole words that begin so: a command at the beginning, a file where a command takes one, and names."""
         if line.strip() == text and text[:1] in (")", "]"):
-            words = WORDS if text[0] == ")" else [f"]{it}" for it in commands.COMMANDS]
-            return [f"{it} " for it in words if it.upper().startswith(text.upper())]
-        if TAKES_FILE.match(line):
-            return files_that_begin(text)
+            words = [f"){word}" for word in KINDS] if text[0] == ")" else [f"]{word}" for word in commands.COMMANDS]
+            return [f"{word} " for word in words if word.upper().startswith(text.upper())]
+        if path := TAKES_FILE.match(line):
+            typed = path["path"]
+            return [quoted(name)[len(typed) - len(text) :] for name in files_that_begin(re.sub(r"\\(.)", r"\1", typed))]
         begun = re.search(f"{NAME}$", text)
         names = self.session.journal.bindings if begun else ()
-        return [text[: begun.start()] + it for it in names if it.startswith(begun[0])]
+        return [text[: begun.start()] + name for name in names if begun and name.startswith(begun[0])]
 
-    def run(self):
+    def run(self) -> None:
         """Answers lines until the end: Ctrl-D, or ]off. Ctrl-C drops the line that is being typed."""
-        self.session.tell("aplsheet: ]help tells of the commands, ]keys of the keys of the symbols; Ctrl-D ends")
         while True:
             try:
                 signals.release()
@@ -88,12 +108,25 @@ class Terminal:
                 return
 
 
-def files_that_begin(text):
-    """The files and folders whose path begins so; hidden ones where the text says so."""
+def read_line() -> str:
+    """Reads a line. Where a second signal comes at once behind a first one, readline hides the exception of the first in a SystemError."""
+    try:
+        return input(PROMPT)
+    except SystemError as error:
+        raise error.__cause__ or error
+
+
+def quoted(path: str) -> str:
+    """Returns a path as a word of a command: a backslash stands before each sign that would end the word."""
+    return re.sub(r"""([\s'"\\])""", r"\\\1", path)
+
+
+def files_that_begin(text: str) -> List[str]:
+    """Returns the files and folders whose path begins so; hidden ones where the text says so."""
     folder, begin = os.path.split(text)
     try:
-        found = sorted(os.listdir(os.path.expanduser(folder) or "."))
+        names = sorted(os.listdir(os.path.expanduser(folder) or "."))
     except OSError:
         return []
-    paths = [os.path.join(folder, it) for it in found if it.startswith(begin) and it.startswith(".") <= begin.startswith(".")]
-    return [it + "/" * os.path.isdir(os.path.expanduser(it)) for it in paths]
+    paths = [os.path.join(folder, name) for name in names if name.startswith(begin) and name.startswith(".") <= begin.startswith(".")]
+    return [path + "/" * os.path.isdir(os.path.expanduser(path)) for path in paths]

@@ -7,7 +7,7 @@ import re
 import subprocess
 from pathlib import Path
 
-from sheet import program as over_pipes, session, storing
+from sheet import program as over_pipes, scripts, session
 
 from .rooms import SECONDS, TOP, Outcome, Room, Test
 
@@ -25,13 +25,13 @@ def random_lines(room: Room, seed: int) -> Outcome:
     lines = [it for it in lines if not it.startswith("]")]
     wanted = subprocess.run([room.program], input="\n".join(lines).encode(), capture_output=True, timeout=SECONDS).stdout.decode()
     sheet = session.Session(over_pipes.Program([room.program]), printed.append, lambda _: None)
-    sheet.complain = lambda place, text, what, said=(): printed.append(what)
+    sheet.complain = lambda text, what, remarks=(): printed.append(what)
     sheet.program.start()
     for line in lines:
         sheet.take(line)
     names = [*sheet.journal.bindings]
     asked = [it.format(name) for name in names for it in ("⍴{}", "0=1↑0⍴{}", "{}")]
-    shown, saved = sheet.program.ask_all([")NAMES", *asked]), storing.lines_of_sheet(sheet.program, sheet.journal.bindings)
+    shown, saved = sheet.program.ask_all([")NAMES", *asked]), scripts.lines_of_sheet(sheet.program, sheet.journal)
     loaded = []
     for kept in (sheet.journal.lines, saved):
         sheet.program.stop()

@@ -67,26 +67,46 @@ def completion(room: Room) -> Outcome:
 
 
 def unsaved_sheet(room: Room) -> Outcome:
-    """What is typed and not saved is kept in a file when the session ends; what is saved, or taken back, is not."""
+    """A sheet that was not saved is offered in the next session, and goes on there with its changes; one that was saved is not."""
     screen = Screen(room)
-    screen.keys("A`[5\n")
+    screen.keys("A`[5\nB`[6\nA`[7\n]undo\n", "taken back: A←7")
     status, shown = screen.end("]off\n")
-    kept = re.search("`sheet (.*) -` goes on with it", shown)
-    again = Screen(room, kept[1], "-")
-    found = again.keys("A\n"), again.keys("]save a.apl\n"), again.end()
-    others = Screen(room).end()[1] + Screen(room, "a.apl", "-").end()[1]
-    return (status, found[0], found[1], "not saved" in found[2][1] + others), (0, "A\n5\n", "]save a.apl\n1 name saved in a.apl\n", False)
+    is_told = "the sheet was not saved; ]recover goes on with it, from " in shown
+    again = Screen(room)
+    offer = re.findall(r"^not saved: \]recover 1: the session of [-0-9 :]+, 2 changes$", again.shown, re.MULTILINE)
+    recovered = again.keys("]recover\n"), again.keys("A+B\n"), again.keys("]redo\n"), again.keys("]save a.apl\n")
+    ends = again.end()[0], Screen(room).shown + Screen(room, "a.apl", "-").shown
+    wanted = "A+B\n11\n", "]redo\nmade again: A←7\n", "]save a.apl\n2 names saved in a.apl\n"
+    return (status, is_told, len(offer), recovered[1:], ends[0], "not saved" in ends[1]), (0, True, 1, wanted, 0, False)
+
+
+def several_unsaved_sheets(room: Room) -> Outcome:
+    """Each session that was not saved is offered; one that runs is not, and one that is forgotten is gone."""
+    sheets = [Screen(room) for _ in range(3)]
+    for number, screen in enumerate(sheets):
+        screen.keys(f"A`[{number}\n")
+        time.sleep(1.1)  # names of logs have their second
+    sheets[0].end()
+    sheets[1].process.kill()
+    sheets[1].read(lambda: False)
+    last = Screen(room)
+    offers = len(re.findall(r"^not saved: ", last.shown, re.MULTILINE))
+    told = last.keys("]recover 3\n"), last.keys("]recover 1 --forget\n"), last.keys("]recover\n"), last.keys("A\n")
+    wanted = "there is no session 3 to be recovered" in told[0], "forgotten: the session of" in told[1], told[3]
+    return (offers, wanted, sheets[2].keys("A\n")), (2, (True, True, "A\n0\n"), "A\n2\n")
 
 
 def no_state_folder(room: Room) -> Outcome:
-    """Where no history can be kept this is told, and a sheet that was not saved goes into the folder where one is."""
+    """Where no history can be kept this is told, and the session is logged in the folder where one is."""
     room.environment["XDG_STATE_HOME"] = "/dev/null"
     screen = Screen(room)
     told = "there is no history" in screen.shown
     screen.keys("A`[5\n")
     status, shown = screen.end()
-    (kept,) = room.folder.glob("unsaved-*.apl")
-    return (told, status, f"`sheet {kept} -`" in shown, kept.read_text()), (True, 0, True, "A←5\n")
+    (log,) = room.folder.glob("session-*.apl")
+    again = Screen(room)
+    recovered = again.keys("]recover\nA\n", "A\n5\n")
+    return (told, status, str(log) in shown, bool(recovered)), (True, 0, True, True)
 
 
 def script_and_terminal(room: Room) -> Outcome:
@@ -125,4 +145,4 @@ def stopped_script(room: Room) -> Outcome:
 
 def tests(_times: int) -> list[Test]:
     lines = [typed_lines, dropped_line, stopped_line, stopped_script, history, completion]
-    return named_tests([*lines, unsaved_sheet, no_state_folder, script_and_terminal, pasted_lines])
+    return named_tests([*lines, unsaved_sheet, several_unsaved_sheets, no_state_folder, script_and_terminal, pasted_lines])

@@ -65,31 +65,28 @@ def killed_tmux_session(room: Room, times: int) -> Outcome:
     return found, [["A←5+1\n"]] * times
 
 
-# Makes each file slow to be written: Python reads it as sitecustomize.
-SLOW_DISK = "import os, time\nwritten = os.fsync\nos.fsync = lambda file: (time.sleep(0.7), written(file))\n"
 ENDS = {"Ctrl-D": b"\x04", "]off": b"]off\n", "SIGTERM": signal.SIGTERM, "SIGHUP": signal.SIGHUP}
 
 
-def signals_while_kept(room: Room, end: bytes | signal.Signals) -> Outcome:
-    """Signals of each kind do not cut off the keeping, whatever has begun it."""
-    room.put("sitecustomize.py", SLOW_DISK)
-    room.environment["PYTHONPATH"] = str(room.folder)
-    screen = Screen(room)
-    screen.keys("A`[5\n")
-    time.sleep(1)  # as above
-    if isinstance(end, bytes):
-        os.write(screen.master, end)
-    else:
-        screen.process.send_signal(end)
-    while not room.kept():
-        time.sleep(0.01)
-    for sign in (signal.SIGINT, signal.SIGHUP, signal.SIGINT, signal.SIGTERM, signal.SIGHUP, signal.SIGTERM):
-        screen.process.send_signal(sign)
-        time.sleep(0.02)
-    screen.read(lambda: False)
-    is_told = "the sheet was not saved; it is kept" in screen.shown
-    first = signal.SIGHUP if isinstance(end, bytes) else end
-    return (screen.process.wait(SECONDS), is_told, room.kept()), (128 + first, True, ["A←5\n"])
+def signals_at_the_end(room: Room, times: int, end: bytes | signal.Signals) -> Outcome:
+    """Signals of each kind, at once behind the end of a session, lose nothing, whatever has begun it, and show no traceback."""
+    wrong = []
+    for _ in range(times):
+        shutil.rmtree(room.folder / "state", ignore_errors=True)
+        screen = Screen(room)
+        screen.keys("A`[5\n")
+        if isinstance(end, bytes):
+            os.write(screen.master, end)
+        else:
+            screen.process.send_signal(end)
+        for sign in (signal.SIGINT, signal.SIGHUP, signal.SIGINT, signal.SIGTERM, signal.SIGHUP, signal.SIGTERM):
+            screen.process.send_signal(sign)
+            time.sleep(random.choice((0, 0.02)))
+        screen.read(lambda: False)
+        screen.process.wait(SECONDS)
+        if room.kept() != ["A←5\n"] or "Traceback" in screen.shown:
+            wrong.append((room.kept(), screen.shown))
+    return wrong, []
 
 
 def signals_at_any_time(room: Room, times: int, *signs: signal.Signals) -> Outcome:
@@ -126,7 +123,7 @@ def tests(times: int) -> list[Test]:
     shells = [shell for shell in ("bash", "dash") if shutil.which(shell)]
     closed = [Test(f"closed terminal: {shell}", closed_terminal, (times, shell)) for shell in shells]
     closed += [Test("killed tmux session", killed_tmux_session, (times,))] * bool(shutil.which("tmux"))
-    kept = [Test(f"signals while it is kept: {name}", signals_while_kept, (end,)) for name, end in ENDS.items()]
+    kept = [Test(f"signals at the end: {name}", signals_at_the_end, (times, end)) for name, end in ENDS.items()]
     pairs = [(signal.SIGTERM, signal.SIGHUP), (signal.SIGHUP, signal.SIGINT), (signal.SIGINT, signal.SIGTERM, signal.SIGINT)]
     kept += [Test(f"signals at any time: {signs}", signals_at_any_time, (3 * times, *signs)) for signs in pairs]
     return [*named_tests([hang_up]), *closed, *kept, Test("interrupted end", interrupted_end, (3 * times,))]

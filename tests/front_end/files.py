@@ -62,7 +62,7 @@ def save_keeps(room: Room) -> Outcome:
     first = (room.folder / "plan.apl").read_text(), "plan.apl is there already" in told
     _, _, told = room.call(lines="A←1\n]save plan.apl --replace\n]save no/plan.apl\n]save plan.apl/a\n]save .\n")
     second = (room.folder / "plan.apl").read_text(), (room.folder / "plan.apl").stat().st_mode & 0o777, told.count("\nline ")
-    return (first, second, sorted(os.listdir(room.folder))), (("B←2\n", True), ("A←1\n", 0o640, 3), ["plan.apl"])
+    return (first, second, sorted(os.listdir(room.folder))), (("B←2\n", True), ("A←1\n", 0o640, 3), ["plan.apl", "plan.apl~"])
 
 
 def load_on_top(room: Room) -> Outcome:
@@ -72,7 +72,7 @@ def load_on_top(room: Room) -> Outcome:
     room.put("self.apl", "]load self.apl\n")
     status, printed, told = room.call(lines="C←1\n]load one.apl\n]undo\n)NAMES\n]load self.apl\n]load .\n")
     wanted = ["one.apl:2: VALUE ERROR", "two.apl:3: absent.apl cannot be read: No such file or directory", "taken back: ]load one.apl"]
-    wanted += ["self.apl:1: self.apl is not loaded: 16 files are being loaded already", "line 6: . cannot be read: Is a directory"]
+    wanted += ["self.apl:1: self.apl is not loaded: it is being loaded already", "line 6: . cannot be read: Is a directory"]
     return (status, printed, [it for it in wanted if it not in told]), (1, "2\n1\nC\n", [])
 
 

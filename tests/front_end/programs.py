@@ -28,8 +28,9 @@ def programs_that_die(room: Room) -> Outcome:
 def program_that_vanishes(room: Room) -> Outcome:
     """Where it cannot go on, its lines are kept in a file."""
     status, printed, told = room.call(lines="A←1\nVANISH\nB←2\n", program=room.fake())
-    (kept,) = (room.folder / "state/aplsheet").iterdir()
-    return (status, printed, f"the sheet is kept in {kept}\n" in told, kept.read_text()), (1, "", True, "A←1\n")
+    (log,) = room.logs()
+    offer = f"the sheet was not saved; ]recover goes on with it, from {log}\n" in told
+    return (status, printed, offer, room.kept(), room.call(lines="]recover\nA\n")[1]), (1, "", True, ["A←1\n"], "1\n")
 
 
 def unknown_answers(room: Room) -> Outcome:
@@ -37,12 +38,11 @@ def unknown_answers(room: Room) -> Outcome:
     room.put("t.csv", "1,2\n")
     lines = ["A←1", "UNKNOWN←2", "]table UNKNOWN t.csv", ")OPEN 7 B←3", ")COMMIT 7", "EMPTY←4", "]table EMPTY t.csv", "VANISH"]
     _, printed, told = room.call(lines="\n".join(lines), program=room.fake())
-    (kept,) = (room.folder / "state/aplsheet").iterdir()
     note = "\n  no such answer is known, so the line counts as refused\n"
     wanted = [f"line 2: DEPTH ERROR\nAT SIGN 1\n  UNKNOWN←2{note}", f"line 5: DEPTH ERROR\nAT SIGN 1\n  )COMMIT 7{note}"]
     wanted += ["line 3: DEPTH ERROR\nAT SIGN 1: 1 record of 2 are not taken in\n"]
     wanted += [f"line 6: \n  EMPTY←4{note}", "line 7: : 1 record of 2 are"]
-    return (printed, kept.read_text(), [it for it in wanted if it not in told]), ("0\n", "A←1\n", [])
+    return (printed, room.kept(), [it for it in wanted if it not in told]), ("0\n", ["A←1\n"], [])
 
 
 def no_memory(room: Room) -> Outcome:

@@ -48,6 +48,7 @@ class Room:
     def __init__(self, program: str, folder: str) -> None:
         self.program, self.folder = program, Path(folder)
         own = {"XDG_STATE_HOME": str(self.folder / "state"), "TERM": "dumb", "LC_ALL": "C.UTF-8", "INPUTRC": "/dev/null"}
+        own["TMPDIR"] = folder
         self.environment = {**os.environ, **own, "HOME": folder}
 
     def put(self, name: str, text: Union[str, bytes]) -> str:
@@ -72,9 +73,14 @@ class Room:
         os.mkfifo(pipe)
         return os.open(pipe, os.O_RDONLY | os.O_NONBLOCK), f"exec 9> {pipe}; "
 
+    def logs(self) -> list[Path]:
+        """Returns the logs of sessions."""
+        return sorted((self.folder / "state/aplsheet").glob("session-*"))
+
     def kept(self) -> list[str]:
-        """The texts of the sheets that were not saved, of half-written ones too."""
-        return [path.read_text() for path in (self.folder / "state/aplsheet").glob("*unsaved*")]
+        """Returns the lines that the logs of sessions have, without those about the session."""
+        texts = [path.read_text() for path in self.logs()]
+        return ["".join(line for line in text.splitlines(True) if not line.startswith("⍝")) for text in texts]
 
     def call(self, *words: str, lines: Union[str, bytes] = "", program: Optional[str] = None) -> Tuple[int, str, str]:
         """Returns the status, standard output and standard error of a call."""

@@ -1,0 +1,26 @@
+"""A pager for values that are beyond the screen."""
+
+from __future__ import annotations
+
+import contextlib
+import os
+import pydoc
+import shutil
+import sys
+from typing import Sequence
+
+
+def is_wanted(lines: Sequence[str]) -> bool:
+    """Whether a value has more lines than the screen, or is a table that is wider, and the terminal can show it by pages."""
+    if not (sys.stdin.isatty() and sys.stdout.isatty()) or os.environ.get("TERM", "dumb") == "dumb":
+        return False
+    size = shutil.get_terminal_size()
+    rows = sum(1 + max(0, len(line) - 1) // size.columns for line in lines)
+    return rows >= size.lines or len(lines) > 1 and max(map(len, lines)) > size.columns
+
+
+def show(lines: Sequence[str]) -> None:
+    """Shows a value in the pager, which cuts lines at the edge of the screen and moves them by the arrow keys."""
+    os.environ.setdefault("LESS", "-S")
+    with contextlib.suppress(OSError):
+        pydoc.pager("".join(f"{line}\n" for line in lines))

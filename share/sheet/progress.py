@@ -1,0 +1,40 @@
+"""Progress of a task that takes long, shown at a terminal."""
+
+from __future__ import annotations
+
+import sys
+import time
+from typing import Iterable, Iterator, TypeVar
+
+Item = TypeVar("Item")
+PATIENCE = 1.0  # seconds until something is shown, and between two times
+
+
+class Progress:
+    """Shows how much of a task is done, on a line of its own that goes when the task ends.
+
+    what      the task
+    total     how many steps it has
+    is_shown  whether there is a terminal to show it
+    """
+
+    def __init__(self, what: str, total: int, is_shown: bool) -> None:
+        self.what, self.total, self.is_shown = what, total, is_shown
+        self.due, self.width = time.monotonic() + PATIENCE, 0
+
+    def over(self, steps: Iterable[Item]) -> Iterator[Item]:
+        """Yields the steps of the task."""
+        try:
+            for number, step in enumerate(steps):
+                if self.is_shown and time.monotonic() > self.due:
+                    self.due = time.monotonic() + PATIENCE
+                    self.write(f"{self.what}: {100 * number // self.total} %")
+                yield step
+        finally:
+            if self.width:
+                self.write("")
+
+    def write(self, text: str) -> None:
+        """Writes a text in place of the one before it."""
+        print("\r" + text.ljust(self.width) + "\r" * (not text), end="", file=sys.stderr, flush=True)
+        self.width = len(text)

@@ -1,0 +1,64 @@
+"""Names that are shown again after each change that reaches them."""
+
+from __future__ import annotations
+
+import os
+import re
+import sys
+from typing import TYPE_CHECKING, Dict, Iterable, List
+
+if TYPE_CHECKING:
+    from .session import Session
+
+BOLD, PLAIN = "\033[1m", "\033[0m"
+
+
+class Watch:
+    """The names that are watched, each with the lines that were shown for it last."""
+
+    def __init__(self) -> None:
+        self.shown: Dict[str, List[str]] = {}
+
+    def add(self, session: Session, names: Iterable[str]) -> None:
+        """Watches names, and shows them."""
+        self.shown.update({name: [] for name in names})
+        self.show(session, names)
+
+    def remove(self, names: Iterable[str]) -> None:
+        for name in names:
+            self.shown.pop(name, None)
+
+    def rename(self, old: str, new: str) -> None:
+        """Watches a name under another name."""
+        self.shown = {new if name == old else name: lines for name, lines in self.shown.items()}
+
+    def show(self, session: Session, changed: Iterable[str]) -> None:
+        """Shows those names again that a change of others reaches; items that are not as before in bold, at a terminal that can."""
+        if not self.shown or session.is_check:
+            return
+        reached = session.journal.reached(changed)
+        names = [name for name in self.shown if name in reached]
+        for name, lines in zip(names, session.program.ask_all(names)):
+            shown = in_bold(self.shown[name], lines) if self.shown[name] and has_bold() else lines
+            is_short = len(lines) == 1
+            session.show(f"{name}  {shown[0]}" if is_short else name)
+            for line in shown * (not is_short):
+                session.show(line)
+            self.shown[name] = lines
+
+
+def has_bold() -> bool:
+    return sys.stdout.isatty() and os.environ.get("TERM", "dumb") != "dumb"
+
+
+def in_bold(before: List[str], lines: List[str]) -> List[str]:
+    """Returns the lines with those words in bold that are not as before, where there are as many lines as before."""
+    return [*map(line_in_bold, before, lines)] if len(before) == len(lines) else lines
+
+
+def line_in_bold(before: str, line: str) -> str:
+    """Returns the line with those words in bold that are not as before, where it has as many words as before."""
+    words = iter(before.split())
+    if len(before.split()) != len(line.split()):
+        return line
+    return re.sub("[^ ]+", lambda word: word[0] if word[0] == next(words) else BOLD + word[0] + PLAIN, line)
