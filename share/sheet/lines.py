@@ -13,8 +13,7 @@ EDIT = re.compile(rf"[ \t]*({NAME})[ \t]*\[[^←]*\][ \t]*←", re.DOTALL)
 OPENING = re.compile(r"[ \t]*\)[ \t]*OPEN[ \t]*([0-9]+)(.*)", re.DOTALL)
 REFERENCE = re.compile(f"(?<![A-Za-z∆⍙0-9_¯]){NAME}")
 
-KINDS = {"DATA": "data", "ROW": "row", "ERASE": "erase", "NAMES": "names", "COST": "cost", "CSV": "csv"}
-KINDS.update({"OPEN": "open", "STEP": "step", "COMMIT": "commit", "DROP": "drop"})
+COMMAND_WORDS = ("DATA", "ROW", "ERASE", "NAMES", "COST", "CSV", "OPEN", "STEP", "COMMIT", "DROP")
 CHANGES = ("definition", "data", "edit", "row", "erase")
 
 
@@ -52,7 +51,7 @@ class Line:
 
     def read_command(self, word, rest):
         """Takes in what stands behind the )."""
-        self.kind = KINDS.get(word, "unknown")
+        self.kind = word.lower() if word in COMMAND_WORDS else "unknown"
         if self.kind in ("open", "step", "commit", "drop"):
             digits = re.match("[ \t]*([0-9]+)", rest)
             self.slot = digits and str(int(digits[1]))

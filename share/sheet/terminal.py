@@ -12,7 +12,7 @@ from typing import List, Optional
 from . import commands, keys, recovery
 from .errors import End
 from .interrupts import signals
-from .lines import KINDS, NAME
+from .lines import COMMAND_WORDS, NAME
 from .session import Session
 
 PROMPT = " " * 6  # so that answers, which begin at the left edge, stand out
@@ -82,7 +82,7 @@ class Terminal:
     def completions_of(self, line: str, text: str) -> List[str]:
         """Returns whole words that begin so: a command at the beginning, a file where a command takes one, and names."""
         if line.strip() == text and text[:1] in (")", "]"):
-            words = [f"){word}" for word in KINDS] if text[0] == ")" else [f"]{word}" for word in commands.COMMANDS]
+            words = [f"){word}" for word in COMMAND_WORDS] if text[0] == ")" else [f"]{word}" for word in commands.COMMANDS]
             return [f"{word} " for word in words if word.upper().startswith(text.upper())]
         if path := TAKES_FILE.match(line):
             typed = path["path"]
