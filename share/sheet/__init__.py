@@ -18,5 +18,6 @@
   pager       values beyond the screen
   progress    how much of a long task is done
   interrupts  the signals that stop a line or end the session
+  version     the version, as CHANGELOG.md says it
   starting    the words of bin/sheet
 """

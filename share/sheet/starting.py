@@ -17,6 +17,7 @@ from .program import Program, ProgramFailed
 from .recovery import Log
 from .session import Session
 from .terminal import Terminal
+from .version import version_line
 
 WORDS = """A sheet of APL formulas at the terminal. docs/SHEET.md tells of it, docs/LANGUAGE.md of the language.
 
@@ -33,6 +34,7 @@ def words() -> argparse.ArgumentParser:
     check = "tell of errors and refusals alone, also of names that show an error, and write no file"
     parser.add_argument("--check", action="store_true", help=check)
     parser.add_argument("--program", metavar="PROGRAM", help="the program that answers; as a rule the one beside this one")
+    parser.add_argument("--version", action="version", version=version_line(), help="print the version, and nothing else")
     return parser
 
 
