@@ -1,0 +1,12 @@
+# Completes the words of sheet in bash. Scripts end with .apl; where none begins so, any file is offered.
+_sheet() {
+  local word=${COMP_WORDS[COMP_CWORD]#=} before=${COMP_WORDS[COMP_CWORD - 1]}
+  if [[ $before = --program || $before = "=" ]]; then # a = is a word of its own
+    mapfile -t COMPREPLY < <(compgen -f -- "$word")
+  elif [[ $word = -* ]]; then
+    mapfile -t COMPREPLY < <(compgen -W "- --check --program --version --help" -- "$word")
+  else
+    mapfile -t COMPREPLY < <(compgen -d -- "$word"; compgen -f -X "!*.apl" -- "$word")
+  fi
+}
+complete -o filenames -o default -F _sheet sheet
