@@ -1,0 +1,1 @@
+"""The tests of tests/hostile, a module for each subject."""
