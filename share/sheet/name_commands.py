@@ -20,8 +20,8 @@ def show_names(session: Session) -> None:
     rows = []
     for name, binding in session.journal.bindings.items():
         array = storing.Array(session.program, name)
-        shape = "".join(f" {length}" for length in array.shape or ["scalar"])
-        kind = array.error or ("characters" if array.is_text else "numbers") + shape
+        shape = " ".join(map(str, array.shape)) or "scalar"
+        kind = array.error or ("characters " if array.is_text else "numbers ") + shape
         formula = "" if binding.is_data else without_comment(binding.text or "").split("←", 1)[1].strip()
         rows.append((name, "data" if binding.is_data else "formula", kind, formula))
     widths = [max(len(row[column]) for row in rows) for column in range(3)] if rows else []

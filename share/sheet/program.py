@@ -94,7 +94,8 @@ class Program:
     def ask(self, line: str) -> List[str]:
         """Returns the lines that are printed for a line. A fence that is refused memory prints one line, and is sent again."""
         self.write([line])
-        fences, lines = [self.fence], []
+        fences = [self.fence]
+        lines: List[str] = []
         while True:
             printed = self.next_line(SECONDS if lines and lines[-1] == NO_MEMORY else None)
             if printed == fences[-1]:

@@ -108,8 +108,9 @@ class Session:
         if self.is_typed and pager.is_wanted(lines):
             pager.show(lines)
             return
-        for line in lines * (not self.is_check):
-            self.show(line)
+        if not self.is_check:
+            for line in lines:
+                self.show(line)
 
     def reply(self, line: Line) -> Tuple[Answer, List[str]]:
         """Gives a line of the language to the program, takes in what it changes, and returns the answer, and notes on it."""
