@@ -88,5 +88,6 @@ def offers(sessions: list[recovery.Unended]) -> Iterator[str]:
 
 def describe(session: recovery.Unended) -> str:
     """Returns a session in words."""
-    file = f" of {os.path.relpath(session.home[1])}" if session.home else ""
-    return f"the session of {session.begun}, {counted(len(session.journal.changes), 'change')}{file}"
+    changes = session.journal.unsaved
+    file = f" since {os.path.relpath(session.home[1])} was saved" if session.home else ""
+    return f"the session of {session.begun}, {counted(len(changes), 'change')}{file}"

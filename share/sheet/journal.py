@@ -149,6 +149,11 @@ class Journal:
         """Whether nothing would be lost: the last change is saved, or there are no names."""
         return self.saved is self.last or not self.bindings
 
+    @property
+    def unsaved(self) -> List[Change]:
+        """The changes since the sheet was saved."""
+        return self.changes[self.changes.index(self.saved) + 1 :] if self.saved in self.changes else self.changes
+
     def mark_saved(self) -> None:
         self.saved = self.last
 

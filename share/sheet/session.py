@@ -4,7 +4,7 @@ from __future__ import annotations
 
 import os
 import traceback
-from typing import Callable, Iterable, List, Optional, Sequence, Tuple
+from typing import Callable, Dict, Iterable, List, Optional, Sequence, Tuple
 
 from . import notes, pager
 from . import change_commands, file_commands, help_commands, name_commands, table_commands  # noqa: F401: they fill commands.COMMANDS
@@ -39,6 +39,7 @@ class Session:
     place       the place of the line that is answered, if it is of a script
     loading     the files that are being loaded
     watch       the names that are shown after each change that reaches them
+    changed     the names that were bound anew since these were shown
     draft       a line that is given back to the person to be edited
     is_settled  whether the journal has what the program has accepted
     """
@@ -51,6 +52,7 @@ class Session:
         self.place: Optional[Place] = None
         self.faults, self.draft, self.is_settled = 0, "", True
         self.loading: List[str] = []
+        self.changed: Dict[str, Optional[Binding]] = {}
 
     @property
     def is_typed(self) -> bool:
@@ -66,6 +68,7 @@ class Session:
         try:
             self.make_ready()
             self.answer(text)
+            self.show_watched()
         except ProgramFailed as failure:
             self.complain(text, f"PROGRAM FAILED: {failure}")
             self.make_ready()
@@ -112,6 +115,12 @@ class Session:
             for line in lines:
                 self.show(line)
 
+    def show_watched(self) -> None:
+        """Shows the names that are watched and were reached by changes; not before a file that is being loaded is done."""
+        if not self.loading:
+            self.watch.show(self, self.changed)
+            self.changed = {}
+
     def reply(self, line: Line) -> Tuple[Answer, List[str]]:
         """Gives a line of the language to the program, takes in what it changes, and returns the answer, and notes on it."""
         made = None if self.place else self.journal.made_by(line)
@@ -120,15 +129,14 @@ class Session:
         reply = answer(self.program, line)
         with signals.held():
             change = None if reply.is_fault else self.journal.accept(line, self.place, inverse)
-            self.settle(event_of(change) if change else [])
+            self.settle(event_of(change) if change else [], change)
         if reply.is_fault:
             return reply, notes.of_fault(self, reply)
-        if change:
-            self.watch.show(self, change.bound)
         return reply, notes.of_slip(line)
 
-    def settle(self, events: Sequence[str]) -> None:
-        """Logs events that the journal has taken in; signals are held."""
+    def settle(self, events: Sequence[str], change: Optional[Change] = None) -> None:
+        """Logs events that the journal has taken in, and notes the names that a change among them binds; signals are held."""
+        self.changed.update(change.bound if change else {})
         if self.log and events:
             self.log.append(events, self.journal, self.home)
         self.is_settled = True
@@ -164,8 +172,7 @@ class Session:
             raise Mistake(refused)
         with signals.held():
             self.journal.add(change)
-            self.settle(event_of(change))
-        self.watch.show(self, change.bound)
+            self.settle(event_of(change), change)
 
     def come_home(self, home: Optional[Home]) -> None:
         """Makes a file the home of the sheet, which is as that file has it; tells where another session has it too."""
@@ -271,7 +278,7 @@ class Session:
             raise Mistake("there is no change to take back")
         if not self.is_inverted(change):
             self.remake(self.journal.without_last(), undone(change))
-        self.watch.show(self, change.bound)
+            self.changed.update(change.bound)
         return f"taken back: {change.title}"
 
     def is_inverted(self, change: Change) -> bool:
@@ -284,7 +291,7 @@ class Session:
             return False
         with signals.held():
             self.journal.take_back()
-            self.settle(undone(change))
+            self.settle(undone(change), change)
         return True
 
     def redo(self) -> str:
@@ -298,8 +305,7 @@ class Session:
             raise Mistake(refused)
         with signals.held():
             change = self.journal.make_again()
-            self.settle(redone(change))
-        self.watch.show(self, change.bound)
+            self.settle(redone(change), change)
         return f"made again: {change.title}"
 
     def run(self, file: Optional[str], source: Iterable[bytes]) -> None:
