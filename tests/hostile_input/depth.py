@@ -3,6 +3,7 @@
 from __future__ import annotations
 
 import resource
+from itertools import zip_longest
 from typing import Iterator
 
 from .program_calls import called, limiting, needs
@@ -56,5 +57,6 @@ def try_deep_lines(program: str) -> str:
     status, output, errors = called(program, lines.encode(), prepare=limiting(resource.RLIMIT_STACK, LEAST_STACK << 10))
     needs((status, errors) == (0, b""), f"status {status}, {errors!r}, after {output[-60:]!r}")
     answers = output.decode()
-    needs(answers == due, f"{next(zip(answers.splitlines(), due.splitlines()), '')}")
+    others = [pair for pair in zip_longest(answers.splitlines(), due.splitlines()) if pair[0] != pair[1]]
+    needs(answers == due, f"an answer, and the one that is due: {others[:1]}")
     return f"{len(session)} lines with a stack of {LEAST_STACK} kB"
