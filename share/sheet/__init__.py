@@ -12,7 +12,8 @@
   storing     the array of a name
   scripts     the lines by which a sheet is saved
   files       files, read and written without losing what is there
-  notes       notes beside an error: absent names, cycles, shapes, and hints for the usual slips
+  notes       notes beside an error: absent names, cycles, shapes, and a hint for a usual slip
+  slips       the usual slips, by the text of a line
   watching    names that are shown again after changes
   terminal    line editing, history and completion
   pager       values beyond the screen

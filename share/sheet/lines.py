@@ -1,12 +1,16 @@
 """What a line is, as far as its text tells: what kind of line, of which name, and which names it refers to."""
 
+from __future__ import annotations
+
 import re
+from typing import NamedTuple, Optional
 
 NAME = "[A-Za-z∆⍙][A-Za-z∆⍙0-9_]*"
 BLANKS = " \t\r"  # one CR at the end of a line is dropped by the program; elsewhere it refuses the line
 LONGEST = 4096  # bytes of a line
 
 PIECE = re.compile("'(?:[^']|'')*'?|⍝.*|[^'⍝]+", re.DOTALL)
+TOKEN = re.compile(rf"(?P<text>'(?:[^']|'')*'?)|(?P<comment>⍝.*)|(?P<number>¯?[0-9]+)|(?P<name>{NAME})|(?P<sign>[^ \t])", re.DOTALL)
 COMMAND = re.compile(rf"[ \t]*\)[ \t]*({NAME})(.*)", re.DOTALL)
 DEFINITION = re.compile(rf"[ \t]*({NAME})[ \t]*←(.*)", re.DOTALL)
 EDIT = re.compile(rf"[ \t]*({NAME})[ \t]*\[[^←]*\][ \t]*←", re.DOTALL)
@@ -17,60 +21,89 @@ COMMAND_WORDS = ("DATA", "ROW", "ERASE", "NAMES", "COST", "CSV", "OPEN", "STEP",
 CHANGES = ("definition", "data", "edit", "row", "erase")
 
 
-def code_of(text):
+class Token(NamedTuple):
+    """A part of a line: its kind, which is text, number, name or sign; how it is written; and the places where it begins and ends."""
+
+    kind: str
+    text: str
+    start: int
+    end: int
+
+
+def tokens_of(text: str) -> list[Token]:
+    """Returns the parts of a line in their order, without blanks and without its comment."""
+    matches = TOKEN.finditer(text)
+    return [Token(str(match.lastgroup), match[0], *match.span()) for match in matches if match.lastgroup != "comment"]
+
+
+def code_of(text: str) -> str:
     """Returns the line without its comment, and with nothing in its texts."""
-    return "".join("''" if it[0] == "'" else it for it in PIECE.findall(text) if it[0] != "⍝").strip(BLANKS)
+    return "".join("''" if piece[0] == "'" else piece for piece in PIECE.findall(text) if piece[0] != "⍝").strip(BLANKS)
 
 
-def without_comment(text):
+def place_in_text(text: str, place: int) -> int:
+    """Returns the place in a line of the sign that stands at this place of its code."""
+    places: list[int] = []
+    for piece in PIECE.finditer(text):
+        if piece[0][0] == "'":
+            places += [piece.start(), piece.end() - 1]
+        elif piece[0][0] != "⍝":
+            places += range(piece.start(), piece.end())
+    return places[place + len(text) - len(text.lstrip(BLANKS))]
+
+
+def without_comment(text: str) -> str:
     """Returns the line without its comment, and without blanks at its ends."""
-    return "".join(it for it in PIECE.findall(text) if it[0] != "⍝").strip(BLANKS)
+    return "".join(piece for piece in PIECE.findall(text) if piece[0] != "⍝").strip(BLANKS)
 
 
 class Line:
     """A line as it was typed.
 
-    text  the line without its end
-    code  the same without comment, and with nothing in its texts
-    kind  one of CHANGES; names, cost, csv, open, step, commit or drop; nothing, user (it begins with ]), unknown or show
-    name  the name that it binds, edits, makes longer, removes or prints as records, if there is one
-    slot  the digits of the slot that it is about, if there are some
+    text        the line without its end
+    code        the same without comment, and with nothing in its texts
+    kind        one of CHANGES; names, cost, csv, open, step, commit or drop; nothing, user (it begins with ]), unknown or show
+    name        the name that it binds, edits, makes longer, removes or prints as records, if there is one
+    slot        the number of the slot that it is about, if there is one
+    expression  of the code the expression that is shown or bound; of other lines the whole
     """
 
-    def __init__(self, text):
+    def __init__(self, text: str) -> None:
         self.text, self.code = text, code_of(text)
-        self.kind, self.name, self.slot, self.expression = "show", None, None, self.code
+        self.kind, self.expression = "show", self.code
+        self.name: Optional[str] = None
+        self.slot: Optional[str] = None
         if not self.code or self.code[0] == "]":
             self.kind = "user" if self.code else "nothing"
         elif command := COMMAND.match(self.code):
-            self.read_command(*command.groups())
+            self.read_command(command[1], command[2])
         elif definition := DEFINITION.match(self.code):
-            self.kind, (self.name, self.expression) = "definition", definition.groups()
+            self.kind, self.name, self.expression = "definition", definition[1], definition[2]
         elif edit := EDIT.match(self.code):
             self.kind, self.name = "edit", edit[1]
 
-    def read_command(self, word, rest):
-        """Takes in what stands behind the )."""
+    def read_command(self, word: str, rest: str) -> None:
+        """Takes in the word of a command, and the rest of the line."""
         self.kind = word.lower() if word in COMMAND_WORDS else "unknown"
         if self.kind in ("open", "step", "commit", "drop"):
-            digits = re.match("[ \t]*([0-9]+)", rest)
-            self.slot = digits and str(int(digits[1]))
+            digits = re.match("[ \t]*0*([0-9]+)", rest)
+            self.slot = digits and digits[1]
         elif self.kind == "data" and (definition := DEFINITION.match(rest)):
-            self.name, self.expression = definition.groups()
+            self.name, self.expression = definition[1], definition[2]
         elif name := re.match(f"[ \t]*({NAME})", rest):
             self.name = name[1]
 
     @property
-    def is_change(self):
+    def is_change(self) -> bool:
         return self.kind in CHANGES
 
     @property
-    def opened(self):
+    def opened(self) -> Line:
         """The line that )OPEN begins, or the whole line where there is none."""
         opening = OPENING.match(self.text)
         return Line(opening[2] if opening else self.text)
 
     @property
-    def references(self):
+    def references(self) -> list[str]:
         """The names that its expression refers to, in the order in which they stand there."""
         return list(dict.fromkeys(REFERENCE.findall(self.expression)))

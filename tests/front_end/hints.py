@@ -2,7 +2,11 @@
 
 from __future__ import annotations
 
-from .rooms import Outcome, Room, Test
+import os
+import subprocess
+import sys
+
+from .rooms import SECONDS, TOP, Outcome, Room, Test, named_tests
 
 # Lines, and what is told of the last one.
 NOTES = [
@@ -28,11 +32,44 @@ NOTES = [
     ("quit", "is ]off meant?"),
     (")OFF", "is ]off meant?"),
     (")vars", "is ]names meant?"),
-    (")data D←1", "commands are in capitals"),
-    ("5−2", "only looks like - or ¯"),
+    (")data D←1", "commands are in capitals: )DATA\n"),
+    (")Names", "commands are in capitals: )NAMES\n"),
+    (")COL D 1 2", "there is no )COL; )ROW puts a row behind D, and )DATA D←D,5 6 a column"),
+    (")ERAS D", "there is no )ERAS; is )ERASE meant?"),
+    (")SIC", "there is no )SIC; there are )DATA, )ROW,"),
+    (")OPEN 1 )data D←1", "commands are in capitals: )DATA\n"),
+    (")DATA T←3 4 5\nSUM(T)", "a total is +/T;"),
+    ("T←sum (A)", "a total is +/T;"),
+    ("SUM←5\nSUM(T)", "A,B joins"),
+    ("AVERAGE(T)", "an average is a total by a count, (+/T)÷⍴T"),
+    ("MAX(A;B)", "the greatest is ⌈/T; the greater of two is A⌈B"),
+    ("MIN(T)", "the least is ⌊/T"),
+    ("COUNT(T)", "⍴T is how many items there are"),
+    ("IF(C;A;B)", "(C×A)+B×~C is A where C is 1, and B where it is 0"),
+    ("=ROUND(T;2)", "(N-P|N)÷P is rounded down"),
+    ("T(2;3)", "an index stands in brackets: T[2;3]\n"),
+    ("1+T(2)", "an index stands in brackets: T[2]\n"),
+    ("T(I;J)×2", "an index stands in brackets: T[I;J]\n"),
+    ("[1 2 3]", "a list has no brackets: 1 2 3 is one"),
+    (")DATA D←[1 2 3]", "a list has no brackets: 1 2 3 is one"),
+    ("1 2 3[2]", "a literal stands in parentheses before an index: (1 2 3)[2]"),
+    (")DATA P←12,50", "this joins two numbers; numbers are whole"),
+    ("P←12,50", "this joins two numbers; numbers are whole"),
+    (")DATA A←1\n)DATA B←2\n)ERASE A B", "this takes one name"),
+    ("5−2", "only looks like -\n"),
+    ("A −2", "only looks like -\n"),
+    ("−A", "only looks like -\n"),
+    ("D←−5", "only looks like ¯, by the keys `2"),
+    ("2×−5", "only looks like ¯, by the keys `2"),
+    ("1 −5", "only looks like ¯, by the keys `2"),
+    (")DATA D←1 2\n)ROW D −5", "only looks like ¯, by the keys `2"),
     ("⍋5", "'⍋' is no sign of the language"),
     ("`v/0 1", "the backquote itself was typed"),
     ("(1+2", "( and ) do not pair"),
+    ("(1+2]", "[ and ] do not pair"),
+    ("1+2)×(3", "( and ) do not pair"),
+    ("'⍝ and", "a text is not closed"),
+    ("1\x1b", "U+001B is no sign of the language"),
     ("'abc", "a text is not closed"),
     ("A←1\nA A", "A,B joins"),
     (")DATA A←1 'a'", "A,B joins"),
@@ -51,18 +88,74 @@ NOTES = [
     (")DATA A←1 2\n)DATA B←1 2 3\nC←A+B\nC", "shapes: A: 2; B: 3"),
     (")DATA A←1 2\nA[3]←1", "shapes: A: 2"),
     ("7÷2", "the quotient is not whole"),
+    ("5÷0", "a number divided by 0 is an error, but for 0÷0, which is 1"),
     (")DATA A←'ab'\n)CSV A", "A is of characters"),
     (")COMMIT 1", "slots are 1 to 8"),
     ("A←1\n)OPEN 1 A←2\n)OPEN 1 A←3", "the slot holds a change"),
     ("A←1\nB←A+1\n)OPEN 1 A←2\n)COMMIT 1", "steps are left"),
     ("1+⍝" + "a" * 5000, "a line has at most 4096"),
+    (")OPEN " + "1" * 4000, "a number is beyond 64 bits"),
+    (")OPEN " + "1" * 5000, "a line has at most 4096"),
+    ("+".join(f"Q{number}" for number in range(200)), "195 others are not there"),
 ]
+
+# Lines that a person may mean, and get no note.
+PLAIN = ["1,200", ")DATA P←1,200", ")DATA P←12,50,3", "12,50", ")DATA DEMAND←1 2\n)ROW DEMAND 1", "+/[1]2 2⍴⍳4", "(1 2)[1]", "A←1\n2 -A"]
+
+# The lines that hints advise, and the answer to the last one.
+ADVICE = [
+    (")DATA T←3 4 5\n(+/T)÷⍴T", "4"),
+    (")DATA T←3 9 5\n⌈/T", "9"),
+    (")DATA T←3 9 5\n+/T>4", "2"),
+    ("C←1 0 1\nA←10\nB←20\n(C×A)+B×~C", "10 20 10"),
+    (")DATA N←7 8\n)DATA P←4\n(N-P|N)÷P", "1 2"),
+    (")DATA D←2 2⍴⍳4\n)DATA D←D,5 6\nD", "1 2 5\n3 4 6"),
+    ("(1 2 3)[2]", "2"),
+]
+
+# Looks for slips in lines of some 200,000 signs: a search from each sign would take the square of that.
+LONG = """
+from sheet.lines import Line
+from sheet.slips import doubts_of, slip_of
+lines = ["A" + " " * 200000 + "x", "A" * 200000 + " ;", "D[" + "] " * 100000 + "x", "1 " * 100000 + "x", "T(" + ";" * 200000]
+lines += ["1" * 200000 + "x;", "A " * 60000 + "(", "D[1" + ";1" * 60000 + "]←1 x", ")ROW D" + " 1" * 100000 + " x", "'" * 200001, "(" * 200000]
+lines += ["5" + " " * 200000 + "-;", "SUM" + " " * 200000 + ";", "A←" + "'a' " * 50000, ")" + " " * 200000 + ";", ")" + "A" * 200000 + " ;"]
+for line in map(Line, lines):
+    slip_of(line, {}), doubts_of(line)
+print(len(lines))
+"""
 
 
 def note(room: Room, lines: str, text: str) -> Outcome:
-    told = room.messages(*lines.split("\n"))
-    return (text in told or told), True
+    messages = room.messages(*lines.split("\n"))
+    return (text in messages or messages), True
+
+
+def no_note(room: Room, lines: str) -> Outcome:
+    """Returns what is told of lines that are answered, or are an error; nothing is wanted but the error."""
+    messages = room.messages(*lines.split("\n"))
+    return [line for line in messages.splitlines() if line.startswith("  ") or ": note:" in line], []
+
+
+def advice(room: Room, lines: str, answer: str) -> Outcome:
+    return room.answers(*lines.split("\n")), f"{answer}\n"
+
+
+def long_lines(_room: Room) -> Outcome:
+    """Hints on long lines come at once, and for a line that is too long nothing is looked for but its length."""
+    call = {"capture_output": True, "text": True, "timeout": SECONDS, "env": {**os.environ, "PYTHONPATH": str(TOP / "share")}}
+    ran = subprocess.run([sys.executable, "-B", "-c", LONG], **call)
+    return ran.stdout + ran.stderr, "16\n"
+
+
+def blanks(room: Room) -> Outcome:
+    """Beside a line that is too long stands its length alone, however the line looks."""
+    messages = room.messages("A" + " " * 400000 + "x").splitlines()
+    wanted = "  the line has 400002 bytes, and a line has at most 4096; a table from a file comes in by ]table"
+    return (messages[0], messages[2:]), ("line 1: LINE TOO LONG", [wanted])
 
 
 def tests(_times: int) -> list[Test]:
-    return [Test(f"note: {row[0]}", note, row) for row in NOTES]
+    plain = [Test(f"no note: {lines}", no_note, (lines,)) for lines in PLAIN]
+    notes = [Test(f"note: {row[0][:60]}", note, row) for row in NOTES]
+    return notes + plain + [Test(f"advice: {row[0]}", advice, row) for row in ADVICE] + named_tests([long_lines, blanks])
