@@ -15,6 +15,7 @@
   notes       notes beside an error: absent names, cycles, shapes, and a hint for a usual slip
   slips       the usual slips, by the text of a line
   watching    names that are shown again after changes
+  manual      the manual's own text about a symbol, an error or a line
   terminal    line editing, history and completion
   pager       values beyond the screen
   progress    how much of a long task is done

@@ -31,8 +31,8 @@ class Word(NamedTuple):
 class Form:
     """The form of a command.
 
-    Words in capitals are needed, in brackets not; NAME.. stands for several words. A flag is in brackets, with an example of the word that
-    follows it, if one does.
+    Words in capitals are needed, in brackets not; NAME.. stands for several words, and WORD.. for words of any signs, as quotes and ⍝. A flag
+    is in brackets, with an example of the word that follows it, if one does.
     """
 
     def __init__(self, text: str) -> None:
@@ -40,6 +40,16 @@ class Form:
         parts = [*PART.finditer(text, text.find(" ") if " " in text else len(text))]
         self.flags = {part["flag"]: bool(part["example"]) for part in parts if part["flag"]}
         self.words = [Word(part["word"], bool(part["optional"]), bool(part["many"])) for part in parts if part["word"]]
+
+    def split(self, text: str) -> List[str]:
+        """Returns the words of a text; a Mistake where a quote is not closed."""
+        if any(word.name == "WORD" for word in self.words):
+            return text.split()
+        comment = COMMENT.match(text)
+        try:
+            return shlex.split((comment[1] if comment else text).strip(BLANKS))
+        except ValueError:
+            raise Mistake("a quote is not closed") from None
 
     def mistake(self, what: str) -> Mistake:
         return Mistake(f"{what}; the form is {self.text}")
@@ -100,18 +110,13 @@ def command(form: str, sentence: str) -> Callable[[Callable[..., None]], Callabl
 
 def run(session: Session, text: str) -> None:
     """Carries a line out; a Mistake where that is not possible."""
-    _, _, line = text.partition("]")
-    comment = COMMENT.match(line)
-    word, rest = re.fullmatch(rf"[{BLANKS}]*(\w*)(.*)", comment[1] if comment else line, re.DOTALL).groups()  # type: ignore[union-attr]
+    line = text.partition("]")[2].lstrip(BLANKS)
+    word = re.split(r"\W", line)[0]
     if word not in COMMANDS:
         near = get_close_matches(word, COMMANDS, 1) or ["help"]
         raise Mistake(f"there is no ]{word}; is ]{near[0]} meant?")
-    chosen = COMMANDS[word]
-    try:
-        words = shlex.split(rest.strip(BLANKS))
-    except ValueError:
-        raise Mistake("a quote is not closed") from None
-    chosen.carry_out(session, **chosen.form.values(words))
+    form, _, carry_out = COMMANDS[word]
+    carry_out(session, **form.values(form.split(line[len(word) :])))
 
 
 def in_home(path: str) -> str:

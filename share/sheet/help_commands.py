@@ -2,25 +2,40 @@
 
 from __future__ import annotations
 
-from . import keys
+from typing import TYPE_CHECKING
+
+from . import keys, manual
 from .commands import COMMANDS, command
 from .errors import End
 
+if TYPE_CHECKING:
+    from .session import Session
+
 
 @command("]keys", "shows the keys of the symbols")
-def show_keys(session):
-    for it in keys.table():
-        session.show(it)
+def show_keys(session: Session) -> None:
+    for line in keys.table():
+        session.show(line)
 
 
-@command("]help", "shows this")
-def show_help(session):
-    session.show("NAME←EXPR is a formula, )DATA NAME←EXPR data, NAME[2]←5 an edit; an expression shows its value.")
-    session.show("A backquote, then a key, is a symbol: `[ is ←. docs/TUTORIAL.md begins, docs/LANGUAGE.md has all, docs/SHEET.md this:")
-    for it in COMMANDS.values():
-        session.show(f"{it.form.text}\n    {it.sentence}")
+@command("]help [WORD..]", "shows this; with ⍴ or another symbol, LENGTH ERROR, )ROW, ]save or take behind it, the text about that")
+def show_help(session: Session, words: list[str]) -> None:
+    for line in lines_of_help(" ".join(words)):
+        session.show(line)
+
+
+def lines_of_help(words: str) -> list[str]:
+    """Returns the list of the commands, or the text about these words: the form and the sentence of a command, or the manual's text."""
+    if not words:
+        return [
+            "NAME←EXPR is a formula, )DATA NAME←EXPR data, NAME[2]←5 an edit; an expression shows its value.",
+            "A backquote, then a key, is a symbol: `[ is ←. docs/TUTORIAL.md begins, docs/LANGUAGE.md has all, docs/SHEET.md this:",
+            *(line for known in COMMANDS.values() for line in (known.form.text, f"    {known.sentence}")),
+        ]
+    known = COMMANDS.get(words.lower().lstrip("] "))
+    return [known.form.text, f"    {known.sentence}"] if known else manual.explained(words)
 
 
 @command("]off", "ends, as Ctrl-D does")
-def off(_session):
+def off(_session: Session) -> None:
     raise End
