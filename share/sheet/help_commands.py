@@ -1,10 +1,10 @@
-"""The commands that help, and that end: ]help, ]keys and ]off."""
+"""The commands that help, and that end: ]help, ]keys, ]why and ]off."""
 
 from __future__ import annotations
 
 from typing import TYPE_CHECKING
 
-from . import keys, manual
+from . import explaining, keys, manual
 from .commands import COMMANDS, command
 from .errors import End
 
@@ -34,6 +34,12 @@ def lines_of_help(words: str) -> list[str]:
         ]
     known = COMMANDS.get(words.lower().lstrip("] "))
     return [known.form.text, f"    {known.sentence}"] if known else manual.explained(words)
+
+
+@command("]why NAME", "tells why a name shows its value: the line that makes it, where an error arose, the names that it reads and that read it")
+def show_why(session: Session, name: str) -> None:
+    for line in explaining.why(session, name):
+        session.show(line)
 
 
 @command("]off", "ends, as Ctrl-D does")
