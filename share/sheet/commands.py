@@ -60,7 +60,7 @@ class Form:
         waiting, words = [*texts], []
         while waiting:
             text = waiting.pop(0)
-            if not text.startswith("--"):
+            if not text.startswith("--") or not self.flags:
                 words.append(text)
             elif text not in self.flags:
                 raise self.mistake(f"there is no {text} here")

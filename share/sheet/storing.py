@@ -2,8 +2,7 @@
 
 from __future__ import annotations
 
-from functools import reduce
-from operator import mul
+from math import prod
 from typing import List, Optional, Union
 
 from .answers import is_shape
@@ -38,7 +37,7 @@ class Array:
 def one_line(program: Program, name: str) -> Optional[List[str]]:
     """Returns the line that binds a name to its array, if one has room for it and it has few items; else None."""
     array = Array(program, name)
-    if array.error or reduce(mul, array.shape, 1) > FEW:
+    if array.error or prod(array.shape) > FEW:
         return None
     lines = lines_of_array(name, array.shape, array.items, name)
     return lines if len(lines) == 1 else None

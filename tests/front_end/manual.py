@@ -28,7 +28,7 @@ SHOWN = {
     "row": [")ROW NAME LITERAL"],
     "reshape": ["A⍴B", "  Name: reshape"],
     "index generator": ["⍳N"],
-    "]save": ["]save FILE [--replace]"],
+    "]save": ["]save [FILE] [--replace]"],
     "undo": ["]undo"],
     "": ["]help [WORD..]"],
 }
