@@ -13,6 +13,8 @@
   scripts     the lines by which a sheet is saved
   files       files, read and written without losing what is there
   notes       notes beside an error: absent names, cycles, shapes, and a hint for a usual slip
+  places      where in a line an error stands
+  expressions the parts of an expression
   explaining  why a name shows its value
   slips       the usual slips, by the text of a line
   watching    names that are shown again after changes

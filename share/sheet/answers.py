@@ -1,6 +1,15 @@
 """What was printed for a line: a value, or an error or a refusal. The same text can be either, since a value can be any text."""
 
+from __future__ import annotations
+
 import re
+import time
+from typing import TYPE_CHECKING, Iterable, Match, Optional
+
+from .lines import Line
+
+if TYPE_CHECKING:
+    from .program import Program
 
 ERRORS = "SYNTAX|VALUE|AXIS|RANK|LENGTH|DOMAIN|INDEX|LIMIT"
 REFUSALS = "CYCLE|NOT FOUND|NOT DATA|SHEET FULL|NO MEMORY|NOT TEXT|LINE TOO LONG|STALE|NOT READY|NO SLOT|SLOT IN USE"
@@ -11,44 +20,48 @@ WELL = {"names": "[^ ]*", "cost": "[0-9]+\n", "open": "[0-9]+\n", "step": "[0-9]
 
 
 class Answer:
-    """What the program printed for a line.
+    """The answer of the program to a line.
 
     lines     what was printed
     is_fault  whether it is an error or a refusal
-    kind      which one, where it is a known one, else None
+    seconds   how long the answer took
+    kind      which error or refusal, where it is a known one, else None
     origin    the name in whose formula the error arose; None where it arose in the line itself
     """
 
-    def __init__(self, line, lines, is_fault):
-        self.line, self.lines, self.is_fault = line, lines, is_fault
+    def __init__(self, line: Line, lines: list[str], is_fault: bool, seconds: float = 0) -> None:
+        self.line, self.lines, self.is_fault, self.seconds = line, lines, is_fault, seconds
         known = fault_of(lines) if is_fault else None
-        self.kind = known and (known["kind"] or known["refusal"])
-        self.origin = known and known["origin"]
+        self.kind: Optional[str] = (known["kind"] or known["refusal"]) if known else None
+        self.origin: Optional[str] = known["origin"] if known else None
 
 
-def answer(program, line):
+def answer(program: Program, line: Line) -> Answer:
     """Gives the line to the program, and returns its answer.
 
     A value can be any text; so of other errors than those of FAULT, only those are told from it that stand in the place of a known answer.
     """
+    begun = time.monotonic()
     lines = program.ask(line.text)
+    seconds = time.monotonic() - begun
     if line.kind == "show":
-        return Answer(line, lines, bool(fault_of(lines)) and not is_value(program, line, lines))
-    return Answer(line, lines, not re.fullmatch(WELL.get(line.kind, ""), "".join(f"{it}\n" for it in lines)))
+        return Answer(line, lines, bool(fault_of(lines)) and not is_value(program, line, lines), seconds)
+    is_well = re.fullmatch(WELL.get(line.kind, ""), "".join(f"{printed}\n" for printed in lines))
+    return Answer(line, lines, not is_well, seconds)
 
 
-def fault_of(lines):
-    """The match of FAULT where what was printed reads like a known error or refusal, else None."""
+def fault_of(lines: list[str]) -> Optional[Match[str]]:
+    """Returns the match of FAULT where what was printed reads like a known error or refusal, else None."""
     return FAULT.fullmatch(lines[0]) if len(lines) == 1 else None
 
 
-def first_refusal(printed):
-    """What was printed for the first of several changes that is refused, or None: for a change that is accepted nothing is printed."""
+def first_refusal(printed: Iterable[list[str]]) -> Optional[str]:
+    """Returns what was printed for the first of several changes that is refused, or None: nothing is printed for an accepted one."""
     return next(("\n".join(lines) for lines in printed if lines), None)
 
 
-def is_value(program, line, lines):
-    """Whether a text that reads like a fault is a value: the shape of a value is numbers, and of a fault it is that fault.
+def is_value(program: Program, line: Line, lines: list[str]) -> bool:
+    """Returns whether a text that reads like a fault is a value: the shape of a value is numbers, and of a fault it is that fault.
 
     The question is a sign longer than the line. Where that is beyond a limit, which the answer to the line was not, it counts as a fault.
     """
@@ -56,6 +69,6 @@ def is_value(program, line, lines):
     return shape != lines and is_shape(shape)
 
 
-def is_shape(lines):
-    """Whether what was printed can be a shape: numbers on one line, or none of them."""
+def is_shape(lines: list[str]) -> bool:
+    """Returns whether what was printed can be a shape: numbers on one line, or none of them."""
     return len(lines) == 1 and set(lines[0]) <= set("0123456789 ")

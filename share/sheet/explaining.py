@@ -7,7 +7,7 @@ import textwrap
 from math import prod
 from typing import TYPE_CHECKING, NamedTuple
 
-from . import notes
+from . import notes, places
 from .answers import Answer, is_shape
 from .lines import Line
 
@@ -58,7 +58,9 @@ def why(session: Session, name: str) -> list[str]:
     lines = [] if binding.is_data and not own.items else labelled("value", [str(own)])
     if own.error:
         answer = Answer(Line(name), [own.error], True)
-        lines += labelled("arose", [notes.culprit(session, answer).text.strip(), *notes.of_fault(session, answer)])
+        spot = places.spot_of(session, answer)
+        arose = spot.lines(LABELS) if spot else [notes.culprit(session, answer).text.strip()]
+        lines += labelled("arose", [*arose, *notes.of_fault(session, answer, spot)])
     widest = max(map(len, reads), default=0)
     lines += labelled("reads", [f"{other.ljust(widest)}  {glances.get(other, 'is not there')}" for other in reads])
     readers = ", ".join(other for other, its in bindings.items() if name in its.references)

@@ -36,7 +36,7 @@ def lines_of_help(words: str) -> list[str]:
     return [known.form.text, f"    {known.sentence}"] if known else manual.explained(words)
 
 
-@command("]why NAME", "tells why a name shows its value: the line that makes it, where an error arose, the names that it reads and that read it")
+@command("]why NAME", "tells why a name shows its value: its line, where an error arose, the names that it reads and those that read it")
 def show_why(session: Session, name: str) -> None:
     for line in explaining.why(session, name):
         session.show(line)

@@ -8,16 +8,24 @@ from __future__ import annotations
 import re
 from collections import deque
 from difflib import get_close_matches
-from typing import TYPE_CHECKING, Callable, Dict, Iterable, List
+from typing import TYPE_CHECKING, Callable, Dict, Iterable, List, Optional
 
 from .answers import Answer
 from .lines import LONGEST, NAME, Line, without_comment
 from .slips import OUTSIDE, doubts_of, slip_of
 
 if TYPE_CHECKING:
+    from .places import Spot
     from .session import Session
 
 MOST = 5  # absent names of which each has a note of its own
+
+# Functions that do not take all items, and the hint on a DOMAIN ERROR of theirs.
+TAKEN = {
+    "∧^∨⍲⍱~∼": "{} takes 0 and 1 alone",
+    "+-×|∣⌈⌊<≤≥>": "{} takes numbers alone, and no characters",
+    ",⍪": "numbers and characters do not join",
+}
 
 REFUSED = {
     "LIMIT ERROR": "a number is beyond 64 bits, or an array or a line beyond the limits of docs/LANGUAGE.md",
@@ -30,13 +38,17 @@ REFUSED = {
 }
 
 
-def of_fault(session: Session, answer: Answer) -> list[str]:
-    """Returns the notes on an error or a refusal."""
+def of_fault(session: Session, answer: Answer, spot: Optional[Spot] = None) -> list[str]:
+    """Returns the notes on an error or a refusal, whose place is this one, where it is known."""
     if answer.kind is None:
         return ["no such answer is known, so the line counts as refused"]
-    if answer.kind not in ABOUT:
+    if answer.kind not in (*ABOUT, "DOMAIN ERROR"):
         return [REFUSED[answer.kind]] if answer.kind in REFUSED else []
-    return ABOUT[answer.kind](session, answer) + of_slip(answer.line) * (answer.kind not in ("SYNTAX ERROR", "LINE TOO LONG"))
+    if answer.kind == "DOMAIN ERROR":
+        notes = of_items(session, answer, spot.function if spot else "")
+    else:
+        notes = ABOUT[answer.kind](session, answer)
+    return notes + of_slip(answer.line) * (answer.kind not in ("SYNTAX ERROR", "LINE TOO LONG"))
 
 
 def of_slip(line: Line) -> list[str]:
@@ -118,14 +130,17 @@ def of_shapes(session: Session, answer: Answer) -> list[str]:
     return [f"shapes: {'; '.join(shapes)}"] if shapes else []
 
 
-def of_items(session: Session, answer: Answer) -> list[str]:
-    """Returns what a function does not take."""
+def of_items(session: Session, answer: Answer, function: str) -> list[str]:
+    """Returns what the function does not take."""
     line = culprit(session, answer)
     if line.kind == "csv":
         return [f")CSV prints numbers, and {line.name} is of characters"]
-    if re.search(r"÷\s*0+(?![0-9])", line.code):
+    base = function[-1:] if function.startswith("∘") else function[:1] if not re.search(r"\.", function) else ""
+    if base in ("÷", "") and re.search(r"÷\s*0+(?![0-9])", line.code):
         return ["a number divided by 0 is an error, but for 0÷0, which is 1"]
-    return ["÷ is an error where the quotient is not whole, and by 0, but for 0÷0"] if "÷" in line.code else []
+    if base == "÷" or not function and "÷" in line.code:
+        return ["÷ is an error where the quotient is not whole, and by 0, but for 0÷0"]
+    return [hint.format(base) for signs, hint in TAKEN.items() if base and base in signs]
 
 
 def of_length(_session: Session, answer: Answer) -> list[str]:
@@ -148,6 +163,5 @@ ABOUT: Dict[str, Callable[[Session, Answer], List[str]]] = {
     "LENGTH ERROR": of_shapes,
     "RANK ERROR": of_shapes,
     "INDEX ERROR": of_shapes,
-    "DOMAIN ERROR": of_items,
     "LINE TOO LONG": of_length,
 }

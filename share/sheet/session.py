@@ -4,9 +4,9 @@ from __future__ import annotations
 
 import os
 import traceback
-from typing import Callable, Dict, Iterable, List, Optional, Sequence, Tuple
+from typing import Callable, Dict, Iterable, List, NamedTuple, Optional, Sequence
 
-from . import notes, pager
+from . import notes, pager, places
 from . import change_commands, file_commands, help_commands, name_commands, table_commands  # noqa: F401: they fill commands.COMMANDS
 from .answers import Answer, answer, first_refusal
 from .arrays import literal
@@ -16,6 +16,7 @@ from .files import Home, lines_of
 from .interrupts import signals
 from .journal import Binding, Change, Journal, Place, Source, change_of, joined
 from .lines import Line
+from .places import Spot
 from .program import Program, ProgramFailed
 from .progress import Progress
 from .recovery import Log, event_of, is_open_elsewhere, joined_to, redone, saved, undone
@@ -23,6 +24,14 @@ from .storing import one_line
 from .watching import Watch
 
 CELLS = 1000  # edits of one change that have an inverse each; more are undone by making the sheet again
+
+
+class Reply(NamedTuple):
+    """The answer to a line, with notes on it, and the place of the error where it is known."""
+
+    answer: Answer
+    remarks: List[str]
+    spot: Optional[Spot]
 
 
 class Session:
@@ -41,6 +50,7 @@ class Session:
     watch       the names that are shown after each change that reaches them
     changed     the names that were bound anew since these were shown
     draft       a line that is given back to the person to be edited
+    on_screen   the line that was typed last, as it stands on the screen behind the prompt; None where none was
     is_settled  whether the journal has what the program has accepted
     """
 
@@ -50,6 +60,7 @@ class Session:
         self.home: Optional[Home] = None
         self.log: Optional[Log] = None
         self.place: Optional[Place] = None
+        self.on_screen: Optional[str] = None
         self.faults, self.draft, self.is_settled = 0, "", True
         self.loading: List[str] = []
         self.changed: Dict[str, Optional[Binding]] = {}
@@ -98,12 +109,12 @@ class Session:
             except Mistake as mistake:
                 self.complain(text, str(mistake))
             return
-        reply, remarks = self.reply(line)
-        if reply.is_fault:
-            self.complain(text, "\n".join(reply.lines), remarks)
+        reply = self.reply(line)
+        if reply.answer.is_fault:
+            self.complain(text, "\n".join(reply.answer.lines), reply.remarks, reply.spot)
             return
-        self.show_value(reply.lines)
-        for remark in remarks:
+        self.show_value(reply.answer.lines)
+        for remark in reply.remarks:
             self.tell(f"{self.place}: note: {remark}" if self.place else f"  {remark}")
 
     def show_value(self, lines: Sequence[str]) -> None:
@@ -121,8 +132,8 @@ class Session:
             self.watch.show(self, self.changed)
             self.changed = {}
 
-    def reply(self, line: Line) -> Tuple[Answer, List[str]]:
-        """Gives a line of the language to the program, takes in what it changes, and returns the answer, and notes on it."""
+    def reply(self, line: Line) -> Reply:
+        """Gives a line of the language to the program, takes its change in, and returns the answer, with notes on it."""
         made = None if self.place else self.journal.made_by(line)
         inverse = self.inverse(made) if made else None
         self.is_settled = False
@@ -130,9 +141,12 @@ class Session:
         with signals.held():
             change = None if reply.is_fault else self.journal.accept(line, self.place, inverse)
             self.settle(event_of(change) if change else [], change)
-        if reply.is_fault:
-            return reply, notes.of_fault(self, reply)
-        return reply, notes.of_slip(line)
+        return self.explained(reply) if reply.is_fault else Reply(reply, notes.of_slip(line), None)
+
+    def explained(self, fault: Answer) -> Reply:
+        """Returns an error or a refusal with notes and its place."""
+        spot = places.spot_of(self, fault)
+        return Reply(fault, notes.of_fault(self, fault, spot), spot)
 
     def settle(self, events: Sequence[str], change: Optional[Change] = None) -> None:
         """Logs events that the journal has taken in, and notes the names that a change among them binds; signals are held."""
@@ -141,12 +155,16 @@ class Session:
             self.log.append(events, self.journal, self.home)
         self.is_settled = True
 
-    def complain(self, text: str, what: str, remarks: Sequence[str] = ()) -> None:
-        """Tells of a line that was refused or is an error: its place and text if it is of a script, and remarks on it."""
+    def complain(self, text: str, what: str, remarks: Sequence[str] = (), spot: Optional[Spot] = None) -> None:
+        """Tells of a line that was refused or is an error: its place if it is of a script, the place of the error in it, and remarks."""
         self.faults += 1
-        self.tell(f"{self.place}: {what}" if self.place else what)
-        for remark in [text.strip()] * bool(self.place) + [*remarks]:
-            self.tell(f"  {remark}")
+        is_here = spot is not None and spot.text == text
+        mark = spot.below(self.on_screen) if spot and is_here and not self.place else None
+        for line in filter(None, [mark, f"{self.place}: {what}" if self.place else what]):
+            self.tell(line)
+        shown = [text.strip()] if self.place and not is_here else []
+        for line in [*shown, *(spot.lines() if spot and not mark else []), *remarks]:
+            self.tell(f"  {line}")
 
     def binding(self, name: str) -> Binding:
         """Returns the binding of a name; a Mistake where it is not there."""
@@ -316,10 +334,10 @@ class Session:
     def check_names(self) -> None:
         """Tells of each name that shows an error which arose in its own formula, as if the line that binds it were one."""
         for name, binding in self.journal.bindings.items():
-            reply = answer(self.program, Line(name))
-            if reply.is_fault and reply.origin == name:
-                self.place = binding.place
-                self.complain(binding.text or "", "\n".join(reply.lines), notes.of_fault(self, reply))
+            shown = answer(self.program, Line(name))
+            if shown.is_fault and shown.origin == name:
+                self.place, reply = binding.place, self.explained(shown)
+                self.complain(binding.text or "", "\n".join(shown.lines), reply.remarks, reply.spot)
 
 
 def told_of(fault: Exception) -> str:

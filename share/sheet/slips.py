@@ -19,7 +19,7 @@ TAKES_AXIS = frozenset(",⍪⌽⊖/⌿\\⍀")
 PAIRS = {")": "(", "]": "["}
 EDITS = "an edit puts a literal into one item, D[2]←10 or D[1;2]←10; )DATA does the rest"
 
-# Slips of a line that is refused: a pattern of its code, and the hint. Where the pattern begins before the slip, the group `at` stands there.
+# Slips of a line that is refused: a pattern of its code, and the hint. The group `at`, if there is one, stands where the slip does.
 # A key stands in a hint as `2, a backquote and then 2.
 SLIPS = [
     (r"^⇒", "⇒ marks what a line of the manual prints: leave such lines out"),

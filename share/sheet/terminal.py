@@ -96,7 +96,9 @@ class Terminal:
         while True:
             try:
                 signals.release()
-                for line in self.read().split("\n"):
+                typed = self.read()
+                self.session.on_screen = PROMPT + typed
+                for line in typed.split("\n"):
                     self.session.take(line)
             except KeyboardInterrupt:
                 self.session.tell("")

@@ -25,7 +25,7 @@ def random_lines(room: Room, seed: int) -> Outcome:
     lines = [it for it in lines if not it.startswith("]")]
     wanted = subprocess.run([room.program], input="\n".join(lines).encode(), capture_output=True, timeout=SECONDS).stdout.decode()
     sheet = session.Session(over_pipes.Program([room.program]), printed.append, lambda _: None)
-    sheet.complain = lambda text, what, remarks=(): printed.append(what)
+    sheet.complain = lambda _text, what, *_: printed.append(what)
     sheet.program.start()
     for line in lines:
         sheet.take(line)

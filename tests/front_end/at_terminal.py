@@ -18,8 +18,8 @@ def typed_lines(room: Room) -> Outcome:
     """The keys of the symbols, what is shown, and that Ctrl-D ends; the status is 0 also where a line was an error."""
     screen = Screen(room)
     shown = [screen.keys(it) for it in (")DATA D`[1 2 3\n", "T`[+/D`-2\n", "T\n", "D[2]`[`25\n", "T\n", "Q\n", "``\n")]
-    wanted = [")DATA D←1 2 3\n", "T←+/D×2\n", "T\n12\n", "D[2]←¯5\n", "T\n¯2\n", "Q\nVALUE ERROR\n  Q is not there\n"]
-    wanted.append("`\nSYNTAX ERROR\n  a backquote and a key are a symbol where ]keys shows one; here the backquote itself was typed\n")
+    wanted = [")DATA D←1 2 3\n", "T←+/D×2\n", "T\n12\n", "D[2]←¯5\n", "T\n¯2\n", "Q\n      ∧\nVALUE ERROR\n  Q is not there\n"]
+    wanted.append("`\n      ∧\nSYNTAX ERROR\n  a backquote and a key are a symbol where ]keys shows one; here the backquote itself was typed\n")
     return (shown, screen.end()[0]), (wanted, 0)
 
 
@@ -114,7 +114,7 @@ def script_and_terminal(room: Room) -> Outcome:
     room.put("a.apl", "A←5\nQ\n")
     screen = Screen(room, "a.apl", "-")
     begun = screen.shown
-    return ("a.apl:2: VALUE ERROR\n  Q\n" in begun, screen.keys("A\n"), screen.end()[0]), (True, "A\n5\n", 0)
+    return ("a.apl:2: VALUE ERROR\n  Q\n  ∧\n" in begun, screen.keys("A\n"), screen.end()[0]), (True, "A\n5\n", 0)
 
 
 def pasted_lines(room: Room) -> Outcome:

@@ -17,13 +17,13 @@ DIALOGUES = {
     "an error with the same text": (
         "T←'VALUE ERROR IN U'\nU←Q\nT\nU\n",
         "VALUE ERROR IN U\n",
-        "line 4: VALUE ERROR IN U\n  U\n  Q is not there\n",
+        "line 4: VALUE ERROR IN U\n  U\n  U←Q\n    ∧\n  Q is not there\n",
     ),
     "empty results": ("''\n0 3⍴0\n2 0⍴0\n⍴⍳0\n", "\n\n\n0\n", ""),
     "signs that fences are made of": (
         "'\U0010fffd1'\n2 2⍴'\U0010fffd\U0010fffc'\nQ\n1\n",
         "\U0010fffd1\n\U0010fffd\U0010fffc\n\U0010fffd\U0010fffc\n1\n",
-        "line 3: VALUE ERROR\n  Q\n  Q is not there\n",
+        "line 3: VALUE ERROR\n  Q\n  ∧\n  Q is not there\n",
     ),
     "records": (")DATA M←2 2⍴1 ¯2 3 4\n)CSV M\n)CSV 'a'\n", "1,-2\n3,4\n", "line 3: SYNTAX ERROR\n  )CSV 'a'\n"),
     "planes": ("2 2 2⍴⍳8\n", "1 2\n3 4\n\n5 6\n7 8\n", ""),

@@ -6,7 +6,8 @@ from .rooms import Outcome, Room, Test, named_tests
 
 SHARE = "SHARE←(100×TOTAL)÷+/TOTALS ⍝ in percent"
 SHEET = [")DATA DEMAND←2 3⍴⍳6", "TOTAL←+/DEMAND", SHARE, "PLAN←SHARE×2", "REPORT←PLAN,TOTAL"]
-AROSE = [f"  arose    {SHARE}", "           TOTALS is not there; is TOTAL meant?"]
+AROSE = [f"  arose    {SHARE}", f"{31 * ' '}∧", "           TOTALS is not there; is TOTAL meant?"]
+VALUE = "  value    VALUE ERROR IN SHARE"
 READS = ["  reads    TOTAL   6 15", "           TOTALS  is not there"]
 
 # A name, lines behind those of SHEET, and all that is shown of the name.
@@ -21,8 +22,8 @@ SHOWN = [
     ("A", ["A←'VALUE ERROR IN Q'"], "A←'VALUE ERROR IN Q'\n  value    VALUE ERROR IN Q\n"),
     ("B", [")DATA A←2 2⍴'abcd'", "B←A"], "B←A\n  value    characters 2 2: abcd\n  reads    A  characters 2 2: abcd\n"),
     ("A", ["A←⍳60"], f"A←⍳60\n  value    {' '.join(map(str, range(1, 33)))} ..\n"),
-    ("PLAN", [], ["PLAN←SHARE×2", "  value    VALUE ERROR IN SHARE", *AROSE, "  reads    SHARE  VALUE ERROR IN SHARE", "  read by  REPORT"]),
-    ("SHARE", [], [SHARE, "  value    VALUE ERROR IN SHARE", *AROSE, *READS, "  read by  PLAN"]),
+    ("PLAN", [], ["PLAN←SHARE×2", VALUE, *AROSE, "  reads    SHARE  VALUE ERROR IN SHARE", "  read by  REPORT"]),
+    ("SHARE", [], [SHARE, VALUE, *AROSE, *READS, "  read by  PLAN"]),
 ]
 
 

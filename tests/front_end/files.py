@@ -81,9 +81,9 @@ def scripts(room: Room) -> Outcome:
     room.put("a.apl", "\ufeff)DATA D←1 2 3\n\nT←+/D\nT+Q\n")
     room.put("b.apl", "T\n]table E none.csv\n")
     first, second = room.call("a.apl", "b.apl", "-", lines="D[1]←9\nT\n1÷0\n"), room.call("absent.apl")
-    told = "a.apl:4: VALUE ERROR\n  T+Q\n  Q is not there\n"
+    told = "a.apl:4: VALUE ERROR\n  T+Q\n    ∧\n  Q is not there\n"
     told += "b.apl:2: none.csv cannot be read: No such file or directory\n  ]table E none.csv\n"
-    told += "line 3: DOMAIN ERROR\n  1÷0\n  a number divided by 0 is an error, but for 0÷0, which is 1\n"
+    told += "line 3: DOMAIN ERROR\n  1÷0\n   ∧\n  a number divided by 0 is an error, but for 0÷0, which is 1\n"
     return (first, second), ((1, "6\n14\n", told), (1, "", "sheet: absent.apl cannot be read: No such file or directory\n"))
 
 

@@ -6,19 +6,21 @@ import re
 import shlex
 import subprocess
 
+from sheet.places import MARK
+
 from .rooms import SECONDS, TOP, Outcome, Room, Test, named_tests
 from .screens import PROMPT, Screen
 
 
 def transcript(room: Room) -> Outcome:
-    """The blocks of docs/SHEET.md that ```text opens: what is typed stands behind the prompt, and what is shown in the lines below."""
+    """The blocks of docs/SHEET.md that ```text opens: lines that are typed stand behind the prompt, and shown ones below them."""
     page = (TOP / "docs/SHEET.md").read_text()
     for file in (TOP / "examples/tutorial").iterdir():
         room.put(file.name, file.read_bytes())
     wanted = "".join(re.findall("^```text\n(.*?)^```$", page, re.MULTILINE | re.DOTALL))
     screen, shown = Screen(room), ""
     for line in wanted.splitlines():
-        if line.startswith(PROMPT):
+        if line.startswith(PROMPT) and not line[len(PROMPT) :].startswith((" ", MARK)):
             shown += PROMPT + screen.keys(line[len(PROMPT) :] + "\n")
     return (shown, screen.end()[0], bool(wanted)), (wanted, 0, True)
 
