@@ -9,6 +9,8 @@ from typing import Dict, Iterable, List, NamedTuple, Optional, Sequence
 
 from .lines import BLANKS, Line
 
+MOST_NAMES = 1024  # names of a sheet
+
 
 class Place(NamedTuple):
     """A line of a script: the file, which is None for standard input, and the number of the line."""
@@ -220,10 +222,12 @@ class Journal:
             self.changes[first:] = [joined(title, changes)]
         return len(changes)
 
-    def spare_name(self) -> str:
-        """Returns a name that no name of the sheet has, and no formula refers to."""
-        taken = {*self.bindings, *(reference for binding in self.bindings.values() for reference in binding.references)}
-        return next(name for name in map("∆{}".format, count(1)) if name not in taken)
+    def spare_name(self, name: str) -> str:
+        """Returns a name under which the items of data are gathered; in a sheet that has no room for one more, the name of the data itself."""
+        if len({*self.bindings, name}) >= MOST_NAMES:
+            return name
+        taken = {*self.bindings, name, *(reference for binding in self.bindings.values() for reference in binding.references)}
+        return next(spare for spare in map("∆{}".format, count(1)) if spare not in taken)
 
     def reached(self, names: Iterable[str]) -> Dict[str, None]:
         """Returns these names, and all whose formulas refer to one of them, directly or through others."""

@@ -12,7 +12,6 @@ from .lines import BLANKS, LONGEST, NAME, Line, without_comment
 from .program import Program
 from .storing import Array
 
-FULL = 1024  # names of a full sheet
 TABLE = re.compile(rf"\](?:table|labels)[{BLANKS}]+({NAME})\b")
 SHOWING = re.compile(r"\](names|show|why|watch|keys|help)\b")
 
@@ -157,7 +156,7 @@ class Script:
         if binding.text:
             return [binding.text]
         array = Array(self.program, name)
-        spare = self.journal.spare_name() if self.is_read_above(name) and len(self.journal.bindings) < FULL else name
+        spare = self.journal.spare_name(name) if self.is_read_above(name) else name
         lines = rows_of_array(name, array.shape, array.items, spare)
         commented = f"{lines[0]} {comment.strip(BLANKS)}".rstrip()
         return [commented, *lines[1:]] if len(commented.encode()) <= LONGEST else lines
