@@ -1,39 +1,105 @@
-"""Arrays as lines of the language."""
+"""Arrays as lines of the language, in two layouts: one of few lines, and one in which a change of an item changes one line."""
 
 from __future__ import annotations
 
+from typing import Sequence
+
 from .lines import LONGEST
 
-ROOM = LONGEST - 200  # bytes of a line for items: what stands before them in a line of lines_of_array has less than 200
+ROOM = LONGEST - 200  # bytes of a line for items: what stands before them has less than 200
+CHARACTERS, NUMBERS = ROOM // 4, ROOM // 22  # items that a line has room for, however wide they are
+SHORT = 100  # characters of a line that has a whole matrix
+MANY_ROWS = 1000  # of more rows, several stand in a line
+MOST_ITEMS = 1 << 20  # of an array
 
 
-def literal(items):
-    """The items of an array as a literal: a text, or a list of texts of numbers."""
+def literal(items: str | Sequence[str]) -> str:
+    """Returns the items of an array as a literal: a text, or a list of texts of numbers."""
     return "'" + items.replace("'", "''") + "'" if isinstance(items, str) else " ".join(items).replace("-", "¯")
 
 
-def lines_of_array(name, shape, items, spare, each=1):
-    """The lines that bind a name to an array of that shape, a list of numbers: its items are a text, or texts of numbers, `each` of them in each.
+def lines_of_array(name: str, shape: Sequence[int], items: str | Sequence[str], spare: str, each: int = 1) -> list[str]:
+    """Returns few lines that bind a name to an array of that shape: its items are a text, or texts of numbers, `each` of them in each.
 
-    Where a line has no room for them, they are gathered as the rows of a matrix, under the name `spare`: each item is moved a few times,
+    Items that one line has no room for are gathered as the rows of a matrix, under the name `spare`: each item is moved a few times,
     however many there are. `spare` may be the name itself; if it is another one, it is erased at the end.
     """
     if isinstance(items, str):
-        room, none = ROOM // (2 if items.isascii() else 4), "''"
+        room = ROOM // (2 if items.isascii() else 4)
     else:
-        room, none = ROOM // (max(map(len, items), default=0) + each + 1), "0"  # each ¯ has two bytes
+        room = ROOM // (max(map(len, items), default=0) + each + 1)  # each ¯ has two bytes
     if room == 0:
         return lines_of_array(name, shape, " ".join(items).split(" "), spare)
-    begin = f")DATA {name}←" + " ".join(map(str, shape)) + "⍴" * bool(shape)
-    if len(items) <= room:
-        is_literal = not shape or len(shape) == 1 and (len(items) > 1 or items == "")
-        return [(f")DATA {name}←" if is_literal else begin) + (literal(items) if items else none)]
-    parts = [literal(items[at : at + room]) for at in range(0, len(items), room)]
-    rows, rest = len(items) // room, len(items) % room
-    lines = [f")DATA {spare}←1 {room * each}⍴{parts[0]}", *[f")ROW {spare} {it}" for it in parts[1:rows]]]
-    lines.append(f"{begin}(,{spare}),{parts[-1]}" if rest else f"{begin}{spare}")
+    return [whole_line(name, shape, items)] if len(items) <= room else gathered(name, shape, items, spare, room, each)
+
+
+def rows_of_array(name: str, shape: Sequence[int], items: str | Sequence[str], spare: str) -> list[str]:
+    """Returns lines that bind a name to an array as lines_of_array does; where one item changes, one line does.
+
+    A vector that fits one line is one, and so is a matrix of a short line. Otherwise each row of a matrix is a line; of many rows as many
+    share a line as it has room for, however wide their items are. A row that no line has room for is parted evenly.
+    """
+    if len(items) <= LONGEST:
+        line = whole_line(name, shape, items)
+        if not items or len(line) <= SHORT or len(shape) < 2 and len(line.encode()) <= LONGEST:
+            return [line]
+    room = CHARACTERS if isinstance(items, str) else NUMBERS
+    if len(shape) == 1:
+        return gathered(name, shape, items, spare, room)
+    width, rows = shape[-1], len(items) // shape[-1]
+    if rows > MANY_ROWS and room // width > 1:
+        return gathered(name, shape, items, spare, room // width * width)
+    lines = gathered(name, shape, items, spare, width)
+    if all(len(line.encode()) <= LONGEST for line in lines):
+        return lines
+    return parted_rows(name, shape, items, spare, room)
+
+
+def whole_line(name: str, shape: Sequence[int], items: str | Sequence[str]) -> str:
+    """Returns the line that binds a name to an array, however long it is."""
+    is_literal = not shape or len(shape) == 1 and (len(items) > 1 or items == "")
+    return (f")DATA {name}←" if is_literal else beginning(name, shape)) + (literal(items) if items or items == "" else "0")
+
+
+def beginning(name: str, shape: Sequence[int]) -> str:
+    """Returns the beginning of the line that gives a name an array of that shape."""
+    return f")DATA {name}←{' '.join(map(str, shape))}⍴"
+
+
+def gathered(name: str, shape: Sequence[int], items: str | Sequence[str], spare: str, count: int, each: int = 1) -> list[str]:
+    """Returns the lines of an array of which `count` items stand in each line, and fewer in the last one."""
+    whole = len(items) // count * count
+    lines = matrix_lines(spare, [literal(items[at : at + count]) for at in range(0, whole, count)], count * each)
+    if whole < len(items):
+        lines.append(f"{beginning(name, shape)}(,{spare}),{literal(items[whole:])}")
+    elif spare != name or [*shape] != [whole // count, count * each]:
+        lines.append(beginning(name, shape) + spare)
     return lines + [f")ERASE {spare}"] * (spare != name)
 
 
-def rows_of_array(name, shape, items, spare):
-    return lines_of_array(name, shape, items, spare)
+def parted_rows(name: str, shape: Sequence[int], items: str | Sequence[str], spare: str, room: int) -> list[str]:
+    """Returns the lines of an array whose rows have several lines each, all as long; zeros or blanks fill the last of each row."""
+    width, rows = shape[-1], len(items) // shape[-1]
+    parts = -(-width // room)
+    count = -(-width // parts)
+    if rows * parts * count > MOST_ITEMS:  # there is no room to fill them
+        return gathered(name, shape, items, spare, room)
+    literals = [
+        literal(filled(items[row + start : row + min(start + count, width)], count))
+        for row in range(0, len(items), width)
+        for start in range(0, parts * count, count)
+    ]
+    form = "" if len(shape) == 2 else " ".join(map(str, shape)) + "⍴"
+    lines = matrix_lines(spare, literals, count)
+    lines.append(f")DATA {name}←{form}{rows} {width}↑{rows} {parts * count}⍴{spare}")
+    return lines + [f")ERASE {spare}"] * (spare != name)
+
+
+def filled(items: str | Sequence[str], count: int) -> str | Sequence[str]:
+    """Returns items with as many blanks or zeros behind them as make them `count`."""
+    return items.ljust(count) if isinstance(items, str) else [*items, *["0"] * (count - len(items))]
+
+
+def matrix_lines(name: str, literals: Sequence[str], width: int) -> list[str]:
+    """Returns the lines that make a matrix, a row each."""
+    return [f")DATA {name}←1 {width}⍴{literals[0]}", *[f")ROW {name} {row}" for row in literals[1:]]]

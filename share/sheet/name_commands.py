@@ -6,13 +6,15 @@ import re
 from typing import TYPE_CHECKING, List
 
 from . import storing
-from .arrays import lines_of_array
+from .arrays import rows_of_array
 from .commands import command
 from .errors import Mistake
 from .lines import NAME, PIECE, without_comment
 
 if TYPE_CHECKING:
     from .session import Session
+
+MOST_LINES = 20  # of an array that is shown
 
 
 @command("]names", "lists the names in their order: data or formula, of numbers or characters, the shape, and the formula")
@@ -36,9 +38,10 @@ def show_line(session: Session, name: str) -> None:
         session.show(binding.text)
         return
     array = storing.Array(session.program, name)
-    lines = lines_of_array(name, array.shape, array.items, name)
+    lines = rows_of_array(name, array.shape, array.items, name)
     kind = "characters" if array.is_text else "numbers"
-    session.show(lines[0] if len(lines) == 1 else f"⍝ {name} is data: {kind}, {' '.join(map(str, array.shape))}")
+    for line in lines if len(lines) <= MOST_LINES else [f"⍝ {name} is data: {kind}, {' '.join(map(str, array.shape))}"]:
+        session.show(line)
 
 
 @command("]edit NAME", "gives the line back that makes a name, to be edited at the terminal")

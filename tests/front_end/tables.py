@@ -78,6 +78,13 @@ TABLES = {  # a file, lines, what is printed, and a part of what is told
     "a folder": ("", "]table A .\n", "", ". is a folder, a pipe or a device, and no file with a table"),
     "a device": ("", "]table A /dev/zero\n", "", "/dev/zero is a folder, a pipe or a device"),
     "NUL in a path": ("", b"]table A a\0b\n", "", "cannot be read: no file has such a name"),
+    "show of a table": (
+        "1000000,2000000,3000000,4000000,5000000,6000000,7000000\n" * 2 + "0,0,0,0,0,0,-1\n",
+        "]table A t.csv\n]show A\n",
+        ")DATA A←1 7⍴1000000 2000000 3000000 4000000 5000000 6000000 7000000\n"
+        ")ROW A 1000000 2000000 3000000 4000000 5000000 6000000 7000000\n)ROW A 0 0 0 0 0 0 ¯1\n",
+        "",
+    ),
     "a name of the program's own": ("1,2\n", "∆1←∆2\n]table A t.csv\nA\n)NAMES\n", "1 2\n∆1\nA\n", ""),
 }
 for sign, word in ((";", ";"), ("\t", "tab"), ("|", "'|'"), (" ", "' '"), ("€", "€")):  # where a comma parts no fields, it stands in one
