@@ -182,7 +182,7 @@ class Session:
         change.inverse = None if self.place else self.inverse_of(parsed, change)
         for binding in change.bound.values():
             if binding and source:
-                binding.source = Source.of(source)
+                binding.source, binding.text = Source.of(source), None
         self.is_settled = False
         refused = first_refusal(self.program.ask_all(lines))
         if refused is not None:
