@@ -14,11 +14,12 @@ from typing import Sequence
 from .errors import Mistake
 
 NUMBER = re.compile("[ \t]*([-+¯]?)([0-9]+)[ \t]*")
+SIGNS = {"": "", "+": "", "-": "-", "¯": "-"}
 LEAST, GREATEST = -(1 << 63), (1 << 63) - 1
 LARGEST = 256  # MiB of a file
 
 DIGITS = bytes.maketrans(b"123456789", b"0" * 9)
-NOT_PLAIN = [b"--", b"0-", b"-,", b"-\n", b",,", b",\n", b"\n,", b"0" * 19]  # what plain records have not, each digit being 0
+NOT_PLAIN = [b"--", b"0-", b"-,", b"-\n", b",,", b",\n", b"\n,", b"0" * 19]  # stands in no plain record, each digit being 0
 
 
 class Table:
@@ -63,21 +64,24 @@ class Table:
 
     def number(self, field: str, place: int, column: int) -> str:
         """Returns the number in a field without plus sign and zeros before it; a Mistake where there is none of 64 bits."""
-        record = place + self.first
-        where, number = f"{self.file}: record {record} field {column}", NUMBER.fullmatch(field)
+        number = NUMBER.fullmatch(field)
         if not number:
-            raise Mistake(f"{where} is no whole number: '{shortened(field)}'{advice(field, record, column)}")
-        sign, digits = number[1].replace("+", "").replace("¯", "-"), number[2].lstrip("0") or "0"
-        if len(digits) > 19 or not LEAST <= int(sign + digits) <= GREATEST:
-            raise Mistake(f"{where} is beyond 64 bits: {shortened(field.strip())}")
+            record = place + self.first
+            raise Mistake(f"{self.where(record, column)} is no whole number: '{shortened(field)}'{advice(field, record, column)}")
+        sign, digits = SIGNS[number[1]], number[2].lstrip("0") or "0"
+        if len(digits) > 18 and (len(digits) > 19 or not LEAST <= int(sign + digits) <= GREATEST):
+            raise Mistake(f"{self.where(place + self.first, column)} is beyond 64 bits: {shortened(field.strip())}")
         return sign + digits
+
+    def where(self, record: int, column: int) -> str:
+        return f"{self.file}: record {record} field {column}"
 
     def labels(self, column: int) -> list[str]:
         """Returns the fields of a column; a Mistake names the first one that has more than one line."""
         labels = self.columns([column])
         for place, label in enumerate(labels):
             if "\n" in label or "\r" in label:
-                raise Mistake(f"{self.file}: record {place + self.first} field {column} has more than one line")
+                raise Mistake(f"{self.where(place + self.first, column)} has more than one line")
         self.check_end()
         return labels
 
@@ -116,7 +120,7 @@ def advice(field: str, record: int, column: int) -> str:
 
 
 def bytes_of(file: str) -> bytes:
-    """Returns what a file has; a Mistake where it cannot be read, may have no end, or is too large."""
+    """Returns the bytes of a file; a Mistake where it cannot be read, may have no end, or is too large."""
     try:
         status = os.stat(file)
         if not stat.S_ISREG(status.st_mode):  # a pipe or a device can be waited for without end
@@ -164,7 +168,7 @@ def table_in(file: str, text: str, separator: str, has_titles: bool) -> Table:
 
 
 def cut_titles(text: str, separator: str) -> tuple[list[str], str | None]:
-    """Returns the fields of the first record, and what follows it; None for that where the record does not end with its line."""
+    """Returns the fields of the first record, and the text behind it; None for the text where a line does not end the record."""
     line, _, rest = text.lstrip("\r\n").partition("\n")
     line = line.rstrip("\r")
     records = [] if "\r" in line or "\0" in line else [*csv.reader([line, "0"], delimiter=separator)]
