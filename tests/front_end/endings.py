@@ -105,8 +105,11 @@ def signals_at_any_time(room: Room, times: int, *signs: signal.Signals) -> Outco
 
 
 def interrupted_end(room: Room, times: int) -> Outcome:
-    """Ctrl-C behind Ctrl-D does not either, where there is much to be kept: 600,000 numbers."""
-    text, found = "".join(f")DATA D{at}←{'7 ' * 2000}\n" for at in range(300)), []
+    """Ctrl-C behind Ctrl-D does not either, where the sheet is large: 600,000 numbers.
+
+    A terminal drops the Ctrl-D that was not read yet when Ctrl-C comes, so another one follows.
+    """
+    text, outcomes = "".join(f")DATA D{number}←{'7 ' * 2000}\n" for number in range(300)), []
     room.put("large.apl", text)
     for _ in range(times):
         shutil.rmtree(room.folder / "state", ignore_errors=True)
@@ -114,9 +117,11 @@ def interrupted_end(room: Room, times: int) -> Outcome:
         screen.keys("A`[5\n")
         os.write(screen.master, b"\x04")
         time.sleep(random.random() / 50)
-        screen.end("\x03")
-        found.append(room.kept() == [text + "A←5\n"])
-    return found, [True] * times
+        os.write(screen.master, b"\x03")
+        time.sleep(random.random() / 50)
+        screen.end()
+        outcomes.append(room.kept() == [text + "A←5\n"])
+    return outcomes, [True] * times
 
 
 def tests(times: int) -> list[Test]:

@@ -3,6 +3,7 @@
 from __future__ import annotations
 
 import codecs
+import contextlib
 import fcntl
 import os
 import pty
@@ -58,7 +59,8 @@ class Screen:
     def end(self, keys: str = "\x04") -> Tuple[int, str]:
         """Types the keys that end it; returns the status and what is shown."""
         before = len(self.shown)
-        os.write(self.master, keys.encode())
+        with contextlib.suppress(OSError):  # it has ended already
+            os.write(self.master, keys.encode())
         self.read(lambda: False)
         os.close(self.master)
         return self.process.wait(SECONDS), self.shown[before:]
