@@ -82,8 +82,7 @@ def signals_at_the_end(room: Room, times: int, end: bytes | signal.Signals) -> O
         for sign in (signal.SIGINT, signal.SIGHUP, signal.SIGINT, signal.SIGTERM, signal.SIGHUP, signal.SIGTERM):
             screen.process.send_signal(sign)
             time.sleep(random.choice((0, 0.02)))
-        screen.read(lambda: False)
-        screen.process.wait(SECONDS)
+        screen.end()
         if room.kept() != ["A←5\n"] or "Traceback" in screen.shown:
             wrong.append((room.kept(), screen.shown))
     return wrong, []
