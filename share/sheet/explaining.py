@@ -2,7 +2,6 @@
 
 from __future__ import annotations
 
-import shutil
 import textwrap
 from math import prod
 from typing import TYPE_CHECKING, NamedTuple
@@ -10,13 +9,13 @@ from typing import TYPE_CHECKING, NamedTuple
 from . import notes, places
 from .answers import Answer, is_shape
 from .lines import Line
+from .places import columns
 
 if TYPE_CHECKING:
     from .program import Program
     from .session import Session
 
 MOST = 200  # items of a value that are shown
-WIDEST = 100  # columns where no terminal says how many it has
 LABELS = 11  # columns of the labels
 
 
@@ -65,17 +64,13 @@ def why(session: Session, name: str) -> list[str]:
     lines += labelled("reads", [f"{other.ljust(widest)}  {glances.get(other, 'is not there')}" for other in reads])
     readers = ", ".join(other for other, its in bindings.items() if name in its.references)
     lines += labelled("read by", textwrap.wrap(readers, columns() - LABELS))
-    kind = " ".join([own.kind, *map(str, own.shape or ["scalar"])])
-    return [f"{name} is data: {kind}" if binding.is_data else str(binding.text), *map(cut, lines)]
+    shape = " ".join(map(str, own.shape)) or "scalar"
+    return [f"{name} is data: {own.kind} {shape}" if binding.is_data else str(binding.text), *map(cut, lines)]
 
 
 def labelled(label: str, texts: list[str]) -> list[str]:
     """Returns texts below each other, the first one behind its label."""
     return [f"  {label if place == 0 else '':<{LABELS - 2}}{text}" for place, text in enumerate(texts)]
-
-
-def columns() -> int:
-    return shutil.get_terminal_size((WIDEST, 24)).columns
 
 
 def cut(line: str) -> str:

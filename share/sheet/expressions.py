@@ -5,7 +5,7 @@ Nothing is worked out here, and no expression is refused: the program does both.
 
 from __future__ import annotations
 
-from typing import List, NamedTuple, Optional, Union
+from typing import NamedTuple, Optional, Union
 
 from .lines import Token
 
@@ -23,7 +23,7 @@ class Operand(NamedTuple):
     start: int
     end: int
     inside: Optional[Expression]
-    indexes: List[Index]
+    indexes: list[Index]
 
     @property
     def is_bare(self) -> bool:
@@ -36,7 +36,7 @@ class Index(NamedTuple):
 
     start: int
     end: int
-    positions: List[Expression]
+    positions: list[Expression]
 
 
 class Function(NamedTuple):
@@ -58,7 +58,7 @@ class Expression(NamedTuple):
     """An expression: its last operand, the uses of functions from the right to the left, and the places where it begins and ends."""
 
     operand: Operand
-    steps: List[Step]
+    steps: list[Step]
     start: int
     end: int
 
@@ -96,7 +96,8 @@ class Reader:
     def operand(self) -> Operand:
         """Reads a literal, a name or an expression in parentheses, and the indexes behind it."""
         first = last = self.take()
-        inside, indexes = None, []
+        inside: Optional[Expression] = None
+        indexes: list[Index] = []
         if first.text == "(":
             inside = self.expression()
             last = self.take(")")
@@ -108,7 +109,8 @@ class Reader:
 
     def index(self) -> Index:
         """Reads an index."""
-        opening, positions = self.take("["), []
+        opening = self.take("[")
+        positions: list[Expression] = []
         while self.sign() != "]":
             if self.sign() == ";":
                 self.take()
@@ -141,7 +143,10 @@ def expression_of(parts: list[Union[Operand, Function]]) -> Expression:
         function = rest.pop()
         if not isinstance(function, Function):
             raise Unreadable
-        left = rest.pop() if rest and isinstance(rest[-1], Operand) else None
+        before = rest[-1] if rest else None
+        left = before if isinstance(before, Operand) else None
+        if left:
+            rest.pop()
         steps.append(Step(function, left, left.start if left else function.start))
     return Expression(parts[-1], steps, parts[0].start, parts[-1].end)
 

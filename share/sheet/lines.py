@@ -87,7 +87,7 @@ class Line:
         self.kind = word.lower() if word in COMMAND_WORDS else "unknown"
         if self.kind in ("open", "step", "commit", "drop"):
             digits = re.match("[ \t]*0*([0-9]+)", rest)
-            self.slot = digits and digits[1]
+            self.slot = digits[1] if digits else None
         elif self.kind == "data" and (definition := DEFINITION.match(rest)):
             self.name, self.expression = definition[1], definition[2]
         elif name := re.match(f"[ \t]*({NAME})", rest):

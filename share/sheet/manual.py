@@ -3,7 +3,6 @@
 from __future__ import annotations
 
 import re
-import shutil
 import textwrap
 from difflib import get_close_matches
 from functools import lru_cache
@@ -13,10 +12,10 @@ from typing import NamedTuple
 from .answers import ERRORS, REFUSALS
 from .errors import Mistake
 from .lines import COMMAND_WORDS
+from .places import WIDEST, columns
 
 HOME = Path(__file__).resolve().parents[1]  # share where the sources are, and share/aplsheet where they are installed
 FILE = HOME.parent / ("doc/aplsheet/docs/LANGUAGE.md" if HOME.name == "aplsheet" else "docs/LANGUAGE.md")
-WIDEST = 100  # columns
 SYMBOLS, LINES, FAULTS = "Each symbol", "Lines", "Refusals"  # sections of the page
 SPELLINGS = {"⋆": "*", "∣": "|", "∼": "~", "^": "∧", "∈": "∊"}
 KINDS = [f"{kind} ERROR" for kind in ERRORS.split("|")] + REFUSALS.split("|")
@@ -162,6 +161,6 @@ def lines_of_passages(title: list[str], passages: list[Passage]) -> list[str]:
 
 def wrapped(text: str) -> list[str]:
     """Returns a text in lines that are indented, as wide as the terminal at most."""
-    width = min(WIDEST, shutil.get_terminal_size((WIDEST, 24)).columns)
-    indents = {"initial_indent": "  ", "subsequent_indent": "    "}
-    return textwrap.wrap(text, width, break_long_words=False, break_on_hyphens=False, **indents)
+    width = min(WIDEST, columns())
+    first, further = "  ", "    "
+    return textwrap.wrap(text, width, initial_indent=first, subsequent_indent=further, break_long_words=False, break_on_hyphens=False)

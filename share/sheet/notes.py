@@ -8,7 +8,7 @@ from __future__ import annotations
 import re
 from collections import deque
 from difflib import get_close_matches
-from typing import TYPE_CHECKING, Callable, Dict, Iterable, List, Optional
+from typing import TYPE_CHECKING, Callable, Iterable, Optional
 
 from .answers import Answer
 from .lines import LONGEST, NAME, Line, without_comment
@@ -45,7 +45,7 @@ def of_fault(session: Session, answer: Answer, spot: Optional[Spot] = None) -> l
     if answer.kind not in (*ABOUT, "DOMAIN ERROR"):
         return [REFUSED[answer.kind]] if answer.kind in REFUSED else []
     if answer.kind == "DOMAIN ERROR":
-        notes = of_items(session, answer, spot.function if spot else "")
+        notes = of_items(session, answer, spot)
     else:
         notes = ABOUT[answer.kind](session, answer)
     return notes + of_slip(answer.line) * (answer.kind not in ("SYNTAX ERROR", "LINE TOO LONG"))
@@ -63,7 +63,7 @@ def subject(answer: Answer) -> Line:
 
 def culprit(session: Session, answer: Answer) -> Line:
     """Returns the line in which the error arose: the formula of its origin, or the line itself."""
-    binding = session.journal.bindings.get(answer.origin)
+    binding = session.journal.bindings.get(answer.origin or "")
     return Line(binding.text) if binding and binding.text else subject(answer)
 
 
@@ -88,17 +88,18 @@ def of_value(session: Session, answer: Answer) -> list[str]:
 
 def way_round(session: Session, line: Line) -> list[str]:
     """Returns the names on a shortest way from a name through formulas back to it, and nothing where there is none."""
-    bindings, before = session.journal.bindings, dict.fromkeys(line.references, line.name)
+    bindings, first = session.journal.bindings, line.name or ""
+    before = dict.fromkeys(line.references, first)
     ahead = deque(before)
-    while ahead and line.name not in before:
+    while ahead and first not in before:
         name = ahead.popleft()
         further = [other for other in bindings[name].references if other not in before] if name in bindings else []
         before.update(dict.fromkeys(further, name))
         ahead.extend(further)
-    if line.name not in before:
+    if first not in before:
         return []
-    way = [line.name]
-    while len(way) == 1 or way[-1] != line.name:
+    way = [first]
+    while len(way) == 1 or way[-1] != first:
         way.append(before[way[-1]])
     return way[::-1]
 
@@ -111,8 +112,8 @@ def of_cycle(session: Session, answer: Answer) -> list[str]:
 
 def of_formula(session: Session, answer: Answer) -> list[str]:
     """Returns the formula that cannot be edited."""
-    name = subject(answer).name
-    text = without_comment(session.journal.bindings[name].text)
+    name = subject(answer).name or ""
+    text = without_comment(session.journal.bindings[name].text or "")
     return [f"{name} is a formula, {text}; )DATA {name}←{name} makes data of it, which can be edited"]
 
 
@@ -130,17 +131,26 @@ def of_shapes(session: Session, answer: Answer) -> list[str]:
     return [f"shapes: {'; '.join(shapes)}"] if shapes else []
 
 
-def of_items(session: Session, answer: Answer, function: str) -> list[str]:
-    """Returns what the function does not take."""
+def of_items(session: Session, answer: Answer, spot: Optional[Spot]) -> list[str]:
+    """Returns the items that the function at the place of the error does not take; where that is not known, those of ÷."""
     line = culprit(session, answer)
     if line.kind == "csv":
         return [f")CSV prints numbers, and {line.name} is of characters"]
-    base = function[-1:] if function.startswith("∘") else function[:1] if not re.search(r"\.", function) else ""
-    if base in ("÷", "") and re.search(r"÷\s*0+(?![0-9])", line.code):
+    function = spot.function if spot else "÷" if "÷" in line.code else ""
+    if spot and "÷" in function and re.match(r"\s*0+\s*(?:[]);⍝]|$)", spot.text[spot.place + len(function) :]):
         return ["a number divided by 0 is an error, but for 0÷0, which is 1"]
-    if base == "÷" or not function and "÷" in line.code:
+    if "÷" in function:
         return ["÷ is an error where the quotient is not whole, and by 0, but for 0÷0"]
+    base = base_of(function)
     return [hint.format(base) for signs, hint in TAKEN.items() if base and base in signs]
+
+
+def base_of(function: str) -> str:
+    """Returns the scalar function of which an operator makes this one, or the function itself; nothing where more than items can be wrong."""
+    if function.startswith("∘"):
+        return function[-1]
+    is_of_lines = len(function) > 1 and function[0] in "⍲⍱"  # over lines without items these have no result
+    return "" if "." in function or is_of_lines else function[:1]
 
 
 def of_length(_session: Session, answer: Answer) -> list[str]:
@@ -154,7 +164,7 @@ def of_syntax(session: Session, answer: Answer) -> list[str]:
     return [slip.hint] if slip else []
 
 
-ABOUT: Dict[str, Callable[[Session, Answer], List[str]]] = {
+ABOUT: dict[str, Callable[[Session, Answer], list[str]]] = {
     "VALUE ERROR": of_value,
     "CYCLE": of_cycle,
     "NOT DATA": of_formula,

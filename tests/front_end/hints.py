@@ -6,6 +6,8 @@ import os
 import subprocess
 import sys
 
+from sheet.places import MARK
+
 from .rooms import SECONDS, TOP, Outcome, Room, Test, named_tests
 
 # Lines, and what is told of the last one.
@@ -89,6 +91,16 @@ NOTES = [
     (")DATA A←1 2\nA[3]←1", "shapes: A: 2"),
     ("7÷2", "the quotient is not whole"),
     ("5÷0", "a number divided by 0 is an error, but for 0÷0, which is 1"),
+    ("2+(3 4÷0)×2", "a number divided by 0 is an error"),
+    ("7÷2+0÷0", "the quotient is not whole"),
+    ("7÷0+2", "the quotient is not whole"),
+    ("1 2∘.÷0 1", "the quotient is not whole, and by 0"),
+    ("(6÷2)∧1", "∧ takes 0 and 1 alone"),
+    ("∧/1 2", "∧ takes 0 and 1 alone"),
+    ("1∘.∨2", "∨ takes 0 and 1 alone"),
+    ("(6÷2)+'a'", "+ takes numbers alone, and no characters"),
+    ("+\\'ab'", "+ takes numbers alone, and no characters"),
+    ("1 2,'a'", "numbers and characters do not join"),
     (")DATA A←'ab'\n)CSV A", "A is of characters"),
     (")COMMIT 1", "slots are 1 to 8"),
     ("A←1\n)OPEN 1 A←2\n)OPEN 1 A←3", "the slot holds a change"),
@@ -101,6 +113,9 @@ NOTES = [
 
 # Lines that a person may mean, and get no note.
 PLAIN = ["1,200", ")DATA P←1,200", ")DATA P←12,50,3", "12,50", ")DATA DEMAND←1 2\n)ROW DEMAND 1", "+/[1]2 2⍴⍳4", "(1 2)[1]", "A←1\n2 -A"]
+
+# Lines that are an error, beside which no note stands: none would be right of all such lines.
+NO_HINT = ["⍲/⍳0", "⍳¯1", "2*¯1", "(6÷2)*¯1", "A←6÷3\n(A÷2)⍴¯1"]
 
 # The lines that hints advise, and the answer to the last one.
 ADVICE = [
@@ -133,9 +148,10 @@ def note(room: Room, lines: str, text: str) -> Outcome:
 
 
 def no_note(room: Room, lines: str) -> Outcome:
-    """Returns what is told of lines that are answered, or are an error; nothing is wanted but the error."""
-    messages = room.messages(*lines.split("\n"))
-    return [line for line in messages.splitlines() if line.startswith("  ") or ": note:" in line], []
+    """Returns what stands beside the last line besides the line itself and a mark; nothing is wanted."""
+    messages = room.messages(*lines.split("\n")).splitlines()
+    notes = [line for line in messages if line.startswith("  ") or ": note:" in line]
+    return [line for line in notes if line.strip() not in (lines.split("\n")[-1], MARK)], []
 
 
 def advice(room: Room, lines: str, answer: str) -> Outcome:
@@ -157,6 +173,6 @@ def blanks(room: Room) -> Outcome:
 
 
 def tests(_times: int) -> list[Test]:
-    plain = [Test(f"no note: {lines}", no_note, (lines,)) for lines in PLAIN]
+    plain = [Test(f"no note: {lines}", no_note, (lines,)) for lines in PLAIN + NO_HINT]
     notes = [Test(f"note: {row[0][:60]}", note, row) for row in NOTES]
     return notes + plain + [Test(f"advice: {row[0]}", advice, row) for row in ADVICE] + named_tests([long_lines, blanks])
