@@ -83,6 +83,8 @@ def spot_of(session: Session, answer: Answer) -> Optional[Spot]:
         spot = next((Spot(line.text, token.start) for token in expression_tokens(line) if [token.text] == closing), None)
     elif answer.kind == "LIMIT ERROR" and not answer.origin and (beyond := beyond_limits(line)):
         spot = Spot(line.text, beyond.start)
+    elif line.kind in ("edit", "row"):
+        spot = spot_in_change(session.program, line, answer)
     else:
         spot = spot_at_function(session.program, line, answer)
     if spot is None or answer.line.kind != "open" or answer.origin:
@@ -107,6 +109,21 @@ def beyond_limits(line: Line) -> Optional[Token]:
         if token.kind == "name" and len(token.text.encode()) > LONGEST_NAME:
             return token
     return None
+
+
+def spot_in_change(program: Program, line: Line, answer: Answer) -> Optional[Spot]:
+    """Returns the place in an edit or a row that does not fit the data: the bracket or the name, a position, or the literal."""
+    tokens = tokens_of(line.text)
+    opening, literal = (1, [token.text for token in tokens].index("←") + 1) if line.kind == "edit" else (2, 3)
+    if answer.kind == "RANK ERROR":
+        return Spot(line.text, tokens[opening].start)
+    if answer.kind in ("LENGTH ERROR", "DOMAIN ERROR"):
+        return Spot(line.text, tokens[literal].start)
+    shape = program.ask(f"⍴{line.name}") if answer.kind == "INDEX ERROR" else []
+    lengths = map(int, shape[0].split()) if is_shape(shape) else ()
+    positions = [token for token in tokens[:literal] if token.kind == "number"]
+    wrong = [token for token, length in zip(positions, lengths) if not 1 <= int(token.text.replace("¯", "-")) <= length]
+    return Spot(line.text, wrong[0].start) if wrong else None
 
 
 def spot_at_function(program: Program, line: Line, answer: Answer) -> Optional[Spot]:
@@ -143,13 +160,16 @@ class Search:
         self.program, self.text, self.fault, self.questions = program, text, fault, QUESTIONS
 
     def shows(self, start: int, end: int) -> bool:
-        """Returns whether a part of the line shows the error by itself: asked is the length of its shape, so that little is printed."""
+        """Returns whether a part of the line shows the error by itself. The question is the length of its shape, so that little is printed.
+
+        A part that does not show the first error of the whole shows none. So other answers, as LINE TOO LONG, are not those of the part.
+        """
         if self.questions == 0:
             raise Unsure
         self.questions -= 1
         begun = time.monotonic()
         answer = self.program.ask("⍴⍴" + self.text[start:end])
-        if time.monotonic() - begun > SECONDS:
+        if time.monotonic() - begun > SECONDS or answer != [self.fault] and not is_shape(answer):
             raise Unsure
         return answer == [self.fault]
 

@@ -14,7 +14,7 @@ from sheet.session import Session
 from .rooms import Outcome, Room, Test, named_tests
 from .screens import Screen
 
-DATA = [")DATA D←1 2 3", ")DATA M←2 3⍴⍳6", ")DATA C←'ab'", "T←D+1 2"]
+DATA = [")DATA D←1 2 3", ")DATA M←2 3⍴⍳6", ")DATA C←'ab'", "T←D+1 2", ")DATA S←2"]
 
 # A line, and the sign of it below which the mark stands: it is the one behind ▲. Where there is no ▲, there is no mark.
 MARKED = [
@@ -62,8 +62,17 @@ MARKED = [
     "D[▲99999999999999999999]←1",
     ")DATA A←1 2▲+D",
     ")OPEN 3 )DATA A←1 2▲+D",
-    "D[4]←1",
-    ")ROW D 'a'",
+    "D[▲4]←1",
+    "M[1;▲9]←1",
+    "M[▲¯1;9]←1",
+    "M▲[1]←1",
+    "D[1]←▲1 2",
+    " D [ 1 ] ← ▲'a'⍝ ←",
+    ")OPEN 1 D[▲0]←1",
+    ")ROW D ▲'a'",
+    ")ROW M ▲1 2",
+    ")ROW ▲S 1",
+    "1+1 2=3⍴'" + "a" * 4083 + "'",
     ")CSV C",
     "D ▲+(1 2 3 4)",
     "'日本'=▲Q",
@@ -72,10 +81,11 @@ MARKED = [
 
 def marked(room: Room, line: str) -> Outcome:
     """Compares the lines below the error with the line and the mark."""
-    place, text = line.find("▲"), line.replace("▲", "")
-    columns = sum(2 if sign in "日本" else 1 for sign in text[:place])
-    wanted = [f"  {text}"] + [f"  {' ' * columns}∧"] * (place >= 0)
-    return room.messages(*DATA, text).splitlines()[1 : 2 + (place >= 0)], wanted
+    place, text = line.lstrip().find("▲"), line.replace("▲", "")
+    columns = sum(2 if sign in "日本" else 1 for sign in text.lstrip()[:place])
+    wanted = [f"  {text.strip()}"] + [f"  {' ' * columns}∧"] * (place >= 0)
+    lines = room.messages(*DATA, text).splitlines()[1:3]
+    return (lines[: len(wanted)], "∧" in lines[-1]), (wanted, place >= 0)
 
 
 def session_of(room: Room) -> Session:
@@ -91,7 +101,7 @@ def in_formula(room: Room) -> Outcome:
     """An error that arose in the formula of another name is shown there, and a check shows it once."""
     room.put("plan.apl", "\n".join([*DATA, "U←T×2"]))
     checked = room.call("--check", "plan.apl")[2]
-    wanted = "line 5: LENGTH ERROR IN T\n  1+T\n  T←D+1 2\n     ∧\n  shapes: D: 3\n"
+    wanted = "line 6: LENGTH ERROR IN T\n  1+T\n  T←D+1 2\n     ∧\n  shapes: D: 3\n"
     return (room.messages(*DATA, "1+T"), checked), (wanted, "plan.apl:4: LENGTH ERROR IN T\n  T←D+1 2\n     ∧\n  shapes: D: 3\n")
 
 
@@ -213,7 +223,6 @@ def doubt(session: Session, line: str, fault: Optional[str], spot: Spot) -> list
 def random_errors(room: Room, seed: int) -> Outcome:
     """At the mark of each error of values the program shows the error, and its arguments alone do not; most such errors have a mark."""
     session, chosen = session_of(room), random.Random(seed)
-    session.take(")DATA S←2")
     wrong, marks, errors = [], 0, 0
     while errors < 150:
         line = expression(chosen, 2)
