@@ -14,14 +14,12 @@ if TYPE_CHECKING:
 
 @command("]keys", "shows the keys of the symbols")
 def show_keys(session: Session) -> None:
-    for line in keys.table():
-        session.show(line)
+    session.show_value(keys.table(), is_text=True)
 
 
 @command("]help [WORD..]", "shows this; with ⍴ or another symbol, LENGTH ERROR, )ROW, ]save or take behind it, the text about that")
 def show_help(session: Session, words: list[str]) -> None:
-    for line in lines_of_help(" ".join(words)):
-        session.show(line)
+    session.show_value(lines_of_help(" ".join(words)), is_text=True)
 
 
 def lines_of_help(words: str) -> list[str]:
@@ -38,8 +36,7 @@ def lines_of_help(words: str) -> list[str]:
 
 @command("]why NAME", "tells why a name shows its value: its line, where an error arose, the names that it reads and those that read it")
 def show_why(session: Session, name: str) -> None:
-    for line in explaining.why(session, name):
-        session.show(line)
+    session.show_value(explaining.why(session, name), is_text=True)
 
 
 @command("]off", "ends, as Ctrl-D does")

@@ -27,8 +27,7 @@ def show_names(session: Session) -> None:
         formula = "" if binding.is_data else without_comment(binding.text or "").split("←", 1)[1].strip()
         rows.append((name, "data" if binding.is_data else "formula", kind, formula))
     widths = [max(len(row[column]) for row in rows) for column in range(3)] if rows else []
-    for row in rows:
-        session.show("  ".join([*map(str.ljust, row, widths), row[3]]).rstrip())
+    session.show_value(["  ".join([*map(str.ljust, row, widths), row[3]]).rstrip() for row in rows], is_text=True)
 
 
 @command("]show NAME", "shows the line that makes a name: its formula as it was typed, or its data")
@@ -40,8 +39,8 @@ def show_line(session: Session, name: str) -> None:
     array = storing.Array(session.program, name)
     lines = rows_of_array(name, array.shape, array.items, name)
     kind = "characters" if array.is_text else "numbers"
-    for line in lines if len(lines) <= MOST_LINES else [f"⍝ {name} is data: {kind}, {' '.join(map(str, array.shape))}"]:
-        session.show(line)
+    summary = f"⍝ {name} is data: {kind}, {' '.join(map(str, array.shape))}"
+    session.show_value(lines if len(lines) <= MOST_LINES else [summary], is_text=True)
 
 
 @command("]edit NAME", "gives the line back that makes a name, to be edited at the terminal")

@@ -10,13 +10,13 @@ import sys
 from typing import Sequence
 
 
-def is_wanted(lines: Sequence[str]) -> bool:
-    """Whether a value has more lines than the screen, or is a table that is wider, and the terminal can show it by pages."""
+def is_wanted(lines: Sequence[str], is_text: bool) -> bool:
+    """Whether lines are more than the screen has, or those of a table and no text are wider, and the terminal can show pages."""
     if not (sys.stdin.isatty() and sys.stdout.isatty()) or os.environ.get("TERM", "dumb") == "dumb":
         return False
     size = shutil.get_terminal_size()
     rows = sum(1 + max(0, len(line) - 1) // size.columns for line in lines)
-    return rows >= size.lines or len(lines) > 1 and max(map(len, lines)) > size.columns
+    return rows >= size.lines or len(lines) > 1 and not is_text and max(map(len, lines)) > size.columns
 
 
 def show(lines: Sequence[str]) -> None:

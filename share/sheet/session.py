@@ -117,9 +117,9 @@ class Session:
         for remark in reply.remarks:
             self.tell(f"{self.place}: note: {remark}" if self.place else f"  {remark}")
 
-    def show_value(self, lines: Sequence[str]) -> None:
-        """Shows a value, in the pager if it is beyond the screen."""
-        if self.is_typed and pager.is_wanted(lines):
+    def show_value(self, lines: Sequence[str], is_text: bool = False) -> None:
+        """Shows a value, or a text, in the pager if it is beyond the screen."""
+        if self.is_typed and pager.is_wanted(lines, is_text):
             pager.show(lines)
             return
         if not self.is_check:

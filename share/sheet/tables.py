@@ -14,7 +14,7 @@ from typing import Sequence
 from .errors import Mistake
 
 NUMBER = re.compile("[ \t]*([-+¯]?)([0-9]+)[ \t]*")
-SIGNS = {"": "", "+": "", "-": "-", "¯": "-"}
+SIGN_OF = {"": "", "+": "", "-": "-", "¯": "-"}
 LEAST, GREATEST = -(1 << 63), (1 << 63) - 1
 LARGEST = 256  # MiB of a file
 
@@ -68,7 +68,7 @@ class Table:
         if not number:
             record = place + self.first
             raise Mistake(f"{self.where(record, column)} is no whole number: '{shortened(field)}'{advice(field, record, column)}")
-        sign, digits = SIGNS[number[1]], number[2].lstrip("0") or "0"
+        sign, digits = SIGN_OF[number[1]], number[2].lstrip("0") or "0"
         if len(digits) > 18 and (len(digits) > 19 or not LEAST <= int(sign + digits) <= GREATEST):
             raise Mistake(f"{self.where(place + self.first, column)} is beyond 64 bits: {shortened(field.strip())}")
         return sign + digits
