@@ -11,7 +11,8 @@ from .lines import COMMAND_WORDS, NAME, Line, Token, place_in_text, tokens_of
 SIGNS = frozenset("+-×÷*⋆|∣⌈⌊~∼<≤=≥>≠∧^∨⍲⍱⍴,⍪↑↓⌽⊖⍉/⌿\\⍀⍳∊∈⊤⊥∘.←¯⍝'()[];∆⍙_ \t")
 MISTAKEN = {"Δ": "∆", "ι": "⍳", "ρ": "⍴", "ε": "∊", "−": "- or ¯", "‾": "¯", "∙": ".", "‘": "'", "’": "'", "\u00a0": "a blank"}
 OUTSIDE = {"OFF": "off", "QUIT": "off", "EXIT": "off", "BYE": "off", "HELP": "help", "SAVE": "save", "LOAD": "load", "COPY": "load"}
-OUTSIDE.update({"VARS": "names", "FNS": "names", "CLEAR": "clear", "UNDO": "undo", "TABLE": "table", "SHOW": "show"})
+OUTSIDE.update({"VARS": "names", "FNS": "names", "CLEAR": "clear", "UNDO": "undo", "REDO": "redo", "TABLE": "table", "SHOW": "show"})
+OUTSIDE.update({"EDIT": "edit", "RENAME": "rename", "WHY": "why", "WATCH": "watch", "RECOVER": "recover"})
 PLACES = r"\s*¯?[0-9]+(?:\s*;\s*¯?[0-9]+)*\s*"
 LITERAL = r"(?:''|¯?[0-9]+(?:[ \t]+¯?[0-9]+)*)"
 BEGIN, END = "(?<![A-Za-z∆⍙0-9_])", "(?![A-Za-z∆⍙0-9_])"  # of a name

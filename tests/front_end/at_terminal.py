@@ -17,9 +17,10 @@ SLOW = "+/|\\1000000⍴9000000000000000000 ¯8999999999999999989 777777777777777
 def typed_lines(room: Room) -> Outcome:
     """The keys of the symbols, what is shown, and that Ctrl-D ends; the status is 0 also where a line was an error."""
     screen = Screen(room)
-    shown = [screen.keys(it) for it in (")DATA D`[1 2 3\n", "T`[+/D`-2\n", "T\n", "D[2]`[`25\n", "T\n", "Q\n", "``\n")]
+    shown = [screen.keys(keys) for keys in (")DATA D`[1 2 3\n", "T`[+/D`-2\n", "T\n", "D[2]`[`25\n", "T\n", "Q\n", "``\n")]
     wanted = [")DATA D←1 2 3\n", "T←+/D×2\n", "T\n12\n", "D[2]←¯5\n", "T\n¯2\n", "Q\n      ∧\nVALUE ERROR\n  Q is not there\n"]
-    wanted.append("`\n      ∧\nSYNTAX ERROR\n  a backquote and a key are a symbol where ]keys shows one; here the backquote itself was typed\n")
+    typed = "a backquote and a key are a symbol where ]keys shows one; here the backquote itself was typed"
+    wanted.append(f"`\n      ∧\nSYNTAX ERROR\n  {typed}\n")
     return (shown, screen.end()[0]), (wanted, 0)
 
 
@@ -61,9 +62,9 @@ def completion(room: Room) -> Outcome:
     room.put("plan_of_june.apl", "PLAN←7\n")
     screen = Screen(room)
     screen.keys("DEMAND`[1 2\n")
-    shown = [screen.keys(it) for it in ("]lo\tplan_o\t\n", "+/DEM\t\n", "(1+PL\t)×2\n", ")NAM\t\n", "]na\t\n")]
+    shown = [screen.keys(keys) for keys in ("]lo\tplan_o\t\n", "+/DEM\t\n", "(1+PL\t)×2\n", ")NAM\t\n", "]na\t\n")]
     texts = "+/DEMAND\n3\n", "(1+PLAN)×2\n16\n", ")NAMES \nDEMAND\nPLAN\n", "]names \nDEMAND  formula"
-    return [text in it for text, it in zip(("]load plan_of_june.apl\n", *texts), shown)] + [screen.end()[0]], [True] * 5 + [0]
+    return [text in answer for text, answer in zip(("]load plan_of_june.apl\n", *texts), shown)] + [screen.end()[0]], [True] * 5 + [0]
 
 
 def unsaved_sheet(room: Room) -> Outcome:
@@ -91,8 +92,8 @@ def several_unsaved_sheets(room: Room) -> Outcome:
     sheets[1].read(lambda: False)
     last = Screen(room)
     offers = len(re.findall(r"^not saved: ", last.shown, re.MULTILINE))
-    told = last.keys("]recover 3\n"), last.keys("]recover 1 --forget\n"), last.keys("]recover\n"), last.keys("A\n")
-    wanted = "there is no session 3 to be recovered" in told[0], "forgotten: the session of" in told[1], told[3]
+    messages = last.keys("]recover 3\n"), last.keys("]recover 1 --forget\n"), last.keys("]recover\n"), last.keys("A\n")
+    wanted = "there is no session 3 to be recovered" in messages[0], "forgotten: the session of" in messages[1], messages[3]
     return (offers, wanted, sheets[2].keys("A\n")), (2, (True, True, "A\n0\n"), "A\n2\n")
 
 
@@ -100,13 +101,13 @@ def no_state_folder(room: Room) -> Outcome:
     """Where no history can be kept this is told, and the session is logged in the folder where one is."""
     room.environment["XDG_STATE_HOME"] = "/dev/null"
     screen = Screen(room)
-    told = "there is no history" in screen.shown
+    messages = "there is no history" in screen.shown
     screen.keys("A`[5\n")
     status, shown = screen.end()
     (log,) = room.folder.glob("session-*.apl")
     again = Screen(room)
     recovered = again.keys("]recover\nA\n", "A\n5\n")
-    return (told, status, str(log) in shown, bool(recovered)), (True, 0, True, True)
+    return (messages, status, str(log) in shown, bool(recovered)), (True, 0, True, True)
 
 
 def script_and_terminal(room: Room) -> Outcome:
@@ -138,9 +139,9 @@ def stopped_script(room: Room) -> Outcome:
     call.stdout.readline()
     time.sleep(1)
     call.send_signal(2)
-    told = call.communicate(timeout=SECONDS)[1].decode()
+    messages = call.communicate(timeout=SECONDS)[1].decode()
     wanted = ")NAMES\nA\nB\n", "]undo\ntaken back: ]load slow.apl\n", 0
-    return (shown[1:], "slow.apl:4: STOPPED\n" in shown[0], told[:20], call.returncode), (wanted, True, "slow.apl:4: STOPPED\n", 130)
+    return (shown[1:], "slow.apl:4: STOPPED\n" in shown[0], messages[:20], call.returncode), (wanted, True, "slow.apl:4: STOPPED\n", 130)
 
 
 def tests(_times: int) -> list[Test]:

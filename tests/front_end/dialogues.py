@@ -63,9 +63,9 @@ DIALOGUES = {
 
 def dialogue(room: Room, lines: str | bytes, output: str, said: str) -> Outcome:
     """What is wanted to be told is the whole where it ends a line, else a part. The status tells whether a line was refused or an error."""
-    status, printed, told = room.call(lines=lines)
-    is_told = told == said if said == "" or said.endswith("\n") else said in told
-    return (printed, is_told or told, status), (output, True, int(bool(re.search("^line [0-9]+: ", told, re.MULTILINE))))
+    status, printed, messages = room.call(lines=lines)
+    is_told = messages == said if said == "" or said.endswith("\n") else said in messages
+    return (printed, is_told or messages, status), (output, True, int(bool(re.search("^line [0-9]+: ", messages, re.MULTILINE))))
 
 
 def tests(_times: int) -> list[Test]:

@@ -26,7 +26,7 @@ def hang_up(room: Room) -> Outcome:
 
 def closed_terminal(room: Room, times: int, shell: str) -> Outcome:
     """Where the terminal is closed in which a shell runs it, each line is kept behind which a prompt was shown."""
-    lines, wrong = [f"A{it}←{it}\n" for it in range(30)], []
+    lines, wrong = [f"A{number}←{number}\n" for number in range(30)], []
     for _ in range(times):
         shutil.rmtree(room.folder / "state", ignore_errors=True)
         screen = Screen(room, shell=shell)
@@ -38,14 +38,14 @@ def closed_terminal(room: Room, times: int, shell: str) -> Outcome:
         shown = 1 + screen.shown.count(PROMPT, before)
         screen.close()
         kept = room.kept()
-        if len(kept) != 1 or kept[0] not in ("".join(lines[:it]) for it in range(shown, len(lines) + 1)):
+        if len(kept) != 1 or kept[0] not in ("".join(lines[:count]) for count in range(shown, len(lines) + 1)):
             wrong.append((shown, kept))
     return wrong, []
 
 
 def killed_tmux_session(room: Room, times: int) -> Outcome:
     """The same where tmux ends the session in whose window a shell runs it."""
-    tmux, found = ["tmux", "-u", "-f", "/dev/null", "-S", str(room.folder / "socket")], []
+    tmux, logs = ["tmux", "-u", "-f", "/dev/null", "-S", str(room.folder / "socket")], []
     how = {"cwd": room.folder, "env": room.environment, "capture_output": True, "text": True, "timeout": SECONDS}
     for _ in range(times):
         shutil.rmtree(room.folder / "state", ignore_errors=True)
@@ -61,8 +61,8 @@ def killed_tmux_session(room: Room, times: int) -> Outcome:
         time.sleep(random.random() / 4)
         subprocess.run([*tmux, "kill-session"], **how)
         wait_for_end(pipe)
-        found.append(room.kept())
-    return found, [["A←5+1\n"]] * times
+        logs.append(room.kept())
+    return logs, [["A←5+1\n"]] * times
 
 
 ENDS = {"Ctrl-D": b"\x04", "]off": b"]off\n", "SIGTERM": signal.SIGTERM, "SIGHUP": signal.SIGHUP}
@@ -90,7 +90,7 @@ def signals_at_the_end(room: Room, times: int, end: bytes | signal.Signals) -> O
 
 def signals_at_any_time(room: Room, times: int, *signs: signal.Signals) -> Outcome:
     """Signals that come one behind the other, at any time, do not cut it off. One just before readline waits is seen at the next key."""
-    found = []
+    logs = []
     for _ in range(times):
         shutil.rmtree(room.folder / "state", ignore_errors=True)
         screen = Screen(room)
@@ -99,8 +99,8 @@ def signals_at_any_time(room: Room, times: int, *signs: signal.Signals) -> Outco
             time.sleep(random.choice((0, random.random() / 100)))
             screen.process.send_signal(sign)
         screen.end()
-        found.append(room.kept())
-    return found, [["A←5\n"]] * times
+        logs.append(room.kept())
+    return logs, [["A←5\n"]] * times
 
 
 def interrupted_end(room: Room, times: int) -> Outcome:

@@ -39,29 +39,29 @@ HARD = [
 def whole_sheet(room: Room, *lines: str) -> tuple[list[str], str]:
     """All that there is to know of the sheet that these lines make: its names, their lines, and of each its shape, kind and items."""
     names = room.answers(*lines, ")NAMES").split()
-    asked = [it.format(name) for name in names for it in ("⍴{}", "0=1↑0⍴{}", ",{}")]
+    asked = [question.format(name) for name in names for question in ("⍴{}", "0=1↑0⍴{}", ",{}")]
     return names, room.answers(*lines, "]names", *asked)
 
 
 def save_and_load(room: Room) -> Outcome:
-    before, told = whole_sheet(room, *HARD), room.messages(*HARD, "]save a.apl")
+    before, messages = whole_sheet(room, *HARD), room.messages(*HARD, "]save a.apl")
     after, again = whole_sheet(room, "]load a.apl"), room.messages("]load a.apl", "]save b.apl")
     script = room.call("a.apl", "-", lines="]save c.apl\n")
-    texts = [(room.folder / it).read_text() for it in ("a.apl", "b.apl", "c.apl")]
-    longest = max(len(it.encode()) for it in texts[0].split("\n"))
-    found = after, told, again, script, texts[1:], longest <= 4096, "EARLY←+/LARGE ⍝ before what it refers to\n" in texts[0]
+    texts = [(room.folder / name).read_text() for name in ("a.apl", "b.apl", "c.apl")]
+    longest = max(len(line.encode()) for line in texts[0].split("\n"))
+    came = after, messages, again, script, texts[1:], longest <= 4096, "EARLY←+/LARGE ⍝ before what it refers to\n" in texts[0]
     saved = f"{len(before[0])} names saved in "
-    return found, (before, f"{saved}a.apl\n", f"{saved}b.apl\n", (0, "", f"{saved}c.apl\n"), [texts[0]] * 2, True, True)
+    return came, (before, f"{saved}a.apl\n", f"{saved}b.apl\n", (0, "", f"{saved}c.apl\n"), [texts[0]] * 2, True, True)
 
 
 def save_keeps(room: Room) -> Outcome:
     """A file that is there stays as it is, unless --replace is said; then it keeps its rights."""
     room.put("plan.apl", "B←2\n")
     (room.folder / "plan.apl").chmod(0o640)
-    _, _, told = room.call(lines="A←1\n]save plan.apl\n")
-    first = (room.folder / "plan.apl").read_text(), "plan.apl is there already" in told
-    _, _, told = room.call(lines="A←1\n]save plan.apl --replace\n]save no/plan.apl\n]save plan.apl/a\n]save .\n")
-    second = (room.folder / "plan.apl").read_text(), (room.folder / "plan.apl").stat().st_mode & 0o777, told.count("\nline ")
+    _, _, messages = room.call(lines="A←1\n]save plan.apl\n")
+    first = (room.folder / "plan.apl").read_text(), "plan.apl is there already" in messages
+    _, _, messages = room.call(lines="A←1\n]save plan.apl --replace\n]save no/plan.apl\n]save plan.apl/a\n]save .\n")
+    second = (room.folder / "plan.apl").read_text(), (room.folder / "plan.apl").stat().st_mode & 0o777, messages.count("\nline ")
     return (first, second, sorted(os.listdir(room.folder))), (("B←2\n", True), ("A←1\n", 0o640, 3), ["plan.apl", "plan.apl~"])
 
 
@@ -70,10 +70,10 @@ def load_on_top(room: Room) -> Outcome:
     room.put("one.apl", "A←1\n)DATA A←Q\n]load two.apl\nA\n")
     room.put("two.apl", "B←A+1\nB\n]load absent.apl\n")
     room.put("self.apl", "]load self.apl\n")
-    status, printed, told = room.call(lines="C←1\n]load one.apl\n]undo\n)NAMES\n]load self.apl\n]load .\n")
+    status, printed, messages = room.call(lines="C←1\n]load one.apl\n]undo\n)NAMES\n]load self.apl\n]load .\n")
     wanted = ["one.apl:2: VALUE ERROR", "two.apl:3: absent.apl cannot be read: No such file or directory", "taken back: ]load one.apl"]
     wanted += ["self.apl:1: self.apl is not loaded: it is being loaded already", "line 6: . cannot be read: Is a directory"]
-    return (status, printed, [it for it in wanted if it not in told]), (1, "2\n1\nC\n", [])
+    return (status, printed, [part for part in wanted if part not in messages]), (1, "2\n1\nC\n", [])
 
 
 def scripts(room: Room) -> Outcome:
@@ -81,10 +81,10 @@ def scripts(room: Room) -> Outcome:
     room.put("a.apl", "\ufeff)DATA D←1 2 3\n\nT←+/D\nT+Q\n")
     room.put("b.apl", "T\n]table E none.csv\n")
     first, second = room.call("a.apl", "b.apl", "-", lines="D[1]←9\nT\n1÷0\n"), room.call("absent.apl")
-    told = "a.apl:4: VALUE ERROR\n  T+Q\n    ∧\n  Q is not there\n"
-    told += "b.apl:2: none.csv cannot be read: No such file or directory\n  ]table E none.csv\n"
-    told += "line 3: DOMAIN ERROR\n  1÷0\n   ∧\n  a number divided by 0 is an error, but for 0÷0, which is 1\n"
-    return (first, second), ((1, "6\n14\n", told), (1, "", "sheet: absent.apl cannot be read: No such file or directory\n"))
+    messages = "a.apl:4: VALUE ERROR\n  T+Q\n    ∧\n  Q is not there\n"
+    messages += "b.apl:2: none.csv cannot be read: No such file or directory\n  ]table E none.csv\n"
+    messages += "line 3: DOMAIN ERROR\n  1÷0\n   ∧\n  a number divided by 0 is an error, but for 0÷0, which is 1\n"
+    return (first, second), ((1, "6\n14\n", messages), (1, "", "sheet: absent.apl cannot be read: No such file or directory\n"))
 
 
 def check(room: Room) -> Outcome:

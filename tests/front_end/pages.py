@@ -31,8 +31,8 @@ def commands_of_manual(room: Room) -> Outcome:
     calls = re.findall(r"^\$ (.*)\n((?:(?!\$ ).*\n)*)", blocks, re.MULTILINE)
     begin = " ".join(map(shlex.quote, room.words()))
     how = {"shell": True, "cwd": TOP, "stdout": subprocess.PIPE, "stderr": subprocess.STDOUT, "text": True, "timeout": SECONDS}
-    found = [subprocess.run(line.replace("bin/sheet", begin), env=room.environment, **how).stdout for line, _ in calls]
-    return (found, bool(calls)), ([wanted for _, wanted in calls], True)
+    came = [subprocess.run(line.replace("bin/sheet", begin), env=room.environment, **how).stdout for line, _ in calls]
+    return (came, bool(calls)), ([wanted for _, wanted in calls], True)
 
 
 def tests(_times: int) -> list[Test]:

@@ -12,24 +12,26 @@ from .rooms import SECONDS, Outcome, Room, Test, named_tests
 def wrong_programs(room: Room) -> Outcome:
     """What is no program, ends at once, or does not answer as it should."""
     words = room.put("junk", "")
-    calls = [room.call(program=it) for it in ("/absent/program", "/bin/true", "/bin/cat", str(room.folder / words))]
+    calls = [room.call(program=path) for path in ("/absent/program", "/bin/true", "/bin/cat", str(room.folder / words))]
     says = ["does not start: No such file or directory", "ended with status 0", "does not answer as aplsheet does"]
     says.append("does not start: Permission denied")
-    return [(it[0], it[1], it[2].startswith("sheet: /") and say in it[2]) for it, say in zip(calls, says)], [(1, "", True)] * 4
+    outcomes = [(status, printed, text.startswith("sheet: /") and say in text) for (status, printed, text), say in zip(calls, says)]
+    return outcomes, [(1, "", True)] * 4
 
 
 def programs_that_die(room: Room) -> Outcome:
     """The sheet goes on as it was before the line."""
     fake = room.fake()
-    told = f"line 2: PROGRAM FAILED: {fake} ended with status 3\n  DIE\nline 4: PROGRAM FAILED: {fake} was stopped by signal 9\n  KILL\n"
-    return room.call(lines="A←1\nDIE\n1\nKILL\n2\n", program=fake), (1, "VALUE 1\nVALUE 2\n", told)
+    messages = f"line 2: PROGRAM FAILED: {fake} ended with status 3\n  DIE\n"
+    messages += f"line 4: PROGRAM FAILED: {fake} was stopped by signal 9\n  KILL\n"
+    return room.call(lines="A←1\nDIE\n1\nKILL\n2\n", program=fake), (1, "VALUE 1\nVALUE 2\n", messages)
 
 
 def program_that_vanishes(room: Room) -> Outcome:
     """Where it cannot go on, its lines are kept in a file."""
-    status, printed, told = room.call(lines="A←1\nVANISH\nB←2\n", program=room.fake())
+    status, printed, messages = room.call(lines="A←1\nVANISH\nB←2\n", program=room.fake())
     (log,) = room.logs()
-    offer = f"the sheet was not saved; ]recover goes on with it, from {log}\n" in told
+    offer = f"the sheet was not saved; ]recover goes on with it, from {log}\n" in messages
     return (status, printed, offer, room.kept(), room.call(lines="]recover\nA\n")[1]), (1, "", True, ["A←1\n"], "1\n")
 
 
@@ -37,30 +39,30 @@ def unknown_answers(room: Room) -> Outcome:
     """Where the program prints anything for a change, or for the commit of one, it is told, and is no change of the sheet."""
     room.put("t.csv", "1,2\n")
     lines = ["A←1", "UNKNOWN←2", "]table UNKNOWN t.csv", ")OPEN 7 B←3", ")COMMIT 7", "EMPTY←4", "]table EMPTY t.csv", "VANISH"]
-    _, printed, told = room.call(lines="\n".join(lines), program=room.fake())
+    _, printed, messages = room.call(lines="\n".join(lines), program=room.fake())
     note = "\n  no such answer is known, so the line counts as refused\n"
     wanted = [f"line 2: DEPTH ERROR\nAT SIGN 1\n  UNKNOWN←2{note}", f"line 5: DEPTH ERROR\nAT SIGN 1\n  )COMMIT 7{note}"]
     wanted += ["line 3: DEPTH ERROR\nAT SIGN 1: 1 record of 2 are not taken in\n"]
     wanted += [f"line 6: \n  EMPTY←4{note}", "line 7: : 1 record of 2 are"]
-    return (printed, room.kept(), [it for it in wanted if it not in told]), ("0\n", ["A←1\n"], [])
+    return (printed, room.kept(), [part for part in wanted if part not in messages]), ("0\n", ["A←1\n"], [])
 
 
 def no_memory(room: Room) -> Outcome:
     """A fence that is refused memory is asked for anew, and the answer is the same."""
     fake = room.fake()
-    found = room.call(lines="A\nREFUSE\nB\n", program=fake)
-    return found, (1, "VALUE A\nVALUE B\n", "line 2: NO MEMORY\n  REFUSE\n")
+    came = room.call(lines="A\nREFUSE\nB\n", program=fake)
+    return came, (1, "VALUE A\nVALUE B\n", "line 2: NO MEMORY\n  REFUSE\n")
 
 
 def line_by_line(room: Room) -> Outcome:
     """Over pipes too, each line is answered before the next one is there."""
-    told = []
+    answers = []
     with subprocess.Popen(room.words(), bufsize=0, env=room.environment, stdin=subprocess.PIPE, stdout=subprocess.PIPE) as call:
         for line in ["1+1\n", "A←5\nA\n"]:
             call.stdin.write(line.encode())
-            told.append(select.select([call.stdout], [], [], SECONDS)[0] and call.stdout.readline())
+            answers.append(select.select([call.stdout], [], [], SECONDS)[0] and call.stdout.readline())
         call.stdin.close()
-    return told, [b"2\n", b"5\n"]
+    return answers, [b"2\n", b"5\n"]
 
 
 def closed_pipe(room: Room) -> Outcome:

@@ -15,11 +15,11 @@ from .rooms import SECONDS, TOP, Outcome, Room, Test, named_tests
 def table_as_the_program(room: Room, row: dict[str, Any]) -> Outcome:
     """A row of tests/tables.json: where the program takes the table so does ]table, with the same answers; else both name one place."""
     room.put("t.csv", row["file"])
-    status, printed, told = room.call(lines="]table D t.csv" + " --header" * row["header"] + "\n" + row["lines"])
+    status, printed, messages = room.call(lines="]table D t.csv" + " --header" * row["header"] + "\n" + row["lines"])
     if row["status"] == 0:
-        return (status, printed, told), (0, row["output"], "")
+        return (status, printed, messages), (0, row["output"], "")
     place = [f"{word.lower()} {number}" for word, number in re.findall("(RECORD|FIELD) ([0-9]+)", row["said"])]
-    return (status, [part for part in place if part not in told], told.startswith("line 1: ")), (1, [], True)
+    return (status, [part for part in place if part not in messages], messages.startswith("line 1: ")), (1, [], True)
 
 
 TABLES = {  # a file, lines, what is printed, and a part of what is told
@@ -96,8 +96,8 @@ for sign, word in ((";", ";"), ("\t", "tab"), ("|", "'|'"), (" ", "' '"), ("€"
 
 def table(room: Room, file: str | bytes, lines: str | bytes, output: str, said: str) -> Outcome:
     room.put("t.csv", file)
-    status, printed, told = room.call(lines=lines)
-    return (printed, status, said in told or told), (output, int(bool(said)), True)
+    status, printed, messages = room.call(lines=lines)
+    return (printed, status, said in messages or messages), (output, int(bool(said)), True)
 
 
 def large_table(room: Room) -> Outcome:
@@ -113,8 +113,8 @@ def large_table(room: Room) -> Outcome:
 def pipe_without_writer(room: Room) -> Outcome:
     """A pipe is refused, and not waited for."""
     os.mkfifo(room.folder / "pipe")
-    told = "line 1: pipe is a folder, a pipe or a device, and no file with a table\n  ]table A pipe\n"
-    return room.call(lines="]table A pipe\n1\n"), (1, "1\n", told)
+    messages = "line 1: pipe is a folder, a pipe or a device, and no file with a table\n  ]table A pipe\n"
+    return room.call(lines="]table A pipe\n1\n"), (1, "1\n", messages)
 
 
 def great_files(room: Room) -> Outcome:
@@ -125,10 +125,10 @@ def great_files(room: Room) -> Outcome:
     words = ["sh", "-c", 'ulimit -v 240000; exec "$@"', "sh", *room.words(program=room.fake())]
     lines = b"]table A great.csv\n]table A fits.csv\n]labels A fits.csv 1\n5\n"
     ran = subprocess.run(words, input=lines, capture_output=True, timeout=SECONDS, cwd=room.folder, env=room.environment)
-    told = "line 1: great.csv is larger than 256 MiB\n  ]table A great.csv\n"
-    told += "line 2: fits.csv: there is no memory for this table\n  ]table A fits.csv\n"
-    told += "line 3: fits.csv: there is no memory for this table\n  ]labels A fits.csv 1\n"
-    return (ran.returncode, ran.stdout.decode(), ran.stderr.decode()), (1, "VALUE 5\n", told)
+    messages = "line 1: great.csv is larger than 256 MiB\n  ]table A great.csv\n"
+    messages += "line 2: fits.csv: there is no memory for this table\n  ]table A fits.csv\n"
+    messages += "line 3: fits.csv: there is no memory for this table\n  ]labels A fits.csv 1\n"
+    return (ran.returncode, ran.stdout.decode(), ran.stderr.decode()), (1, "VALUE 5\n", messages)
 
 
 def full_sheet(room: Room) -> Outcome:
@@ -137,10 +137,10 @@ def full_sheet(room: Room) -> Outcome:
     names = [f"N{number}←1" for number in range(3, 1025)]
     questions = ["⍴N1", "⍴N2", "+/,N7", "∆1"]
     commands = [f"]table {name} t.csv" for name in ("N1", "N2", "N7", "NEW")]
-    status, printed, told = room.call(lines="\n".join([*names, *commands, *questions]))
+    status, printed, messages = room.call(lines="\n".join([*names, *commands, *questions]))
     wanted = ["SHEET FULL: 300 records of 4 are not taken in\n  ]table NEW t.csv\n", "∆1 is not there"]
-    absent = [part for part in wanted if part not in told]
-    return (status, printed, absent, told.count("line ")), (1, "300 4\n300 4\n3000000000\n", [], 2)
+    absent = [part for part in wanted if part not in messages]
+    return (status, printed, absent, messages.count("line ")), (1, "300 4\n300 4\n3000000000\n", [], 2)
 
 
 GOOD = ["0", "7", "-12", "¯3", "+5", " 8", "9 ", '"4"', '"-6"', '" +2\t"', "\t1", "0" * 30 + "5", "9223372036854775807"]
@@ -207,9 +207,9 @@ def taken_by_the_front_end(room: Room, cases: list[Case]) -> list[str]:
         columns = f" --columns {case.before + 1}-" if case.before else ""
         lines += [f"]table D{number} {number}.csv{' --header' * case.has_titles}{columns}{case.flags}"]
         lines += [f"⍴D{number}", f",D{number}", "'next table'"]
-    _, printed, told = room.call(lines="\n".join(lines))
+    _, printed, messages = room.call(lines="\n".join(lines))
     answers = printed.split("next table\n")[:-1]
-    for number, record, field in re.findall(r" ([0-9]+)\.csv: record (\d+)(?: field (\d+))? ", told):
+    for number, record, field in re.findall(r" ([0-9]+)\.csv: record (\d+)(?: field (\d+))? ", messages):
         answers[int(number)] += f"{record} {int(field) - cases[int(number)].before}" if field else record
     return answers
 
