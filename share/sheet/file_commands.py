@@ -10,7 +10,7 @@ from . import files, recovery
 from .commands import command, counted
 from .errors import End, Mistake
 from .interrupts import signals
-from .scripts import lines_of_sheet
+from .scripts import script_of_sheet
 
 if TYPE_CHECKING:
     from .session import Session
@@ -25,11 +25,10 @@ def save(session: Session, file: Optional[str], replace: bool) -> None:
     if file is None and session.home is None:
         raise Mistake("the sheet comes from no file; ]save FILE writes one")
     file = file or os.path.relpath(session.home.path if session.home else "")
-    names = session.journal.bindings
-    lines = lines_of_sheet(session.program, session.journal, session.home)
-    path, digest = files.save(file, lines, session.home, replace)
-    session.come_home(files.Home(path, digest, lines, frozenset(range(1, len(lines) + 1)), dict(names)))
-    session.tell(f"{counted(len(names), 'name')} saved in {file}")
+    script = script_of_sheet(session.program, session.journal, session.home)
+    path, digest = files.save(file, script.raw, session.home, replace)
+    session.come_home(script._replace(path=path, digest=digest))
+    session.tell(f"{counted(len(session.journal.bindings), 'name')} saved in {file}")
     if session.journal.slots:
         session.tell(f"  the changes that are open are not in it: {', '.join(session.journal.slots)}")
 
@@ -55,7 +54,7 @@ def load(session: Session, file: str) -> None:
         session.loading.remove(path)
         session.join(first, f"]load {file}")
     if is_first and not session.loading:
-        session.come_home(files.home_of(file, session.journal))
+        session.come_home(files.home_of(file, session.journal, first))
 
 
 @command("]recover [NUMBER] [--forget]", "goes on with a session that was not saved, the last one as a rule; --forget removes its log")

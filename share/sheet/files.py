@@ -9,27 +9,45 @@ import shutil
 import stat
 import tempfile
 from pathlib import Path
-from typing import BinaryIO, FrozenSet, Iterable, Iterator, Mapping, NamedTuple, Sequence, Tuple
+from typing import BinaryIO, Iterable, Iterator, List, Mapping, NamedTuple, Optional, Sequence, Tuple
 
 from .errors import Mistake
-from .journal import Binding, Journal
+from .journal import Binding, Change, Journal, Source
+
+MARK = b"\xef\xbb\xbf"  # the byte order mark
+
+
+class Part(NamedTuple):
+    """The part that lines of a script have in a name: their numbers, 0 for those of another file, and the table files that they read."""
+
+    numbers: List[int]
+    sources: List[Source]
 
 
 class Home(NamedTuple):
     """The script that a sheet was loaded from, or saved to.
 
-    path      its path, from the root
-    digest    the digest of its content as it was read or written
-    lines     its lines
-    accepted  the numbers of the lines that made a change of the sheet
-    makes     the bindings that these lines make, in their order
+    path    its path, from the root
+    digest  the digest of its content as it was read or written
+    lines   its lines
+    parts   the part that these lines have in each name that they made; None where that is not known
+    makes   the bindings that they make, in their order
+    mark    its byte order mark, if it has one
+    end     the end of its last line, if it has one
     """
 
     path: str
     digest: str
     lines: Sequence[str] = ()
-    accepted: FrozenSet[int] = frozenset()
+    parts: Optional[Mapping[str, Part]] = None
     makes: Mapping[str, Binding] = {}
+    mark: str = ""
+    end: str = "\n"
+
+    @property
+    def raw(self) -> bytes:
+        """Its content."""
+        return (self.mark + "\n".join(self.lines) + self.end * bool(self.lines)).encode("utf-8", "surrogateescape")
 
 
 def opened(file: str) -> BinaryIO:
@@ -58,24 +76,48 @@ def lines_of(source: Iterable[bytes]) -> Iterator[str]:
     """Yields the lines of a script: they end with LF, and one byte order mark at the start is skipped."""
     for number, raw in enumerate(source):
         line = raw[:-1] if raw.endswith(b"\n") else raw
-        yield line[3 if number == 0 and line.startswith(b"\xef\xbb\xbf") else 0 :].decode("utf-8", "surrogateescape")
+        yield line[len(MARK) if number == 0 and line.startswith(MARK) else 0 :].decode("utf-8", "surrogateescape")
 
 
-def home_of(file: str, journal: Journal) -> Home | None:
-    """Returns the home of the sheet that a script has made; None where the script cannot be read again."""
+def home_of(file: str, journal: Journal, first: int = 0) -> Home | None:
+    """Returns the home of the sheet that a script has made by the changes from number `first` on; None where it cannot be read again."""
     try:
         raw = Path(file).read_bytes() if os.path.isfile(file) else None
     except (OSError, ValueError):
         raw = None
     if raw is None:
         return None
-    accepted = frozenset(place.number for change in journal.changes for place in change.places if place.file == file)
-    lines = [*lines_of(raw.split(b"\n"))]
-    return Home(os.path.realpath(file), digest_of(raw), lines if lines[-1] else lines[:-1], accepted, dict(journal.bindings))
+    mark, lines = "\ufeff" * raw.startswith(MARK), [*lines_of(raw.split(b"\n"))]
+    is_ended = lines[-1] == ""
+    parts, end = parts_of(file, journal.changes[first:]), "\n" * is_ended
+    return Home(os.path.realpath(file), digest_of(raw), lines[:-1] if is_ended else lines, parts, dict(journal.bindings), mark, end)
 
 
-def save(file: str, lines: Sequence[str], home: Home | None, may_replace: bool) -> Tuple[str, str]:
-    """Writes a sheet to a file, and returns its path and its digest. A file that was there is kept as FILE~.
+def parts_of(file: str, changes: Iterable[Change]) -> dict[str, Part]:
+    """Returns the part that the lines of a script have in each name that they made."""
+    parts: dict[str, Part] = {}
+    for change in changes_of_lines(changes):
+        place = change.places[0] if change.places else None
+        number = place.number if place and place.file == file else 0
+        for name, binding in change.bound.items():
+            if binding or change.before.get(name):
+                part = parts.setdefault(name, Part([], []))
+                part.numbers.append(number)
+                part.sources.extend([binding.source] if binding and binding.source else [])
+    return parts
+
+
+def changes_of_lines(changes: Iterable[Change]) -> Iterator[Change]:
+    """Yields the changes of single lines, of which changes consist."""
+    for change in changes:
+        if len({*change.places}) > 1:
+            yield from changes_of_lines(change.parts)
+        else:
+            yield change
+
+
+def save(file: str, raw: bytes, home: Home | None, may_replace: bool) -> Tuple[str, str]:
+    """Writes a script to a file, and returns its path and its digest. A file that was there is kept as FILE~.
 
     A Mistake, and nothing is written: where another file is there than the home, or the home was changed by someone else, unless it may be
     replaced; where the file is no ordinary one; where the system refuses it.
@@ -85,7 +127,6 @@ def save(file: str, lines: Sequence[str], home: Home | None, may_replace: bool) 
         if target.exists():
             check_target(file, target, home, may_replace)
             keep_old(target)
-        raw = raw_of(lines)
         write(target, raw, target.exists())
     except FileExistsError:
         raise Mistake(there_already(file)) from None

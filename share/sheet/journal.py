@@ -5,7 +5,7 @@ from __future__ import annotations
 import functools
 import os
 from itertools import count
-from typing import Dict, Iterable, List, NamedTuple, Optional, Sequence
+from typing import Dict, Iterable, List, Mapping, NamedTuple, Optional, Sequence
 
 from .lines import BLANKS, Line
 
@@ -231,17 +231,22 @@ class Journal:
 
     def reached(self, names: Iterable[str]) -> Dict[str, None]:
         """Returns these names, and all whose formulas refer to one of them, directly or through others."""
-        users: Dict[str, List[str]] = {}
-        for name, binding in self.bindings.items():
-            for reference in binding.references:
-                users.setdefault(reference, []).append(name)
-        reached = dict.fromkeys(names)
-        waiting = [*reached]
-        while waiting:
-            new = [user for user in users.get(waiting.pop(), ()) if user not in reached]
-            reached.update(dict.fromkeys(new))
-            waiting += new
-        return reached
+        return reaching({name: binding.references for name, binding in self.bindings.items()}, names)
+
+
+def reaching(references: Mapping[str, Iterable[str]], names: Iterable[str]) -> Dict[str, None]:
+    """Returns these names, and all that refer to one of them, directly or through others."""
+    users: Dict[str, List[str]] = {}
+    for name, its_references in references.items():
+        for reference in its_references:
+            users.setdefault(reference, []).append(name)
+    reached = dict.fromkeys(names)
+    waiting = [*reached]
+    while waiting:
+        new = [user for user in users.get(waiting.pop(), ()) if user not in reached]
+        reached.update(dict.fromkeys(new))
+        waiting += new
+    return reached
 
 
 def bind(bindings: Dict[str, Binding], change: Change) -> None:

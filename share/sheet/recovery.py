@@ -225,7 +225,7 @@ class Unended(NamedTuple):
             return None
         digest, path = self.home
         there = home_of(path, Journal())
-        return there if there and there.digest == digest else Home(path, digest)
+        return there._replace(parts=None) if there and there.digest == digest else Home(path, digest)
 
 
 def read(path: Path) -> Unended:

@@ -1,113 +1,117 @@
-"""The lines by which a sheet is saved: those of the script that it comes from, as far as they still make it, and new ones for the rest."""
+"""The script by which a sheet is saved: lines of the one that it comes from, as far as they still make it, and new ones for the rest."""
 
 from __future__ import annotations
 
 import re
-from typing import Dict, List, Optional, Set
+from typing import Dict, Iterator, List, NamedTuple, Optional, Sequence, Set
 
 from .arrays import rows_of_array
-from .files import Home
-from .journal import Binding, Journal, Source
+from .files import Home, Part
+from .journal import Journal, Source, reaching
 from .lines import BLANKS, LONGEST, NAME, Line, without_comment
 from .program import Program
 from .storing import Array
 
-TABLE = re.compile(rf"\](?:table|labels)[{BLANKS}]+({NAME})\b")
-SHOWING = re.compile(r"\](names|show|why|watch|keys|help)\b")
+TABLE = re.compile(rf"\][{BLANKS}]*(?:table|labels)[{BLANKS}]+({NAME})\b")
+SHOWING = re.compile(rf"\][{BLANKS}]*(?:names|show|why|watch|keys|help)\b")
+QUIET = ("nothing", "show", "names", "cost", "csv")
 
 
-def lines_of_sheet(program: Program, journal: Journal, home: Optional[Home] = None) -> List[str]:
-    """Returns the lines that make the sheet.
+def script_of_sheet(program: Program, journal: Journal, home: Optional[Home] = None) -> Home:
+    """Returns the script that makes the sheet, with the path and the digest of its home.
 
     Those lines of its home stay that are blank, a comment, or show a value, and those that make a name as it is. A name that was made
-    anew since stands in the place of the first line that made it there. A line of the home that was refused becomes a comment. Names that
-    the home does not make follow the names before them.
+    anew since stands in the place of the first line that made it there. A line of the home that was refused, or is of a slot, becomes a
+    comment. Names that the home does not make follow the names before them.
     """
-    script = Script(program, journal, home or Home("", ""))
-    is_as_it_was = [*script.home.makes.items()] == [*journal.bindings.items()] and not any(map(is_stale, journal.bindings.values()))
-    return [*script.home.lines] if is_as_it_was else script.lines()
+    home = home or Home("", "")
+    is_as_it_was = [*home.makes.items()] == [*journal.bindings.items()] and not any(map(is_stale, (home.parts or {}).values()))
+    if is_as_it_was and home.parts is not None:
+        return home
+    script = Script(program, journal, home)
+    made = [*script.made()]
+    lines = [line.text for line in made]
+    end = home.end if lines[-1:] == [*home.lines[-1:]] else "\n"
+    return home._replace(lines=lines, parts=script.parts_of(made), makes=dict(journal.bindings), end=end)
 
 
-def is_stale(binding: Binding) -> bool:
-    """Whether the table file that a name was read from has changed since."""
-    return binding.source is not None and Source.of(binding.source.file) != binding.source
+def is_stale(part: Part) -> bool:
+    """Whether a table file that a name was read from has changed since."""
+    return any(Source.of(source.file) != source for source in part.sources)
+
+
+def as_text(line: str) -> str:
+    """Returns a line in which bytes that are no text are written as \\xff."""
+    return line.encode("utf-8", "surrogateescape").decode("utf-8", "backslashreplace")
 
 
 class Entry:
     """A line of the home.
 
-    text  the line without its end
-    line  the same, as the language reads it
-    name  the name that it makes, edits or removes, if there is one
+    text     the line without its end
+    line     the same, as the language reads it
+    name     the name that it makes, edits or removes, if there is one
+    comment  its comment, or nothing
     """
 
     def __init__(self, text: str) -> None:
         self.text, self.line = text, Line(text)
         table = TABLE.match(self.line.code)
         self.name = self.line.name if self.line.is_change else table[1] if table else None
+        self.comment = as_text(text.strip(BLANKS)[len(without_comment(text)) :].strip(BLANKS))
 
     @property
     def is_quiet(self) -> bool:
         """Whether it changes nothing, whatever the sheet is."""
-        return self.line.kind in ("nothing", "show", "names", "cost", "csv") or bool(SHOWING.match(self.line.code))
+        return self.line.kind in QUIET or bool(SHOWING.match(self.line.code))
 
     @property
     def as_comment(self) -> List[str]:
         """The line as a comment, unless it is too long for one."""
-        comment = f"⍝ {self.text}"
-        return [comment] if len(comment.encode("utf-8", "surrogateescape")) <= LONGEST else []
+        comment = f"⍝ {as_text(self.text)}"
+        return [comment] if len(comment.encode()) <= LONGEST else []
+
+
+class MadeLine(NamedTuple):
+    """A line of the script: its text, and the name in whose making it has a part, if there is one."""
+
+    text: str
+    name: Optional[str] = None
 
 
 class Script:
     """A sheet beside its home.
 
     entries  the lines of the home, by their numbers
-    numbers  the numbers of the lines that made each name, where it was never removed there
-    kept     the names that these lines still make
+    numbers  the numbers of the lines of the home that made each name, also of those that are gone; 0 where another file did
     placed   the number of the line in whose place the lines of a name stand
+    kept     the names that the lines of the home still make
+    end      CR where the lines of the home end with it, else nothing
     """
 
     def __init__(self, program: Program, journal: Journal, home: Home) -> None:
         self.program, self.journal, self.home = program, journal, home
         self.entries = {number: Entry(text) for number, text in enumerate(home.lines, 1)}
         self.numbers = self.numbers_of_names()
-        self.kept = self.kept_names()
         self.placed = self.places()
+        self.kept = self.kept_names()
+        self.names_at = {number: name for name, number in self.placed.items()}
+        self.accepted = {number for numbers in self.numbers.values() for number in numbers}
+        self.end = "\r" if home.lines and home.lines[0].endswith("\r") else ""
 
     def numbers_of_names(self) -> Dict[str, List[int]]:
+        if self.home.parts is not None:
+            return {name: part.numbers for name, part in self.home.parts.items()}
         numbers: Dict[str, List[int]] = {}
         for number, entry in self.entries.items():
-            if entry.name and (number in self.home.accepted or not self.home.accepted):
+            if entry.name in self.journal.bindings:
                 numbers.setdefault(entry.name, []).append(number)
-        removed = {entry.name for number, entry in self.entries.items() if entry.line.kind == "erase" and number in self.home.accepted}
-        return {name: its for name, its in numbers.items() if name in self.journal.bindings and name not in removed}
+        return numbers
 
-    def kept_names(self) -> Set[str]:
-        """Returns the names that the lines of the home still make; data that was worked out of names needs these as they were."""
-        makes = self.home.makes
-        kept = {name for name, binding in self.journal.bindings.items() if makes.get(name) is binding and not is_stale(binding)}
-        kept &= self.numbers.keys()
-        while True:
-            lost = {name for name in kept if not self.reads_of_data(name) <= kept}
-            if not lost:
-                return kept
-            kept -= lost
-
-    def reads_of_data(self, name: str) -> Set[str]:
-        """Returns the names from which data was worked out, directly or through formulas."""
-        waiting = [reference for number in self.numbers[name] for reference in self.reads_of_line(number)]
-        reads: Set[str] = set()
-        while waiting:
-            read = waiting.pop()
-            if read not in reads and read != name:
-                reads.add(read)
-                binding = self.journal.bindings.get(read)
-                waiting += binding.references if binding else []
-        return reads
-
-    def reads_of_line(self, number: int) -> List[str]:
-        line = self.entries[number].line
-        return line.references if line.kind == "data" else []
+    def is_made_by_lines(self, name: str) -> bool:
+        """Whether lines of the home alone made a name, and none of them removed it."""
+        entries = [self.entries.get(number) for number in self.numbers[name]]
+        return all(entry and entry.name and (entry.name != name or entry.line.kind != "erase") for entry in entries)
 
     def places(self) -> Dict[str, int]:
         """Returns the place of each name that has one; names stand there in the order of the sheet, so a name that does not has none."""
@@ -117,20 +121,54 @@ class Script:
             first = self.numbers.get(name, [0])[0]
             if first > last:
                 placed[name] = last = first
-        self.kept &= placed.keys()
         return placed
 
-    def lines(self) -> List[str]:
-        """Returns the lines of the sheet."""
-        added = self.added()
-        made = [*added.get(0, [])]
-        for number, entry in self.entries.items():
-            made += [*self.lines_in_place(number, entry), *added.get(number, [])]
-        return made
+    def kept_names(self) -> Set[str]:
+        """Returns the names that the lines of the home still make.
 
-    def added(self) -> Dict[int, List[str]]:
+        Data that was worked out of other names needs these as they were. So does a formula in whose place another one stood: that one
+        would be a cycle, where such a name refers to it.
+        """
+        bindings, parts = self.journal.bindings, self.home.parts or {}
+        same = {name for name in self.placed if self.home.makes.get(name) is bindings[name] and not is_stale(parts[name])}
+        kept = {name for name in same if self.is_made_by_lines(name)}
+        known = bindings.keys() | self.numbers.keys()
+        references = {name: self.references(name) for name in self.numbers}
+        needs = {name: self.needs(name) for name in kept}
+        while True:
+            doubtful = reaching(references, known - kept)
+            lost = {name for name in kept if needs[name] & doubtful.keys()}
+            if not lost:
+                return kept
+            kept -= lost
+
+    def lines_of(self, name: str) -> List[Line]:
+        """Returns the lines of the home that made a name."""
+        return [self.entries[number].line for number in self.numbers[name] if number in self.entries]
+
+    def references(self, name: str) -> List[str]:
+        """Returns the names that these lines refer to."""
+        return [reference for line in self.lines_of(name) for reference in line.references if line.kind in ("definition", "data")]
+
+    def needs(self, name: str) -> Set[str]:
+        """Returns the names that these lines refer to, but for the formula that the name has; a name needs not itself."""
+        lines = self.lines_of(name)
+        read = [line for line in lines if line.kind == "data" or line.kind == "definition" and line is not lines[-1]]
+        own = {name, *(line.name for line in lines)}
+        return {reference for line in read for reference in line.references} - own
+
+    def made(self) -> Iterator[MadeLine]:
+        """Yields the lines of the script."""
+        added = self.added()
+        makers = {number: name for name in self.kept for number in self.numbers[name]}
+        yield from added.get(0, [])
+        for number, entry in self.entries.items():
+            yield from [MadeLine(entry.text, makers[number])] if number in makers else self.lines_in_place(number, entry)
+            yield from added.get(number, [])
+
+    def added(self) -> Dict[int, List[MadeLine]]:
         """Returns the lines of names that have no place, by the number of the line behind which they stand."""
-        added: Dict[int, List[str]] = {}
+        added: Dict[int, List[MadeLine]] = {}
         last_placed = max(self.placed.values(), default=0)
         at = 0
         for name in self.journal.bindings:
@@ -139,30 +177,40 @@ class Script:
                 added.setdefault(len(self.entries) if at == last_placed else at, []).extend(self.lines_of_name(name))
         return added
 
-    def lines_in_place(self, number: int, entry: Entry) -> List[str]:
-        """Returns the lines that stand in the place of a line of the home."""
-        if entry.name is None:
-            return [entry.text] if entry.is_quiet else entry.as_comment
-        is_accepted = number in self.home.accepted
-        if entry.name in self.kept:
-            return [entry.text] if is_accepted else entry.as_comment
-        if self.placed.get(entry.name) == number:
-            return self.lines_of_name(entry.name, entry.text.strip(BLANKS)[len(without_comment(entry.text)) :])
-        return [] if is_accepted or entry.name in self.journal.bindings else entry.as_comment
+    def lines_in_place(self, number: int, entry: Entry) -> List[MadeLine]:
+        """Returns the lines that stand in the place of a line of the home that makes no name as it is."""
+        if number in self.names_at:
+            return self.lines_of_name(self.names_at[number], entry.comment)
+        if entry.is_quiet:
+            return [MadeLine(entry.text)]
+        return [] if number in self.accepted else [MadeLine(comment) for comment in entry.as_comment]
 
-    def lines_of_name(self, name: str, comment: str = "") -> List[str]:
-        """Returns the lines that make a name; data gets the comment of the line in whose place it stands."""
+    def lines_of_name(self, name: str, comment: str = "") -> List[MadeLine]:
+        """Returns the lines that make a name; data without a comment gets that of the line in whose place it stands."""
         binding = self.journal.bindings[name]
-        if binding.text:
-            return [binding.text]
+        lines = [binding.text] if binding.text else self.lines_of_data(name)
+        commented = f"{lines[0]} {comment}"
+        if comment and binding.is_data and without_comment(lines[0]) == lines[0] and len(commented.encode()) <= LONGEST:
+            lines[0] = commented
+        return [MadeLine(f"{line}{self.end}", name) for line in lines]
+
+    def lines_of_data(self, name: str) -> List[str]:
+        """Returns lines that write the data out that a name has."""
         array = Array(self.program, name)
         spare = self.journal.spare_name(name) if self.is_read_above(name) else name
-        lines = rows_of_array(name, array.shape, array.items, spare)
-        commented = f"{lines[0]} {comment.strip(BLANKS)}".rstrip()
-        return [commented, *lines[1:]] if len(commented.encode()) <= LONGEST else lines
+        return rows_of_array(name, array.shape, array.items, spare)
 
     def is_read_above(self, name: str) -> bool:
         """Whether a name before it reads it: each line that makes a part of it would work that one out."""
         above = [*self.journal.bindings]
         reached = self.journal.reached([name])
         return any(other in reached for other in above[: above.index(name)])
+
+    def parts_of(self, made: Sequence[MadeLine]) -> Dict[str, Part]:
+        """Returns the part that these lines have in each name."""
+        parts: Dict[str, Part] = {}
+        for number, line in enumerate(made, 1):
+            if line.name:
+                sources = self.home.parts[line.name].sources if self.home.parts and line.name in self.kept else []
+                parts.setdefault(line.name, Part([], sources)).numbers.append(number)
+        return parts

@@ -145,12 +145,12 @@ def answer(session: Session, scripts: Sequence[str], output: Output) -> None:
 
 def run_script(session: Session, script: str, scripts: Sequence[str]) -> None:
     """Answers the lines of a script; if there is no other one, the sheet comes from it."""
+    is_alone = not session.journal.bindings and [script] == [name for name in scripts if name != "-"]
     try:
         with open(script, "rb") as source:
             session.run(script, source)
     except (OSError, ValueError) as error:
         sys.exit(f"sheet: {script} cannot be read: {files.reason(error)}")
-    is_alone = [script] == [name for name in scripts if name != "-"]
     session.come_home(files.home_of(script, session.journal) if is_alone else None)
 
 

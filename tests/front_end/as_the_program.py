@@ -31,7 +31,7 @@ def random_lines(room: Room, seed: int) -> Outcome:
         sheet.take(line)
     names = [*sheet.journal.bindings]
     asked = [it.format(name) for name in names for it in ("⍴{}", "0=1↑0⍴{}", "{}")]
-    shown, saved = sheet.program.ask_all([")NAMES", *asked]), scripts.lines_of_sheet(sheet.program, sheet.journal)
+    shown, saved = sheet.program.ask_all([")NAMES", *asked]), scripts.script_of_sheet(sheet.program, sheet.journal).lines
     loaded = []
     for kept in (sheet.journal.lines, saved):
         sheet.program.stop()
