@@ -193,12 +193,14 @@ class Session:
             self.settle(event_of(change), change)
 
     def come_home(self, home: Optional[Home]) -> None:
-        """Makes a file the home of the sheet, which is as that file has it; tells where another session has it too."""
+        """Makes a file the home of the sheet, which is as that file has it; tells where another session has a new home too."""
+        former = self.home
         with signals.held():
             self.home = home
             self.journal.mark_saved()
             self.settle(saved(home) if home else [])
-        self.tell_of_others()
+        if home and (former is None or former.path != home.path):
+            self.tell_of_others()
 
     def tell_of_others(self) -> None:
         """Tells where another session has the same file."""
