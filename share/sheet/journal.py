@@ -217,9 +217,11 @@ class Journal:
 
     def join(self, first: int, title: str) -> int:
         """Makes one change of those from number `first` on; returns how many these are."""
-        changes = self.changes[first:]
+        changes, number = self.changes[first:], len(self.changes)
         if changes:
             self.changes[first:] = [joined(title, changes)]
+            after = {number: first + 1, **dict.fromkeys(range(first + 1, number), first)}
+            self.slots = {slot: opened._replace(after=after.get(opened.after, opened.after)) for slot, opened in self.slots.items()}
         return len(changes)
 
     def spare_name(self, name: str) -> str:
@@ -250,7 +252,9 @@ def reaching(references: Mapping[str, Iterable[str]], names: Iterable[str]) -> D
 
 
 def bind(bindings: Dict[str, Binding], change: Change) -> None:
-    """Takes the bindings of a change into those of a sheet."""
+    """Takes the bindings of a change into those of a sheet; those of its parts one after the other, since a name may go and come again."""
+    for part in change.parts:
+        bind(bindings, part)
     for name, binding in change.bound.items():
         if binding:
             bindings[name] = binding

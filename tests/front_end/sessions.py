@@ -20,12 +20,16 @@ setattr(signals, "without_interrupts", contextlib.nullcontext)  # tests run in t
 
 
 class Sheet(Session):
-    """A session that keeps what it shows, what it tells, and the lines that change something and are refused."""
+    """A session that keeps what it shows, what it tells, and the lines that change something and are refused.
+
+    remade  how often the sheet was made again in a new program
+    """
 
     def __init__(self, program: Program) -> None:
         self.shown: list[str] = []
         self.told: list[str] = []
         self.refused: list[str] = []
+        self.remade = 0
         super().__init__(program, self.shown.append, self.told.append)
         program.stop()
         program.start()
@@ -44,6 +48,10 @@ class Sheet(Session):
         """Answers lines of a script."""
         for number, line in enumerate(lines, 1):
             self.take(line, Place("script.apl", number))
+
+    def remake(self, journal: Journal, events: Sequence[str]) -> None:
+        self.remade += 1
+        super().remake(journal, events)
 
     def content(self) -> Content:
         return content_of(self.program, self.journal)
