@@ -6,8 +6,8 @@ from pathlib import Path
 from typing import Iterator
 
 from sheet import starting
-from sheet.files import raw_of
-from sheet.journal import Binding
+from sheet.files import home_of, raw_of
+from sheet.journal import Binding, Journal
 from sheet.lines import Line
 from sheet.program import Program
 
@@ -81,6 +81,36 @@ def tables_that_change(room: Room) -> Outcome:
     sheet.program.stop()
     written = f")DATA D←1 2⍴1 2 ⍝ here\n)DATA E←1 2⍴9 2\n)DATA F←1 2⍴9 2\n]table G {other}\n"
     return (path.read_text(), sheet.refused), (written, [])
+
+
+def large_data(room: Room) -> Outcome:
+    """Data of several lines below a formula that reads it keeps its comment, and its lines when another name changes."""
+    sheet, path = Sheet(program_of(room)), room.folder / room.put("plan.apl", "T←+/D\n)DATA D←⍳3000 ⍝ many\n)DATA E←D\nF←1\n")
+    sheet.take_all(f"]load {path}", "D[7]←0", "]save")
+    first = path.read_text()
+    sheet.take_all("F←2", "]save")
+    second = path.read_text()
+    sheet.take_all("E[1]←5", "T←+/D,1", "]save")
+    other, again = Sheet(sheet.program.another()), sheet.content()
+    other.take(f"]load {path}")
+    is_same = other.content() == again
+    sheet.program.stop()
+    other.program.stop()
+    commented = [[line for line in text.split("\n") if line.endswith(" ⍝ many")] for text in (first, path.read_text())]
+    is_kept = commented[0] == commented[1] and len(commented[0]) == 1
+    return (second, is_kept, sheet.refused + other.refused, is_same), (first.replace("F←1", "F←2"), True, [], True)
+
+
+def recovered(room: Room) -> Outcome:
+    """Of a sheet that was recovered, the comments of its file stay, and its names stand in their places."""
+    path = room.folder / room.put("plan.apl", "⍝ first\nA←1 ⍝ one\n\n)DATA D←1 2 ⍝ two\nD[1]←5\n⍝ last\nB←)(\n")
+    sheet = Sheet(program_of(room))
+    sheet.take_all("A←1 ⍝ one", ")DATA D←1 2 ⍝ two", "D[1]←7", "C←A")
+    home = home_of(str(path), Journal())
+    sheet.home = home and home._replace(parts=None)
+    sheet.take("]save")
+    sheet.program.stop()
+    return path.read_text(), "⍝ first\nA←1 ⍝ one\n\n)DATA D←7 2 ⍝ two\n⍝ last\n⍝ B←)(\nC←A\n"
 
 
 def script_behind_names(room: Room) -> Outcome:
@@ -231,4 +261,4 @@ def faults_of_case(chance: Chance, folder: Path, programs: list[Program], lines:
 def tests(_times: int) -> list[Test]:
     examples = [Test(f"saving {name}", example, row) for name, row in EXAMPLES.items()]
     by_chance = [Test(f"saving by chance {seed}", saved_by_chance, (seed,)) for seed in range(4)]
-    return [*examples, *named_tests([tables_that_change, script_behind_names]), *by_chance]
+    return [*examples, *named_tests([tables_that_change, large_data, recovered, script_behind_names]), *by_chance]
