@@ -101,6 +101,18 @@ def large_data(room: Room) -> Outcome:
     return (second, is_kept, sheet.refused + other.refused, is_same), (first.replace("F←1", "F←2"), True, [], True)
 
 
+def one_item(room: Room) -> Outcome:
+    """An item that is edited changes one line of data that has many, with a comment and below a formula that reads it."""
+    sheet, path = Sheet(program_of(room)), room.folder / room.put("plan.apl", "T←+/M\n)DATA M←60 3⍴⍳180 ⍝ of a table\nV←M[1;]\n")
+    sheet.take_all(f"]load {path}", "M[20;2]←¯5", "]save")
+    before = path.read_text().split("\n")
+    sheet.take_all("M[33;1]←7", "]save")
+    after = path.read_text().split("\n")
+    sheet.program.stop()
+    changed = [line for line, former in zip(after, before) if line != former]
+    return (len(changed), " 7 98 99" in changed[0], len(after) > 60, len(after) - len(before)), (1, True, True, 0)
+
+
 def recovered(room: Room) -> Outcome:
     """Of a sheet that was recovered, the comments of its file stay, and its names stand in their places."""
     path = room.folder / room.put("plan.apl", "⍝ first\nA←1 ⍝ one\n\n)DATA D←1 2 ⍝ two\nD[1]←5\n⍝ last\nB←)(\n")
@@ -261,4 +273,4 @@ def faults_of_case(chance: Chance, folder: Path, programs: list[Program], lines:
 def tests(_times: int) -> list[Test]:
     examples = [Test(f"saving {name}", example, row) for name, row in EXAMPLES.items()]
     by_chance = [Test(f"saving by chance {seed}", saved_by_chance, (seed,)) for seed in range(4)]
-    return [*examples, *named_tests([tables_that_change, large_data, recovered, script_behind_names]), *by_chance]
+    return [*examples, *named_tests([tables_that_change, large_data, one_item, recovered, script_behind_names]), *by_chance]
