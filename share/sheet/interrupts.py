@@ -3,11 +3,16 @@
 from __future__ import annotations
 
 import contextlib
+import os
 import signal
+import threading
+import time
 from types import FrameType
 from typing import Iterator, Optional
 
 ENDING = (signal.SIGTERM, signal.SIGHUP)
+WAKING = signal.SIGURG  # sent to the main thread, to end a wait; ignored where it has no handler
+DELAY = 0.1  # seconds from a signal until a wait is ended that has not seen it
 
 
 class Signals:
@@ -29,6 +34,7 @@ class Signals:
         for number in (signal.SIGINT, *ENDING):
             if signal.getsignal(number) != signal.SIG_IGN:
                 signal.signal(number, self.take)
+        wake_behind_signals()
 
     def take(self, number: int, _frame: Optional[FrameType]) -> None:
         """Handles a signal."""
@@ -58,9 +64,11 @@ class Signals:
     def held(self) -> Iterator[None]:
         """Holds signals in a block, and releases them behind it unless they were held before."""
         were_held, self.are_held = self.are_held, True
-        yield
-        if not were_held:
-            self.release()
+        try:
+            yield
+        finally:
+            if not were_held:
+                self.release()
 
     @contextlib.contextmanager
     def without_interrupts(self) -> Iterator[None]:
@@ -75,6 +83,23 @@ class Signals:
     def status(self) -> int:
         """The exit status of a session that a signal has ended; 0 where none has."""
         return 128 + self.ending if self.ending else 0
+
+
+def wake_behind_signals() -> None:
+    """Ends the wait of the main thread a while behind each signal: readline misses one that comes just before it waits for a key."""
+    numbers, pipe = os.pipe()
+    os.set_blocking(pipe, False)
+    signal.signal(WAKING, lambda number, frame: None)
+    signal.set_wakeup_fd(pipe, warn_on_full_buffer=False)
+    threading.Thread(target=wake, args=(numbers, threading.get_ident()), daemon=True).start()
+
+
+def wake(numbers: int, thread: int) -> None:
+    """Reads the numbers of the signals that come, and sends WAKING to a thread behind each other one."""
+    while read := os.read(numbers, 512):
+        if {*read} != {WAKING}:
+            time.sleep(DELAY)
+            signal.pthread_kill(thread, WAKING)
 
 
 signals = Signals()

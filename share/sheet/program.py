@@ -11,6 +11,8 @@ import subprocess
 import threading
 from typing import IO, Iterator, List, NoReturn, Optional, Sequence, Set
 
+from .interrupts import signals
+
 NO_MEMORY = "NO MEMORY"
 SECONDS = 1  # how long a second fence is waited for, where the first one may have been refused memory
 HIGHEST = 0x10FFFD  # fences are of a character of this plane, the last of Unicode: in bytes of UTF-8 it begins with F4
@@ -34,6 +36,7 @@ class Program:
 
     process: subprocess.Popen[bytes]
     printed: queue.SimpleQueue[Optional[str]]
+    reader: threading.Thread
 
     def __init__(self, words: Sequence[str]) -> None:
         self.words, self.environment = list(words), {**os.environ}
@@ -42,19 +45,25 @@ class Program:
 
     def start(self) -> None:
         """Starts it, and waits until it answers."""
-        pipe = subprocess.PIPE
-        try:
-            self.process = subprocess.Popen(self.words, stdin=pipe, stdout=pipe, start_new_session=True, env=self.environment)
-        except (OSError, ValueError) as error:
-            raise ProgramFailed(f"{self.words[0]} does not start: {getattr(error, 'strerror', error)}") from None
-        self.is_started, self.printed, self.characters = True, queue.SimpleQueue(), set()
-        threading.Thread(target=pass_lines, args=(self.process.stdout, self.printed), daemon=True).start()
+        with signals.held():
+            self.start_process()
         self.write([])
         if self.next_line() != self.fence:
             self.stop()
             raise ProgramFailed(f"{self.words[0]} does not answer as aplsheet does")
         self.is_in_step = True
         self.environment["APLSHEET_TOLD"] = "1"  # bin/aplsheet tells once which build it is
+
+    def start_process(self) -> None:
+        """Starts it, and a thread that takes in what it prints."""
+        pipe = subprocess.PIPE
+        try:
+            self.process = subprocess.Popen(self.words, stdin=pipe, stdout=pipe, start_new_session=True, env=self.environment)
+        except (OSError, ValueError) as error:
+            raise ProgramFailed(f"{self.words[0]} does not start: {getattr(error, 'strerror', error)}") from None
+        self.is_started, self.printed, self.characters = True, queue.SimpleQueue(), set()
+        self.reader = threading.Thread(target=pass_lines, args=(self.process.stdout, self.printed), daemon=True)
+        self.reader.start()
 
     def another(self) -> Program:
         """Returns a program with the same words, which is not started."""
@@ -65,7 +74,7 @@ class Program:
     @property
     def is_ready(self) -> bool:
         """Whether it runs, and every answer was read whole."""
-        return self.is_started and self.is_in_step and self.process.poll() is None
+        return self.is_started and self.is_in_step and self.reader.is_alive()
 
     def signal(self, number: int) -> None:
         """Sends a signal to the program and to all that it has started; any thread may call this."""
@@ -78,15 +87,24 @@ class Program:
 
     def stop(self) -> None:
         """Ends it, whatever it is doing, and waits for the end."""
-        if not self.is_started:
-            return
         self.is_in_step = False
-        self.interrupt()
-        try:
-            self.process.wait(SECONDS)
-        except subprocess.TimeoutExpired:
-            self.signal(signal.SIGKILL)
-            self.process.wait()
+        if self.is_started:
+            self.interrupt()
+            if self.status(SECONDS) is None:
+                self.signal(signal.SIGKILL)
+                self.status(None)
+            self.close_input()
+
+    def status(self, seconds: Optional[float]) -> Optional[int]:
+        """Waits for the end of the process; returns its status, or None where it goes on for longer than these seconds.
+
+        Signals are held: one that raises within Popen.wait can leave a lock behind, on which the next call waits for ever.
+        """
+        with signals.held(), contextlib.suppress(subprocess.TimeoutExpired):
+            self.process.wait(seconds)
+        return self.process.returncode
+
+    def close_input(self) -> None:
         if self.process.stdin:
             with contextlib.suppress(OSError):  # bytes that were not sent yet
                 self.process.stdin.close()
@@ -170,12 +188,9 @@ class Program:
 
     def fail(self) -> NoReturn:
         """Raises ProgramFailed: the program has ended, or has closed its output."""
-        try:
-            status = self.process.wait(SECONDS)
-        except subprocess.TimeoutExpired:
-            status = 0
+        status = self.status(SECONDS)
+        how = "has closed its output" if status is None else f"was stopped by signal {-status}" if status < 0 else f"ended with status {status}"
         self.stop()
-        how = f"was stopped by signal {-status}" if status < 0 else f"ended with status {status}"
         raise ProgramFailed(f"{self.words[0]} {how}")
 
 
