@@ -2,9 +2,11 @@
 
 from __future__ import annotations
 
+import contextlib
 import os
 import stat
-from typing import TYPE_CHECKING, Iterator, Optional
+from functools import partial
+from typing import TYPE_CHECKING, BinaryIO, Iterator, Optional, Tuple
 
 from . import files, recovery
 from .commands import command, counted
@@ -24,10 +26,11 @@ def save(session: Session, file: Optional[str], replace: bool) -> None:
         return
     if file is None and session.home is None:
         raise Mistake("the sheet comes from no file; ]save FILE writes one")
-    file = file or os.path.relpath(session.home.path if session.home else "")
+    file = file or files.as_seen(session.home.path if session.home else "")
     script = script_of_sheet(session.program, session.journal, session.home)
-    path, digest = files.save(file, script.raw, session.home, replace)
-    session.come_home(script._replace(path=path, digest=digest))
+    with signals.held():
+        path, digest = files.save(file, script.raw, session.home, replace)
+        session.come_home(script._replace(path=path, digest=digest))
     session.tell(f"{counted(len(session.journal.bindings), 'name')} saved in {file}")
     if session.journal.slots:
         session.tell(f"  the changes that are open are not in it: {', '.join(session.journal.slots)}")
@@ -35,26 +38,31 @@ def save(session: Session, file: Optional[str], replace: bool) -> None:
 
 @command("]load FILE", "answers the lines of a file, on top of the sheet as it is")
 def load(session: Session, file: str) -> None:
-    path = os.path.realpath(file)
-    if path in session.loading:
-        raise Mistake(f"{file} is not loaded: it is being loaded already")
-    if len(session.loading) == DEEPEST:
-        raise Mistake(f"{file} is not loaded: {DEEPEST} files are being loaded already")
     first, is_first = len(session.journal.changes), not session.journal.bindings
-    source = files.opened(file)
-    session.loading.append(path)
+    with files.opened(file) as source:
+        status = os.fstat(source.fileno())
+        if not stat.S_ISREG(status.st_mode):
+            raise Mistake(f"{file} cannot be read: it is no ordinary file")
+        if (status.st_dev, status.st_ino) in session.loading:
+            raise Mistake(f"{file} is not loaded: it is being loaded already")
+        if len(session.loading) == DEEPEST:
+            raise Mistake(f"{file} is not loaded: {DEEPEST} files are being loaded already")
+        load_lines(session, file, source, (status.st_dev, status.st_ino))
+    if is_first and not session.loading:
+        session.come_home(files.home_of(file, session.journal, first))
+
+
+def load_lines(session: Session, file: str, source: BinaryIO, identity: Tuple[int, int]) -> None:
+    """Answers the lines of an open file; the changes that they make become one."""
+    first, outer = len(session.journal.changes), session.loading
     try:
-        with source:
-            if not stat.S_ISREG(os.fstat(source.fileno()).st_mode):
-                raise Mistake(f"{file} cannot be read: it is no ordinary file")
-            session.run(file, source)
+        session.loading = [*outer, identity]
+        session.run(file, source)
     except End:  # a line of the file ends the file
         pass
     finally:
-        session.loading.remove(path)
+        session.loading = outer
         session.join(first, f"]load {file}")
-    if is_first and not session.loading:
-        session.come_home(files.home_of(file, session.journal, first))
 
 
 @command("]recover [NUMBER] [--forget]", "goes on with a session that was not saved, the last one as a rule; --forget removes its log")
@@ -65,18 +73,28 @@ def recover(session: Session, number: Optional[str], forget: bool) -> None:
         raise Mistake("\n  ".join([f"there is no session {number} to be recovered", *offers(sessions)]))
     chosen = sessions[int(number) - 1]
     if forget:
-        chosen.path.unlink()
-        session.tell(f"forgotten: {describe(chosen)}")
-        return
-    if not session.journal.is_saved:
+        forget_log(chosen)
+    elif not session.journal.is_saved:
         raise Mistake("this sheet has changes that are not saved; ]save or ]clear comes first")
-    session.remake(chosen.journal, [])
+    else:
+        session.remake(chosen.journal, partial(go_on_with, session, chosen))
+    session.tell(f"{'forgotten' if forget else 'recovered'}: {describe(chosen)}")
+
+
+def forget_log(chosen: recovery.Unended) -> None:
+    try:
+        chosen.path.unlink()
+    except OSError as error:
+        raise Mistake(f"{chosen.path} cannot be removed: {files.reason(error)}") from None
+
+
+def go_on_with(session: Session, chosen: recovery.Unended) -> None:
+    """Takes over the home of a session that is recovered, and logs it; its own log stays until a file has all of it."""
     session.home = chosen.home_as_it_is()
-    with signals.held():
-        if session.log:
-            session.log.begin(session.journal, session.home)
+    session.settle([])
+    if session.log and session.log.begin_anew(session.journal, session.home):
+        with contextlib.suppress(OSError):
             chosen.path.unlink()
-    session.tell(f"recovered: {describe(chosen)}")
 
 
 def offers(sessions: list[recovery.Unended]) -> Iterator[str]:
@@ -88,5 +106,5 @@ def offers(sessions: list[recovery.Unended]) -> Iterator[str]:
 def describe(session: recovery.Unended) -> str:
     """Returns a session in words."""
     changes = session.journal.unsaved
-    file = f" since {os.path.relpath(session.home[1])} was saved" if session.home else ""
+    file = f" since {files.as_seen(session.home[1])} was saved" if session.home else ""
     return f"the session of {session.begun}, {counted(len(changes), 'change')}{file}"

@@ -51,9 +51,9 @@ class Home(NamedTuple):
 
 
 def opened(file: str) -> BinaryIO:
-    """Opens a file for reading; a Mistake where that is not possible."""
+    """Opens a file for reading, and waits for no writer of a pipe; a Mistake where that is not possible."""
     try:
-        return open(file, "rb")
+        return open(file, "rb", opener=lambda path, flags: os.open(path, flags | os.O_NONBLOCK))
     except (OSError, ValueError) as error:
         raise Mistake(f"{file} cannot be read: {reason(error)}") from None
 
@@ -61,6 +61,14 @@ def opened(file: str) -> BinaryIO:
 def reason(error: Exception) -> str:
     """Returns the reason of a failed call of the system."""
     return (error.strerror if isinstance(error, OSError) else None) or str(error)
+
+
+def as_seen(path: str) -> str:
+    """Returns a path as it is from the folder in which the front end was started, if that folder is still there."""
+    try:
+        return os.path.relpath(path)
+    except OSError:
+        return path
 
 
 def digest_of(raw: bytes) -> str:

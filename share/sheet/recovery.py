@@ -6,7 +6,7 @@ It is a text. First comes a line with the time; then each change, by its line. O
   ⍝ joined N: TITLE     the last N changes are one
   ⍝ undo 1: TITLE       the last change is taken back
   ⍝ redo 1: TITLE       it is made again
-  ⍝ saved DIGEST: PATH  the sheet is as that file has it
+  ⍝ saved DIGEST: PATH  the sheet is as that file has it; the path is a string of JSON
 
 A session holds a lock on its log while it runs, so that others see whether it does.
 """
@@ -14,28 +14,33 @@ A session holds a lock on its log while it runs, so that others see whether it d
 from __future__ import annotations
 
 import contextlib
+import errno
 import fcntl
+import json
 import os
 import re
+import stat
 import tempfile
 import threading
 import time
 from pathlib import Path
 from typing import Callable, Iterator, List, NamedTuple, Optional, Sequence, Tuple
 
-from .files import Home, home_of, raw_of
-from .journal import Change, Journal, change_of, joined
+from .files import Home, home_of, raw_of, reason
+from .journal import Change, Journal, change_of
 from .lines import Line
 
 HEAD = "⍝ aplsheet session of "
+NAME = re.compile(r"session-[0-9]{8}-[0-9]{6}-\w+\.apl")
 EVENT = re.compile("⍝ (lines|joined|undo|redo|saved) ([0-9a-f]+): (.*)", re.DOTALL)
 DELAY = 0.5  # seconds until an append is flushed to the disk
-PAUSE = 10  # seconds until another place is tried, where none could be written
 
 
 def state_folder() -> Path:
     """Returns the folder of the history and of the logs, and makes it where it is missing."""
     base = os.environ.get("XDG_STATE_HOME") or os.path.join(os.path.expanduser("~"), ".local", "state")
+    if not os.path.isabs(base):
+        raise FileNotFoundError(errno.ENOENT, "there is no home folder")
     folder = Path(base, "aplsheet")
     folder.mkdir(parents=True, exist_ok=True)
     return folder
@@ -47,28 +52,41 @@ PLACES: List[Callable[[], Path]] = [state_folder, Path.cwd, lambda: Path(tempfil
 class Log:
     """The log of a session that runs.
 
-    path      its file; None where none could be written so far
-    is_whole  whether the file has all changes; it has none before the first that is not saved
-    pending   bytes that are not in the file yet, since the system refused them
+    path       its file; None where none could be written so far
+    is_whole   whether the file has all changes, but for those of `pending`; it has none before the first that is not saved
+    pending    bytes that are not in the file yet, since the system refused them
+    is_behind  whether it was told that changes are not in the file
     """
 
     def __init__(self, tell: Callable[[str], None]) -> None:
         self.tell, self.pending, self.is_whole, self.is_behind = tell, b"", False, False
         self.path: Optional[Path] = None
-        self.file, self.length, self.tried = -1, 0, 0.0
+        self.file, self.length = -1, 0
         self.changed = threading.Event()
         threading.Thread(target=self.flush_regularly, daemon=True).start()
 
     def begin(self, journal: Journal, home: Optional[Home]) -> None:
         """Writes a log of the sheet as it is into a new file, in the first place that takes it; tells where there is none."""
-        self.is_whole = not journal.is_saved
-        events = events_of(journal, home) if self.is_whole else saved(home) if home else []
+        is_whole = not journal.is_saved
+        events = events_of(journal, home) if is_whole else saved(home) if home else []
         raw = raw_of([HEAD + time.strftime("%Y-%m-%d %H:%M:%S"), *events])
+        reasons = []
         for place in PLACES:
-            with contextlib.suppress(OSError):
+            try:
                 self.open_in(place(), raw)
-                return
-        self.fall_behind("no folder can be written")
+            except OSError as error:
+                reasons.append(reason(error))
+                continue
+            self.is_whole = is_whole
+            self.catch_up()
+            return
+        self.fall_behind(reasons[0])
+
+    def begin_anew(self, journal: Journal, home: Optional[Home]) -> bool:
+        """Writes a log of another sheet than before; returns whether a file has it."""
+        self.is_whole, self.pending = False, b""
+        self.begin(journal, home)
+        return self.is_whole and self.is_there
 
     def open_in(self, folder: Path, raw: bytes) -> None:
         """Begins a new file in a folder, and removes the one before it."""
@@ -87,14 +105,21 @@ class Log:
         self.changed.set()
 
     def close(self) -> None:
-        """Closes and removes the file."""
-        if self.file >= 0:
-            os.close(self.file)
-            self.file = -1
-        if self.path:
+        """Removes and closes the file."""
+        if self.path and self.is_there:
             with contextlib.suppress(OSError):
                 self.path.unlink()
-            self.path = None
+        if self.file >= 0:
+            os.close(self.file)
+        self.file, self.path = -1, None
+
+    @property
+    def is_there(self) -> bool:
+        """Whether the file stands at its path."""
+        try:
+            return self.path is not None and os.path.samestat(os.stat(self.path), os.fstat(self.file))
+        except OSError:
+            return False
 
     def append(self, lines: Sequence[str], journal: Journal, home: Optional[Home]) -> None:
         """Appends lines, which log the last change of the sheet. Where the file takes no more, or is gone, a new one is begun."""
@@ -103,18 +128,16 @@ class Log:
             return
         self.pending += raw_of(lines)
         try:
-            if self.file < 0 or os.fstat(self.file).st_nlink == 0:
+            if not self.is_there:
                 raise FileNotFoundError
             write_all(self.file, self.pending)
-            self.length += len(self.pending)
-            self.pending = b""
-            self.changed.set()
-        except OSError as error:
+        except OSError:
             self.cut_off()
-            if time.monotonic() - self.tried > PAUSE:
-                self.tried = time.monotonic()
-                self.move(journal, home, error)
+            self.begin(journal, home)
             return
+        self.length += len(self.pending)
+        self.pending = b""
+        self.changed.set()
         self.catch_up()
 
     def cut_off(self) -> None:
@@ -122,15 +145,6 @@ class Log:
         with contextlib.suppress(OSError):
             os.ftruncate(self.file, self.length)
             os.lseek(self.file, self.length, os.SEEK_SET)
-
-    def move(self, journal: Journal, home: Optional[Home], error: OSError) -> None:
-        """Begins the log anew, in the first place that takes it."""
-        before = self.path
-        self.begin(journal, home)
-        if self.path != before:
-            self.catch_up()
-        else:
-            self.fall_behind(error.strerror or "its file is gone")
 
     def fall_behind(self, why: str) -> None:
         if not self.is_behind:
@@ -152,11 +166,11 @@ class Log:
 
     def is_written(self, journal: Journal, home: Optional[Home]) -> bool:
         """Flushes the log to the disk; returns whether it has all changes."""
-        if self.pending or self.file < 0 or not self.is_whole:
+        if self.pending or not self.is_whole or not self.is_there:
             self.begin(journal, home)
         with contextlib.suppress(OSError):
             os.fsync(self.file)
-        return not self.pending and self.file >= 0
+        return self.is_whole and not self.pending and self.is_there
 
     def end(self, journal: Journal, home: Optional[Home]) -> Optional[Path]:
         """Ends the log: removes it where the sheet is saved, else returns its path, or None where it cannot be written."""
@@ -175,7 +189,7 @@ def write_all(file: int, raw: bytes) -> None:
 
 def events_of(journal: Journal, home: Optional[Home]) -> List[str]:
     """Returns the lines that log a sheet as it is."""
-    lines: List[str] = []
+    lines = saved(home) if home and journal.saved not in journal.changes else []
     for change in journal.changes:
         lines += event_of(change)
         if change is journal.saved and home:
@@ -190,7 +204,7 @@ def event_of(change: Change) -> List[str]:
 
 
 def saved(home: Home) -> List[str]:
-    return [f"⍝ saved {home.digest}: {home.path}"]
+    return [f"⍝ saved {home.digest}: {json.dumps(home.path, ensure_ascii=False)}"]
 
 
 def joined_to(number: int, title: str) -> List[str]:
@@ -229,8 +243,10 @@ class Unended(NamedTuple):
 
 
 def read(path: Path) -> Unended:
-    """Reads a log. A last line that is not complete counts as not there."""
+    """Reads a log; a ValueError where the file is none. A last line that is not complete counts as not there."""
     lines = path.read_bytes().decode("utf-8", "surrogateescape").split("\n")[:-1]
+    if not lines or not lines[0].startswith(HEAD):
+        raise ValueError(f"{path} is no log")
     journal, home, place = Journal(), None, 1
     while place < len(lines):
         event = EVENT.fullmatch(lines[place])
@@ -240,20 +256,28 @@ def read(path: Path) -> Unended:
             continue
         word, count, text = event.groups()
         if word == "saved":
-            home = count, text
+            home = count, json.loads(text)
             journal.mark_saved()
         elif word == "lines":
             group = lines[place : place + int(count)]
             place += int(count)
             if place <= len(lines):
-                journal.add(joined(text, [change_of(Line(line)) for line in group]))
+                add_group(journal, text, group)
         elif word == "joined":
             journal.join(len(journal.changes) - int(count), text)
         elif word == "undo":
             journal.take_back()
         else:
             journal.make_again()
-    return Unended(path, lines[0][len(HEAD) :] if lines else "", journal, home)
+    return Unended(path, lines[0][len(HEAD) :], journal, home)
+
+
+def add_group(journal: Journal, title: str, lines: Sequence[str]) -> None:
+    """Adds lines to a journal as one change."""
+    first = len(journal.changes)
+    for line in lines:
+        journal.add(change_of(Line(line)))
+    journal.join(first, title)
 
 
 def logs() -> List[Path]:
@@ -261,8 +285,17 @@ def logs() -> List[Path]:
     paths: List[Path] = []
     for place in PLACES:
         with contextlib.suppress(OSError):
-            paths += [path for path in place().glob("session-*.apl") if path.stat().st_uid == os.getuid()]
+            paths += filter(is_own, place().glob("session-*.apl"))
     return sorted({*paths}, key=lambda path: path.name, reverse=True)
+
+
+def is_own(path: Path) -> bool:
+    """Whether a file has the name of a log, and is an ordinary one of this user."""
+    try:
+        status = path.lstat()
+    except OSError:
+        return False
+    return bool(NAME.fullmatch(path.name)) and stat.S_ISREG(status.st_mode) and status.st_uid == os.getuid()
 
 
 def unended() -> Iterator[Unended]:
@@ -274,7 +307,7 @@ def unended() -> Iterator[Unended]:
             session = read(path)
             if not session.journal.is_saved:
                 yield session
-            elif session.begun:
+            else:
                 path.unlink()
 
 

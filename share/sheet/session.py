@@ -4,7 +4,8 @@ from __future__ import annotations
 
 import os
 import traceback
-from typing import Callable, Dict, Iterable, List, NamedTuple, Optional, Sequence
+from functools import partial
+from typing import Callable, Dict, Iterable, List, NamedTuple, Optional, Sequence, Tuple
 
 from . import notes, pager, places
 from . import change_commands, file_commands, help_commands, name_commands, table_commands  # noqa: F401: they fill commands.COMMANDS
@@ -46,7 +47,7 @@ class Session:
     is_check    whether only errors and refusals are wanted, and no file is written
     faults      how many lines were refused or were errors
     place       the place of the line that is answered, if it is of a script
-    loading     the files that are being loaded
+    loading     the files that are being loaded, each by its device and its number there
     watch       the names that are shown after each change that reaches them
     changed     the names that were bound anew since these were shown
     draft       a line that is given back to the person to be edited
@@ -62,7 +63,7 @@ class Session:
         self.place: Optional[Place] = None
         self.on_screen: Optional[str] = None
         self.faults, self.draft, self.is_settled = 0, "", True
-        self.loading: List[str] = []
+        self.loading: List[Tuple[int, int]] = []
         self.changed: Dict[str, Optional[Binding]] = {}
 
     @property
@@ -257,13 +258,16 @@ class Session:
         with signals.without_interrupts():
             self.program.stop()
             try:
-                self.take_over(self.program, self.journal)
+                self.take_over(self.program, self.journal, partial(self.settle, []))
             except ProgramFailed as failure:
                 self.log = self.log or (None if self.is_check else Log(self.tell))
                 raise Lost(str(failure)) from None
 
-    def take_over(self, program: Program, journal: Journal, events: Sequence[str] = ()) -> None:
-        """Starts a program, gives it the changes of a journal, and goes on with both; ProgramFailed where that is not possible."""
+    def take_over(self, program: Program, journal: Journal, settle: Callable[[], None]) -> None:
+        """Starts a program, gives it the changes of a journal, and goes on with both; ProgramFailed where that is not possible.
+
+        `settle` is called with signals held, when the sheet is that of the journal.
+        """
         lines = journal.lines
         program.start()
         for printed in Progress("the sheet is made again", len(lines), self.is_typed).over(program.answers(lines)):
@@ -273,15 +277,15 @@ class Session:
             lost = ", ".join(sorted(self.journal.slots))
             self.program, self.journal = program, journal
             self.journal.slots.clear()
-            self.settle(events)
+            settle()
         if lost:
             self.tell(f"  the changes that were open are given up: {lost}")
 
-    def remake(self, journal: Journal, events: Sequence[str]) -> None:
-        """Goes on with another journal in a new program. Where that fails or is stopped, the sheet is as it was."""
+    def remake(self, journal: Journal, settle: Callable[[], None]) -> None:
+        """Goes on with another journal in a new program, as take_over does. Where that fails or is stopped, the sheet is as it was."""
         former, program = self.program, self.program.another()
         try:
-            self.take_over(program, journal, events)
+            self.take_over(program, journal, settle)
         except ProgramFailed as failure:
             raise Mistake(f"the sheet is as it was: {failure}") from None
         finally:
@@ -297,8 +301,7 @@ class Session:
         if not change:
             raise Mistake("there is no change to take back")
         if not self.is_inverted(change):
-            self.remake(self.journal.without_last(), undone(change))
-            self.changed.update(change.bound)
+            self.remake(self.journal.without_last(), partial(self.settle, undone(change), change))
         return f"taken back: {change.title}"
 
     def is_inverted(self, change: Change) -> bool:

@@ -64,6 +64,12 @@ class Room:
         path.chmod(0o755)
         return str(path)
 
+    def customize(self, code: str) -> None:
+        """Makes each Python that starts in this room run this code first."""
+        (self.folder / "site").mkdir()
+        (self.folder / "site/sitecustomize.py").write_text(code)
+        self.environment["PYTHONPATH"] = str(self.folder / "site")
+
     def words(self, *words: str, program: Optional[str] = None) -> list[str]:
         return [*SHEET, "--program", program or self.program, *words]
 

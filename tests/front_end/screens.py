@@ -10,6 +10,7 @@ import pty
 import re
 import select
 import shlex
+import signal
 import struct
 import subprocess
 import termios
@@ -64,6 +65,14 @@ class Screen:
         self.read(lambda: False)
         os.close(self.master)
         return self.process.wait(SECONDS), self.shown[before:]
+
+    def break_off(self, sign: Optional[signal.Signals]) -> None:
+        """Ends it by a signal, or closes the terminal where there is none, and waits until it has ended."""
+        if sign:
+            self.process.send_signal(sign)
+            self.read(lambda: False)
+        os.close(self.master)
+        self.process.wait(SECONDS)
 
     def close(self) -> None:
         """Closes the terminal, as that of a window is closed, and waits until the shell and the front end have ended."""
