@@ -6,13 +6,12 @@ import contextlib
 import os
 import pydoc
 import shutil
-import sys
 from typing import Sequence
 
 
 def is_wanted(lines: Sequence[str], is_text: bool) -> bool:
     """Whether lines are more than the screen has, or those of a table and no text are wider, and the terminal can show pages."""
-    if not (sys.stdin.isatty() and sys.stdout.isatty()) or os.environ.get("TERM", "dumb") == "dumb":
+    if os.environ.get("TERM", "dumb") == "dumb":
         return False
     size = shutil.get_terminal_size()
     rows = sum(1 + max(0, len(line) - 1) // size.columns for line in lines)

@@ -44,6 +44,7 @@ class Session:
     log         the log of the session; None where lines are not typed
     show        called with each line that is an answer
     tell        called with each line that tells of something else: errors, refusals, notes
+    has_screen  whether the answers go to a terminal
     is_check    whether only errors and refusals are wanted, and no file is written
     faults      how many lines were refused or were errors
     place       the place of the line that is answered, if it is of a script
@@ -60,6 +61,7 @@ class Session:
         self.journal, self.watch = Journal(), Watch()
         self.home: Optional[Home] = None
         self.log: Optional[Log] = None
+        self.has_screen = False
         self.place: Optional[Place] = None
         self.on_screen: Optional[str] = None
         self.faults, self.draft, self.is_settled = 0, "", True
@@ -120,7 +122,7 @@ class Session:
 
     def show_value(self, lines: Sequence[str], is_text: bool = False) -> None:
         """Shows a value, or a text, in the pager if it is beyond the screen."""
-        if self.is_typed and pager.is_wanted(lines, is_text):
+        if self.is_typed and self.has_screen and pager.is_wanted(lines, is_text):
             pager.show(lines)
             return
         if not self.is_check:

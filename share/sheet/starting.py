@@ -8,14 +8,14 @@ import os
 import signal
 import sys
 from pathlib import Path
-from typing import Sequence
+from typing import NoReturn, Sequence, TextIO
 
 from . import file_commands, files, recovery
 from .errors import End, Lost, OutputFailed, Stopped
 from .interrupts import signals
 from .program import Program, ProgramFailed
 from .recovery import Log
-from .session import Session
+from .session import Session, told_of
 from .terminal import Terminal
 from .version import version_line
 
@@ -39,35 +39,59 @@ def words() -> argparse.ArgumentParser:
 
 
 class Output:
-    """Where output goes: the answers to standard output, and all else to standard error, behind the answers so far."""
+    """Where output goes: the answers to standard output, and all else to standard error, behind the answers so far.
+
+    answers     standard output
+    has_screen  whether the answers go to a terminal
+    """
 
     def __init__(self) -> None:
         self.answers = sys.stdout
+        self.has_screen = self.answers.isatty()
 
     def part(self) -> None:
         """Keeps standard output for the answers where it is no terminal; lines are then edited at the terminal of standard input."""
-        if not self.answers.isatty():
+        if not self.has_screen:
             self.answers = open(os.dup(1), "w", encoding="utf-8", errors="surrogateescape", buffering=1)
             os.dup2(0, 1)
+            with contextlib.suppress(OSError):  # standard input may be open for reading alone
+                redirect(sys.stdout, os.ttyname(0))
 
     def show(self, line: str) -> None:
         """Writes a line of an answer."""
         try:
             print(line, file=self.answers)
         except OSError as error:
-            raise OutputFailed("" if isinstance(error, BrokenPipeError) else error.strerror) from None
+            self.fail(error)
 
     def flush(self) -> None:
         """Writes the answers so far."""
         try:
             self.answers.flush()
         except OSError as error:
-            raise OutputFailed("" if isinstance(error, BrokenPipeError) else error.strerror) from None
+            self.fail(error)
+
+    def fail(self, error: OSError) -> NoReturn:
+        """Raises OutputFailed. The answers that are not written yet are dropped, and so are those behind them."""
+        redirect(self.answers, os.devnull)
+        raise OutputFailed("" if isinstance(error, BrokenPipeError) else error.strerror) from None
 
     def tell(self, line: str) -> None:
-        """Writes a line that is no answer."""
-        self.flush()
-        print(line, file=sys.stderr, flush=True)
+        """Writes a line that is no answer; drops it where standard error takes no more."""
+        try:
+            self.flush()
+        finally:
+            try:
+                print(line, file=sys.stderr, flush=True)
+            except OSError:
+                redirect(sys.stderr, os.devnull)
+
+
+def redirect(stream: TextIO, path: str) -> None:
+    """Makes a stream write to another file."""
+    file = os.open(path, os.O_WRONLY | os.O_NOCTTY)
+    os.dup2(file, stream.fileno())
+    os.close(file)
 
 
 def main(top: Path) -> int:
@@ -77,6 +101,7 @@ def main(top: Path) -> int:
     signals.install()
     output, program = Output(), Program([options.program or str(Path(top, "bin", "aplsheet"))])
     session = Session(program, output.show, output.tell, options.check)
+    session.has_screen = output.has_screen
     try:
         program.start()
         answer_and_keep(session, options.scripts or ["-"], output)
@@ -86,8 +111,9 @@ def main(top: Path) -> int:
     except (KeyboardInterrupt, Stopped):
         return 128 + signal.SIGINT
     except OutputFailed as failure:
-        os.dup2(os.open(os.devnull, os.O_WRONLY), 1)  # for what is not written yet
         sys.exit(f"sheet: standard output: {failure}" if str(failure) else 1)
+    except Exception as fault:
+        sys.exit(f"sheet: FAULT OF THE FRONT END: {told_of(fault)}")
     finally:
         session.program.stop()
     return signals.status or int(session.faults > 0)

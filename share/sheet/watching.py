@@ -4,7 +4,6 @@ from __future__ import annotations
 
 import os
 import re
-import sys
 from typing import TYPE_CHECKING, Dict, Iterable, List
 
 if TYPE_CHECKING:
@@ -39,7 +38,7 @@ class Watch:
         reached = session.journal.reached(changed)
         names = [name for name in self.shown if name in reached]
         for name, lines in zip(names, session.program.ask_all(names)):
-            shown = in_bold(self.shown[name], lines) if self.shown[name] and has_bold() else lines
+            shown = in_bold(self.shown[name], lines) if self.shown[name] and session.has_screen and has_bold() else lines
             is_short = len(lines) == 1
             session.show(f"{name}  {shown[0]}" if is_short else name)
             for line in shown * (not is_short):
@@ -48,7 +47,8 @@ class Watch:
 
 
 def has_bold() -> bool:
-    return sys.stdout.isatty() and os.environ.get("TERM", "dumb") != "dumb"
+    """Whether the terminal can show bold characters."""
+    return os.environ.get("TERM", "dumb") != "dumb"
 
 
 def in_bold(before: List[str], lines: List[str]) -> List[str]:
