@@ -189,8 +189,10 @@ class Program:
     def fail(self) -> NoReturn:
         """Raises ProgramFailed: the program has ended, or has closed its output."""
         status = self.status(SECONDS)
-        how = "has closed its output" if status is None else f"was stopped by signal {-status}" if status < 0 else f"ended with status {status}"
         self.stop()
+        if status is None:
+            raise ProgramFailed(f"{self.words[0]} has closed its output")
+        how = f"was stopped by signal {-status}" if status < 0 else f"ended with status {status}"
         raise ProgramFailed(f"{self.words[0]} {how}")
 
 

@@ -162,7 +162,8 @@ def end_with_a_full_disk(room: Room) -> Outcome:
     full.unlink()
     again = screen.end()
     is_kept = "]recover goes on with it" in again[1] and "A←5\nB←6\n" in room.kept()
-    return (stays, sheet, status, "the sheet is lost" in shown, again[0], is_kept), (True, "A,B\n5 6\n", 0, True, 0, True)
+    came = stays, sheet, status, "the sheet is lost" in shown, again[0], is_kept
+    return came, (True, "A,B\n5 6\n", 0, True, 0, True)
 
 
 def remove_folder(room: Room) -> None:
@@ -218,7 +219,8 @@ def recovered_twice(room: Room) -> Outcome:
     first.keys("B`[6\n")
     third = Screen(room)
     told = second.keys("]recover 1 --forget\n"), third.keys("]recover\n")
-    return (before, ["forgotten" in told[0], "there is no session 1" in told[1]], first.keys("A,B\n")), (["A←5\n"], [True, True], "A,B\n5 6\n")
+    is_told = "forgotten" in told[0], "there is no session 1" in told[1]
+    return (before, is_told, first.keys("A,B\n")), (["A←5\n"], (True, True), "A,B\n5 6\n")
 
 
 def recovered_over_pipes(room: Room) -> Outcome:
@@ -243,9 +245,10 @@ def tests(times: int) -> list[Test]:
     broken = [Test(f"broken off: {name}{', pasted' * more}", broken_off, (times, sign, more)) for name, sign, more in ends]
     homes = {"a": ("a.apl", "⍝ a plan\nA←1\n", "B←2"), "of no lines": ("b.apl", "", "B←2"), "of two lines": ("a\nb.apl", "A←1\n", "B←2")}
     back = [Test(f"home of a recovered sheet: {name}", home_of_a_recovered_sheet, row) for name, row in homes.items()]
-    full = [Test(f"full disk: {first} to {last}", full_disk, (first, last)) for first, last in ((0, 1), (0, 3), (1, 2), (1, 4), (2, 3), (2, 6))]
-    lost = [Test(f"lost log: {call.__name__}{', then the end' * more}", lost_log, (number, more))
-            for number, call in enumerate(LOSSES) for more in (False, True)]
+    times_full = ((0, 1), (0, 3), (1, 2), (1, 4), (2, 3), (2, 6))
+    full = [Test(f"full disk: {first} to {last}", full_disk, (first, last)) for first, last in times_full]
+    losses = [(number, call.__name__, is_last) for number, call in enumerate(LOSSES) for is_last in (False, True)]
+    lost = [Test(f"lost log: {name}{', then the end' * is_last}", lost_log, (number, is_last)) for number, name, is_last in losses]
     none = [Test(f"state folder that is none: {state}", state_folder_that_is_none, (state,)) for state in ("state", None)]
     rest = named_tests([changes_of_many_lines, foreign_files, end_with_a_full_disk, recovered_twice, recovered_over_pipes])
     return [*broken, *back, *full, *lost, *none, *rest]

@@ -23,13 +23,16 @@ PROMPT = " " * 6
 
 
 class Screen:
-    """A terminal at which the front end runs, or a shell that runs it: what it has shown, and keys for it."""
+    """A terminal at which the front end runs, or a shell that runs it: what it has shown, and keys for it.
 
-    def __init__(self, room: Room, *words: str, program: Optional[str] = None, shell: Optional[str] = None) -> None:
+    `more` is what stands behind the call of the front end on a line of the shell.
+    """
+
+    def __init__(self, room: Room, *words: str, program: Optional[str] = None, shell: Optional[str] = None, more: str = "") -> None:
         self.master, slave = pty.openpty()
         fcntl.ioctl(slave, termios.TIOCSWINSZ, struct.pack("HHHH", 50, 200, 0, 0))
         call = room.words(*words, program=program)
-        begun = ["setsid", "--ctty", *([shell, "-i"] if shell else call)]
+        begun = ["setsid", "--ctty", *([shell, "-i"] if shell else ["sh", "-c", f"{shlex.join(call)} {more}"] if more else call)]
         self.process = subprocess.Popen(begun, stdin=slave, stdout=slave, stderr=slave, cwd=room.folder, env=room.environment)
         os.close(slave)
         self.shown, self.decoder, self.pipe = "", codecs.getincrementaldecoder("utf-8")("replace"), -1

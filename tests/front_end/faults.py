@@ -1,0 +1,181 @@
+"""Streams that are closed or take no more, paths that are none, bugs of the front end, and programs that hang: no traceback, and an end."""
+
+from __future__ import annotations
+
+import itertools
+import os
+import re
+import signal
+import subprocess
+from pathlib import Path
+
+from .rooms import SECONDS, Outcome, Room, Test, named_tests
+from .screens import PROMPT, Screen
+
+BUG = """
+import sys
+from pathlib import Path
+sys.path.insert(0, {share!r})
+from sheet import session
+
+def fail(*words):
+    raise {fault}
+
+session.Session.undo = fail
+"""
+SHARE = str(Path(__file__).resolve().parents[2] / "share")
+
+
+def closed_streams(room: Room, closing: str) -> Outcome:
+    """Where streams are closed, the lines are answered all the same, and what remains open has its part."""
+    room.put("a.apl", "1+1\nQ\n]save kept.apl --replace\n")
+    words = " ".join(map(str, room.words("a.apl", "-")))
+    how = {"cwd": room.folder, "env": room.environment, "capture_output": True, "text": True, "timeout": SECONDS, "input": ""}
+    ran = subprocess.run(f"{words} {closing}", shell=True, **how)
+    said = "a.apl:2: VALUE ERROR\n  Q\n  Q is not there\n0 names saved in kept.apl\n"
+    wanted = 1, "2\n" * (">&-" not in re.findall(r"(?<!2)>&-", closing)), said * ("2>&-" not in closing)
+    return (ran.returncode, ran.stdout, ran.stderr), wanted
+
+
+def full_output(room: Room) -> Outcome:
+    """Where standard output is full this is told, and where standard error is, the answers go on."""
+    words = " ".join(map(str, room.words()))
+    how = {"cwd": room.folder, "env": room.environment, "capture_output": True, "text": True, "timeout": SECONDS, "input": "1\nQ\n2\n"}
+    ran = [subprocess.run(f"{words} {to}", shell=True, **how) for to in ("> /dev/full", "2> /dev/full", "> /dev/full 2> /dev/full")]
+    came = [(call.returncode, call.stdout, call.stderr) for call in ran]
+    return came, [(1, "", "sheet: standard output: No space left on device\n"), (1, "1\n2\n", ""), (1, "", "")]
+
+
+def output_at_a_terminal(room: Room, more: str, ends: bool) -> Outcome:
+    """At a terminal, the prompt and the keys work whatever standard output is; where it takes no more, it is told where the sheet is kept."""
+    screen = Screen(room, more=more)
+    typed = screen.keys("A`[5\n")
+    screen.keys(")DATA D`[100 1`r`i100\n")
+    shown = screen.end("A\nD\n") if ends else (screen.keys("A\n"), screen.keys("D\n"), screen.end()[1])
+    is_kept = "]recover goes on with it, from " in shown[-1] and "Traceback" not in screen.shown
+    answers = (room.folder / "log").read_text().split() if "log" in more else []
+    wanted = ["5", *map(str, range(1, 101))] if "log" in more else []
+    return (typed, is_kept, room.kept(), answers), ("A←5\n", True, ["A←5\n)DATA D←100 1⍴⍳100\n"], wanted)
+
+
+def paths_that_are_none(room: Room) -> Outcome:
+    """A path with NUL in it is no file, for whatever command."""
+    lines = [f"]{word} 'a\0b'{rest}\n" for word, rest in (("load", ""), ("save", ""), ("save", " --replace"))]
+    status, _, told = room.call(lines="A←1\n" + "".join(lines) + "A\n")
+    return (status, told.count("cannot be"), told.count("embedded null byte"), "FAULT" in told), (1, 3, 3, False)
+
+
+def lost_folder(room: Room) -> Outcome:
+    """Where the folder goes in which the front end was started, files are found by their whole paths."""
+    folder = room.folder / "gone"
+    folder.mkdir()
+    room.put("a.apl", "A←1\n")
+    outside = Room(room.program, str(room.folder))
+    outside.folder = folder
+    screen = Screen(outside, "../a.apl", "-")
+    screen.keys("B`[2\n")
+    folder.rmdir()
+    told = [screen.keys(line) for line in ("]save b.apl\n", "]load b.apl\n", "]save\n", "B`[3\n")]
+    screen.break_off(signal.SIGKILL)
+    folder.mkdir()
+    begun = Screen(outside)
+    folder.rmdir()
+    told += [begun.keys("]recover\n"), begun.keys("]save\n"), begun.end()[1]]
+    return (["FAULT" in text or "Traceback" in text for text in told], (room.folder / "a.apl").read_text()), ([False] * 7, "A←1\nB←3\n")
+
+
+def bug_in_a_command(room: Room, fault: str) -> Outcome:
+    """A fault of the front end itself is told with its place; the sheet is as it was before that line, and goes on."""
+    room.customize(BUG.format(share=SHARE, fault=fault))
+    status, printed, told = room.call(lines="A←1\n]undo\nB←A+1\nB\n)NAMES\n")
+    kind = fault.partition("(")[0]
+    place = re.search(rf"^line 2: FAULT OF THE FRONT END: {kind}: .*\(sitecustomize.py:8\)\n  ", told, re.MULTILINE)
+    return (status, printed, bool(place), told.count("FAULT")), (1, "2\nA\nB\n", True, 1)
+
+
+def end_in_a_file(room: Room) -> Outcome:
+    """]off in a file that is loaded ends that file alone, and a file that loads itself in each line comes to an end."""
+    room.put("a.apl", "A←1\n]off\nA←2\n")
+    room.put("self.apl", "]load self.apl\n]load ./self.apl\nS←1\n")
+    os.link(room.folder / "self.apl", room.folder / "same.apl")
+    os.symlink("self.apl", room.folder / "link.apl")
+    room.put("pairs.apl", "]load same.apl\n]load link.apl\nP←1\n")
+    status, printed, told = room.call(lines="]load a.apl\nA\n]load self.apl\n]load pairs.apl\n)NAMES\n")
+    return (status, printed, told.count("it is being loaded already")), (1, "1\nA\nS\nP\n", 6)
+
+
+def pipe_that_is_loaded(room: Room) -> Outcome:
+    """A pipe is no ordinary file; nobody is waited for who writes into it."""
+    os.mkfifo(room.folder / "pipe")
+    told = room.messages("]load pipe", "]save pipe", "]save pipe --replace", "]load /dev/null", "]save /dev/null --replace")
+    return told.count("it is no ordinary file"), 5
+
+
+def hanging_program(room: Room, is_typed: bool) -> Outcome:
+    """Ctrl-C ends the wait for a program that never answers, and the program too."""
+    program = room.put("hangs", f"#!/bin/sh\necho $$ > {room.folder}/number\nexec sleep 1000\n")
+    (room.folder / program).chmod(0o755)
+    pipes = {"stdin": subprocess.PIPE, "stdout": subprocess.PIPE, "stderr": subprocess.PIPE}
+    call = subprocess.Popen(room.words(program=str(room.folder / program)), cwd=room.folder, env=room.environment, **pipes)
+    number = room.folder / "number"
+    while not (number.exists() and number.read_text().endswith("\n")):
+        if call.poll() is not None:
+            return call.communicate(), "a program that is started"
+    call.send_signal(signal.SIGINT if is_typed else signal.SIGTERM)
+    printed = call.communicate(timeout=SECONDS)
+    return (call.returncode, printed, Path(f"/proc/{number.read_text().strip()}").exists()), (130 if is_typed else 143, (b"", b""), False)
+
+
+def program_that_closes_its_output(room: Room) -> Outcome:
+    """A program that closes its output, or prints nothing but one line, is told of; at the start that ends the front end."""
+    closes = room.folder / "closes"
+    closes.write_text("#!/bin/sh\nexec sleep 1000 > /dev/null\n")
+    closes.chmod(0o755)
+    return room.call(lines="1\n", program=str(closes)), (1, "", f"sheet: {closes} has closed its output\n")
+
+
+def reader_that_dies(room: Room) -> Outcome:
+    """Where the thread dies that takes in what is printed, a new program goes on."""
+    code = BUG.partition("def fail")[0] + """
+import threading
+from sheet import program
+threading.excepthook = lambda _: None
+decode = program.pass_lines
+
+def fail_once(output, lines):
+    program.pass_lines = decode
+    decode((line if b"F0" not in line else 1 // 0 for line in output), lines)
+
+program.pass_lines = fail_once
+"""
+    room.customize(code.format(share=SHARE))
+    status, printed, told = room.call(lines="A←5\n'F0'\nA\n")
+    return (status, printed, "line 2: PROGRAM FAILED: " in told), (1, "5\n", True)
+
+
+def pager(room: Room, more: str) -> Outcome:
+    """A value that is beyond the screen goes by the pager at a terminal, and stands in the file where standard output is one."""
+    room.environment.update(TERM="xterm", PAGER="tee paged")
+    screen = Screen(room, more=more)
+    for line in (")DATA D`[60 1`r`i60\n", "D\n", "]watch T\n", "T`[D[7;1]+1\n", "]watch T\n", "D[7;1]`[9\n"):
+        shown = screen.keys(line)
+    screen.end()
+    paged = (room.folder / "paged").read_text().split() if (room.folder / "paged").exists() else []
+    rows = [str(number) for number in range(1, 61)]
+    if not more:
+        return (paged, "T  \x1b[1m10\x1b[0m\n" in shown), (rows, True)
+    return (paged, (room.folder / "log").read_text().split()), ([], [*rows, "T", "8", "T", "10"])
+
+
+def tests(_times: int) -> list[Test]:
+    streams = ["<&-", ">&-", "2>&-"]
+    closings = [" ".join(some) for number in (1, 2, 3) for some in itertools.combinations(streams, number)]
+    closed = [Test(f"closed streams: {closing}", closed_streams, (closing,)) for closing in closings]
+    outputs = {"| true": True, "> /dev/full": True, "| tee log > /dev/null": False, "< /dev/tty > log": False}
+    output = [Test(f"output at a terminal: {more}", output_at_a_terminal, (more, ends)) for more, ends in outputs.items()]
+    errors = ["KeyError(1)", "MemoryError()", "OSError(5)", "RecursionError()"]
+    bugs = [Test(f"bug in a command: {fault}", bug_in_a_command, (fault,)) for fault in errors]
+    hanging = [Test(f"hanging program: {is_typed}", hanging_program, (is_typed,)) for is_typed in (True, False)]
+    pages = [Test(f"pager {more}", pager, (more,)) for more in ("", "> log")]
+    calls = [full_output, paths_that_are_none, lost_folder, end_in_a_file, pipe_that_is_loaded, program_that_closes_its_output]
+    return [*closed, *output, *bugs, *hanging, *pages, *named_tests([*calls, reader_that_dies])]
