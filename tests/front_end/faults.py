@@ -10,7 +10,7 @@ import subprocess
 from pathlib import Path
 
 from .rooms import SECONDS, Outcome, Room, Test, named_tests
-from .screens import PROMPT, Screen
+from .screens import Screen
 
 BUG = """
 import sys
