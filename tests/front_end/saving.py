@@ -267,6 +267,7 @@ def faults_of_case(chance: Chance, folder: Path, programs: list[Program], lines:
             chance.change_table()
         lines.append(f"]save {folder / chance.choice(['plan.apl', 'plan.apl', 'other.apl'])}")
         yield from Saving(sheet, programs[1]).faults(Path(lines[-1][6:]))
+        yield from sheet.faults_told
     programs[0] = sheet.program
 
 

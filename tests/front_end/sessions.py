@@ -9,7 +9,7 @@ from pathlib import Path
 from typing import NamedTuple, Sequence
 
 from sheet.interrupts import signals
-from sheet.journal import Journal, Place
+from sheet.journal import Journal
 from sheet.lines import Line
 from sheet.program import Program
 from sheet.session import Session
@@ -34,7 +34,7 @@ class Sheet(Session):
         program.stop()
         program.start()
 
-    def complain(self, text: str, what: str, remarks: object = ()) -> None:
+    def complain(self, text: str, what: str, *_remarks: object) -> None:
         self.told.append(what)
         if Line(text).kind not in ("show", "csv"):
             self.refused.append(text)
@@ -44,10 +44,10 @@ class Sheet(Session):
         for line in lines:
             self.take(line)
 
-    def take_script(self, *lines: str) -> None:
-        """Answers lines of a script."""
-        for number, line in enumerate(lines, 1):
-            self.take(line, Place("script.apl", number))
+    @property
+    def faults_told(self) -> list[str]:
+        """What was told of faults of the front end, or of the program."""
+        return [line for line in self.told if line.startswith(("FAULT", "PROGRAM FAILED"))]
 
     def remake(self, journal: Journal, events: Sequence[str]) -> None:
         self.remade += 1

@@ -85,7 +85,7 @@ def undone_by_chance(room: Room, seed: int) -> Outcome:
     is_right = all(map(undoing.step, range(CHANGES)))
     undoing.end()
     is_mostly_inverted = undoing.sheet.remade * 2 < undoing.undone
-    return (is_right or undoing.lines, is_mostly_inverted), (True, True)
+    return (is_right or undoing.lines, is_mostly_inverted, undoing.sheet.faults_told), (True, True, [])
 
 
 def open_change(room: Room) -> Outcome:
