@@ -49,7 +49,7 @@ def load(session: Session, file: str) -> None:
             raise Mistake(f"{file} is not loaded: {DEEPEST} files are being loaded already")
         load_lines(session, file, source, (status.st_dev, status.st_ino))
     if is_first and not session.loading:
-        session.come_home(files.home_of(file, session.journal, first))
+        session.come_home(files.home_of(file, session.journal, first), session.journal.last)
 
 
 def load_lines(session: Session, file: str, source: BinaryIO, identity: Tuple[int, int]) -> None:

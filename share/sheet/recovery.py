@@ -23,6 +23,7 @@ import stat
 import tempfile
 import threading
 import time
+from itertools import islice
 from pathlib import Path
 from typing import Callable, Iterator, List, NamedTuple, Optional, Sequence, Tuple
 
@@ -242,42 +243,61 @@ class Unended(NamedTuple):
         return there._replace(parts=None) if there and there.digest == digest else Home(path, digest)
 
 
+class Replay:
+    """The events of a log, taken in one after the other.
+
+    journal  the changes
+    home     the digest and the path of the file that the sheet was loaded from or saved to, or None
+    arrival  the change that loaded that file, if one did
+    event    the event before
+    """
+
+    def __init__(self) -> None:
+        self.journal, self.event = Journal(), ""
+        self.home: Optional[Tuple[str, str]] = None
+        self.arrival: Optional[Change] = None
+
+    def take(self, event: str, count: str, text: str) -> None:
+        """Takes in an event that is no change."""
+        if event == "saved":
+            self.home = count, json.loads(text)
+            self.arrival = self.journal.last if self.event == "joined" else None
+            self.journal.mark_saved()
+        elif event == "joined":
+            self.journal.join(len(self.journal.changes) - int(count), text)
+        elif event == "redo":
+            self.journal.make_again()
+        elif self.journal.take_back() is self.arrival:
+            self.home = None
+        self.event = event
+
+    def add(self, lines: Sequence[str], title: Optional[str] = None) -> None:
+        """Takes in a change: a line, or several lines with their title."""
+        first = len(self.journal.changes)
+        for line in lines:
+            self.journal.add(change_of(Line(line)))
+        if title is not None:
+            self.journal.join(first, title)
+        self.event = ""
+
+
 def read(path: Path) -> Unended:
     """Reads a log; a ValueError where the file is none. A last line that is not complete counts as not there."""
     lines = path.read_bytes().decode("utf-8", "surrogateescape").split("\n")[:-1]
     if not lines or not lines[0].startswith(HEAD):
         raise ValueError(f"{path} is no log")
-    journal, home, place = Journal(), None, 1
-    while place < len(lines):
-        event = EVENT.fullmatch(lines[place])
-        place += 1
-        if not event:
-            journal.add(change_of(Line(lines[place - 1])))
-            continue
-        word, count, text = event.groups()
-        if word == "saved":
-            home = count, json.loads(text)
-            journal.mark_saved()
-        elif word == "lines":
-            group = lines[place : place + int(count)]
-            place += int(count)
-            if place <= len(lines):
-                add_group(journal, text, group)
-        elif word == "joined":
-            journal.join(len(journal.changes) - int(count), text)
-        elif word == "undo":
-            journal.take_back()
+    replay, waiting = Replay(), iter(lines[1:])
+    for line in waiting:
+        event = EVENT.fullmatch(line)
+        if event and event[1] == "lines":
+            group = [*islice(waiting, int(event[2]))]
+            if len(group) == int(event[2]):
+                replay.add(group, event[3])
+        elif event:
+            replay.take(event[1], event[2], event[3])
         else:
-            journal.make_again()
-    return Unended(path, lines[0][len(HEAD) :], journal, home)
-
-
-def add_group(journal: Journal, title: str, lines: Sequence[str]) -> None:
-    """Adds lines to a journal as one change."""
-    first = len(journal.changes)
-    for line in lines:
-        journal.add(change_of(Line(line)))
-    journal.join(first, title)
+            replay.add([line])
+    return Unended(path, lines[0][len(HEAD) :], replay.journal, replay.home)
 
 
 def logs() -> List[Path]:

@@ -41,6 +41,7 @@ class Session:
     program     the program that answers
     journal     the changes that it has accepted
     home        the script that the sheet was loaded from or saved to, if there is one
+    arrival     the change that loaded the home by ]load, if one did: without it the sheet has no home
     log         the log of the session; None where lines are not typed
     show        called with each line that is an answer
     tell        called with each line that tells of something else: errors, refusals, notes
@@ -60,6 +61,7 @@ class Session:
         self.program, self.show, self.tell, self.is_check = program, show, tell, is_check
         self.journal, self.watch = Journal(), Watch()
         self.home: Optional[Home] = None
+        self.arrival: Optional[Change] = None
         self.log: Optional[Log] = None
         self.has_screen = False
         self.place: Optional[Place] = None
@@ -195,11 +197,11 @@ class Session:
             self.journal.add(change)
             self.settle(event_of(change), change)
 
-    def come_home(self, home: Optional[Home]) -> None:
+    def come_home(self, home: Optional[Home], arrival: Optional[Change] = None) -> None:
         """Makes a file the home of the sheet, which is as that file has it; tells where another session has a new home too."""
         former = self.home
         with signals.held():
-            self.home = home
+            self.home, self.arrival = home, arrival
             self.journal.mark_saved()
             self.settle(saved(home) if home else [])
         if home and (former is None or former.path != home.path):
@@ -304,6 +306,8 @@ class Session:
             raise Mistake("there is no change to take back")
         if not self.is_inverted(change):
             self.remake(self.journal.without_last(), partial(self.settle, undone(change), change))
+        if change is self.arrival:
+            self.home = self.arrival = None
         return f"taken back: {change.title}"
 
     def is_inverted(self, change: Change) -> bool:

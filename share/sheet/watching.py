@@ -28,15 +28,16 @@ class Watch:
             self.shown.pop(name, None)
 
     def rename(self, old: str, new: str) -> None:
-        """Watches a name under another name."""
-        self.shown = {new if name == old else name: lines for name, lines in self.shown.items()}
+        """Watches the name too that another one gets; the old one comes back where that is undone."""
+        if old in self.shown:
+            self.shown.update({old: [], new: []})
 
     def show(self, session: Session, changed: Iterable[str]) -> None:
         """Shows those names again that a change of others reaches; items that are not as before in bold, at a terminal that can."""
         if not self.shown or session.is_check:
             return
         reached = session.journal.reached(changed)
-        names = [name for name in self.shown if name in reached]
+        names = [name for name, lines in self.shown.items() if name in reached and (lines or name in session.journal.bindings)]
         for name, lines in zip(names, session.program.ask_all(names)):
             shown = in_bold(self.shown[name], lines) if self.shown[name] and session.has_screen and has_bold() else lines
             is_short = len(lines) == 1

@@ -32,7 +32,7 @@ def closed_streams(room: Room, closing: str) -> Outcome:
     words = " ".join(map(str, room.words("a.apl", "-")))
     how = {"cwd": room.folder, "env": room.environment, "capture_output": True, "text": True, "timeout": SECONDS, "input": ""}
     ran = subprocess.run(f"{words} {closing}", shell=True, **how)
-    said = "a.apl:2: VALUE ERROR\n  Q\n  Q is not there\n0 names saved in kept.apl\n"
+    said = "a.apl:2: VALUE ERROR\n  Q\n  ∧\n  Q is not there\n0 names saved in kept.apl\n"
     wanted = 1, "2\n" * (">&-" not in re.findall(r"(?<!2)>&-", closing)), said * ("2>&-" not in closing)
     return (ran.returncode, ran.stdout, ran.stderr), wanted
 
