@@ -3,6 +3,7 @@
 from __future__ import annotations
 
 import contextlib
+import errno
 import hashlib
 import os
 import shutil
@@ -147,6 +148,8 @@ def check_target(file: str, target: Path, home: Home | None, may_replace: bool) 
     """Raises a Mistake where a file that is there may not be replaced."""
     if not target.is_file():
         raise Mistake(f"{file} cannot be written: it is no ordinary file")
+    if not os.access(target, os.W_OK):
+        raise PermissionError(errno.EACCES, os.strerror(errno.EACCES))
     if may_replace:
         return
     if not home or home.path != str(target):
@@ -206,6 +209,8 @@ def take_rights(new: Path, target: Path) -> None:
         os.chmod(new, 0o666 & ~mask)
         return
     there = target.stat()
-    with contextlib.suppress(OSError):
-        os.chown(new, there.st_uid, there.st_gid)
+    for owner in (there.st_uid, -1):  # a file of another user becomes one's own, and stays in its group
+        with contextlib.suppress(OSError):
+            os.chown(new, owner, there.st_gid)
+            break
     os.chmod(new, stat.S_IMODE(there.st_mode))
