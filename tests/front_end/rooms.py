@@ -5,6 +5,7 @@ from __future__ import annotations
 import os
 import subprocess
 import sys
+import time
 from pathlib import Path
 from typing import Callable, NamedTuple, Optional, Sequence, Tuple, Union
 
@@ -12,12 +13,16 @@ SECONDS = 60  # the most that one call or one answer may take
 TOP = Path(__file__).resolve().parents[2]
 SHEET = [sys.executable, str(TOP / "bin/sheet")]
 
-# A program that answers as aplsheet does where nothing is to be worked out. What a line says in capitals it does.
+# A program that answers as aplsheet does where nothing is to be worked out. What a line says in capitals it does. A line with SLOW in it
+# waits while the file `wait` is there, and makes the file `waits`.
 FAKE = """#!{python}
-import os, sys
+import os, sys, time
 is_refused = False
 for line in sys.stdin.buffer:
     line = line.decode("utf-8", "replace").rstrip("\\n")
+    while "SLOW" in line and os.path.exists("wait"):
+        open("waits", "w").close()
+        time.sleep(0.01)
     if is_refused or line == "REFUSE":
         print("NO MEMORY")
         is_refused = line == "REFUSE"
@@ -32,6 +37,8 @@ for line in sys.stdin.buffer:
         print("DEPTH ERROR\\nAT SIGN 1")
     elif "EMPTY←" in line:
         print()
+    elif line.startswith(")ERASE"):
+        pass
     elif line.startswith(")OPEN"):
         print(0)
     elif line.startswith("'"):
@@ -63,6 +70,14 @@ class Room:
         path.write_text(FAKE.format(python=sys.executable))
         path.chmod(0o755)
         return str(path)
+
+    def wait_for(self, name: str) -> None:
+        """Waits until a file of that name is there."""
+        begun = time.monotonic()
+        while not (self.folder / name).exists():
+            if time.monotonic() - begun > SECONDS:
+                raise TimeoutError(f"{name} is not there")
+            time.sleep(0.01)
 
     def customize(self, code: str) -> None:
         """Makes each Python that starts in this room run this code first."""

@@ -47,7 +47,7 @@ class Screen:
         while not is_enough():
             if time.monotonic() - begun > SECONDS:
                 raise TimeoutError(self.shown)
-            if select.select([self.master], [], [], 1)[0]:
+            if select.select([self.master], [], [], 0.01)[0]:
                 try:
                     self.shown += self.decoder.decode(os.read(self.master, 65536)).replace("\r", "").replace("\a", "")
                 except OSError:  # the other end is closed
