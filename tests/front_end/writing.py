@@ -24,8 +24,8 @@ def two_sessions(room: Room) -> Outcome:
     told += ["was changed by someone else" in first.keys("]save a.apl\n"), path.read_text() == "A←1\nB←2\n"]
     told += ["2 names saved in a.apl\n" in first.keys("]save a.apl --replace\n"), "was changed by someone else" in second.keys("]save\n")]
     ends = first.end()[0], second.end()[0], len(room.logs())
-    return (told, ends, path.read_text(), (room.folder / "a.apl~").read_text()), (
-        [False, *[True] * 7], (0, 0, 0), "A←1\nC←3\n", "A←1\nB←2\n")
+    texts = path.read_text(), (room.folder / "a.apl~").read_text()
+    return (told, ends, texts), ([False, *[True] * 7], (0, 0, 0), ("A←1\nC←3\n", "A←1\nB←2\n"))
 
 
 def changed_by_an_editor(room: Room) -> Outcome:
