@@ -47,7 +47,7 @@ def full_output(room: Room) -> Outcome:
 
 
 def output_at_a_terminal(room: Room, more: str, ends: bool) -> Outcome:
-    """At a terminal, the prompt and the keys work whatever standard output is; where it takes no more, it is told where the sheet is kept."""
+    """At a terminal, prompt and keys work whatever standard output is; where it takes no more, it is told where the sheet is kept."""
     screen = Screen(room, more=more)
     typed = screen.keys("A`[5\n")
     screen.keys(")DATA D`[100 1`r`i100\n")
