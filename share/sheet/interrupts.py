@@ -21,12 +21,13 @@ class Signals:
     A signal that raises holds those behind it until the session goes on, so no second one cuts off the work that the first one has begun.
     While signals are held, Ctrl-C does nothing, and one of ENDING is only noted.
 
-    are_held  whether no signal raises
-    ending    the first one of ENDING that came, or None
+    are_held        whether no signal raises
+    is_interrupted  whether Ctrl-C came since a block of `delayed` began
+    ending          the first one of ENDING that came, or None
     """
 
     def __init__(self) -> None:
-        self.are_held = False
+        self.are_held = self.is_interrupted = False
         self.ending: Optional[int] = None
 
     def install(self) -> None:
@@ -40,6 +41,8 @@ class Signals:
         """Handles a signal."""
         if number in ENDING:
             self.ending = self.ending or number
+        else:
+            self.is_interrupted = True
         if not self.are_held:
             self.act()
 
@@ -69,6 +72,15 @@ class Signals:
         finally:
             if not were_held:
                 self.release()
+
+    @contextlib.contextmanager
+    def delayed(self) -> Iterator[None]:
+        """Holds signals in a block, behind which Ctrl-C raises too if it came there, unless signals were held before."""
+        self.is_interrupted = False
+        with self.held():
+            yield
+        if self.is_interrupted and not self.are_held:
+            self.act()
 
     @contextlib.contextmanager
     def without_interrupts(self) -> Iterator[None]:

@@ -45,7 +45,7 @@ class Program:
 
     def start(self) -> None:
         """Starts it, and waits until it answers."""
-        with signals.held():
+        with signals.delayed():
             self.start_process()
         self.write([])
         if self.next_line() != self.fence:

@@ -113,23 +113,21 @@ def pipe_that_is_loaded(room: Room) -> Outcome:
 
 def hanging_program(room: Room, is_typed: bool) -> Outcome:
     """Ctrl-C ends the wait for a program that never answers, and the program too."""
-    program = room.put("hangs", f"#!/bin/sh\necho $$ > {room.folder}/number\nexec sleep 1000\n")
+    program = room.put("hangs", "#!/bin/sh\necho $$ > begun\nmv begun number\nexec sleep 100\n")
     (room.folder / program).chmod(0o755)
     pipes = {"stdin": subprocess.PIPE, "stdout": subprocess.PIPE, "stderr": subprocess.PIPE}
     call = subprocess.Popen(room.words(program=str(room.folder / program)), cwd=room.folder, env=room.environment, **pipes)
-    number = room.folder / "number"
-    while not (number.exists() and number.read_text().endswith("\n")):
-        if call.poll() is not None:
-            return call.communicate(), "a program that is started"
+    room.wait_for("number")
     call.send_signal(signal.SIGINT if is_typed else signal.SIGTERM)
     printed = call.communicate(timeout=SECONDS)
-    return (call.returncode, printed, Path(f"/proc/{number.read_text().strip()}").exists()), (130 if is_typed else 143, (b"", b""), False)
+    is_there = Path("/proc", (room.folder / "number").read_text().strip()).exists()
+    return (call.returncode, printed, is_there), (130 if is_typed else 143, (b"", b""), False)
 
 
 def program_that_closes_its_output(room: Room) -> Outcome:
     """A program that closes its output, or prints nothing but one line, is told of; at the start that ends the front end."""
     closes = room.folder / "closes"
-    closes.write_text("#!/bin/sh\nexec sleep 1000 > /dev/null\n")
+    closes.write_text("#!/bin/sh\nexec sleep 100 > /dev/null\n")
     closes.chmod(0o755)
     return room.call(lines="1\n", program=str(closes)), (1, "", f"sheet: {closes} has closed its output\n")
 
