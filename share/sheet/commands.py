@@ -31,8 +31,8 @@ class Word(NamedTuple):
 class Form:
     """The form of a command.
 
-    Words in capitals are needed, in brackets not; NAME.. stands for several words, and WORD.. for words of any signs, as quotes and ⍝. A flag
-    is in brackets, with an example of the word that follows it, if one does.
+    Words in capitals are needed, in brackets not. NAME.. stands for several words, and WORD.. for words of any signs, as quotes and ⍝. A
+    flag is in brackets, with an example of the word that follows it, if one does.
     """
 
     def __init__(self, text: str) -> None:

@@ -225,7 +225,7 @@ class Journal:
         return len(changes)
 
     def spare_name(self, name: str) -> str:
-        """Returns a name under which the items of data are gathered; in a sheet that has no room for one more, the name of the data itself."""
+        """Returns a name under which the items of data are gathered; in a full sheet, the name of the data itself."""
         if len({*self.bindings, name}) >= MOST_NAMES:
             return name
         taken = {*self.bindings, name, *(reference for binding in self.bindings.values() for reference in binding.references)}

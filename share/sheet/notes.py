@@ -146,7 +146,7 @@ def of_items(session: Session, answer: Answer, spot: Optional[Spot]) -> list[str
 
 
 def base_of(function: str) -> str:
-    """Returns the scalar function of which an operator makes this one, or the function itself; nothing where more than items can be wrong."""
+    """Returns the scalar function of which an operator makes this one, or the function itself; nothing where shapes can be wrong."""
     if function.startswith("∘"):
         return function[-1]
     is_of_lines = len(function) > 1 and function[0] in "⍲⍱"  # over lines without items these have no result

@@ -32,7 +32,7 @@ from .journal import Change, Journal, change_of
 from .lines import Line
 
 HEAD = "⍝ aplsheet session of "
-NAME = re.compile(r"session-[0-9]{8}-[0-9]{6}-\w+\.apl")
+LOG_NAME = re.compile(r"session-[0-9]{8}-[0-9]{6}-\w+\.apl")
 EVENT = re.compile("⍝ (lines|joined|undo|redo|saved) ([0-9a-f]+): (.*)", re.DOTALL)
 DELAY = 0.5  # seconds until an append is flushed to the disk
 
@@ -315,7 +315,7 @@ def is_own(path: Path) -> bool:
         status = path.lstat()
     except OSError:
         return False
-    return bool(NAME.fullmatch(path.name)) and stat.S_ISREG(status.st_mode) and status.st_uid == os.getuid()
+    return bool(LOG_NAME.fullmatch(path.name)) and stat.S_ISREG(status.st_mode) and status.st_uid == os.getuid()
 
 
 def unended() -> Iterator[Unended]:

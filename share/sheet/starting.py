@@ -149,7 +149,8 @@ def end(session: Session, log: Log) -> None:
     path = log.end(session.journal, session.home)
     if not session.journal.is_saved:
         with contextlib.suppress(OSError, OutputFailed):  # the terminal may be gone
-            lost = "the sheet is lost: no file can be written"
+            older = f"; {log.path} has the changes before, and ]recover goes on with them" if log.path else ""
+            lost = f"the last changes are lost: no file can be written{older}"
             session.tell(f"the sheet was not saved; ]recover goes on with it, from {path}" if path else lost)
 
 

@@ -162,7 +162,7 @@ def end_with_a_full_disk(room: Room) -> Outcome:
     full.unlink()
     again = screen.end()
     is_kept = "]recover goes on with it" in again[1] and "A←5\nB←6\n" in room.kept()
-    came = stays, sheet, status, "the sheet is lost" in shown, again[0], is_kept
+    came = stays, sheet, status, "the last changes are lost" in shown, again[0], is_kept
     return came, (True, "A,B\n5 6\n", 0, True, 0, True)
 
 
