@@ -60,7 +60,9 @@ def opened(file: str) -> BinaryIO:
 
 
 def reason(error: Exception) -> str:
-    """Returns the reason of a failed call of the system."""
+    """Returns the reason of a failed call of the system; Python itself refuses a path with NUL in it."""
+    if isinstance(error, ValueError):
+        return "no file has such a name"
     return (error.strerror if isinstance(error, OSError) else None) or str(error)
 
 

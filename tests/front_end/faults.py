@@ -62,7 +62,7 @@ def paths_that_are_none(room: Room) -> Outcome:
     """A path with NUL in it is no file, for whatever command."""
     lines = [f"]{word} 'a\0b'{rest}\n" for word, rest in (("load", ""), ("save", ""), ("save", " --replace"))]
     status, _, told = room.call(lines="A←1\n" + "".join(lines) + "A\n")
-    return (status, told.count("cannot be"), told.count("embedded null byte"), "FAULT" in told), (1, 3, 3, False)
+    return (status, told.count("cannot be"), told.count("no file has such a name"), "FAULT" in told), (1, 3, 3, False)
 
 
 def lost_folder(room: Room) -> Outcome:
