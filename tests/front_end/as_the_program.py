@@ -18,28 +18,38 @@ FORMS += [")OPEN 1 A←{}", ")OPEN 2 )DATA D←{}", ")STEP 1", ")STEP 2", ")COMM
 FORMS += ["({}"] * 2 + ["{} "] * 4
 
 
+class Printing(session.Session):
+    """A session that prints what the program alone does: values, and errors and refusals without remarks."""
+
+    def __init__(self, program: over_pipes.Program) -> None:
+        self.printed: list[str] = []
+        super().__init__(program, self.printed.append, lambda _: None)
+
+    def complain(self, _text: str, what: str, *_remarks: object) -> None:
+        self.printed.append(what)
+
+
 def random_lines(room: Room, seed: int) -> Outcome:
     """Of any lines each answer is what the program alone prints; what is kept of them, and what would be saved, make the same sheet."""
-    chosen, printed = random.Random(seed), []
+    chosen = random.Random(seed)
     lines = [chosen.choice(FORMS).format("".join(chosen.choices(PARTS, k=chosen.randint(1, 4)))) for _ in range(500)]
-    lines = [it for it in lines if not it.startswith("]")]
+    lines = [line for line in lines if not line.startswith("]")]
     wanted = subprocess.run([room.program], input="\n".join(lines).encode(), capture_output=True, timeout=SECONDS).stdout.decode()
-    sheet = session.Session(over_pipes.Program([room.program]), printed.append, lambda _: None)
-    sheet.complain = lambda _text, what, *_: printed.append(what)
+    sheet = Printing(over_pipes.Program([room.program]))
     sheet.program.start()
     for line in lines:
         sheet.take(line)
     names = [*sheet.journal.bindings]
-    asked = [it.format(name) for name in names for it in ("⍴{}", "0=1↑0⍴{}", "{}")]
+    asked = [question.format(name) for name in names for question in ("⍴{}", "0=1↑0⍴{}", "{}")]
     shown, saved = sheet.program.ask_all([")NAMES", *asked]), scripts.script_of_sheet(sheet.program, sheet.journal).lines
     loaded = []
     for kept in (sheet.journal.lines, saved):
         sheet.program.stop()
         sheet.program.start()
-        told = sheet.program.ask_all([*kept, ")NAMES", *asked])
-        loaded.append((told[: len(kept)] == [[]] * len(kept), told[len(kept) :]))
+        answers = sheet.program.ask_all([*kept, ")NAMES", *asked])
+        loaded.append((answers[: len(kept)] == [[]] * len(kept), answers[len(kept) :]))
     sheet.program.stop()
-    is_same = "".join(f"{it}\n" for it in printed) == wanted
+    is_same = "".join(f"{line}\n" for line in sheet.printed) == wanted
     return (is_same, shown[0], loaded), (True, names, [(True, shown)] * 2)
 
 

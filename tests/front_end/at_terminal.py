@@ -134,8 +134,9 @@ def stopped_script(room: Room) -> Outcome:
     screen.read(lambda: screen.shown.endswith("slow.apl\n5\n"))
     time.sleep(1)
     shown = screen.keys("\x03"), screen.keys(")NAMES\n"), screen.keys("]undo\n"), screen.end()[0]
-    pipes = {"stdout": subprocess.PIPE, "stderr": subprocess.PIPE}
-    call = subprocess.Popen(room.words("slow.apl"), cwd=room.folder, env=room.environment, **pipes)
+    words, pipe = room.words("slow.apl"), subprocess.PIPE
+    call = subprocess.Popen(words, cwd=room.folder, env=room.environment, stdout=pipe, stderr=pipe)
+    assert call.stdout
     call.stdout.readline()
     time.sleep(1)
     call.send_signal(2)

@@ -7,7 +7,6 @@ import random
 import shlex
 import shutil
 import signal
-import subprocess
 import time
 
 from .rooms import SECONDS, Outcome, Room, Test, named_tests
@@ -32,7 +31,7 @@ def closed_terminal(room: Room, times: int, shell: str) -> Outcome:
         screen = Screen(room, shell=shell)
         screen.keys(lines[0].replace("←", "`["))
         before = len(screen.shown)
-        os.write(screen.master, "".join(random.choice((lines[1:], []))).replace("←", "`[").encode())
+        os.write(screen.master, "".join(lines[1:] * random.choice((1, 0))).replace("←", "`[").encode())
         until = time.monotonic() + random.random() / 4
         screen.read(lambda: time.monotonic() > until)
         shown = 1 + screen.shown.count(PROMPT, before)
@@ -46,20 +45,19 @@ def closed_terminal(room: Room, times: int, shell: str) -> Outcome:
 def killed_tmux_session(room: Room, times: int) -> Outcome:
     """The same where tmux ends the session in whose window a shell runs it."""
     tmux, logs = ["tmux", "-u", "-f", "/dev/null", "-S", str(room.folder / "socket")], []
-    how = {"cwd": room.folder, "env": room.environment, "capture_output": True, "text": True, "timeout": SECONDS}
     for _ in range(times):
         shutil.rmtree(room.folder / "state", ignore_errors=True)
         pipe, opening = room.watch()
-        subprocess.run([*tmux, "new-session", "-d", "-x", "200", "-y", "50", f"{opening}{shlex.join(room.words())}; true"], **how)
+        room.run([*tmux, "new-session", "-d", "-x", "200", "-y", "50", f"{opening}{shlex.join(room.words())}; true"])
         for keys, shown in (("", "Ctrl-D ends\n"), ("A`[5+1\nA\n", "\n6\n")):
-            subprocess.run([*tmux, "send-keys", "-l", keys.replace("\n", "\r")], **how)
+            room.run([*tmux, "send-keys", "-l", keys.replace("\n", "\r")])
             begun = time.monotonic()
-            while shown not in subprocess.run([*tmux, "capture-pane", "-p"], **how).stdout:
+            while shown not in room.run([*tmux, "capture-pane", "-p"]).stdout:
                 if time.monotonic() - begun > SECONDS:
                     raise TimeoutError(f"tmux does not show {shown}")
                 time.sleep(0.05)
         time.sleep(random.random() / 4)
-        subprocess.run([*tmux, "kill-session"], **how)
+        room.run([*tmux, "kill-session"])
         wait_for_end(pipe)
         logs.append(room.kept())
     return logs, [["A←5+1\n"]] * times

@@ -30,8 +30,7 @@ def closed_streams(room: Room, closing: str) -> Outcome:
     """Where streams are closed, the lines are answered all the same, and what remains open has its part."""
     room.put("a.apl", "1+1\nQ\n]save kept.apl --replace\n")
     words = " ".join(map(str, room.words("a.apl", "-")))
-    how = {"cwd": room.folder, "env": room.environment, "capture_output": True, "text": True, "timeout": SECONDS, "input": ""}
-    ran = subprocess.run(f"{words} {closing}", shell=True, **how)
+    ran = room.run(f"{words} {closing}")
     said = "a.apl:2: VALUE ERROR\n  Q\n  ∧\n  Q is not there\n0 names saved in kept.apl\n"
     wanted = 1, "2\n" * (">&-" not in re.findall(r"(?<!2)>&-", closing)), said * ("2>&-" not in closing)
     return (ran.returncode, ran.stdout, ran.stderr), wanted
@@ -40,8 +39,7 @@ def closed_streams(room: Room, closing: str) -> Outcome:
 def full_output(room: Room) -> Outcome:
     """Where standard output is full this is told, and where standard error is, the answers go on."""
     words = " ".join(map(str, room.words()))
-    how = {"cwd": room.folder, "env": room.environment, "capture_output": True, "text": True, "timeout": SECONDS, "input": "1\nQ\n2\n"}
-    ran = [subprocess.run(f"{words} {to}", shell=True, **how) for to in ("> /dev/full", "2> /dev/full", "> /dev/full 2> /dev/full")]
+    ran = [room.run(f"{words} {to}", "1\nQ\n2\n") for to in ("> /dev/full", "2> /dev/full", "> /dev/full 2> /dev/full")]
     came = [(call.returncode, call.stdout, call.stderr) for call in ran]
     return came, [(1, "", "sheet: standard output: No space left on device\n"), (1, "1\n2\n", ""), (1, "", "")]
 
@@ -51,8 +49,11 @@ def output_at_a_terminal(room: Room, more: str, ends: bool) -> Outcome:
     screen = Screen(room, more=more)
     typed = screen.keys("A`[5\n")
     screen.keys(")DATA D`[100 1`r`i100\n")
-    shown = screen.end("A\nD\n") if ends else (screen.keys("A\n"), screen.keys("D\n"), screen.end()[1])
-    is_kept = "]recover goes on with it, from " in shown[-1] and "Traceback" not in screen.shown
+    if not ends:
+        screen.keys("A\n")
+        screen.keys("D\n")
+    shown = screen.end("A\nD\n" if ends else "\x04")[1]
+    is_kept = "]recover goes on with it, from " in shown and "Traceback" not in screen.shown
     answers = (room.folder / "log").read_text().split() if "log" in more else []
     wanted = ["5", *map(str, range(1, 101))] if "log" in more else []
     return (typed, is_kept, room.kept(), answers), ("A←5\n", True, ["A←5\n)DATA D←100 1⍴⍳100\n"], wanted)
@@ -115,8 +116,8 @@ def hanging_program(room: Room, is_typed: bool) -> Outcome:
     """Ctrl-C ends the wait for a program that never answers, and the program too."""
     program = room.put("hangs", "#!/bin/sh\necho $$ > begun\nmv begun number\nexec sleep 100\n")
     (room.folder / program).chmod(0o755)
-    pipes = {"stdin": subprocess.PIPE, "stdout": subprocess.PIPE, "stderr": subprocess.PIPE}
-    call = subprocess.Popen(room.words(program=str(room.folder / program)), cwd=room.folder, env=room.environment, **pipes)
+    words, pipe = room.words(program=str(room.folder / program)), subprocess.PIPE
+    call = subprocess.Popen(words, cwd=room.folder, env=room.environment, stdin=pipe, stdout=pipe, stderr=pipe)
     room.wait_for("number")
     call.send_signal(signal.SIGINT if is_typed else signal.SIGTERM)
     printed = call.communicate(timeout=SECONDS)

@@ -160,8 +160,8 @@ def advice(room: Room, lines: str, answer: str) -> Outcome:
 
 def long_lines(_room: Room) -> Outcome:
     """Hints on long lines come at once, and for a line that is too long nothing is looked for but its length."""
-    call = {"capture_output": True, "text": True, "timeout": SECONDS, "env": {**os.environ, "PYTHONPATH": str(TOP / "share")}}
-    ran = subprocess.run([sys.executable, "-B", "-c", LONG], **call)
+    words, variables = [sys.executable, "-B", "-c", LONG], {**os.environ, "PYTHONPATH": str(TOP / "share")}
+    ran = subprocess.run(words, env=variables, capture_output=True, text=True, timeout=SECONDS)
     return ran.stdout + ran.stderr, "16\n"
 
 

@@ -25,13 +25,20 @@ def transcript(room: Room) -> Outcome:
     return (shown, screen.end()[0], bool(wanted)), (wanted, 0, True)
 
 
+def printed_by(room: Room, line: str) -> str:
+    """Returns all that a line of the shell prints, in the folder of the project."""
+    ran = subprocess.run(
+        line, shell=True, cwd=TOP, env=room.environment, stdout=subprocess.PIPE, stderr=subprocess.STDOUT, text=True, timeout=SECONDS
+    )
+    return ran.stdout
+
+
 def commands_of_manual(room: Room) -> Outcome:
     """The calls of docs/SHEET.md: the lines of the blocks that ```console opens."""
     blocks = "".join(re.findall("^```console\n(.*?)^```$", (TOP / "docs/SHEET.md").read_text(), re.MULTILINE | re.DOTALL))
     calls = re.findall(r"^\$ (.*)\n((?:(?!\$ ).*\n)*)", blocks, re.MULTILINE)
     begin = " ".join(map(shlex.quote, room.words()))
-    how = {"shell": True, "cwd": TOP, "stdout": subprocess.PIPE, "stderr": subprocess.STDOUT, "text": True, "timeout": SECONDS}
-    came = [subprocess.run(line.replace("bin/sheet", begin), env=room.environment, **how).stdout for line, _ in calls]
+    came = [printed_by(room, line.replace("bin/sheet", begin)) for line, _ in calls]
     return (came, bool(calls)), ([wanted for _, wanted in calls], True)
 
 

@@ -4,6 +4,7 @@ from __future__ import annotations
 
 import random
 from typing import Optional
+from unittest import mock
 
 from sheet.answers import answer
 from sheet.lines import Line
@@ -126,13 +127,12 @@ def at_terminal(room: Room) -> Outcome:
 
 def slow_answer(room: Room) -> Outcome:
     """An expression whose answer took long is not asked for again, and of a quick one at most 12 questions are asked."""
-    session, asked = session_of(room), []
+    session = session_of(room)
     fault = answer(session.program, Line("((((((((((((((1 2+1 2 3)+1)+1)+1)+1)+1)+1)+1)+1)+1)+1)+1)+1)+1)+1"))
-    ask = session.program.ask
-    session.program.ask = lambda line: asked.append(line) or ask(line)
-    spots = [spot_of(session, fault), len(asked)]
-    fault.seconds = 1
-    spots += [spot_of(session, fault), len(asked)]
+    with mock.patch.object(session.program, "ask", wraps=session.program.ask) as ask:
+        spots = [spot_of(session, fault), ask.call_count]
+        fault.seconds = 1
+        spots += [spot_of(session, fault), ask.call_count]
     session.program.stop()
     return spots, [None, 12, None, 12]
 

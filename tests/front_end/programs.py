@@ -58,6 +58,7 @@ def line_by_line(room: Room) -> Outcome:
     """Over pipes too, each line is answered before the next one is there."""
     answers = []
     with subprocess.Popen(room.words(), bufsize=0, env=room.environment, stdin=subprocess.PIPE, stdout=subprocess.PIPE) as call:
+        assert call.stdin and call.stdout
         for line in ["1+1\n", "A←5\nA\n"]:
             call.stdin.write(line.encode())
             answers.append(select.select([call.stdout], [], [], SECONDS)[0] and call.stdout.readline())
@@ -68,8 +69,7 @@ def line_by_line(room: Room) -> Outcome:
 def closed_pipe(room: Room) -> Outcome:
     """Where nobody reads the answers any more, it ends without a word."""
     line = " ".join(map(shlex.quote, room.words())) + " | head -n 1"
-    how = {"input": "1\n" * 20000, "capture_output": True, "text": True, "shell": True, "timeout": SECONDS}
-    ran = subprocess.run(line, env=room.environment, **how)
+    ran = room.run(line, "1\n" * 20000)
     return (ran.stdout, ran.stderr), ("1\n", "")
 
 

@@ -103,6 +103,19 @@ class Room:
         texts = [path.read_text() for path in self.logs()]
         return ["".join(line for line in text.splitlines(True) if not line.startswith("⍝")) for text in texts]
 
+    def run(self, command: Union[str, Sequence[str]], lines: str = "") -> subprocess.CompletedProcess[str]:
+        """Runs a command in the folder, with these lines on its standard input; a command that is a text is run by a shell."""
+        return subprocess.run(
+            command,
+            shell=isinstance(command, str),
+            input=lines,
+            cwd=self.folder,
+            env=self.environment,
+            capture_output=True,
+            text=True,
+            timeout=SECONDS,
+        )
+
     def call(self, *words: str, lines: Union[str, bytes] = "", program: Optional[str] = None) -> Tuple[int, str, str]:
         """Returns the status, standard output and standard error of a call."""
         typed = lines if isinstance(lines, bytes) else lines.encode()

@@ -6,7 +6,7 @@ import contextlib
 import os
 import random
 from pathlib import Path
-from typing import NamedTuple, Sequence
+from typing import Callable, NamedTuple, Sequence
 
 from sheet.interrupts import signals
 from sheet.journal import Journal
@@ -49,9 +49,9 @@ class Sheet(Session):
         """What was told of faults of the front end, or of the program."""
         return [line for line in self.told if line.startswith(("FAULT", "PROGRAM FAILED"))]
 
-    def remake(self, journal: Journal, events: Sequence[str]) -> None:
+    def remake(self, journal: Journal, settle: Callable[[], None]) -> None:
         self.remade += 1
-        super().remake(journal, events)
+        super().remake(journal, settle)
 
     def content(self) -> Content:
         return content_of(self.program, self.journal)
@@ -139,7 +139,7 @@ class Chance(random.Random):
             return [self.filled(OTHERS)]
         slot = self.randint(1, 3)
         between = [self.one_change()] * (self.random() < 0.2)
-        ends = self.choice([[f")COMMIT {slot}"], [f")COMMIT {slot}"], [f")DROP {slot}"], []])
+        ends: list[str] = self.choice([[f")COMMIT {slot}"], [f")COMMIT {slot}"], [f")DROP {slot}"], []])
         return [f")OPEN {slot} {self.one_change()}", *[f")STEP {slot}"] * 9, *between, *ends]
 
     def lines(self) -> list[str]:

@@ -176,7 +176,7 @@ def regular_case(chosen: random.Random) -> Case:
     """Returns a table of records; ]table is to take the last columns of a larger one, with another separator."""
     has_titles, before = chosen.random() < 0.3, chosen.choice([0, 0, 1, 2])
     rows, end = records(chosen, has_titles), chosen.choice(["\n", "\n\n", "\r\n", "\r"])
-    text, other = ("".join(",".join(names + row) + end for row in rows) for names in ([], ["item", '"a,\nb"'][:before]))
+    text, other = ("".join(",".join(["item", '"a,\nb"'][:count] + row) + end for row in rows) for count in (0, before))
     return Case(text, has_titles, *with_separator(chosen, other), before)
 
 

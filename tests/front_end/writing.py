@@ -4,9 +4,8 @@ from __future__ import annotations
 
 import os
 import shutil
-import subprocess
 
-from .rooms import SECONDS, Outcome, Room, Test, named_tests
+from .rooms import Outcome, Room, Test, named_tests
 from .screens import Screen
 
 # Root may write any file; so it gives that right up.
@@ -78,11 +77,10 @@ def refused_writes(room: Room) -> Outcome:
     room.put("b.apl", "A←1\n")
     lines = "]load a.apl\nB←2\n]save\n]save a.apl --replace\n]save shut/c.apl\n]save b.apl --replace\n"
     begin = AS_A_USER if os.getuid() == 0 else []
-    how = {"cwd": room.folder, "env": room.environment, "capture_output": True, "text": True, "timeout": SECONDS}
-    told = subprocess.run([*begin, *room.words()], input=lines, **how).stderr
+    messages = room.run([*begin, *room.words()], lines).stderr
     texts = [(room.folder / file).read_text() for file in ("a.apl", "b.apl")]
     left = sorted(name for _, folders, files in os.walk(room.folder) for name in [*folders, *files] if name not in ("state", "aplsheet"))
-    reasons = told.count("cannot be written: Permission denied\n"), told.count("b.apl cannot be written: Is a directory\n")
+    reasons = messages.count("cannot be written: Permission denied\n"), messages.count("b.apl cannot be written: Is a directory\n")
     return (reasons, texts, left), ((3, 1), ["A←1\n"] * 2, ["a.apl", "b.apl", "b.apl~", "shut"])
 
 
