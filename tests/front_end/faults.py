@@ -62,8 +62,8 @@ def output_at_a_terminal(room: Room, more: str, ends: bool) -> Outcome:
 def paths_that_are_none(room: Room) -> Outcome:
     """A path with NUL in it is no file, for whatever command."""
     lines = [f"]{word} 'a\0b'{rest}\n" for word, rest in (("load", ""), ("save", ""), ("save", " --replace"))]
-    status, _, told = room.call(lines="A←1\n" + "".join(lines) + "A\n")
-    return (status, told.count("cannot be"), told.count("no file has such a name"), "FAULT" in told), (1, 3, 3, False)
+    status, _, messages = room.call(lines="A←1\n" + "".join(lines) + "A\n")
+    return (status, messages.count("cannot be"), messages.count("no file has such a name"), "FAULT" in messages), (1, 3, 3, False)
 
 
 def lost_folder(room: Room) -> Outcome:
@@ -76,22 +76,22 @@ def lost_folder(room: Room) -> Outcome:
     screen = Screen(outside, "../a.apl", "-")
     screen.keys("B`[2\n")
     folder.rmdir()
-    told = [screen.keys(line) for line in ("]save b.apl\n", "]load b.apl\n", "]save\n", "B`[3\n")]
+    messages = [screen.keys(line) for line in ("]save b.apl\n", "]load b.apl\n", "]save\n", "B`[3\n")]
     screen.break_off(signal.SIGKILL)
     folder.mkdir()
     begun = Screen(outside)
     folder.rmdir()
-    told += [begun.keys("]recover\n"), begun.keys("]save\n"), begun.end()[1]]
-    return (["FAULT" in text or "Traceback" in text for text in told], (room.folder / "a.apl").read_text()), ([False] * 7, "A←1\nB←3\n")
+    messages += [begun.keys("]recover\n"), begun.keys("]save\n"), begun.end()[1]]
+    return (["FAULT" in text or "Traceback" in text for text in messages], (room.folder / "a.apl").read_text()), ([False] * 7, "A←1\nB←3\n")
 
 
 def bug_in_a_command(room: Room, fault: str) -> Outcome:
     """A fault of the front end itself is told with its place; the sheet is as it was before that line, and goes on."""
     room.customize(BUG.format(share=SHARE, fault=fault))
-    status, printed, told = room.call(lines="A←1\n]undo\nB←A+1\nB\n)NAMES\n")
+    status, printed, messages = room.call(lines="A←1\n]undo\nB←A+1\nB\n)NAMES\n")
     kind = fault.partition("(")[0]
-    place = re.search(rf"^line 2: FAULT OF THE FRONT END: {kind}: .*\(sitecustomize.py:8\)\n  ", told, re.MULTILINE)
-    return (status, printed, bool(place), told.count("FAULT")), (1, "2\nA\nB\n", True, 1)
+    place = re.search(rf"^line 2: FAULT OF THE FRONT END: {kind}: .*\(sitecustomize.py:8\)\n  ", messages, re.MULTILINE)
+    return (status, printed, bool(place), messages.count("FAULT")), (1, "2\nA\nB\n", True, 1)
 
 
 def end_in_a_file(room: Room) -> Outcome:
@@ -101,15 +101,15 @@ def end_in_a_file(room: Room) -> Outcome:
     os.link(room.folder / "self.apl", room.folder / "same.apl")
     os.symlink("self.apl", room.folder / "link.apl")
     room.put("pairs.apl", "]load same.apl\n]load link.apl\nP←1\n")
-    status, printed, told = room.call(lines="]load a.apl\nA\n]load self.apl\n]load pairs.apl\n)NAMES\n")
-    return (status, printed, told.count("it is being loaded already")), (1, "1\nA\nS\nP\n", 6)
+    status, printed, messages = room.call(lines="]load a.apl\nA\n]load self.apl\n]load pairs.apl\n)NAMES\n")
+    return (status, printed, messages.count("it is being loaded already")), (1, "1\nA\nS\nP\n", 6)
 
 
 def pipe_that_is_loaded(room: Room) -> Outcome:
     """A pipe is no ordinary file; nobody is waited for who writes into it."""
     os.mkfifo(room.folder / "pipe")
-    told = room.messages("]load pipe", "]save pipe", "]save pipe --replace", "]load /dev/null", "]save /dev/null --replace")
-    return told.count("it is no ordinary file"), 5
+    messages = room.messages("]load pipe", "]save pipe", "]save pipe --replace", "]load /dev/null", "]save /dev/null --replace")
+    return messages.count("it is no ordinary file"), 5
 
 
 def hanging_program(room: Room, is_typed: bool) -> Outcome:
@@ -148,8 +148,8 @@ def fail_once(output, lines):
 program.pass_lines = fail_once
 """
     room.customize(code.format(share=SHARE))
-    status, printed, told = room.call(lines="A←5\n'F0'\nA\n")
-    return (status, printed, "line 2: PROGRAM FAILED: " in told), (1, "5\n", True)
+    status, printed, messages = room.call(lines="A←5\n'F0'\nA\n")
+    return (status, printed, "line 2: PROGRAM FAILED: " in messages), (1, "5\n", True)
 
 
 def pager(room: Room, more: str) -> Outcome:

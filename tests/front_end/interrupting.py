@@ -19,8 +19,8 @@ def printed_value(room: Room) -> Outcome:
     screen.keys(")OPEN 3 A`[6\n")
     screen.keys("100000 1`r`i100000\n", " 1000\n")
     shown = screen.keys("\x03")
-    told = "STOPPED\n" in shown, " 100000\n" in shown, "given up" in shown
-    return (told, screen.keys(")COMMIT 3\n"), screen.keys("A\n"), screen.end()[0]), ((True, False, False), ")COMMIT 3\n", "A\n6\n", 0)
+    messages = "STOPPED\n" in shown, " 100000\n" in shown, "given up" in shown
+    return (messages, screen.keys(")COMMIT 3\n"), screen.keys("A\n"), screen.end()[0]), ((True, False, False), ")COMMIT 3\n", "A\n6\n", 0)
 
 
 def waiting(room: Room, screen: Screen, line: str) -> str:
@@ -40,8 +40,8 @@ def line_under_way(room: Room) -> Outcome:
     for line in ("A`[5\n", ")OPEN 3 B`[6\n"):
         screen.keys(line)
     shown = waiting(room, screen, "SLOW←7")
-    told = "STOPPED\n" in shown, "the changes that were open are given up: 3\n" in shown
-    return (told, room.kept(), screen.keys("]undo\n"), screen.end()[0]), ((True, True), ["A←5\n"], "]undo\ntaken back: A←5\n", 0)
+    messages = "STOPPED\n" in shown, "the changes that were open are given up: 3\n" in shown
+    return (messages, room.kept(), screen.keys("]undo\n"), screen.end()[0]), ((True, True), ["A←5\n"], "]undo\ntaken back: A←5\n", 0)
 
 
 def undo_under_way(room: Room) -> Outcome:
@@ -51,10 +51,10 @@ def undo_under_way(room: Room) -> Outcome:
         screen.keys(line)
     before = room.logs()[0].read_text()
     shown = waiting(room, screen, "]undo")
-    told = "STOPPED\n" in shown, "FAULT" in shown, room.logs()[0].read_text() == before
+    messages = "STOPPED\n" in shown, "FAULT" in shown, room.logs()[0].read_text() == before
     undone = [screen.keys("]undo\n").splitlines()[-1] for _ in range(2)]
     wanted = ["taken back: )ERASE A", "taken back: SLOW←6"], "]redo\nmade again: SLOW←6\n", 0
-    return (told, undone, screen.keys("]redo\n"), screen.end()[0]), ((True, False, True), *wanted)
+    return (messages, undone, screen.keys("]redo\n"), screen.end()[0]), ((True, False, True), *wanted)
 
 
 def file_under_way(room: Room) -> Outcome:
@@ -62,12 +62,12 @@ def file_under_way(room: Room) -> Outcome:
     room.put("a.apl", "B←1\nC←2\nSLOW←3\nD←4\n")
     screen = Screen(room, program=room.fake())
     screen.keys("A`[5\n")
-    told = "a.apl:3: STOPPED\n" in waiting(room, screen, "]load a.apl")
+    messages = "a.apl:3: STOPPED\n" in waiting(room, screen, "]load a.apl")
     screen.break_off(signal.SIGKILL)
     screen = Screen(room, program=room.fake())
     screen.keys("]recover\n")
     undone = [screen.keys("]undo\n").splitlines()[-1] for _ in range(2)]
-    return (told, undone, screen.end()[0]), (True, ["taken back: ]load a.apl", "taken back: A←5"], 0)
+    return (messages, undone, screen.end()[0]), (True, ["taken back: ]load a.apl", "taken back: A←5"], 0)
 
 
 def any_moment(room: Room, times: int) -> Outcome:

@@ -86,11 +86,11 @@ def changes_of_many_lines(room: Room) -> Outcome:
         screen.break_off(signal.SIGKILL)
     screen = Screen(room)
     screen.keys("]recover\n")
-    told = [screen.keys("]undo\n").splitlines()[1], screen.keys(")NAMES\n").split()[1:]]
-    told += [screen.keys("]undo\n").splitlines()[-1] for _ in range(3)] + [screen.keys("D\n"), screen.keys(")NAMES\n")]
+    messages = [screen.keys("]undo\n").splitlines()[1], screen.keys(")NAMES\n").split()[1:]]
+    messages += [screen.keys("]undo\n").splitlines()[-1] for _ in range(3)] + [screen.keys("D\n"), screen.keys(")NAMES\n")]
     titles = [f"taken back: {title}" for title in ("]rename B C", "]table T t.csv", "D[2]←8")]
     wanted = ["taken back: ]load t.apl", ["A", "D", "T", "C"], *titles, "D\n1 2\n", ")NAMES\nA\nB\nD\n"]
-    return (again, told, screen.end()[0]), (names, wanted, 0)
+    return (again, messages, screen.end()[0]), (names, wanted, 0)
 
 
 def home_of_a_recovered_sheet(room: Room, script: str, text: str, line: str) -> Outcome:
@@ -101,8 +101,8 @@ def home_of_a_recovered_sheet(room: Room, script: str, text: str, line: str) -> 
     screen.break_off(signal.SIGKILL)
     screen = Screen(room)
     screen.keys("]recover\n")
-    told = "saved in" in screen.keys("]save\n"), screen.end()[0]
-    return (told, (room.folder / script).read_text(), room.logs()), ((True, 0), f"{text}{line}\n", [])
+    messages = "saved in" in screen.keys("]save\n"), screen.end()[0]
+    return (messages, (room.folder / script).read_text(), room.logs()), ((True, 0), f"{text}{line}\n", [])
 
 
 def foreign_files(room: Room) -> Outcome:
@@ -118,12 +118,12 @@ def foreign_files(room: Room) -> Outcome:
     os.symlink("gone", state / "session-20260101-000000-symlink.apl")
     os.symlink(room.folder / name, state / "session-20260101-000001-symlink.apl")
     screen = Screen(room)
-    told = "not saved" in screen.shown, "there is no session 1 to be recovered" in screen.keys("]recover --forget\n")
+    messages = "not saved" in screen.shown, "there is no session 1 to be recovered" in screen.keys("]recover --forget\n")
     screen.keys("Z`[1\n")
     screen.break_off(signal.SIGKILL)
     offers = Screen(room).shown.count("]recover 1: the session of ")
     kept = [(folder / file).read_text() for folder in (room.folder, state) for file in texts]
-    return (told, offers, kept), ((False, True), 1, [*texts.values()] * 2)
+    return (messages, offers, kept), ((False, True), 1, [*texts.values()] * 2)
 
 
 def full_disk(room: Room, first: int, last: int) -> Outcome:
@@ -137,9 +137,9 @@ def full_disk(room: Room, first: int, last: int) -> Outcome:
         full.touch() if number == first else None
         full.unlink() if number == last else None
         screen.keys(typed(line))
-    told = screen.shown.count(UNLOGGED), screen.shown.count("this session is logged again\n"), screen.shown.count("not logged")
+    messages = screen.shown.count(UNLOGGED), screen.shown.count("this session is logged again\n"), screen.shown.count("not logged")
     screen.break_off(signal.SIGKILL)
-    return (told, room.kept()), ((1, 1, 1), ["".join(LINES[:6])])
+    return (messages, room.kept()), ((1, 1, 1), ["".join(LINES[:6])])
 
 
 def end_with_a_full_disk(room: Room) -> Outcome:
@@ -195,10 +195,10 @@ def lost_log(room: Room, number: int, is_last: bool) -> Outcome:
         screen.keys("B`[6\n")
         screen.break_off(signal.SIGKILL)
     else:
-        told = screen.end()[1]
+        messages = screen.end()[1]
         logs = [*room.logs(), *room.folder.glob("session-*.apl")]
-        if len(logs) != 1 or str(logs[0]) not in told:
-            return (told, logs), "the path of the only log"
+        if len(logs) != 1 or str(logs[0]) not in messages:
+            return (messages, logs), "the path of the only log"
     again = Screen(room)
     again.keys("]recover\n")
     return (again.keys("A\n"), again.keys(")NAMES\n")), ("A\n5\n", ")NAMES\nA\n" + "B\n" * (not is_last))
@@ -218,8 +218,8 @@ def recovered_twice(room: Room) -> Outcome:
     full.unlink()
     first.keys("B`[6\n")
     third = Screen(room)
-    told = second.keys("]recover 1 --forget\n"), third.keys("]recover\n")
-    is_told = "forgotten" in told[0], "there is no session 1" in told[1]
+    messages = second.keys("]recover 1 --forget\n"), third.keys("]recover\n")
+    is_told = "forgotten" in messages[0], "there is no session 1" in messages[1]
     return (before, is_told, first.keys("A,B\n")), (["A←5\n"], (True, True), "A,B\n5 6\n")
 
 

@@ -173,10 +173,10 @@ class Saving:
     def faults(self, path: Path) -> Iterator[str]:
         """Saves the sheet; yields each fault of the file."""
         is_as_it_was = [*self.makes.items()] == [*self.sheet.journal.bindings.items()]
-        told = len(self.sheet.told)
+        messages = len(self.sheet.messages)
         self.sheet.take(f"]save {path} --replace")
         raw = path.read_bytes()
-        saying = "\n".join(self.sheet.told[told:])
+        saying = "\n".join(self.sheet.messages[messages:])
         if f"saved in {path}" not in saying:
             yield f"]save tells {saying}"
         yield from self.faults_of_content(path, raw)

@@ -27,15 +27,15 @@ class Sheet(Session):
 
     def __init__(self, program: Program) -> None:
         self.shown: list[str] = []
-        self.told: list[str] = []
+        self.messages: list[str] = []
         self.refused: list[str] = []
         self.remade = 0
-        super().__init__(program, self.shown.append, self.told.append)
+        super().__init__(program, self.shown.append, self.messages.append)
         program.stop()
         program.start()
 
     def complain(self, text: str, what: str, *_remarks: object) -> None:
-        self.told.append(what)
+        self.messages.append(what)
         if Line(text).kind not in ("show", "csv"):
             self.refused.append(text)
 
@@ -47,7 +47,7 @@ class Sheet(Session):
     @property
     def faults_told(self) -> list[str]:
         """What was told of faults of the front end, or of the program."""
-        return [line for line in self.told if line.startswith(("FAULT", "PROGRAM FAILED"))]
+        return [line for line in self.messages if line.startswith(("FAULT", "PROGRAM FAILED"))]
 
     def remake(self, journal: Journal, settle: Callable[[], None]) -> None:
         self.remade += 1

@@ -33,8 +33,8 @@ def undo(room: Room, line: str, title: str) -> Outcome:
     before = whole_sheet(room, *begin), room.answers(*begin, ")COST")
     is_change = whole_sheet(room, *begin, line) != before[0]
     after = whole_sheet(room, *begin, line, "]undo"), room.answers(*begin, line, "]undo", ")COST")
-    told = room.messages(*begin, line, "]undo")
-    return (after, told, is_change), (before, f"taken back: {title}\n", True)
+    messages = room.messages(*begin, line, "]undo")
+    return (after, messages, is_change), (before, f"taken back: {title}\n", True)
 
 
 class Undoing:
@@ -61,7 +61,7 @@ class Undoing:
             return True
         for _ in range(self.chance.randint(1, 4)):
             self.take("]undo")
-            self.undone += self.sheet.told[-1].startswith("taken back")
+            self.undone += self.sheet.messages[-1].startswith("taken back")
         self.take(*["]redo"] * self.chance.randint(0, 2))
         content = self.sheet.content()
         return content == content_anew(self.other, self.sheet.journal) and content.names == [*self.sheet.journal.bindings]
@@ -94,8 +94,8 @@ def open_change(room: Room) -> Outcome:
     sheet.take_all(")DATA D←1 2", "D[1]←3", ")OPEN 1 D[2]←9", "]undo", ")COMMIT 1", "]undo", "D")
     sheet.take_all(")OPEN 1 D[2]←9", "D[1]←5", "]undo", "D", "]undo", "]undo")
     sheet.program.stop()
-    told = ["given up: D[2]←9", "NO SLOT", "taken back: D[1]←3", "taken back: D[1]←5", "given up: D[2]←9", "taken back: )DATA D←1 2"]
-    return (sheet.told, sheet.shown, sheet.remade), (told, ["0", "1 2", "0", "1 2"], 0)
+    messages = ["given up: D[2]←9", "NO SLOT", "taken back: D[1]←3", "taken back: D[1]←5", "given up: D[2]←9", "taken back: )DATA D←1 2"]
+    return (sheet.messages, sheet.shown, sheet.remade), (messages, ["0", "1 2", "0", "1 2"], 0)
 
 
 def many_undos(room: Room) -> Outcome:
@@ -109,20 +109,20 @@ def many_undos(room: Room) -> Outcome:
             sheet.take_all(f"D[2]←{place}", f")ROW D {place}", f"T←D+{place}", f")DATA E←{place}")
         made = sheet.program.number
         sheet.take_all(*["]undo"] * 4 * number)
-        counts.append(((made - first) / number, (sheet.program.number - made) / number, sheet.told[-1], sheet.remade))
+        counts.append(((made - first) / number, (sheet.program.number - made) / number, sheet.messages[-1], sheet.remade))
         sheet.program.stop()
     return counts[1], (counts[0][0], 4, "taken back: D[2]←0", 0)
 
 
 def open_change_of_load(room: Room) -> Outcome:
     """A change that a file opens is given up first only where the file makes none behind it."""
-    told = []
+    messages = []
     for text in ("B←2\n)OPEN 1 A←4\nC←3\n", "B←2\nC←3\n)OPEN 1 A←4\n"):
         sheet, path = Sheet(program_of(room)), room.folder / room.put("t.apl", text)
         sheet.take_all("A←1", "N←1", f"]load {path}", "]undo")
-        told.append(sheet.told[-1])
+        messages.append(sheet.messages[-1])
         sheet.program.stop()
-    return told, [f"taken back: ]load {room.folder}/t.apl", "given up: A←4"]
+    return messages, [f"taken back: ]load {room.folder}/t.apl", "given up: A←4"]
 
 
 def undo_of_load(room: Room) -> Outcome:
@@ -132,8 +132,8 @@ def undo_of_load(room: Room) -> Outcome:
     names = sheet.program.ask(")NAMES"), [*sheet.journal.bindings]
     sheet.take_all("]undo", "D←5", "E←6", "]undo", "]undo", "]undo")
     sheet.program.stop()
-    told = ["taken back: )ERASE B", "taken back: C←1", "taken back: E←6", "taken back: D←5", f"taken back: ]load {path}"]
-    return (names, sheet.told), ((["B", "A", "C"],) * 2, told)
+    messages = ["taken back: )ERASE B", "taken back: C←1", "taken back: E←6", "taken back: D←5", f"taken back: ]load {path}"]
+    return (names, sheet.messages), ((["B", "A", "C"],) * 2, messages)
 
 
 def tests(_times: int) -> list[Test]:

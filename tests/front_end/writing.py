@@ -16,15 +16,16 @@ def two_sessions(room: Room) -> Outcome:
     """The second session that has a file is told; the one that saves it last is refused, until it says --replace."""
     path = room.folder / room.put("a.apl", "A←1\n")
     first, second = Screen(room, "a.apl", "-"), Screen(room)
-    told = ["another session has this file too" in first.shown, "another session has this file too" in second.keys("]load a.apl\n")]
+    messages = ["another session has this file too" in first.shown, "another session has this file too" in second.keys("]load a.apl\n")]
     second.keys("B`[2\n")
     first.keys("C`[3\n")
-    told += ["2 names saved in a.apl\n" in second.keys("]save\n"), "was changed by someone else" in first.keys("]save\n")]
-    told += ["was changed by someone else" in first.keys("]save a.apl\n"), path.read_text() == "A←1\nB←2\n"]
-    told += ["2 names saved in a.apl\n" in first.keys("]save a.apl --replace\n"), "was changed by someone else" in second.keys("]save\n")]
+    messages += ["2 names saved in a.apl\n" in second.keys("]save\n"), "was changed by someone else" in first.keys("]save\n")]
+    messages += ["was changed by someone else" in first.keys("]save a.apl\n"), path.read_text() == "A←1\nB←2\n"]
+    messages += ["2 names saved in a.apl\n" in first.keys("]save a.apl --replace\n")]
+    messages += ["was changed by someone else" in second.keys("]save\n")]
     ends = first.end()[0], second.end()[0], len(room.logs())
     texts = path.read_text(), (room.folder / "a.apl~").read_text()
-    return (told, ends, texts), ([False, *[True] * 7], (0, 0, 0), ("A←1\nC←3\n", "A←1\nB←2\n"))
+    return (messages, ends, texts), ([False, *[True] * 7], (0, 0, 0), ("A←1\nC←3\n", "A←1\nB←2\n"))
 
 
 def changed_by_an_editor(room: Room) -> Outcome:
@@ -33,14 +34,14 @@ def changed_by_an_editor(room: Room) -> Outcome:
     screen = Screen(room, "a.apl", "-")
     screen.keys("B`[2\n")
     path.write_text("A←7\n")
-    told = ["was changed by someone else" in screen.keys("]save\n")]
+    messages = ["was changed by someone else" in screen.keys("]save\n")]
     path.unlink()
-    told += ["2 names saved in a.apl\n" in screen.keys("]save\n"), path.read_text() == "A←1\nB←2\n"]
+    messages += ["2 names saved in a.apl\n" in screen.keys("]save\n"), path.read_text() == "A←1\nB←2\n"]
     path.unlink()
     path.write_text("A←1\nB←2\n")
     screen.keys("C`[3\n")
-    told.append("3 names saved in a.apl\n" in screen.keys("]save\n"))
-    return (told, screen.end()[0]), ([True] * 4, 0)
+    messages.append("3 names saved in a.apl\n" in screen.keys("]save\n"))
+    return (messages, screen.end()[0]), ([True] * 4, 0)
 
 
 def save_without_file(room: Room) -> Outcome:
@@ -48,10 +49,10 @@ def save_without_file(room: Room) -> Outcome:
     (room.folder / "plans").mkdir()
     room.put("plans/a.apl", "A←1\n")
     refused = room.call(lines="A←1\n]save\n")[2]
-    told = room.messages("]load plans/a.apl", "B←2", "]save", "]save b.apl", "C←3", "]save")
+    messages = room.messages("]load plans/a.apl", "B←2", "]save", "]save b.apl", "C←3", "]save")
     wanted = "".join(f"{number} names saved in {file}\n" for number, file in ((2, "plans/a.apl"), (2, "b.apl"), (3, "b.apl")))
     texts = [(room.folder / file).read_text() for file in ("plans/a.apl", "b.apl")]
-    return (refused[:40], told, texts), ("line 2: the sheet comes from no file; ]s", wanted, ["A←1\nB←2\n", "A←1\nB←2\nC←3\n"])
+    return (refused[:40], messages, texts), ("line 2: the sheet comes from no file; ]s", wanted, ["A←1\nB←2\n", "A←1\nB←2\nC←3\n"])
 
 
 def links(room: Room) -> Outcome:
@@ -61,10 +62,10 @@ def links(room: Room) -> Outcome:
     os.symlink("plans/a.apl", room.folder / "link.apl")
     os.symlink("plans/b.apl", room.folder / "new.apl")
     os.symlink("loop.apl", room.folder / "loop.apl")
-    told = room.messages("]load link.apl", "B←2", "]save", "]save new.apl", "]save loop.apl", "]save loop.apl --replace")
+    messages = room.messages("]load link.apl", "B←2", "]save", "]save new.apl", "]save loop.apl", "]save loop.apl --replace")
     texts = [(room.folder / file).read_text() for file in ("plans/a.apl", "plans/b.apl", "plans/a.apl~")]
     is_link = [(room.folder / file).is_symlink() for file in ("link.apl", "new.apl", "loop.apl")]
-    return (told.count("2 names saved"), "FAULT" in told, texts, is_link), (2, False, ["A←1\nB←2\n"] * 2 + ["A←1\n"], [True] * 3)
+    return (messages.count("2 names saved"), "FAULT" in messages, texts, is_link), (2, False, ["A←1\nB←2\n"] * 2 + ["A←1\n"], [True] * 3)
 
 
 def refused_writes(room: Room) -> Outcome:
