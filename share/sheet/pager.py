@@ -4,7 +4,6 @@ from __future__ import annotations
 
 import contextlib
 import os
-import pydoc
 import shutil
 from typing import Sequence
 
@@ -20,6 +19,8 @@ def is_wanted(lines: Sequence[str], is_text: bool) -> bool:
 
 def show(lines: Sequence[str]) -> None:
     """Shows a value in the pager, which cuts lines at the edge of the screen and moves them by the arrow keys."""
+    import pydoc  # a start that shows no page does not wait for it
+
     os.environ.setdefault("LESS", "-S")
     with contextlib.suppress(OSError):
         pydoc.pager("".join(f"{line}\n" for line in lines))
