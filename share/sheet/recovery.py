@@ -257,6 +257,18 @@ class Replay:
         self.home: Optional[Tuple[str, str]] = None
         self.arrival: Optional[Change] = None
 
+    def read(self, line: str, waiting: Iterator[str]) -> None:
+        """Takes in a line, and those of its group, which follow; a ValueError or LookupError where it is none of a log."""
+        event = EVENT.fullmatch(line)
+        if event and event[1] == "lines":
+            group = [*islice(waiting, int(event[2]))]
+            if len(group) == int(event[2]):
+                self.add(group, event[3])
+        elif event:
+            self.take(event[1], event[2], event[3])
+        else:
+            self.add([line])
+
     def take(self, event: str, count: str, text: str) -> None:
         """Takes in an event that is no change."""
         if event == "saved":
@@ -264,7 +276,10 @@ class Replay:
             self.arrival = self.journal.last if self.event == "joined" else None
             self.journal.mark_saved()
         elif event == "joined":
-            self.journal.join(len(self.journal.changes) - int(count), text)
+            first = len(self.journal.changes) - int(count)
+            if first < 0:
+                raise ValueError("there are fewer changes than are joined")
+            self.journal.join(first, text)
         elif event == "redo":
             self.journal.make_again()
         elif self.journal.take_back() is self.arrival:
@@ -273,30 +288,28 @@ class Replay:
 
     def add(self, lines: Sequence[str], title: Optional[str] = None) -> None:
         """Takes in a change: a line, or several lines with their title."""
-        first = len(self.journal.changes)
-        for line in lines:
-            self.journal.add(change_of(Line(line)))
+        first, parsed = len(self.journal.changes), [Line(line) for line in lines]
+        if not all(line.is_change for line in parsed):
+            raise ValueError("a line of a log makes no change")
+        for line in parsed:
+            self.journal.add(change_of(line))
         if title is not None:
             self.journal.join(first, title)
         self.event = ""
 
 
 def read(path: Path) -> Unended:
-    """Reads a log; a ValueError where the file is none. A last line that is not complete counts as not there."""
+    """Reads a log; a ValueError where the file is none.
+
+    A last line that is not complete counts as not there. So does a part that a crash of the machine has damaged, with all behind it.
+    """
     lines = path.read_bytes().decode("utf-8", "surrogateescape").split("\n")[:-1]
     if not lines or not lines[0].startswith(HEAD):
         raise ValueError(f"{path} is no log")
     replay, waiting = Replay(), iter(lines[1:])
-    for line in waiting:
-        event = EVENT.fullmatch(line)
-        if event and event[1] == "lines":
-            group = [*islice(waiting, int(event[2]))]
-            if len(group) == int(event[2]):
-                replay.add(group, event[3])
-        elif event:
-            replay.take(event[1], event[2], event[3])
-        else:
-            replay.add([line])
+    with contextlib.suppress(ValueError, LookupError):
+        for line in waiting:
+            replay.read(line, waiting)
     return Unended(path, lines[0][len(HEAD) :], replay.journal, replay.home)
 
 

@@ -126,6 +126,21 @@ def foreign_files(room: Room) -> Outcome:
     return (messages, offers, kept), ((False, True), 1, [*texts.values()] * 2)
 
 
+def damaged(room: Room, damage: str) -> Outcome:
+    """A log that a crash of the machine has damaged gives all changes before the damage."""
+    state = room.folder / "state/aplsheet"
+    state.mkdir(parents=True)
+    head = "⍝ aplsheet session of 2026-01-01 00:00:00\n"
+    (state / "session-20260101-000000-abcdefgh.apl").write_text(f"{head}A←1\nB←A+1\n{damage}")
+    return room.call(lines="]recover\nB\n)NAMES\n")[:2], (0, "2\nA\nB\n")
+
+
+DAMAGES = {"no bytes": "\0" * 500, "no bytes and a line": "\0" * 500 + "\nC←1\n", "no change": "A+\nC←1\n"}
+DAMAGES.update({"a part of a group": "⍝ lines 3: ]table D\nC←1\n"})
+DAMAGES.update({"nothing to redo": "⍝ redo 1: C←1\nC←1\n", "too many joined": "⍝ joined 3: ]load c\nC←1\n"})
+DAMAGES.update({"a part of a line": "C←1", "no path": "⍝ saved 00: plan\nC←1\n"})
+
+
 def full_disk(room: Room, first: int, last: int) -> Outcome:
     """Changes that are made while the disk is full are told of once, and are in the log as soon as there is room again."""
     full = room.folder / "full"
@@ -251,4 +266,5 @@ def tests(times: int) -> list[Test]:
     lost = [Test(f"lost log: {name}{', then the end' * is_last}", lost_log, (number, is_last)) for number, name, is_last in losses]
     none = [Test(f"state folder that is none: {state}", state_folder_that_is_none, (state,)) for state in ("state", None)]
     rest = named_tests([changes_of_many_lines, foreign_files, end_with_a_full_disk, recovered_twice, recovered_over_pipes])
-    return [*broken, *back, *full, *lost, *none, *rest]
+    bad = [Test(f"damaged log: {name}", damaged, (damage,)) for name, damage in DAMAGES.items()]
+    return [*broken, *bad, *back, *full, *lost, *none, *rest]
