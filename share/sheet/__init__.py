@@ -1,17 +1,17 @@
-"""The front end of aplsheet for persons: it stands around the program, which answers every line. Nothing is worked out here.
+"""The front end of aplsheet for interactive use. It passes every line to the program, and computes nothing itself.
 
-  lines       kinds of lines, as far as their text tells
+  lines       kinds of lines, by their text
   program     the program over pipes, and how many lines of output each answer has
-  answers     values told from errors and refusals
+  answers     values, errors and refusals, and how they differ
   journal     the changes that were accepted, and the bindings of names by them
   session     a sheet in use: lines go in, answers come out; undo, redo, and a program that dies
   recovery    the log of a session, by which one that was not saved goes on
-  commands    the forms of the lines that begin with ]; each NAME_commands has those of one subject
+  commands    the forms of the lines that begin with ]; each NAME_commands has the commands of one subject
   tables      tables in files
   arrays      arrays as lines
   storing     the array of a name
   scripts     the lines by which a sheet is saved
-  files       files, read and written without losing what is there
+  files       files: a write replaces a file whole or not at all
   notes       notes beside an error: absent names, cycles, shapes, and a hint for a usual slip
   places      where in a line an error stands
   expressions the parts of an expression

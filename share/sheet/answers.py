@@ -26,7 +26,7 @@ class Answer:
     is_fault  whether it is an error or a refusal
     seconds   how long the answer took
     kind      which error or refusal, where it is a known one, else None
-    origin    the name in whose formula the error arose; None where it arose in the line itself
+    origin    the name in whose formula the error arose; None if it arose in the line itself
     """
 
     def __init__(self, line: Line, lines: list[str], is_fault: bool, seconds: float = 0) -> None:
@@ -51,12 +51,12 @@ def answer(program: Program, line: Line) -> Answer:
 
 
 def fault_of(lines: list[str]) -> Optional[Match[str]]:
-    """Returns the match of FAULT where what was printed reads like a known error or refusal, else None."""
+    """Returns the match of FAULT if the output reads like a known error or refusal, else None."""
     return FAULT.fullmatch(lines[0]) if len(lines) == 1 else None
 
 
 def first_refusal(printed: Iterable[list[str]]) -> Optional[str]:
-    """Returns what was printed for the first of several changes that is refused, or None: nothing is printed for an accepted one."""
+    """Returns the output of the first refused change of several, or None; an accepted change prints nothing."""
     return next(("\n".join(lines) for lines in printed if lines), None)
 
 
@@ -70,5 +70,5 @@ def is_value(program: Program, line: Line, lines: list[str]) -> bool:
 
 
 def is_shape(lines: list[str]) -> bool:
-    """Returns whether what was printed can be a shape: numbers on one line, or none of them."""
+    """Returns whether the output can be a shape: one line with numbers, or an empty one."""
     return len(lines) == 1 and set(lines[0]) <= set("0123456789 ")

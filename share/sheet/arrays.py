@@ -6,7 +6,7 @@ from typing import Sequence
 
 from .lines import LONGEST
 
-ROOM = LONGEST - 200  # bytes of a line for items: what stands before them has less than 200
+ROOM = LONGEST - 200  # bytes of a line for items; the text before them has less than 200
 CHARACTERS, NUMBERS = ROOM // 4, ROOM // 22  # items that a line has room for, however wide they are
 SHORT = 100  # characters of a line that has a whole matrix
 MANY_ROWS = 1000  # of more rows, several stand in a line
@@ -34,10 +34,10 @@ def lines_of_array(name: str, shape: Sequence[int], items: str | Sequence[str], 
 
 
 def rows_of_array(name: str, shape: Sequence[int], items: str | Sequence[str], spare: str) -> list[str]:
-    """Returns lines that bind a name to an array as lines_of_array does; where one item changes, one line does.
+    """Returns lines that bind a name to an array as lines_of_array does; a change of one item changes one line.
 
     A vector that fits one line is one, and so is a matrix of a short line. Otherwise each row of a matrix is a line; of many rows as many
-    share a line as it has room for, however wide their items are. A row that no line has room for is parted evenly.
+    share a line as always fit. A row too long for a line is divided evenly.
     """
     if len(items) <= LONGEST:
         line = whole_line(name, shape, items)

@@ -42,7 +42,7 @@ class Form:
         self.words = [Word(part["word"], bool(part["optional"]), bool(part["many"])) for part in parts if part["word"]]
 
     def split(self, text: str) -> List[str]:
-        """Returns the words of a text; a Mistake where a quote is not closed."""
+        """Returns the words of a text; a Mistake if a quote is not closed."""
         if any(word.name == "WORD" for word in self.words):
             return text.split()
         comment = COMMENT.match(text)
@@ -55,7 +55,7 @@ class Form:
         return Mistake(f"{what}; the form is {self.text}")
 
     def values(self, texts: Sequence[str]) -> Dict[str, Value]:
-        """Returns the values of words and flags by their names, in small letters; a Mistake where the form is another one."""
+        """Returns the values of words and flags by their names, in small letters; a Mistake if the form is another one."""
         values: Dict[str, Value] = {flag[2:]: None if takes_word else False for flag, takes_word in self.flags.items()}
         waiting, words = [*texts], []
         while waiting:
@@ -109,7 +109,7 @@ def command(form: str, sentence: str) -> Callable[[Callable[..., None]], Callabl
 
 
 def run(session: Session, text: str) -> None:
-    """Carries a line out; a Mistake where that is not possible."""
+    """Carries a line out; a Mistake if that is not possible."""
     line = text.partition("]")[2].lstrip(BLANKS)
     word = re.split(r"\W", line)[0]
     if word not in COMMANDS:

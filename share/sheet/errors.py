@@ -20,4 +20,4 @@ class Lost(Exception):
 
 
 class OutputFailed(Exception):
-    """Standard output takes no more: the reason, which is empty where nobody reads it any more."""
+    """A write to standard output failed: the reason, empty if the reader has closed it."""

@@ -20,7 +20,7 @@ LABELS = 11  # columns of the labels
 
 
 class Glance(NamedTuple):
-    """A short look at the value of a name: an error, or the kind and the shape, and the items where they are not many."""
+    """A short look at the value of a name: an error, or the kind and the shape, and the items if they are not many."""
 
     error: str
     kind: str
@@ -49,7 +49,7 @@ def glances_at(program: Program, names: list[str]) -> dict[str, Glance]:
 
 
 def why(session: Session, name: str) -> list[str]:
-    """Returns the lines that explain a name; a Mistake where it is not there."""
+    """Returns the lines that explain a name; a Mistake if it is not there."""
     bindings, binding = session.journal.bindings, session.binding(name)
     reads = binding.references
     glances = glances_at(session.program, [other for other in dict.fromkeys([name, *reads]) if other in bindings])

@@ -27,12 +27,12 @@ class Operand(NamedTuple):
 
     @property
     def is_bare(self) -> bool:
-        """Whether it is a literal or a name alone."""
+        """True for a literal or a name alone."""
         return self.inside is None and not self.indexes
 
 
 class Index(NamedTuple):
-    """An index: the places of its brackets, and its positions but for those that are empty."""
+    """An index: the places of its brackets, and its positions except empty ones."""
 
     start: int
     end: int
@@ -74,7 +74,7 @@ class Reader:
         self.tokens, self.next = tokens, 0
 
     def sign(self, ahead: int = 0) -> str:
-        """Returns the part that comes next, or one further ahead, as it is written; nothing behind the end."""
+        """Returns the text of the next part, or of one further ahead; an empty text behind the end."""
         place = self.next + ahead
         return self.tokens[place].text if place < len(self.tokens) else ""
 
@@ -86,7 +86,7 @@ class Reader:
         return self.tokens[self.next - 1]
 
     def expression(self) -> Expression:
-        """Reads an expression, up to what ends it."""
+        """Reads an expression up to its end: a closing sign, or the end of the line."""
         parts: list[Union[Operand, Function]] = []
         while self.sign() and self.sign() not in ENDS:
             is_operand = self.tokens[self.next].kind != "sign" or self.sign() == "("
@@ -152,7 +152,7 @@ def expression_of(parts: list[Union[Operand, Function]]) -> Expression:
 
 
 def read_expression(tokens: list[Token]) -> Expression:
-    """Returns the expression that these parts make; Unreadable where they make none."""
+    """Returns the expression that these parts make; Unreadable if they make none."""
     reader = Reader(tokens)
     expression = reader.expression()
     if reader.sign():

@@ -19,7 +19,7 @@ MARK = b"\xef\xbb\xbf"  # the byte order mark
 
 
 class Part(NamedTuple):
-    """The part that lines of a script have in a name: their numbers, 0 for those of another file, and the table files that they read."""
+    """The part that lines of a script have in a name: their numbers, 0 for a line of another file, and the table files that they read."""
 
     numbers: List[int]
     sources: List[Source]
@@ -29,9 +29,9 @@ class Home(NamedTuple):
     """The script that a sheet was loaded from, or saved to.
 
     path    its path, from the root
-    digest  the digest of its content as it was read or written
+    digest  the digest of the content that was read or written
     lines   its lines
-    parts   the part that these lines have in each name that they made; None where that is not known
+    parts   the part that these lines have in each name that they made; None if that is not known
     makes   the bindings that they make, in their order
     mark    its byte order mark, if it has one
     end     the end of its last line, if it has one
@@ -52,7 +52,7 @@ class Home(NamedTuple):
 
 
 def opened(file: str) -> BinaryIO:
-    """Opens a file for reading, and waits for no writer of a pipe; a Mistake where that is not possible."""
+    """Opens a file for reading, and waits for no writer of a pipe; a Mistake if that is not possible."""
     try:
         return open(file, "rb", opener=lambda path, flags: os.open(path, flags | os.O_NONBLOCK))
     except (OSError, ValueError) as error:
@@ -67,7 +67,7 @@ def reason(error: Exception) -> str:
 
 
 def as_seen(path: str) -> str:
-    """Returns a path as it is from the folder in which the front end was started, if that folder is still there."""
+    """Returns a path relative to the folder of the start, if that folder is still there."""
     try:
         return os.path.relpath(path)
     except OSError:
@@ -91,7 +91,7 @@ def lines_of(source: Iterable[bytes]) -> Iterator[str]:
 
 
 def home_of(file: str, journal: Journal, first: int = 0) -> Home | None:
-    """Returns the home of the sheet that a script has made by the changes from number `first` on; None where it cannot be read again."""
+    """Returns the home of the sheet that a script has made by the changes from number `first` on; None if it cannot be read again."""
     try:
         raw = Path(file).read_bytes() if os.path.isfile(file) else None
     except (OSError, ValueError):
@@ -147,7 +147,7 @@ def save(file: str, raw: bytes, home: Home | None, may_replace: bool) -> Tuple[s
 
 
 def check_target(file: str, target: Path, home: Home | None, may_replace: bool) -> None:
-    """Raises a Mistake where a file that is there may not be replaced."""
+    """Raises a Mistake if a file that is there may not be replaced."""
     if not target.is_file():
         raise Mistake(f"{file} cannot be written: it is no ordinary file")
     if not os.access(target, os.W_OK):
@@ -173,7 +173,7 @@ def keep_old(target: Path) -> None:
 
 
 def write(target: Path, raw: bytes, may_replace: bool) -> None:
-    """Writes a file beside its place, and gives it its name once it is complete; FileExistsError where there is one already."""
+    """Writes a file beside its place, and gives it its name once it is complete; FileExistsError if there is one already."""
     with beside(target) as new:
         new.write_bytes(raw)
         with open(new, "rb") as written:
@@ -204,7 +204,7 @@ def beside(target: Path) -> Iterator[Path]:
 
 
 def take_rights(new: Path, target: Path) -> None:
-    """Gives a file the rights of the one that it replaces, and the owner if that is allowed; if there is none, those of a new file."""
+    """Gives a file the rights of the one that it replaces, and the owner if that is allowed; a new file gets the usual rights."""
     if not target.exists():
         mask = os.umask(0)
         os.umask(mask)

@@ -93,7 +93,7 @@ class Signals:
 
     @property
     def status(self) -> int:
-        """The exit status of a session that a signal has ended; 0 where none has."""
+        """The exit status of a session that a signal has ended; 0 if none has."""
         return 128 + self.ending if self.ending else 0
 
 

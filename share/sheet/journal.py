@@ -31,7 +31,7 @@ class Source(NamedTuple):
 
     @classmethod
     def of(cls, file: str) -> Optional[Source]:
-        """Returns a file as it is; None where it is not there."""
+        """Returns the present state of a file; None if there is no such file."""
         try:
             status = os.stat(file)
         except (OSError, ValueError):
@@ -43,9 +43,9 @@ class Binding:
     """The binding of a name.
 
     is_data  whether it is data, and not a formula
-    text     the line that makes it; None where no line alone does
+    text     the line that makes it; None if there is no single one
     place    the last line of a script that had a part in it, or None
-    source   the table file that it was read from, as it was then, or None
+    source   the state of the table file when it was read, or None
     """
 
     def __init__(self, is_data: bool, text: Optional[str] = None, place: Optional[Place] = None) -> None:
@@ -63,10 +63,10 @@ class Change:
 
     title    the text by which messages name it
     lines    its lines
-    bound    the names that it binds, in their order, each with its binding; None where it is erased
+    bound    the names that it binds, in their order, each with its binding; None if it is erased
     places   the places of the lines of scripts from which it comes
-    inverse  lines that undo it while it is the last change; None where the sheet has to be made again without it
-    before   the bindings of these names before it, None where a name was not there
+    inverse  lines that undo it while it is the last change; None if the sheet has to be made again without it
+    before   the bindings of these names before it, None if a name was not there
     parts    the changes that it joins
     """
 
@@ -78,7 +78,7 @@ class Change:
 
     @property
     def erases(self) -> bool:
-        """Whether it removes a name that was there before it, or a part of it does."""
+        """True if it, or a part of it, removes a name that was there before it."""
         is_erased = any(binding is None and self.before.get(name) for name, binding in self.bound.items())
         return is_erased or any(part.erases for part in self.parts)
 
@@ -114,7 +114,7 @@ def joined(title: str, changes: Sequence[Change]) -> Change:
 
 
 class OpenChange(NamedTuple):
-    """A change that is open in a slot: its line, and how many changes were made before it was opened."""
+    """A change that is open in a slot: its line, and the number of changes before it."""
 
     line: Line
     after: int
@@ -148,7 +148,7 @@ class Journal:
 
     @property
     def is_saved(self) -> bool:
-        """Whether nothing would be lost: the last change is saved, or there are no names."""
+        """True if an end would lose nothing: the last change is saved, or there are no names."""
         return self.saved is self.last or not self.bindings
 
     @property
@@ -160,14 +160,14 @@ class Journal:
         self.saved = self.last
 
     def made_by(self, line: Line) -> Optional[Line]:
-        """Returns the line whose change a line makes: itself, or for )COMMIT the line of the slot; None where it makes none."""
+        """Returns the line whose change a line makes: itself, or for )COMMIT the line of the slot; None if it makes none."""
         if line.is_change:
             return line
         opened = self.slots.get(line.slot or "") if line.kind == "commit" else None
         return opened.line if opened else None
 
     def accept(self, line: Line, place: Optional[Place] = None, inverse: Optional[List[str]] = None) -> Optional[Change]:
-        """Takes in a line of any kind that the program has accepted; returns the change that it makes, if it makes one."""
+        """Adds an accepted line of any kind; returns the change that it makes, if it makes one."""
         made = self.made_by(line)
         if line.slot and line.kind in ("commit", "drop"):
             self.slots.pop(line.slot, None)
@@ -216,7 +216,7 @@ class Journal:
         return change
 
     def join(self, first: int, title: str) -> int:
-        """Makes one change of those from number `first` on; returns how many these are."""
+        """Makes one change of those from number `first` on; returns their number."""
         changes, number = self.changes[first:], len(self.changes)
         if changes:
             self.changes[first:] = [joined(title, changes)]
@@ -252,7 +252,7 @@ def reaching(references: Mapping[str, Iterable[str]], names: Iterable[str]) -> D
 
 
 def bind(bindings: Dict[str, Binding], change: Change) -> None:
-    """Takes the bindings of a change into those of a sheet; those of its parts one after the other, since a name may go and come again."""
+    """Applies the bindings of a change to a sheet, part by part: a name may be removed and made again."""
     for part in change.parts:
         bind(bindings, part)
     for name, binding in change.bound.items():

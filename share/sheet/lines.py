@@ -1,4 +1,4 @@
-"""What a line is, as far as its text tells: what kind of line, of which name, and which names it refers to."""
+"""What a line is, by its text: what kind of line, of which name, and which names it refers to."""
 
 from __future__ import annotations
 
@@ -83,7 +83,7 @@ class Line:
             self.kind, self.name = "edit", edit[1]
 
     def read_command(self, word: str, rest: str) -> None:
-        """Takes in the word of a command, and the rest of the line."""
+        """Reads the word of a command, and the rest of the line."""
         self.kind = word.lower() if word in COMMAND_WORDS else "unknown"
         if self.kind in ("open", "step", "commit", "drop"):
             digits = re.match("[ \t]*0*([0-9]+)", rest)

@@ -55,7 +55,7 @@ class Page(NamedTuple):
 
 @lru_cache(maxsize=None)
 def page() -> Page:
-    """Returns the manual; a Mistake where it cannot be read."""
+    """Returns the manual; a Mistake if it cannot be read."""
     try:
         text = FILE.read_text("utf-8")
     except OSError as error:
@@ -89,7 +89,7 @@ def symbols() -> list[str]:
 
 
 def rows_of_symbol(symbol: str) -> list[Row]:
-    """Returns the rows of a symbol, and those of the sections that they lead to whose forms have it."""
+    """Returns the rows of a symbol, and the rows with it in the sections that they name."""
     own = [row for row in page().rows if row.section == SYMBOLS and any(symbol in term.split() for term in row.terms)]
     sections = [section for row in own for section in re.findall(r"\[([^]]+)\]\(", row.cells[-1])]
     return own + [row for row in page().rows if any(symbol in term for term in row.terms) and row.section in sections]
@@ -132,7 +132,7 @@ def of_function(words: str) -> list[str]:
 
 
 def explained(words: str) -> list[str]:
-    """Returns the manual's lines about a symbol, an error, a refusal, a line or a function; a Mistake where it has none of that name."""
+    """Returns the manual's lines about a symbol, an error, a refusal, a line or a function; a Mistake if it has none of that name."""
     lines = of_symbols(words) or of_command(words) or of_fault(words) or of_function(words)
     if lines:
         return lines
@@ -149,7 +149,7 @@ def lines_of_row(row: Row) -> list[str]:
 
 
 def lines_of_passages(title: list[str], passages: list[Passage]) -> list[str]:
-    """Returns passages, each behind the title of its section where that is another than before."""
+    """Returns passages, each behind the title of its section if that is another than before."""
     lines, section = [*title], ""
     for passage in passages:
         if passage.section != section:

@@ -39,7 +39,7 @@ REFUSED = {
 
 
 def of_fault(session: Session, answer: Answer, spot: Optional[Spot] = None) -> list[str]:
-    """Returns the notes on an error or a refusal, whose place is this one, where it is known."""
+    """Returns the notes on an error or a refusal, whose place is this one, if it is known."""
     if answer.kind is None:
         return ["no such answer is known, so the line counts as refused"]
     if answer.kind not in (*ABOUT, "DOMAIN ERROR"):
@@ -52,12 +52,12 @@ def of_fault(session: Session, answer: Answer, spot: Optional[Spot] = None) -> l
 
 
 def of_slip(line: Line) -> list[str]:
-    """Returns a note on a line that was answered, where it looks as if another one was meant."""
+    """Returns a note on a line that was answered, if it looks like a slip."""
     return doubts_of(line)
 
 
 def subject(answer: Answer) -> Line:
-    """Returns the line that was refused, or is an error: of )OPEN the one that it would have begun."""
+    """Returns the line that was refused, or is an error; of )OPEN the line in it."""
     return answer.line.opened if answer.line.kind == "open" else answer.line
 
 
@@ -68,7 +68,7 @@ def culprit(session: Session, answer: Answer) -> Line:
 
 
 def absent(name: str, names: Iterable[str]) -> str:
-    """Says that a name is not there, and one that may be meant."""
+    """Says that a name is absent, and names a similar one."""
     near = get_close_matches(name, names, 1, 0.75) or [known for known in names if known.upper() == name.upper()]
     return f"{name} is not there" + (f"; is {near[0]} meant?" if near else "")
 
@@ -87,7 +87,7 @@ def of_value(session: Session, answer: Answer) -> list[str]:
 
 
 def way_round(session: Session, line: Line) -> list[str]:
-    """Returns the names on a shortest way from a name through formulas back to it, and nothing where there is none."""
+    """Returns the names on a shortest way from a name through formulas back to it, and nothing if there is none."""
     bindings, first = session.journal.bindings, line.name or ""
     before = dict.fromkeys(line.references, first)
     ahead = deque(before)
@@ -132,7 +132,7 @@ def of_shapes(session: Session, answer: Answer) -> list[str]:
 
 
 def of_items(session: Session, answer: Answer, spot: Optional[Spot]) -> list[str]:
-    """Returns the items that the function at the place of the error does not take; where that is not known, those of ÷."""
+    """Returns a note on the items that the function at the error does not take; on ÷ if the function is not known."""
     line = culprit(session, answer)
     if line.kind == "csv":
         return [f")CSV prints numbers, and {line.name} is of characters"]
@@ -146,7 +146,7 @@ def of_items(session: Session, answer: Answer, spot: Optional[Spot]) -> list[str
 
 
 def base_of(function: str) -> str:
-    """Returns the scalar function of which an operator makes this one, or the function itself; nothing where shapes can be wrong."""
+    """Returns the scalar function of which an operator makes this one, or the function itself; nothing if shapes can be wrong."""
     if function.startswith("∘"):
         return function[-1]
     is_of_lines = len(function) > 1 and function[0] in "⍲⍱"  # over lines without items these have no result
@@ -159,7 +159,7 @@ def of_length(_session: Session, answer: Answer) -> list[str]:
 
 
 def of_syntax(session: Session, answer: Answer) -> list[str]:
-    """Returns what is usually meant by a line that looks so; else the sign that is not of the language, or does not pair."""
+    """Returns the usual meaning of a line that looks so; else the sign that is unknown or does not pair."""
     slip = slip_of(subject(answer), session.journal.bindings)
     return [slip.hint] if slip else []
 

@@ -9,7 +9,7 @@ from typing import Sequence
 
 
 def is_wanted(lines: Sequence[str], is_text: bool) -> bool:
-    """Whether lines are more than the screen has, or those of a table and no text are wider, and the terminal can show pages."""
+    """Returns whether the terminal can page, and there are more lines than rows, or lines of a table wider than the screen."""
     if os.environ.get("TERM", "dumb") == "dumb":
         return False
     size = shutil.get_terminal_size()

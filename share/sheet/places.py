@@ -1,4 +1,4 @@
-"""Where an error stands in its line, and how the place is shown: the line, and a mark below it.
+"""The place of an error in its line, shown as the line with a mark below it.
 
 The place of an error of values is asked of the program. It evaluates from the right, and an error is the value of all that stands to the
 left of it. So the error arises at the first function of the shortest part, from some place to the end, that shows the error by itself.
@@ -24,11 +24,11 @@ if TYPE_CHECKING:
 
 MARK = "∧"
 AT_FUNCTIONS = ("LENGTH ERROR", "RANK ERROR", "INDEX ERROR", "DOMAIN ERROR", "LIMIT ERROR", "AXIS ERROR")
-WIDEST = 100  # columns where no terminal says how many it has
+WIDEST = 100  # columns if no terminal says its width
 QUESTIONS = 12  # the most that are asked for one place
 SECONDS = 0.2  # an expression whose answer took longer is not asked for again
 PARTS = 250  # of an expression: with the two functions of a question it is within the limits of the program
-ITEMS = 20000  # of the names that a formula reads, and the greatest of its numbers, where it is worked out once more
+ITEMS = 20000  # of the names that a formula reads, and the greatest of its numbers, where it is computed once more
 LONGEST_NAME = 63  # bytes
 
 
@@ -64,13 +64,13 @@ def columns() -> int:
 
 
 def width_of(text: str) -> int:
-    """Returns how many columns a text takes: signs that stand on another one take none, and wide ones two."""
+    """Returns the width of a text in columns: combining signs take none, and wide ones two."""
     unmarked = [sign for sign in text if unicodedata.category(sign) not in ("Mn", "Me", "Cf")]
     return sum(2 if unicodedata.east_asian_width(sign) in "FW" else 1 for sign in unmarked)
 
 
 def spot_of(session: Session, answer: Answer) -> Optional[Spot]:
-    """Returns the place of an error or a refusal; None where it is not known for certain."""
+    """Returns the place of an error or a refusal; None if it is not known for certain."""
     line = culprit(session, answer)
     if answer.kind == "SYNTAX ERROR":
         slip = slip_of(line, session.journal.bindings)
@@ -143,7 +143,7 @@ def spot_at_function(program: Program, line: Line, answer: Answer) -> Optional[S
 
 
 def is_light(program: Program, line: Line, tokens: list[Token]) -> bool:
-    """Returns whether a formula reads few items, so that it is worked out at once."""
+    """Returns whether a formula reads few items, so that it is computed at once."""
     shapes = program.ask_all([f"⍴{name}" for name in line.references])
     items = sum(prod(map(int, shape[0].split())) for shape in shapes if is_shape(shape))
     return items <= ITEMS and all(int(token.text.lstrip("¯")) <= ITEMS for token in tokens if token.kind == "number")
@@ -162,7 +162,7 @@ class Search:
     def shows(self, start: int, end: int) -> bool:
         """Returns whether a part of the line shows the error by itself. The question is the length of its shape, so that little is printed.
 
-        A part that does not show the first error of the whole shows none. So other answers, as LINE TOO LONG, are not those of the part.
+        A part that does not show the first error of the whole shows none. Another answer, as LINE TOO LONG, tells nothing of the part.
         """
         if self.questions == 0:
             raise Unsure

@@ -26,7 +26,7 @@ class ProgramFailed(Exception):
 class Program:
     """A running program.
 
-    A fence is a text, which the program prints as it is. Its first character stands in no line that this program was ever sent, and no
+    A fence is a text, which the program prints unchanged. Its first character stands in no line that this program was ever sent, and no
     function of the language makes a character that was not in a line: so no other answer holds it. Fences are numbered, so that each is
     recognized also where one before it was refused memory.
 
@@ -55,7 +55,7 @@ class Program:
         self.environment["APLSHEET_TOLD"] = "1"  # bin/aplsheet tells once which build it is
 
     def start_process(self) -> None:
-        """Starts it, and a thread that takes in what it prints."""
+        """Starts the process, and a thread that reads its output."""
         pipe = subprocess.PIPE
         try:
             self.process = subprocess.Popen(self.words, stdin=pipe, stdout=pipe, start_new_session=True, env=self.environment)
@@ -73,7 +73,7 @@ class Program:
 
     @property
     def is_ready(self) -> bool:
-        """Whether it runs, and every answer was read whole."""
+        """True if it runs, and every answer was read whole."""
         return self.is_started and self.is_in_step and self.reader.is_alive()
 
     def signal(self, number: int) -> None:
@@ -82,11 +82,11 @@ class Program:
             os.killpg(self.process.pid, number)
 
     def interrupt(self) -> None:
-        """Ends it, whatever it is doing; the thread that waits for an answer gets ProgramFailed. Any thread may call this."""
+        """Ends it in any state; the thread that waits for an answer gets ProgramFailed. Any thread may call this."""
         self.signal(signal.SIGTERM)
 
     def stop(self) -> None:
-        """Ends it, whatever it is doing, and waits for the end."""
+        """Ends it in any state, and waits for the end."""
         self.is_in_step = False
         if self.is_started:
             self.interrupt()
@@ -96,7 +96,7 @@ class Program:
             self.close_input()
 
     def status(self, seconds: Optional[float]) -> Optional[int]:
-        """Waits for the end of the process; returns its status, or None where it goes on for longer than these seconds.
+        """Waits for the end of the process; returns its status, or None if it goes on for longer than these seconds.
 
         Signals are held: one that raises within Popen.wait can leave a lock behind, on which the next call waits for ever.
         """
@@ -133,7 +133,7 @@ class Program:
         return [*self.answers(lines)]
 
     def answers(self, lines: Sequence[str]) -> Iterator[List[str]]:
-        """Yields the lines that are printed for each of many lines, as they come."""
+        """Yields the output of each of many lines as it arrives."""
         if not lines:
             return
         first = self.number + 1
@@ -155,7 +155,7 @@ class Program:
             lines.append(printed)
 
     def write(self, lines: Sequence[str]) -> None:
-        """Sends each line, and a fence behind each; a fence alone where there is no line."""
+        """Sends each line, and a fence behind each; a fence alone if there is no line."""
         self.is_in_step = False
         raw = [f"{line}\n".encode("utf-8", "surrogateescape") for line in lines] or [b""]
         for line in raw:
@@ -179,7 +179,7 @@ class Program:
             self.fail()
 
     def next_line(self, seconds: Optional[float] = None) -> Optional[str]:
-        """Returns the next line that is printed, or None where none comes in time."""
+        """Returns the next line that is printed, or None if none comes in time."""
         try:
             line = self.printed.get(timeout=seconds)
         except queue.Empty:
@@ -197,7 +197,7 @@ class Program:
 
 
 def pass_lines(output: IO[bytes], lines: queue.SimpleQueue[Optional[str]]) -> None:
-    """Puts the lines that are printed into a queue one by one, and None at the end, for whatever reason it comes."""
+    """Puts the lines of the output into a queue one by one, and None at the end, also after an exception."""
     try:
         for line in output:
             lines.put(line.decode("utf-8", "surrogateescape").rstrip("\n"))

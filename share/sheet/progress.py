@@ -13,13 +13,13 @@ PATIENCE = 1.0  # seconds until something is shown, and between two times
 class Progress:
     """Shows how much of a task is done, on a line of its own that goes when the task ends.
 
-    what      the task
-    total     how many steps it has
+    task      its name
+    total     the number of its steps
     is_shown  whether there is a terminal to show it
     """
 
-    def __init__(self, what: str, total: int, is_shown: bool) -> None:
-        self.what, self.total, self.is_shown = what, total, is_shown
+    def __init__(self, task: str, total: int, is_shown: bool) -> None:
+        self.task, self.total, self.is_shown = task, total, is_shown
         self.due, self.width = time.monotonic() + PATIENCE, 0
 
     def over(self, steps: Iterable[Item]) -> Iterator[Item]:
@@ -28,7 +28,7 @@ class Progress:
             for number, step in enumerate(steps):
                 if self.is_shown and time.monotonic() > self.due:
                     self.due = time.monotonic() + PATIENCE
-                    self.write(f"{self.what}: {100 * number // self.total} %")
+                    self.write(f"{self.task}: {100 * number // self.total} %")
                 yield step
         finally:
             if self.width:

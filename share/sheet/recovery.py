@@ -1,11 +1,11 @@
-"""The log of a session: a file to which each change is appended as it is accepted, so that a session that did not end well can go on.
+"""The log of a session: each accepted change is appended to a file, so that a session that did not end well can go on.
 
-It is a text. First comes a line with the time; then each change, by its line. Other events are comments:
+The file is a text: a line with the time, then a line for each change. Other events are comments:
 
   ⍝ lines N: TITLE      the next N lines are one change
   ⍝ joined N: TITLE     the last N changes are one
   ⍝ undo 1: TITLE       the last change is taken back
-  ⍝ redo 1: TITLE       it is made again
+  ⍝ redo 1: TITLE       that change is made again
   ⍝ saved DIGEST: PATH  the sheet is as that file has it; the path is a string of JSON
 
 A session holds a lock on its log while it runs, so that others see whether it does.
@@ -38,7 +38,7 @@ DELAY = 0.5  # seconds until an append is flushed to the disk
 
 
 def state_folder() -> Path:
-    """Returns the folder of the history and of the logs, and makes it where it is missing."""
+    """Returns the folder of the history and of the logs, and makes it if it is missing."""
     base = os.environ.get("XDG_STATE_HOME") or os.path.join(os.path.expanduser("~"), ".local", "state")
     if not os.path.isabs(base):
         raise FileNotFoundError(errno.ENOENT, "there is no home folder")
@@ -53,10 +53,10 @@ PLACES: List[Callable[[], Path]] = [state_folder, Path.cwd, lambda: Path(tempfil
 class Log:
     """The log of a session that runs.
 
-    path       its file; None where none could be written so far
-    is_whole   whether the file has all changes, but for those of `pending`; it has none before the first that is not saved
+    path       its file; None if none could be written so far
+    is_whole   whether the file has all changes except `pending`; it has none before the first unsaved change
     pending    bytes that are not in the file yet, since the system refused them
-    is_behind  whether it was told that changes are not in the file
+    is_behind  whether the person knows that changes are missing in the file
     """
 
     def __init__(self, tell: Callable[[str], None]) -> None:
@@ -67,7 +67,7 @@ class Log:
         threading.Thread(target=self.flush_regularly, daemon=True).start()
 
     def begin(self, journal: Journal, home: Optional[Home]) -> None:
-        """Writes a log of the sheet as it is into a new file, in the first place that takes it; tells where there is none."""
+        """Writes a log of the present sheet to a new file in the first folder that takes it; tells if no folder does."""
         is_whole = not journal.is_saved
         events = events_of(journal, home) if is_whole else saved(home) if home else []
         raw = raw_of([HEAD + time.strftime("%Y-%m-%d %H:%M:%S"), *events])
@@ -116,14 +116,14 @@ class Log:
 
     @property
     def is_there(self) -> bool:
-        """Whether the file stands at its path."""
+        """True if the open file is the one at its path."""
         try:
             return self.path is not None and os.path.samestat(os.stat(self.path), os.fstat(self.file))
         except OSError:
             return False
 
     def append(self, lines: Sequence[str], journal: Journal, home: Optional[Home]) -> None:
-        """Appends lines, which log the last change of the sheet. Where the file takes no more, or is gone, a new one is begun."""
+        """Appends the lines of the last change. If the file is full or gone, begins a new one."""
         if not self.is_whole:
             self.begin(journal, home)
             return
@@ -174,7 +174,7 @@ class Log:
         return self.is_whole and not self.pending and self.is_there
 
     def end(self, journal: Journal, home: Optional[Home]) -> Optional[Path]:
-        """Ends the log: removes it where the sheet is saved, else returns its path, or None where it cannot be written."""
+        """Ends the log: removes it if the sheet is saved, else returns its path, or None if it cannot be written."""
         if journal.is_saved:
             self.close()
             return None
@@ -189,7 +189,7 @@ def write_all(file: int, raw: bytes) -> None:
 
 
 def events_of(journal: Journal, home: Optional[Home]) -> List[str]:
-    """Returns the lines that log a sheet as it is."""
+    """Returns the lines that log the present sheet."""
     lines = saved(home) if home and journal.saved not in journal.changes else []
     for change in journal.changes:
         lines += event_of(change)
@@ -225,7 +225,7 @@ class Unended(NamedTuple):
 
     path     its file
     begun    the time at which it began
-    journal  the changes that it logs, as far as they are complete
+    journal  the changes that it logs completely
     home     the digest and the path of the file that the sheet was loaded from or saved to, or None
     """
 
@@ -244,7 +244,7 @@ class Unended(NamedTuple):
 
 
 class Replay:
-    """The events of a log, taken in one after the other.
+    """The events of a log, applied one after the other.
 
     journal  the changes
     home     the digest and the path of the file that the sheet was loaded from or saved to, or None
@@ -258,7 +258,7 @@ class Replay:
         self.arrival: Optional[Change] = None
 
     def read(self, line: str, waiting: Iterator[str]) -> None:
-        """Takes in a line, and those of its group, which follow; a ValueError or LookupError where it is none of a log."""
+        """Reads a line, and the rest of its group from `waiting`; ValueError or LookupError for a line that is not of a log."""
         event = EVENT.fullmatch(line)
         if event and event[1] == "lines":
             group = [*islice(waiting, int(event[2]))]
@@ -270,7 +270,7 @@ class Replay:
             self.add([line])
 
     def take(self, event: str, count: str, text: str) -> None:
-        """Takes in an event that is no change."""
+        """Applies an event that is no change."""
         if event == "saved":
             self.home = count, json.loads(text)
             self.arrival = self.journal.last if self.event == "joined" else None
@@ -287,7 +287,7 @@ class Replay:
         self.event = event
 
     def add(self, lines: Sequence[str], title: Optional[str] = None) -> None:
-        """Takes in a change: a line, or several lines with their title."""
+        """Adds a change: a line, or several lines with their title."""
         first, parsed = len(self.journal.changes), [Line(line) for line in lines]
         if not all(line.is_change for line in parsed):
             raise ValueError("a line of a log makes no change")
@@ -299,7 +299,7 @@ class Replay:
 
 
 def read(path: Path) -> Unended:
-    """Reads a log; a ValueError where the file is none.
+    """Reads a log; a ValueError if the file is none.
 
     A last line that is not complete counts as not there. So does a part that a crash of the machine has damaged, with all behind it.
     """
@@ -323,7 +323,7 @@ def logs() -> List[Path]:
 
 
 def is_own(path: Path) -> bool:
-    """Whether a file has the name of a log, and is an ordinary one of this user."""
+    """Returns whether a file has the name of a log, is regular, and belongs to this user."""
     try:
         status = path.lstat()
     except OSError:
@@ -345,7 +345,7 @@ def unended() -> Iterator[Unended]:
 
 
 def is_open_elsewhere(home: Home, own: Optional[Path]) -> bool:
-    """Whether another session that runs has the same home."""
+    """Returns whether another running session has the same home."""
     for path in logs():
         with contextlib.suppress(OSError, ValueError, LookupError):
             there = read(path).home if path != own and is_locked(path) else None
@@ -355,7 +355,7 @@ def is_open_elsewhere(home: Home, own: Optional[Path]) -> bool:
 
 
 def is_locked(path: Path) -> bool:
-    """Whether the session of a log runs."""
+    """Returns whether the session of a log runs."""
     try:
         with open(path, "rb") as log:
             fcntl.flock(log, fcntl.LOCK_SH | fcntl.LOCK_NB)

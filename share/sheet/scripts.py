@@ -1,4 +1,4 @@
-"""The script by which a sheet is saved: lines of the one that it comes from, as far as they still make it, and new ones for the rest."""
+"""The script by which a sheet is saved: lines of the one that it comes from that still hold, and new ones for the rest."""
 
 from __future__ import annotations
 
@@ -20,9 +20,8 @@ QUIET = ("nothing", "show", "names", "cost", "csv")
 def script_of_sheet(program: Program, journal: Journal, home: Optional[Home] = None) -> Home:
     """Returns the script that makes the sheet, with the path and the digest of its home.
 
-    Those lines of its home stay that are blank, a comment, or show a value, and those that make a name as it is. A name that was made
-    anew since stands in the place of the first line that made it there. A line of the home that was refused, or is of a slot, becomes a
-    comment. Names that the home does not make follow the names before them.
+    A line of the home stays if it is blank, a comment, shows a value, or makes a name that did not change. A changed name stands in the
+    place of the first line that made it. A refused line, or one about a slot, becomes a comment. Other names follow their predecessors.
     """
     home = home or Home("", "")
     is_as_it_was = [*home.makes.items()] == [*journal.bindings.items()] and not any(map(is_stale, (home.parts or {}).values()))
@@ -36,7 +35,7 @@ def script_of_sheet(program: Program, journal: Journal, home: Optional[Home] = N
 
 
 def is_stale(part: Part) -> bool:
-    """Whether a table file that a name was read from has changed since."""
+    """Returns whether a table file of a name has changed since it was read."""
     return any(Source.of(source.file) != source for source in part.sources)
 
 
@@ -62,7 +61,7 @@ class Entry:
 
     @property
     def is_quiet(self) -> bool:
-        """Whether it changes nothing, whatever the sheet is."""
+        """True if it changes nothing in any sheet."""
         return self.line.kind in QUIET or bool(SHOWING.match(self.line.code))
 
     @property
@@ -83,7 +82,7 @@ class Script:
     """A sheet beside its home.
 
     entries  the lines of the home, by their numbers
-    numbers  the numbers of the lines of the home that made each name, also of those that are gone; 0 where another file did
+    numbers  the numbers of the lines of the home that made each name, also of those that are gone; 0 for another file
     placed   the number of the line in whose place the lines of a name stand
     kept     the names that the lines of the home still make
     end      CR where the lines of the home end with it, else nothing
@@ -109,7 +108,7 @@ class Script:
         return numbers
 
     def is_made_by_lines(self, name: str) -> bool:
-        """Whether lines of the home alone made a name, and none of them removed it."""
+        """Returns whether only lines of the home made a name, and none of them removed it."""
         entries = [self.entries.get(number) for number in self.numbers[name]]
         return all(entry and entry.name and (entry.name != name or entry.line.kind != "erase") for entry in entries)
 
@@ -126,8 +125,8 @@ class Script:
     def kept_names(self) -> Set[str]:
         """Returns the names that the lines of the home still make.
 
-        Data that was worked out of other names needs these as they were. So does a formula in whose place another one stood: that one
-        would be a cycle, where such a name refers to it.
+        Data computed from other names needs them unchanged. So does a formula that replaced another one: a changed name that refers to it
+        could make the former formula a cycle.
         """
         bindings, parts = self.journal.bindings, self.home.parts or {}
         same = {name for name in self.placed if self.home.makes.get(name) is bindings[name] and not is_stale(parts[name])}
@@ -151,7 +150,7 @@ class Script:
         return [reference for line in self.lines_of(name) for reference in line.references if line.kind in ("definition", "data")]
 
     def needs(self, name: str) -> Set[str]:
-        """Returns the names that these lines refer to, but for the formula that the name has; a name needs not itself."""
+        """Returns the names that these lines refer to, except its own formula; a name needs not itself."""
         lines = self.lines_of(name)
         read = [line for line in lines if line.kind == "data" or line.kind == "definition" and line is not lines[-1]]
         own = {name, *(line.name for line in lines)}
@@ -178,7 +177,7 @@ class Script:
         return added
 
     def lines_in_place(self, number: int, entry: Entry) -> List[MadeLine]:
-        """Returns the lines that stand in the place of a line of the home that makes no name as it is."""
+        """Returns the lines in place of a line of the home that makes no kept name."""
         if number in self.names_at:
             return self.lines_of_name(self.names_at[number], entry.comment)
         if entry.is_quiet:
@@ -186,7 +185,7 @@ class Script:
         return [] if number in self.accepted else [MadeLine(comment) for comment in entry.as_comment]
 
     def lines_of_name(self, name: str, comment: str = "") -> List[MadeLine]:
-        """Returns the lines that make a name; data without a comment gets that of the line in whose place it stands."""
+        """Returns the lines that make a name; data without a comment gets the comment of the line that it replaces."""
         binding = self.journal.bindings[name]
         lines = [binding.text] if binding.text else self.lines_of_data(name)
         commented = f"{lines[0]} {comment}"
@@ -201,7 +200,7 @@ class Script:
         return rows_of_array(name, array.shape, array.items, spare)
 
     def is_read_above(self, name: str) -> bool:
-        """Whether a name before it reads it: each line that makes a part of it would work that one out."""
+        """Returns whether a name before it reads it, and would be computed again at each line of the data."""
         above = [*self.journal.bindings]
         reached = self.journal.reached([name])
         return any(other in reached for other in above[: above.index(name)])

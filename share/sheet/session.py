@@ -42,19 +42,19 @@ class Session:
     journal     the changes that it has accepted
     home        the script that the sheet was loaded from or saved to, if there is one
     arrival     the change that loaded the home by ]load, if one did: without it the sheet has no home
-    log         the log of the session; None where lines are not typed
+    log         the log of the session; None if lines are not typed
     show        called with each line that is an answer
     tell        called with each line that tells of something else: errors, refusals, notes
     has_screen  whether the answers go to a terminal
     is_check    whether only errors and refusals are wanted, and no file is written
-    faults      how many lines were refused or were errors
+    faults      the number of lines that were refused or were errors
     place       the place of the line that is answered, if it is of a script
     loading     the files that are being loaded, each by its device and its number there
     watch       the names that are shown after each change that reaches them
-    changed     the names that were bound anew since these were shown
+    changed     the names bound since the watched names were shown last
     draft       a line that is given back to the person to be edited
-    on_screen   the line that was typed last, as it stands on the screen behind the prompt; None where none was
-    is_settled  whether the journal has what the program has accepted
+    on_screen   the prompt and the line that was typed last; None over pipes
+    is_settled  whether the journal has every change that the program has accepted
     """
 
     def __init__(self, program: Program, show: Callable[[str], None], tell: Callable[[str], None], is_check: bool = False) -> None:
@@ -72,7 +72,7 @@ class Session:
 
     @property
     def is_typed(self) -> bool:
-        """Whether lines are typed at a terminal."""
+        """True if lines are typed at a terminal."""
         return self.log is not None
 
     def take(self, text: str, place: Optional[Place] = None) -> None:
@@ -154,14 +154,14 @@ class Session:
         return Reply(fault, notes.of_fault(self, fault, spot), spot)
 
     def settle(self, events: Sequence[str], change: Optional[Change] = None) -> None:
-        """Logs events that the journal has taken in, and notes the names that a change among them binds; signals are held."""
+        """Logs events of the journal, and notes the names that a change among them binds; signals are held."""
         self.changed.update(change.bound if change else {})
         if self.log and events:
             self.log.append(events, self.journal, self.home)
         self.is_settled = True
 
     def complain(self, text: str, what: str, remarks: Sequence[str] = (), spot: Optional[Spot] = None) -> None:
-        """Tells of a line that was refused or is an error: its place if it is of a script, the place of the error in it, and remarks."""
+        """Reports a refusal or an error of a line: its place if it is of a script, the place of the error in it, and remarks."""
         self.faults += 1
         is_here = spot is not None and spot.text == text
         mark = spot.below(self.on_screen) if spot and is_here and not self.place else None
@@ -172,13 +172,13 @@ class Session:
             self.tell(f"  {line}")
 
     def binding(self, name: str) -> Binding:
-        """Returns the binding of a name; a Mistake where it is not there."""
+        """Returns the binding of a name; a Mistake if it is not there."""
         if name not in self.journal.bindings:
             raise Mistake(notes.absent(name, self.journal.bindings))
         return self.journal.bindings[name]
 
     def change(self, title: str, lines: Sequence[str], source: Optional[str] = None) -> None:
-        """Gives the program lines that make one change, all or none of them; a Mistake where one of them is refused.
+        """Gives the program lines that make one change, all or none of them; a Mistake if one of them is refused.
 
         `source` is the table file from which the names are read that it binds.
         """
@@ -210,7 +210,7 @@ class Session:
     def tell_of_others(self) -> None:
         """Tells where another session has the same file."""
         if self.home and self.log and is_open_elsewhere(self.home, self.log.path):
-            self.tell("  another session has this file too: the first that saves it wins, and the other one is told")
+            self.tell("  another session has this file too: the second to save it is refused, and gets a message")
 
     def join(self, first: int, title: str) -> None:
         """Makes one change of those from number `first` on."""
@@ -219,7 +219,7 @@ class Session:
             self.settle(joined_to(number, title) if number else [])
 
     def inverse(self, line: Line) -> Optional[List[str]]:
-        """Returns lines that undo the change of a line, as far as they are known before it is made; else None."""
+        """Returns lines that undo the change of a line, if they are known before it is made; else None."""
         name = line.name or ""
         binding = self.journal.bindings.get(name)
         if line.kind == "edit" and binding:
@@ -234,14 +234,14 @@ class Session:
         return None
 
     def inverse_of_binding(self, name: str) -> Optional[List[str]]:
-        """Returns lines that bind a name as it is bound, or erase it where it is not there; None where one line is too short."""
+        """Returns lines that restore the present binding of a name, or erase an absent one; None if one line is too short."""
         binding = self.journal.bindings.get(name)
         if binding is None:
             return [f")ERASE {name}"]
         return [binding.text] if binding.text else one_line(self.program, name)
 
     def inverse_of(self, lines: Sequence[Line], change: Change) -> Optional[List[str]]:
-        """Returns lines that undo a change of several lines, where they are known; else None."""
+        """Returns lines that undo a change of several lines, if they are known; else None."""
         if all(line.kind == "edit" for line in lines):
             inverses = [self.inverse(line) for line in lines] if len(lines) <= CELLS else [None]
         elif any(binding is None and name in self.journal.bindings for name, binding in change.bound.items()):
@@ -253,7 +253,7 @@ class Session:
         return [line for inverse in reversed(inverses) for line in inverse or ()]
 
     def make_ready(self) -> None:
-        """Starts the program anew where it has ended, was stopped in the midst of an answer, or has more than the journal."""
+        """Restarts the program if it has ended, was stopped within an answer, or has changes that the journal lacks."""
         if not self.is_settled or not self.program.is_ready:
             self.begin_again()
 
@@ -268,9 +268,9 @@ class Session:
                 raise Lost(str(failure)) from None
 
     def take_over(self, program: Program, journal: Journal, settle: Callable[[], None]) -> None:
-        """Starts a program, gives it the changes of a journal, and goes on with both; ProgramFailed where that is not possible.
+        """Starts a program, gives it the changes of a journal, and goes on with both; ProgramFailed if that is not possible.
 
-        `settle` is called with signals held, when the sheet is that of the journal.
+        Calls `settle` with signals held, once program and journal agree.
         """
         lines = journal.lines
         program.start()
@@ -286,7 +286,7 @@ class Session:
             self.tell(f"  the changes that were open are given up: {lost}")
 
     def remake(self, journal: Journal, settle: Callable[[], None]) -> None:
-        """Goes on with another journal in a new program, as take_over does. Where that fails or is stopped, the sheet is as it was."""
+        """Goes on with another journal in a new program, as take_over does. A failure or a stop leaves the sheet unchanged."""
         former, program = self.program, self.program.another()
         try:
             self.take_over(program, journal, settle)
@@ -338,7 +338,7 @@ class Session:
         return f"made again: {change.title}"
 
     def run(self, file: Optional[str], source: Iterable[bytes]) -> None:
-        """Answers the lines of a script, which is read from a binary file; its name is None where that is standard input."""
+        """Answers the lines of a script, which is read from a binary file; its name is None if that is standard input."""
         for number, text in enumerate(lines_of(source), 1):
             self.take(text, Place(file, number))
 

@@ -1,4 +1,4 @@
-"""The usual slips of a line, as far as its text tells: a hint for each, and the place in the line where it stands."""
+"""The usual slips of a line, by its text: a hint for each, and the place in the line where it stands."""
 
 from __future__ import annotations
 
@@ -64,19 +64,19 @@ CALL = re.compile(rf"{BEGIN}({'|'.join(SPREADSHEET)})\s*\(", re.IGNORECASE)
 
 
 class Slip(NamedTuple):
-    """A slip of a line: what helps, and its place in the text of the line, which is None where something is missing at the end."""
+    """A slip of a line: a hint, and its place in the text, which is None if something is missing at the end."""
 
     hint: str
     place: Optional[int]
 
 
 def doubts_of(line: Line) -> list[str]:
-    """Returns a hint on a line that was answered, where it looks as if another one was meant."""
+    """Returns a hint on a line that was answered, if it looks like a slip."""
     return [hint for looks, hint in DOUBTS if re.search(looks, line.code)][:1]
 
 
 def slip_of(line: Line, names: Container[str]) -> Optional[Slip]:
-    """Returns the slip of a line that is a SYNTAX ERROR, where one is known; these names are bound."""
+    """Returns the slip of a line that is a SYNTAX ERROR, if one is known; these names are bound."""
     call = CALL.search(line.code)
     if call and call[1] not in names:
         return Slip(SPREADSHEET[call[1].upper()], place_in_text(line.text, call.start()))
@@ -94,7 +94,7 @@ def known_slip(line: Line) -> Optional[Slip]:
 
 
 def slip_of_command(line: Line) -> Optional[Slip]:
-    """Returns that a command is not there, and the one that may be meant."""
+    """Returns the hint on a missing command, and the likely one."""
     command = re.match(r"\)\s*(\w+)", line.code)
     if not command or line.kind != "unknown":
         return None

@@ -39,7 +39,7 @@ def words() -> argparse.ArgumentParser:
 
 
 class Output:
-    """Where output goes: the answers to standard output, and all else to standard error, behind the answers so far.
+    """The output: answers go to standard output, everything else to standard error, behind the answers so far.
 
     answers     standard output
     has_screen  whether the answers go to a terminal
@@ -77,7 +77,7 @@ class Output:
         raise OutputFailed("" if isinstance(error, BrokenPipeError) else error.strerror) from None
 
     def tell(self, line: str) -> None:
-        """Writes a line that is no answer; drops it where standard error takes no more."""
+        """Writes a line that is no answer; drops it if standard error fails."""
         try:
             self.flush()
         finally:
@@ -120,7 +120,7 @@ def main(top: Path) -> int:
 
 
 def open_streams() -> None:
-    """Opens the three streams where they are closed, and makes them UTF-8."""
+    """Opens the three streams if they are closed, and makes them UTF-8."""
     for number, name, mode in ((0, "stdin", "r"), (1, "stdout", "w"), (2, "stderr", "w")):
         if getattr(sys, name) is None:
             with contextlib.suppress(OSError):
@@ -130,7 +130,7 @@ def open_streams() -> None:
 
 
 def answer_and_keep(session: Session, scripts: Sequence[str], output: Output) -> None:
-    """Answers the lines of each script, and ends the log of the session, whatever ends them: no signal cuts that off.
+    """Answers the lines of each script, and ends the log of the session after any exception; no signal interrupts that.
 
     A signal that raises holds the others itself. So they are held below also where one raises just before the call that holds them.
     """

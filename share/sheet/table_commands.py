@@ -49,7 +49,7 @@ def put_labels(session: Session, name: str, file: str, column: str, header: bool
 
 @contextmanager
 def memory_for(file: str) -> Iterator[None]:
-    """Makes a Mistake of it where there is no memory for the table in a file."""
+    """Makes a Mistake of it if there is no memory for the table in a file."""
     try:
         yield
     except MemoryError:
@@ -81,7 +81,7 @@ def columns_of(table: Table, text: str) -> list[int]:
 
 
 def check_size(session: Session, shape: Sequence[int]) -> None:
-    """Raises a Mistake where the program has no arrays of that shape. It is asked for one: items that are gathered may be many more."""
+    """Raises a Mistake if the program has no arrays of that shape. It is asked for one: items that are gathered may be many more."""
     if shape[0] * shape[1] <= MANY_ITEMS:
         return
     text = " ".join(map(str, shape))

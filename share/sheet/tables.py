@@ -25,11 +25,11 @@ NOT_PLAIN = [b"--", b"0-", b"-,", b"-\n", b",,", b",\n", b"\n,", b"0" * 19]  # s
 class Table:
     """The records of a file; of plain ones each is a text of numbers with blanks between, and of others there are the fields in turn.
 
-    width    how many fields each record has
+    width    the number of fields of each record
     first    the number of the first record: 2 where titles stand before it
     records  the plain records; none where there are fields in turn
     in_turn  the fields of records that are not plain
-    uneven   the Mistake of the record behind them, where that has not as many fields as the first
+    uneven   the Mistake of the record behind them, if that has not as many fields as the first
     """
 
     def __init__(self, file: str, width: int, first: int, records: Sequence[str] = (), in_turn: Sequence[str] = ()) -> None:
@@ -63,7 +63,7 @@ class Table:
         return fields, 1
 
     def number(self, field: str, place: int, column: int) -> str:
-        """Returns the number in a field without plus sign and zeros before it; a Mistake where there is none of 64 bits."""
+        """Returns the number in a field without plus sign and zeros before it; a Mistake if there is none of 64 bits."""
         number = NUMBER.fullmatch(field)
         if not number:
             record = place + self.first
@@ -101,7 +101,7 @@ def is_plain(text: str, separator: str = ",") -> bool:
 
 
 def shortened(field: str) -> str:
-    """Returns a field as it is told of: its first line, up to 60 signs of it."""
+    """Returns the first line of a field for a message, at most 60 characters of it."""
     start = field[:60].partition("\n")[0].partition("\r")[0]
     return start if start == field else f"{start}…"
 
@@ -120,7 +120,7 @@ def advice(field: str, record: int, column: int) -> str:
 
 
 def bytes_of(file: str) -> bytes:
-    """Returns the bytes of a file; a Mistake where it cannot be read, may have no end, or is too large."""
+    """Returns the bytes of a file; a Mistake if it cannot be read, may have no end, or is too large."""
     try:
         status = os.stat(file)
         if not stat.S_ISREG(status.st_mode):  # a pipe or a device can be waited for without end
@@ -147,7 +147,7 @@ def text_of(file: str) -> str:
 def table_in(file: str, text: str, separator: str, has_titles: bool) -> Table:
     """Returns the table in a text, which came from that file; empty lines are no records.
 
-    A Mistake where it cannot be read. Of a record that has not as many fields as the first, the table has the Mistake.
+    A Mistake if it cannot be read. Of a record that has not as many fields as the first, the table has the Mistake.
     """
     csv.field_size_limit(sys.maxsize)
     titles, rest = cut_titles(text, separator) if has_titles else ([], text)

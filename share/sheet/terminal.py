@@ -23,8 +23,8 @@ class Terminal:
     """Reads the lines that a person types, and gives them to a session.
 
     readline     the module, where this Python has it
-    history      the file of the lines of earlier sessions; None where there can be none
-    completions  those of the word that is being completed
+    history      the file of the lines of earlier sessions; None if there can be none
+    completions  the completions of the current word
     """
 
     def __init__(self, session: Session) -> None:
@@ -32,7 +32,7 @@ class Terminal:
         self.readline: Optional[ModuleType] = None
         if locale.nl_langinfo(locale.CODESET) != "UTF-8":
             os.environ["LC_ALL"] = "C.UTF-8"  # so that readline takes the symbols for what they are
-        with contextlib.suppress(ImportError):  # without it, lines are read as they come
+        with contextlib.suppress(ImportError):  # without it, lines are read without editing
             import readline
 
             self.readline = readline

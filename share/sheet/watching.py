@@ -28,12 +28,12 @@ class Watch:
             self.shown.pop(name, None)
 
     def rename(self, old: str, new: str) -> None:
-        """Watches the name too that another one gets; the old one comes back where that is undone."""
+        """Watches the name too that another one gets; the old one comes back if that is undone."""
         if old in self.shown:
             self.shown.update({old: [], new: []})
 
     def show(self, session: Session, changed: Iterable[str]) -> None:
-        """Shows those names again that a change of others reaches; items that are not as before in bold, at a terminal that can."""
+        """Shows those names again that a change of others reaches; changed items in bold, at a terminal that can."""
         if not self.shown or session.is_check:
             return
         reached = session.journal.reached(changed)
@@ -48,17 +48,17 @@ class Watch:
 
 
 def has_bold() -> bool:
-    """Whether the terminal can show bold characters."""
+    """Returns whether the terminal can show bold characters."""
     return os.environ.get("TERM", "dumb") != "dumb"
 
 
 def in_bold(before: List[str], lines: List[str]) -> List[str]:
-    """Returns the lines with those words in bold that are not as before, where there are as many lines as before."""
+    """Returns the lines with changed words in bold, if the number of lines is the same."""
     return [*map(line_in_bold, before, lines)] if len(before) == len(lines) else lines
 
 
 def line_in_bold(before: str, line: str) -> str:
-    """Returns the line with those words in bold that are not as before, where it has as many words as before."""
+    """Returns the line with changed words in bold, if the number of words is the same."""
     words = iter(before.split())
     if len(before.split()) != len(line.split()):
         return line

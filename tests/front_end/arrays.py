@@ -92,7 +92,7 @@ def changed_lines(array: Array, chosen: random.Random) -> int:
 
 
 def one_line_an_item(_room: Room) -> Outcome:
-    """Where one item changes, one line does; a matrix of one line may become one of several."""
+    """A change of one item changes one line; a matrix of one line may become several."""
     chosen = random.Random(2)
     shapes = [shape for shape in SHAPES + LARGE if number_of_items(shape)]
     arrays = [array for shape in shapes for array in arrays_of(shape, chosen) for _ in range(1 if shape in LARGE else 4)]

@@ -19,7 +19,7 @@ FORMS += ["({}"] * 2 + ["{} "] * 4
 
 
 class Printing(session.Session):
-    """A session that prints what the program alone does: values, and errors and refusals without remarks."""
+    """A session with the output of the program alone: values, errors and refusals without remarks."""
 
     def __init__(self, program: over_pipes.Program) -> None:
         self.printed: list[str] = []
@@ -30,7 +30,7 @@ class Printing(session.Session):
 
 
 def random_lines(room: Room, seed: int) -> Outcome:
-    """Of any lines each answer is what the program alone prints; what is kept of them, and what would be saved, make the same sheet."""
+    """Random lines get the answers of the program alone; the journal and the saved script make the same sheet."""
     chosen = random.Random(seed)
     lines = [chosen.choice(FORMS).format("".join(chosen.choices(PARTS, k=chosen.randint(1, 4)))) for _ in range(500)]
     lines = [line for line in lines if not line.startswith("]")]
@@ -54,7 +54,7 @@ def random_lines(room: Room, seed: int) -> Outcome:
 
 
 def same_as_the_program(room: Room, script: Path) -> Outcome:
-    """A sheet of examples/: the same is printed as by the program alone, but for errors, which are told of."""
+    """A sheet of examples/ gives the output of the program alone, except errors, which go to standard error."""
     errors = re.compile("^([A-Z]+ ERROR( IN .*)?|CYCLE|STALE|[NS][A-Z]+ [A-Z ]+)\n", re.MULTILINE)
     return room.call(str(script))[1], errors.sub("", script.with_suffix(".out").read_text())
 

@@ -15,7 +15,7 @@ SLOW = "+/|\\1000000⍴9000000000000000000 ¯8999999999999999989 777777777777777
 
 
 def typed_lines(room: Room) -> Outcome:
-    """The keys of the symbols, what is shown, and that Ctrl-D ends; the status is 0 also where a line was an error."""
+    """The keys of the symbols, the answers, and Ctrl-D; the status is 0 even after an error."""
     screen = Screen(room)
     shown = [screen.keys(keys) for keys in (")DATA D`[1 2 3\n", "T`[+/D`-2\n", "T\n", "D[2]`[`25\n", "T\n", "Q\n", "``\n")]
     wanted = [")DATA D←1 2 3\n", "T←+/D×2\n", "T\n12\n", "D[2]←¯5\n", "T\n¯2\n", "Q\n      ∧\nVALUE ERROR\n  Q is not there\n"]
@@ -34,7 +34,7 @@ def dropped_line(room: Room) -> Outcome:
 
 
 def stopped_line(room: Room) -> Outcome:
-    """Ctrl-C stops a line that is being answered, and the sheet is as it was before it."""
+    """Ctrl-C stops a line that is being answered, and the sheet stays unchanged."""
     screen = Screen(room)
     screen.keys("A`[5\n")
     screen.keys(")OPEN 3 A`[6\n")
@@ -98,7 +98,7 @@ def several_unsaved_sheets(room: Room) -> Outcome:
 
 
 def no_state_folder(room: Room) -> Outcome:
-    """Where no history can be kept this is told, and the session is logged in the folder where one is."""
+    """Without a state folder a message says that there is no history, and the log goes to the current folder."""
     room.environment["XDG_STATE_HOME"] = "/dev/null"
     screen = Screen(room)
     messages = "there is no history" in screen.shown
@@ -111,7 +111,7 @@ def no_state_folder(room: Room) -> Outcome:
 
 
 def script_and_terminal(room: Room) -> Outcome:
-    """A script goes before what is typed; its errors have their places."""
+    """A script is answered before the typed lines; its errors have their places."""
     room.put("a.apl", "A←5\nQ\n")
     screen = Screen(room, "a.apl", "-")
     begun = screen.shown
@@ -127,7 +127,7 @@ def pasted_lines(room: Room) -> Outcome:
 
 
 def stopped_script(room: Room) -> Outcome:
-    """Ctrl-C stops a script that is loaded, and what it has changed so far is one change; a script of the words ends with its status."""
+    """Ctrl-C stops a script that is loaded, and its changes so far are one; a script of the call ends with status 130."""
     room.put("slow.apl", "A←5\nB←6\nA\n" + SLOW + "C←7\n")
     screen = Screen(room)
     os.write(screen.master, b"]load slow.apl\n")

@@ -1,4 +1,4 @@
-"""Lines over pipes: what is printed, and what is told."""
+"""Lines over pipes, their output and their messages."""
 
 from __future__ import annotations
 
@@ -6,7 +6,7 @@ import re
 
 from .rooms import Outcome, Room, Test
 
-# Lines over pipes: what is printed, and what is told.
+# Lines over pipes, their output and their messages.
 DIALOGUES = {
     "values": (")DATA D←1 2 3\nT←D×2\nD[2]←10\nT\n\n⍝ a comment\n", "2 20 6\n", ""),
     "a value that reads like an error": (
@@ -62,7 +62,7 @@ DIALOGUES = {
 
 
 def dialogue(room: Room, lines: str | bytes, output: str, said: str) -> Outcome:
-    """What is wanted to be told is the whole where it ends a line, else a part. The status tells whether a line was refused or an error."""
+    """Compares output, messages and status. Wanted messages that end with a newline are the whole, others a part."""
     status, printed, messages = room.call(lines=lines)
     is_told = messages == said if said == "" or said.endswith("\n") else said in messages
     return (printed, is_told or messages, status), (output, True, int(bool(re.search("^line [0-9]+: ", messages, re.MULTILINE))))

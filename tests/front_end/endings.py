@@ -14,7 +14,7 @@ from .screens import PROMPT, Screen, wait_for_end
 
 
 def hang_up(room: Room) -> Outcome:
-    """Where the terminal goes, the sheet is kept."""
+    """SIGHUP keeps the sheet."""
     screen = Screen(room)
     screen.keys("A`[5\n")
     time.sleep(1)  # as above
@@ -24,7 +24,7 @@ def hang_up(room: Room) -> Outcome:
 
 
 def closed_terminal(room: Room, times: int, shell: str) -> Outcome:
-    """Where the terminal is closed in which a shell runs it, each line is kept behind which a prompt was shown."""
+    """Closing the terminal of a shell keeps each line that was followed by a prompt."""
     lines, wrong = [f"A{number}←{number}\n" for number in range(30)], []
     for _ in range(times):
         shutil.rmtree(room.folder / "state", ignore_errors=True)
@@ -67,7 +67,7 @@ ENDS = {"Ctrl-D": b"\x04", "]off": b"]off\n", "SIGTERM": signal.SIGTERM, "SIGHUP
 
 
 def signals_at_the_end(room: Room, times: int, end: bytes | signal.Signals) -> Outcome:
-    """Signals of each kind, at once behind the end of a session, lose nothing, whatever has begun it, and show no traceback."""
+    """Signals of each kind right behind the end of a session lose nothing, and show no traceback."""
     wrong = []
     for _ in range(times):
         shutil.rmtree(room.folder / "state", ignore_errors=True)

@@ -10,7 +10,7 @@ AROSE = [f"  arose    {SHARE}", f"{31 * ' '}∧", "           TOTALS is not ther
 VALUE = "  value    VALUE ERROR IN SHARE"
 READS = ["  reads    TOTAL   6 15", "           TOTALS  is not there"]
 
-# A name, lines behind those of SHEET, and all that is shown of the name.
+# A name, lines that follow SHEET, and the output of ]why.
 SHOWN = [
     ("TOTAL", [], "TOTAL←+/DEMAND\n  value    6 15\n  reads    DEMAND  numbers 2 3: 1 2 3 4 5 6\n  read by  SHARE, REPORT\n"),
     ("DEMAND", [], "DEMAND is data: numbers 2 3\n  value    numbers 2 3: 1 2 3 4 5 6\n  read by  TOTAL\n"),

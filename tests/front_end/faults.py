@@ -1,4 +1,4 @@
-"""Streams that are closed or take no more, paths that are none, bugs of the front end, and programs that hang: no traceback, and an end."""
+"""Closed and full streams, invalid paths, bugs of the front end, and programs that hang: no traceback, and an end."""
 
 from __future__ import annotations
 
@@ -27,7 +27,7 @@ SHARE = str(Path(__file__).resolve().parents[2] / "share")
 
 
 def closed_streams(room: Room, closing: str) -> Outcome:
-    """Where streams are closed, the lines are answered all the same, and what remains open has its part."""
+    """With closed streams the lines are answered, and each open stream gets its part."""
     room.put("a.apl", "1+1\nQ\n]save kept.apl --replace\n")
     words = " ".join(map(str, room.words("a.apl", "-")))
     ran = room.run(f"{words} {closing}")
@@ -37,7 +37,7 @@ def closed_streams(room: Room, closing: str) -> Outcome:
 
 
 def full_output(room: Room) -> Outcome:
-    """Where standard output is full this is told, and where standard error is, the answers go on."""
+    """A full standard output gets a message; after a full standard error the answers go on."""
     words = " ".join(map(str, room.words()))
     ran = [room.run(f"{words} {to}", "1\nQ\n2\n") for to in ("> /dev/full", "2> /dev/full", "> /dev/full 2> /dev/full")]
     came = [(call.returncode, call.stdout, call.stderr) for call in ran]
@@ -45,7 +45,7 @@ def full_output(room: Room) -> Outcome:
 
 
 def output_at_a_terminal(room: Room, more: str, ends: bool) -> Outcome:
-    """At a terminal, prompt and keys work whatever standard output is; where it takes no more, it is told where the sheet is kept."""
+    """At a terminal, prompt and keys work with any standard output; if that fails, a message names the log."""
     screen = Screen(room, more=more)
     typed = screen.keys("A`[5\n")
     screen.keys(")DATA D`[100 1`r`i100\n")
@@ -60,14 +60,14 @@ def output_at_a_terminal(room: Room, more: str, ends: bool) -> Outcome:
 
 
 def paths_that_are_none(room: Room) -> Outcome:
-    """A path with NUL in it is no file, for whatever command."""
+    """Each command refuses a path with NUL."""
     lines = [f"]{word} 'a\0b'{rest}\n" for word, rest in (("load", ""), ("save", ""), ("save", " --replace"))]
     status, _, messages = room.call(lines="A←1\n" + "".join(lines) + "A\n")
     return (status, messages.count("cannot be"), messages.count("no file has such a name"), "FAULT" in messages), (1, 3, 3, False)
 
 
 def lost_folder(room: Room) -> Outcome:
-    """Where the folder goes in which the front end was started, files are found by their whole paths."""
+    """After the removal of the current folder, files are found by their absolute paths."""
     folder = room.folder / "gone"
     folder.mkdir()
     room.put("a.apl", "A←1\n")
@@ -86,7 +86,7 @@ def lost_folder(room: Room) -> Outcome:
 
 
 def bug_in_a_command(room: Room, fault: str) -> Outcome:
-    """A fault of the front end itself is told with its place; the sheet is as it was before that line, and goes on."""
+    """A fault of the front end itself gets a message with its place; the sheet stays unchanged, and the session goes on."""
     room.customize(BUG.format(share=SHARE, fault=fault))
     status, printed, messages = room.call(lines="A←1\n]undo\nB←A+1\nB\n)NAMES\n")
     kind = fault.partition("(")[0]
@@ -126,7 +126,7 @@ def hanging_program(room: Room, is_typed: bool) -> Outcome:
 
 
 def program_that_closes_its_output(room: Room) -> Outcome:
-    """A program that closes its output, or prints nothing but one line, is told of; at the start that ends the front end."""
+    """A program that closes its output at the start gets a message, and ends the front end."""
     closes = room.folder / "closes"
     closes.write_text("#!/bin/sh\nexec sleep 100 > /dev/null\n")
     closes.chmod(0o755)
@@ -134,7 +134,7 @@ def program_that_closes_its_output(room: Room) -> Outcome:
 
 
 def reader_that_dies(room: Room) -> Outcome:
-    """Where the thread dies that takes in what is printed, a new program goes on."""
+    """After the death of the thread that reads the output, a new program goes on."""
     code = BUG.partition("def fail")[0] + """
 import threading
 from sheet import program

@@ -55,7 +55,7 @@ def save_and_load(room: Room) -> Outcome:
 
 
 def save_keeps(room: Room) -> Outcome:
-    """A file that is there stays as it is, unless --replace is said; then it keeps its rights."""
+    """An existing file stays unchanged without --replace, and keeps its rights with it."""
     room.put("plan.apl", "B←2\n")
     (room.folder / "plan.apl").chmod(0o640)
     _, _, messages = room.call(lines="A←1\n]save plan.apl\n")

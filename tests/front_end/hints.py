@@ -1,4 +1,4 @@
-"""Lines, and what is told of the last one."""
+"""Lines, and the messages about the last one."""
 
 from __future__ import annotations
 
@@ -10,7 +10,7 @@ from sheet.places import MARK
 
 from .rooms import SECONDS, TOP, Outcome, Room, Test, named_tests
 
-# Lines, and what is told of the last one.
+# Lines, and the messages about the last one.
 NOTES = [
     ("D←1\nD[1]←-5", "¯5, by the keys `2"),
     (")DATA D←1 2\n)ROW D -5", "¯5, by the keys `2"),
@@ -148,7 +148,7 @@ def note(room: Room, lines: str, text: str) -> Outcome:
 
 
 def no_note(room: Room, lines: str) -> Outcome:
-    """Returns what stands beside the last line besides the line itself and a mark; nothing is wanted."""
+    """Returns the messages about the last line, without the line and its mark; none is wanted."""
     messages = room.messages(*lines.split("\n")).splitlines()
     notes = [line for line in messages if line.startswith("  ") or ": note:" in line]
     return [line for line in notes if line.strip() not in (lines.split("\n")[-1], MARK)], []

@@ -1,4 +1,4 @@
-"""Ctrl-C: it stops what is under way, and the sheet, its log and the program agree behind it."""
+"""Ctrl-C stops a running task; behind it the sheet, its log and the program agree."""
 
 from __future__ import annotations
 
@@ -13,7 +13,7 @@ from .screens import PROMPT, Screen
 
 
 def printed_value(room: Room) -> Outcome:
-    """While a value is printed, Ctrl-C stops the printing alone: no program is started anew, and an open change stays."""
+    """Ctrl-C while a value is printed stops only the printing: the program goes on, and an open change stays."""
     screen = Screen(room)
     screen.keys("A`[5\n")
     screen.keys(")OPEN 3 A`[6\n")
@@ -24,7 +24,7 @@ def printed_value(room: Room) -> Outcome:
 
 
 def waiting(room: Room, screen: Screen, line: str) -> str:
-    """Types a line that a program does not get done, and Ctrl-C once that waits; returns what is shown."""
+    """Types a line that never ends, and Ctrl-C once it runs; returns the screen from there on."""
     (room.folder / "wait").touch()
     os.write(screen.master, f"{typed(line)}\n".encode())
     room.wait_for("waits")
@@ -35,7 +35,7 @@ def waiting(room: Room, screen: Screen, line: str) -> str:
 
 
 def line_under_way(room: Room) -> Outcome:
-    """A line that is answered is stopped, and the sheet and its log are as they were; a change that was open is told of."""
+    """Ctrl-C stops a line that is being answered; sheet and log stay unchanged, and a message names the lost open change."""
     screen = Screen(room, program=room.fake())
     for line in ("A`[5\n", ")OPEN 3 B`[6\n"):
         screen.keys(line)
@@ -45,7 +45,7 @@ def line_under_way(room: Room) -> Outcome:
 
 
 def undo_under_way(room: Room) -> Outcome:
-    """An undo by a new program is stopped, and the sheet and its log are as they were; the next undo goes through."""
+    """Ctrl-C stops an undo by a new program; sheet and log stay unchanged, and the next undo succeeds."""
     screen = Screen(room, program=room.fake())
     for line in ("A`[5\n", "SLOW`[6\n", ")ERASE A\n"):
         screen.keys(line)
@@ -71,7 +71,7 @@ def file_under_way(room: Room) -> Outcome:
 
 
 def any_moment(room: Room, times: int) -> Outcome:
-    """Ctrl-C at random moments while lines are pasted: the sheet is that of its log, in its names and their values."""
+    """Ctrl-C at random moments while lines are pasted: the sheet equals its log, in names and values."""
     lines = [")DATA D←1 2 3", "T←+/D", "D[2]←7", ")ROW D 9", "]undo", "]redo", "]clear", "]undo", ")ERASE T", "]undo", "D[1]←8", "N←T+1"]
     wrong, asked = [], [")NAMES", "D", "T", "N"]
     for _ in range(times):

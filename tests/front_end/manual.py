@@ -33,7 +33,7 @@ SHOWN = {
     "": ["]help [WORD..]"],
 }
 
-# Words of which there is nothing, and what is told.
+# Words without a text, and the message about them.
 ABSENT = {
     "reshap": "the manual has no entry of reshap; is reshape",
     "LENGHT ERROR": "is LENGTH ERROR",
@@ -74,7 +74,7 @@ def all_terms(room: Room) -> Outcome:
 
 
 def no_page(room: Room) -> Outcome:
-    """Where the front end stands without the documents, the page that is missing is named."""
+    """Without the documents, a message names the missing page."""
     shutil.copytree(TOP / "share/sheet", room.folder / "share/aplsheet/sheet")
     (room.folder / "bin").mkdir()
     shutil.copy(TOP / "bin/sheet", room.folder / "bin/sheet")

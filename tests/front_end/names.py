@@ -5,7 +5,7 @@ from __future__ import annotations
 from .dialogues import dialogue
 from .rooms import Outcome, Room, Test
 
-RENAMING = {  # lines, what is printed, and what is told
+RENAMING = {  # lines, their output, and their messages
     "formulas follow, texts and comments stay": (
         "A←1\nAB←A+1 ⍝ A and AB\nT←'A'\nU←A,(⍴'it''s A'),AB,A ⍝ 'A\n]rename A N\n]show AB\n]show T\n]show U\n]show N\nU\n)NAMES\n",
         "AB←N+1 ⍝ A and AB\nT←'A'\nU←N,(⍴'it''s A'),AB,N ⍝ 'A\nN←1\n1 6 2 1\nAB\nT\nU\nN\n",

@@ -10,7 +10,7 @@ from .rooms import SECONDS, Outcome, Room, Test, named_tests
 
 
 def wrong_programs(room: Room) -> Outcome:
-    """What is no program, ends at once, or does not answer as it should."""
+    """Files that are no program, and programs that end at once or answer wrongly."""
     words = room.put("junk", "")
     calls = [room.call(program=path) for path in ("/absent/program", "/bin/true", "/bin/cat", str(room.folder / words))]
     says = ["does not start: No such file or directory", "ended with status 0", "does not answer as aplsheet does"]
@@ -20,7 +20,7 @@ def wrong_programs(room: Room) -> Outcome:
 
 
 def programs_that_die(room: Room) -> Outcome:
-    """The sheet goes on as it was before the line."""
+    """The session goes on with the sheet before the line."""
     fake = room.fake()
     messages = f"line 2: PROGRAM FAILED: {fake} ended with status 3\n  DIE\n"
     messages += f"line 4: PROGRAM FAILED: {fake} was stopped by signal 9\n  KILL\n"
@@ -28,7 +28,7 @@ def programs_that_die(room: Room) -> Outcome:
 
 
 def program_that_vanishes(room: Room) -> Outcome:
-    """Where it cannot go on, its lines are kept in a file."""
+    """If the program cannot start again, the lines are kept in a file."""
     status, printed, messages = room.call(lines="A←1\nVANISH\nB←2\n", program=room.fake())
     (log,) = room.logs()
     offer = f"the sheet was not saved; ]recover goes on with it, from {log}\n" in messages
@@ -36,7 +36,7 @@ def program_that_vanishes(room: Room) -> Outcome:
 
 
 def unknown_answers(room: Room) -> Outcome:
-    """Where the program prints anything for a change, or for the commit of one, it is told, and is no change of the sheet."""
+    """Any output for a change or a commit is shown, and counts as a refusal."""
     room.put("t.csv", "1,2\n")
     lines = ["A←1", "UNKNOWN←2", "]table UNKNOWN t.csv", ")OPEN 7 B←3", ")COMMIT 7", "EMPTY←4", "]table EMPTY t.csv", "VANISH"]
     _, printed, messages = room.call(lines="\n".join(lines), program=room.fake())
@@ -48,7 +48,7 @@ def unknown_answers(room: Room) -> Outcome:
 
 
 def no_memory(room: Room) -> Outcome:
-    """A fence that is refused memory is asked for anew, and the answer is the same."""
+    """A fence that is refused memory is sent again, and the answer is the same."""
     fake = room.fake()
     came = room.call(lines="A\nREFUSE\nB\n", program=fake)
     return came, (1, "VALUE A\nVALUE B\n", "line 2: NO MEMORY\n  REFUSE\n")
@@ -67,7 +67,7 @@ def line_by_line(room: Room) -> Outcome:
 
 
 def closed_pipe(room: Room) -> Outcome:
-    """Where nobody reads the answers any more, it ends without a word."""
+    """A closed pipe ends the front end without a message."""
     line = " ".join(map(shlex.quote, room.words())) + " | head -n 1"
     ran = room.run(line, "1\n" * 20000)
     return (ran.stdout, ran.stderr), ("1\n", "")

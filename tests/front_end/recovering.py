@@ -1,4 +1,4 @@
-"""Logs of sessions: no change that was accepted is lost, whatever ends a session, and ]recover goes on with it."""
+"""Logs of sessions: no end of a session loses an accepted change, and ]recover goes on with it."""
 
 from __future__ import annotations
 
@@ -16,7 +16,7 @@ from .screens import PROMPT, Screen
 WAYS = {"SIGKILL": signal.SIGKILL, "SIGHUP": signal.SIGHUP, "SIGTERM": signal.SIGTERM, "closed terminal": None}
 LINES = [f"A{number}←{number}\n" for number in range(12)]
 
-# While the file `full` is there, files of data take half of what is written to them, and no new ones are made.
+# While the file `full` is there, files of data take half of each write, and no new file can be made.
 FULL_DISK = """
 import errno, os, stat, tempfile
 full, write, mkstemp = {full!r}, os.write, tempfile.mkstemp
@@ -142,7 +142,7 @@ DAMAGES.update({"a part of a line": "C←1", "no path": "⍝ saved 00: plan\nC�
 
 
 def full_disk(room: Room, first: int, last: int) -> Outcome:
-    """Changes that are made while the disk is full are told of once, and are in the log as soon as there is room again."""
+    """A full disk gets one message; its changes are in the log as soon as there is room again."""
     full = room.folder / "full"
     room.customize(FULL_DISK.format(full=str(full)))
     full.touch()
@@ -202,7 +202,7 @@ LOSSES = [remove_folder, remove_log, replace_folder, rename_folder]
 
 
 def lost_log(room: Room, number: int, is_last: bool) -> Outcome:
-    """Where the log is removed, or its folder, the next change is logged anew, with all before it; so is the sheet at the end."""
+    """After the removal of the log or its folder, the next change begins a new log with all changes; so does the end."""
     screen = Screen(room)
     screen.keys("A`[5\n")
     LOSSES[number](room)
@@ -220,7 +220,7 @@ def lost_log(room: Room, number: int, is_last: bool) -> Outcome:
 
 
 def recovered_twice(room: Room) -> Outcome:
-    """Of two sessions that recover one sheet, the second is told that there is none; the log stays until another file has the sheet."""
+    """Two sessions recover one sheet: the second finds none, and the log stays until another file has the sheet."""
     screen = Screen(room)
     screen.keys("A`[5\n")
     screen.break_off(signal.SIGKILL)
@@ -247,7 +247,7 @@ def recovered_over_pipes(room: Room) -> Outcome:
 
 
 def state_folder_that_is_none(room: Room, state: Optional[str]) -> Outcome:
-    """Where the state folder is no path from the root, no folder is made of it, and the session is logged elsewhere."""
+    """A relative state folder is not made, and the log goes elsewhere."""
     room.environment.update({"XDG_STATE_HOME": "state"} if state else {"XDG_STATE_HOME": "", "HOME": "nowhere"})
     screen = Screen(room)
     screen.keys("A`[5\n")

@@ -13,7 +13,7 @@ SECONDS = 60  # the most that one call or one answer may take
 TOP = Path(__file__).resolve().parents[2]
 SHEET = [sys.executable, str(TOP / "bin/sheet")]
 
-# A program that answers as aplsheet does where nothing is to be worked out. What a line says in capitals it does. A line with SLOW in it
+# A program with the answers of aplsheet where these need no computing. Words in capitals are commands to it. A line with SLOW in it
 # waits while the file `wait` is there, and makes the file `waits`.
 FAKE = """#!{python}
 import os, sys, time
@@ -89,7 +89,7 @@ class Room:
         return [*SHEET, "--program", program or self.program, *words]
 
     def watch(self) -> Tuple[int, str]:
-        """Makes a pipe, which a shell opens by the words that are returned too; what it starts then has it open until its end."""
+        """Makes a pipe, which a shell opens by the words that are returned too; its child processes have it open until they end."""
         pipe = self.folder / f"pipe{len(os.listdir(self.folder))}"
         os.mkfifo(pipe)
         return os.open(pipe, os.O_RDONLY | os.O_NONBLOCK), f"exec 9> {pipe}; "
@@ -132,7 +132,7 @@ class Room:
         return self.call(lines="\n".join(lines))[2]
 
 
-Outcome = Tuple[object, object]  # what came, and what is wanted
+Outcome = Tuple[object, object]  # the result, and the wanted one
 
 
 class Test(NamedTuple):

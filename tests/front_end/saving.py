@@ -26,11 +26,11 @@ TOTAL ← +/HOURS   ⍝ of all days
 PAY←TOTAL×RATE
 TOTAL
 """
-EXAMPLES = {  # a script, lines that are typed behind it, and what is saved then
+EXAMPLES = {  # a script, lines typed behind it, and the saved script
     "no change": (PLAN, "TOTAL\n", PLAN),
     "an edited item": (PLAN, "HOURS[4]←5\n", PLAN.replace("8 4 7", "8 5 7")),
-    "data typed anew": (PLAN, ")DATA HOURS←1 2\n", PLAN.replace("8 6 8 4 7", "1 2")),
-    "data typed anew with a comment": (PLAN, ")DATA HOURS←1 2 ⍝ new\n", PLAN.replace("8 6 8 4 7 ⍝ from the clock", "1 2 ⍝ new")),
+    "data typed again": (PLAN, ")DATA HOURS←1 2\n", PLAN.replace("8 6 8 4 7", "1 2")),
+    "data typed again with a comment": (PLAN, ")DATA HOURS←1 2 ⍝ new\n", PLAN.replace("8 6 8 4 7 ⍝ from the clock", "1 2 ⍝ new")),
     "another formula": (PLAN, "PAY←RATE×TOTAL\n", PLAN.replace("TOTAL×RATE", "RATE×TOTAL")),
     "a new name": (PLAN, "TAX←PAY|7\n", PLAN + "TAX←PAY|7\n"),
     "a name that goes": (PLAN, ")ERASE PAY\n", PLAN.replace("PAY←TOTAL×RATE\n", "")),
@@ -59,7 +59,7 @@ EXAMPLES = {  # a script, lines that are typed behind it, and what is saved then
 
 
 def example(room: Room, script: str | bytes, lines: str, saved: str) -> Outcome:
-    """What is saved in place of a script, and what the program refuses of it."""
+    """Compares the script that is saved; the program refuses no line of it."""
     room.put("plan.apl", script)
     room.put("t.csv", "1,2\n")
     room.put("more.apl", "A←7\n")
@@ -69,7 +69,7 @@ def example(room: Room, script: str | bytes, lines: str, saved: str) -> Outcome:
 
 
 def tables_that_change(room: Room) -> Outcome:
-    """Where the file of a table has changed since, its data is written out, and all that was worked out of it."""
+    """If the file of a table has changed, its data is written out, and all data computed from it."""
     sheet, table, other = Sheet(program_of(room)), room.folder / "t.csv", room.folder / "u.csv"
     lines = [f"]table D {table} ⍝ here", f"]table E {table}", "E[1;1]←9", ")DATA F←E", f"]table G {other}"]
     path = room.folder / room.put("plan.apl", raw_of(lines))
@@ -153,7 +153,7 @@ def lines_in(raw: bytes) -> list[str]:
 
 
 def is_part(lines: list[str], of_lines: list[str]) -> bool:
-    """Whether lines stand among others in their order."""
+    """Returns whether lines stand among others in their order."""
     others = iter(of_lines)
     return all(line in others for line in lines)
 
@@ -248,7 +248,7 @@ def saved_by_chance(room: Room, seed: int) -> Outcome:
 
 
 def faults_of_case(chance: Chance, folder: Path, programs: list[Program], lines: list[str]) -> Iterator[str]:
-    """Yields the faults of one script; appends what was done to lines."""
+    """Yields the faults of one script; appends its steps to `lines`."""
     chance.begin_in(folder)
     path = folder / "plan.apl"
     path.write_bytes(script_by_chance(chance))

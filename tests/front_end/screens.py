@@ -23,9 +23,9 @@ PROMPT = " " * 6
 
 
 class Screen:
-    """A terminal at which the front end runs, or a shell that runs it: what it has shown, and keys for it.
+    """A terminal at which the front end runs, or a shell that runs it: its output, and keys for it.
 
-    `more` is what stands behind the call of the front end on a line of the shell.
+    `more` is the rest of the shell's line behind the call of the front end.
     """
 
     def __init__(self, room: Room, *words: str, program: Optional[str] = None, shell: Optional[str] = None, more: str = "") -> None:
@@ -42,7 +42,7 @@ class Screen:
         self.read(lambda: self.shown.endswith(PROMPT))
 
     def read(self, is_enough: Callable[[], bool]) -> None:
-        """Reads what is shown until that is enough, or the front end ends."""
+        """Reads the output until it is enough, or the front end ends."""
         begun = time.monotonic()
         while not is_enough():
             if time.monotonic() - begun > SECONDS:
@@ -54,14 +54,14 @@ class Screen:
                     return
 
     def keys(self, keys: str, is_enough: Optional[str] = None) -> str:
-        """Types these keys; returns what is shown until the next prompt, or until that text."""
+        """Types these keys; returns the output up to the next prompt, or up to that text."""
         before = len(self.shown)
         os.write(self.master, keys.encode())
         self.read(lambda: self.shown[before:].endswith("\n" + PROMPT) if is_enough is None else is_enough in self.shown[before:])
         return re.sub(f"{PROMPT}$", "", self.shown[before:])
 
     def end(self, keys: str = "\x04") -> Tuple[int, str]:
-        """Types the keys that end it; returns the status and what is shown."""
+        """Types the keys that end it; returns the status and the output."""
         before = len(self.shown)
         with contextlib.suppress(OSError):  # it has ended already
             os.write(self.master, keys.encode())
@@ -78,7 +78,7 @@ class Screen:
         self.process.wait(SECONDS)
 
     def close(self) -> None:
-        """Closes the terminal, as that of a window is closed, and waits until the shell and the front end have ended."""
+        """Closes the terminal as a window does, and waits until the shell and the front end have ended."""
         os.close(self.master)
         wait_for_end(self.pipe)
         self.process.wait(SECONDS)

@@ -20,7 +20,7 @@ setattr(signals, "without_interrupts", contextlib.nullcontext)  # tests run in t
 
 
 class Sheet(Session):
-    """A session that keeps what it shows, what it tells, and the lines that change something and are refused.
+    """A session that keeps its output, its messages, and the refused lines that would change something.
 
     remade  how often the sheet was made again in a new program
     """
@@ -46,7 +46,7 @@ class Sheet(Session):
 
     @property
     def faults_told(self) -> list[str]:
-        """What was told of faults of the front end, or of the program."""
+        """The messages about faults of the front end, or of the program."""
         return [line for line in self.messages if line.startswith(("FAULT", "PROGRAM FAILED"))]
 
     def remake(self, journal: Journal, settle: Callable[[], None]) -> None:
@@ -66,7 +66,7 @@ class Content(NamedTuple):
 
 
 def content_of(program: Program, journal: Journal) -> Content:
-    """Returns what a program has, beside the lines of the formulas that a journal has."""
+    """Returns the sheet of a program, beside the formulas of a journal."""
     names = program.ask(")NAMES")
     arrays = program.ask_all([question.format(name) for name in names for question in ("⍴{}", "0=1↑0⍴{}", ",{}")])
     return Content(names, {name: binding.text for name, binding in journal.bindings.items() if not binding.is_data}, arrays)

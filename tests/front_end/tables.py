@@ -22,7 +22,7 @@ def table_as_the_program(room: Room, row: dict[str, Any]) -> Outcome:
     return (status, [part for part in place if part not in messages], messages.startswith("line 1: ")), (1, [], True)
 
 
-TABLES = {  # a file, lines, what is printed, and a part of what is told
+TABLES = {  # a file, lines, their output, and a part of their messages
     "a column of names": (
         "product,Jan,Feb\nframe,120,-5\n\"spot, red\",7,8\n",
         "]table D t.csv --header --columns 2-3\n]labels L t.csv 1 --header\nD\nL\n⍴L\n",
@@ -101,7 +101,7 @@ def table(room: Room, file: str | bytes, lines: str | bytes, output: str, said: 
 
 
 def large_table(room: Room) -> Outcome:
-    """A million numbers, and labels of as many signs, come in as they are; a formula that waits for the table does not hinder it."""
+    """A million numbers, and labels of as many signs, are read unchanged; a formula that waits for the table does not hinder that."""
     numbers = [(place * 7919) % 20001 - 10000 for place in range(10000)]
     room.put("t.csv", "".join(",".join(map(str, numbers[at : at + 10])) + "\n" for at in range(0, 10000, 10)))
     room.put("l.csv", "".join(f"label {number}\n" for number in range(20000)))
@@ -153,7 +153,7 @@ PIECES += ["1,2\n3,4\n"]
 
 
 class Case(NamedTuple):
-    """A table for the program, and one for ]table, with its flags, which has further columns before those of the program."""
+    """A table for the program, and one for ]table, with its flags, which has further columns before the columns of the program."""
 
     text: str
     has_titles: bool

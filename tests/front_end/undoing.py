@@ -11,7 +11,7 @@ from .sessions import Chance, Sheet, content_of, program_of
 
 CHANGES = 160  # of each test with changes by chance
 
-UNDONE = {  # a line that changes the sheet below, and what is told when it is taken back
+UNDONE = {  # a line that changes the sheet below, and its title in the message of ]undo
     "T←1+Q": "T←1+Q",
     "N←5": "N←5",
     ")DATA D←D,9": ")DATA D←D,9",
@@ -26,7 +26,7 @@ UNDONE = {  # a line that changes the sheet below, and what is told when it is t
 
 
 def undo(room: Room, line: str, title: str) -> Outcome:
-    """What is taken back leaves the sheet as it was, with the lines of its names and the last cost."""
+    """]undo restores the sheet, with the lines of its names."""
     room.put("t.csv", "1,2\n3,4\n")
     room.put("t.apl", "A←1\nB←2\nD[1]←3\n")
     begin = [")DATA D←1 2 3", "T←+/D", ")DATA E←'ab'", "D[1]←5"]
@@ -40,7 +40,7 @@ def undo(room: Room, line: str, title: str) -> Outcome:
 class Undoing:
     """Changes by chance that are taken back and made again.
 
-    lines   what was typed
+    lines   the typed lines
     undone  how many changes were taken back
     """
 
@@ -55,7 +55,7 @@ class Undoing:
         self.sheet.take_all(*lines)
 
     def step(self, number: int) -> bool:
-        """Makes a change, or takes some back; returns whether the sheet is that of the lines that are kept."""
+        """Makes a change, or takes some back; returns whether the sheet equals the kept lines."""
         self.take(*self.chance.changes())
         if number % 4:
             return True
@@ -72,7 +72,7 @@ class Undoing:
 
 
 def content_anew(program: Program, journal: Journal) -> object:
-    """Returns what a new program has after the lines of a journal, or the lines that it refuses."""
+    """Returns the sheet of a new program after the lines of a journal, or the lines that it refuses."""
     program.stop()
     program.start()
     refused = [line for line, printed in zip(journal.lines, program.ask_all(journal.lines)) if printed]
@@ -80,7 +80,7 @@ def content_anew(program: Program, journal: Journal) -> object:
 
 
 def undone_by_chance(room: Room, seed: int) -> Outcome:
-    """After changes that are taken back and made again, the sheet is that of the lines that are kept; most changes have an inverse."""
+    """After changes that are taken back and made again, the sheet equals the kept lines; most changes have an inverse."""
     undoing = Undoing(room, seed)
     is_right = all(map(undoing.step, range(CHANGES)))
     undoing.end()

@@ -1,4 +1,4 @@
-"""Files that a sheet is saved in: what is there stays, unless it is the home of the sheet or is to be replaced, and so do its rights."""
+"""Files that a sheet is saved in: an existing file stays, unless it is the home or --replace is given, and keeps its rights."""
 
 from __future__ import annotations
 
@@ -13,7 +13,7 @@ AS_A_USER = ["setpriv", "--bounding-set", "-dac_override,-dac_read_search", "--i
 
 
 def two_sessions(room: Room) -> Outcome:
-    """The second session that has a file is told; the one that saves it last is refused, until it says --replace."""
+    """The second session of a file gets a message; the last to save it is refused without --replace."""
     path = room.folder / room.put("a.apl", "A←1\n")
     first, second = Screen(room, "a.apl", "-"), Screen(room)
     messages = ["another session has this file too" in first.shown, "another session has this file too" in second.keys("]load a.apl\n")]
@@ -29,7 +29,7 @@ def two_sessions(room: Room) -> Outcome:
 
 
 def changed_by_an_editor(room: Room) -> Outcome:
-    """A file that was changed, removed or made anew meanwhile is written where that loses nothing."""
+    """A file that was changed, removed or made again meanwhile is written if that loses nothing."""
     path = room.folder / room.put("a.apl", "A←1\n")
     screen = Screen(room, "a.apl", "-")
     screen.keys("B`[2\n")
@@ -45,7 +45,7 @@ def changed_by_an_editor(room: Room) -> Outcome:
 
 
 def save_without_file(room: Room) -> Outcome:
-    """]save without FILE takes the file of the sheet, in whatever folder; where there is none it is refused."""
+    """]save without FILE writes the home of the sheet in any folder; without a home it is refused."""
     (room.folder / "plans").mkdir()
     room.put("plans/a.apl", "A←1\n")
     refused = room.call(lines="A←1\n]save\n")[2]
@@ -69,7 +69,7 @@ def links(room: Room) -> Outcome:
 
 
 def refused_writes(room: Room) -> Outcome:
-    """A file or a folder that may not be written stays as it is, and nothing is left beside it."""
+    """A file or folder without write permission stays unchanged, and nothing is left beside it."""
     room.put("a.apl", "A←1\n")
     (room.folder / "a.apl").chmod(0o444)
     for folder in ("shut", "b.apl~"):
@@ -86,7 +86,7 @@ def refused_writes(room: Room) -> Outcome:
 
 
 def kept_rights(room: Room) -> Outcome:
-    """A file that is replaced keeps its rights, its group and its owner; a new one has those of any new file."""
+    """A replaced file keeps its rights, group and owner; a new one has the usual rights."""
     path = room.folder / room.put("a.apl", "A←1\n")
     owner = (1234, 5678) if os.getuid() == 0 else (os.getuid(), os.getgroups()[-1] if os.getgroups() else os.getgid())
     os.chown(path, *owner)

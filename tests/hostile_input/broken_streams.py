@@ -53,7 +53,7 @@ def try_broken_input(program: str) -> str:
 
 
 def cut_off(program: str, text: bytes, length: int, path: Path) -> tuple[int, bytes, bytes]:
-    """Returns status, output and standard error of a call whose output is a file that takes this number of bytes and no more."""
+    """Returns status, output and standard error of a call whose output is a file that takes at most this number of bytes."""
     limit = limiting(resource.RLIMIT_FSIZE, length)
     with path.open("wb") as output:
         call = subprocess.run(

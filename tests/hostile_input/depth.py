@@ -33,7 +33,7 @@ def deep_shows() -> Iterator[tuple[str, str]]:
 
 
 def deep_changes(begin: str, shows: list[tuple[str, str]]) -> Iterator[tuple[str, str]]:
-    """Yields changes of a name, which begin alike, by those of the expressions that leave room in a line, and the answer to each."""
+    """Yields changes of a name, by each expression short enough for a line, with the answer to each."""
     yield from ((begin + text, "" if answer[-1].isdigit() else answer) for text, answer in shows if len(text) < 4080)
 
 
@@ -50,7 +50,7 @@ def deep_session() -> Iterator[tuple[str, str]]:
 
 
 def try_deep_lines(program: str) -> str:
-    """Tries the deepest lines, and a chain of a thousand names. They need no more stack than is promised."""
+    """Tries the deepest lines, and a chain of a thousand names. They fit the promised stack."""
     session = list(deep_session())
     lines = "".join(f"{line}\n" for line, _ in session)
     due = "".join(f"{answer}\n" for _, answer in session if answer)

@@ -25,7 +25,7 @@ LENGTHS: list[Sequence[int]] = [range(41), [64, 65, 1024]]  # of lines under fol
 
 
 def name_of(test: Callable[..., str]) -> str:
-    """Returns the name of a test by that of its function."""
+    """Returns the name of a test, from the name of its function."""
     return test.__name__[len("try_") :].replace("_", " ")
 
 

@@ -54,8 +54,8 @@ def long_formula(*names: str) -> str:
 def costs_among_names(program: str, count: int) -> list[float]:
     """Returns four costs in microseconds, in a sheet of this number of names.
 
-    The first is to define a name with a long formula that refers to the one before. The others are those of an edit for each name that it
-    reaches, of an edit that reaches one name, and to define that one anew.
+    The first is the definition of a name with a long formula that refers to the previous name. The others are an edit, divided by the
+    number of names that it reaches, an edit that reaches one name, and a new definition of that name.
     """
     formulas = (f"N{number}←{long_formula(f'N{number - 1}' if number > 1 else 'D', 'D')}\n" for number in range(1, count - 2))
     with Call(program) as call:
@@ -74,9 +74,9 @@ def least_costs_among_names(program: str, count: int) -> list[float]:
 
 
 def try_many_names(program: str) -> str:
-    """Tries few and many names. Neither the cost of a name nor that of an edit grows with their number."""
+    """Tries few and many names. The costs of a name and of an edit do not grow with their number."""
     few, more, most = (least_costs_among_names(program, count) for count in (256, 512, 1024))
-    titles = ["a name defined", "a name that an edit reaches", "an edit that reaches one name", "that name defined anew"]
+    titles = ["a name defined", "a name that an edit reaches", "an edit that reaches one name", "that name defined again"]
     costs = "; ".join("{}: {:.2f}, {:.2f}, {:.2f} µs".format(*row) for row in zip(titles, few, more, most))
     needs(all(last <= 2 * first + 1 for first, last in zip(few, most)), costs)
     return f"among 256, 512 and 1,024 names: {costs}"

@@ -90,7 +90,7 @@ def as_literal(numbers: list[int]) -> str:
 
 
 def scan_by_definition(function: str, numbers: list[int], shape: list[int], axis: int) -> str:
-    """Returns the text of the ravel of a scan, each place folded anew, or of its error."""
+    """Returns the text of the ravel of a scan, each place folded by itself, or of its error."""
     stride = math.prod(shape[axis + 1 :])
     try:
         depths = [place // stride % shape[axis] for place in range(len(numbers))]
