@@ -2,8 +2,7 @@
 use Rattle.std.proofs.Common.{◌≡◌, ◌<◌, List, [], ◌∷◌, ◌++◌, length, refl, ap, ◌∙◌, arith, ℤ, Result, Ok, Err}
 use Rattle.arrays_core.specs.declared.item.Kind.{Kind}
 use Rattle.arrays_core.specs.Items.{and_then}
-use Rattle.scalar_fns.specs.Folds.{folded}
-use Rattle.operator_fns.specs.LinearScan.{IsAssociative}
+use Rattle.scalar_fns.specs.Folds.{folded, IsAssociative}
 
 module _ (f : ℤ → ℤ → Result ℤ Kind) (law : IsAssociative f) where
   -- what the folds of both give

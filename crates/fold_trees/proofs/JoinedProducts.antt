@@ -2,7 +2,7 @@
 use Rattle.std.proofs.Common.{◌≡◌, ap, sym, subst, ◌∙◌, arith, inl, inr, List, [], ◌∷◌, ◌++◌, ◌^◌, ℤ, pos, ◌*ℤ◌, ◌⊎◌}
 use Rattle.std.specs.Int.{int_min, int_max}
 use Rattle.std.proofs.lemmas.Int.{ints, clamps, by_lt_z}
-use Rattle.operator_fns.proofs.UnitProducts.{times_assoc}
+use Rattle.scalar_fns.proofs.Products.{times_assoc}
 use Rattle.fold_trees.specs.declared.product.Product.{Product}
 use Rattle.fold_trees.specs.Products.{Products, products_of_none, before, products_of, joined_products, AreOrdered, AreFar, kept_products, TellsProducts}
 use Rattle.fold_trees.proofs.Multiples.{between, bounds_times, stretched}

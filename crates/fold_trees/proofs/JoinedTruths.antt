@@ -6,9 +6,8 @@ use Rattle.arrays_core.specs.declared.item.Kind.{Kind}
 use Rattle.arrays_core.specs.declared.item.Kind.TheVariants.{Domain}
 use Rattle.arrays_core.specs.Items.{and_then}
 use Rattle.scalar_fns.specs.Numbers.{as_truth, truth, on_truths, logical}
-use Rattle.scalar_fns.specs.Folds.{folded}
-use Rattle.operator_fns.specs.LinearScan.{IsAssociative}
-use Rattle.operator_fns.proofs.Associates.{is_truth, domain_truth}
+use Rattle.scalar_fns.specs.Folds.{folded, IsAssociative}
+use Rattle.scalar_fns.proofs.Associative.{is_truth, domain_truth}
 use Rattle.fold_trees.specs.Parts.{truth_value}
 use Rattle.fold_trees.proofs.JoinedFolds.{both, joined}
 

@@ -10,42 +10,10 @@ use Rattle.arrays_core.specs.Items.{and_then}
 use Rattle.function_names.specs.declared.scalar.Scalar2.TheVariants.{Times}
 use Rattle.scalar_fns.specs.Numbers.{dyadic_on_numbers, number_or_limit, is_number}
 use Rattle.scalar_fns.specs.Folds.{folded}
-use Rattle.operator_fns.proofs.Endings.{Within}
-use Rattle.operator_fns.proofs.SumEndings.{in_64_bits, is_in_64_bits}
+use Rattle.scalar_fns.proofs.Within.{Within, in_64_bits, is_in_64_bits}
 use Rattle.fold_trees.specs.Products.{Products, products_of_none, before, products_of, product_told}
 use Rattle.fold_trees.proofs.JoinedProducts.{ordered_of}
-
-same_test : (p q : Bool) → (p ≡ true → q ≡ true) → (q ≡ true → p ≡ true) → p ≡ q
-same_test true true f g = refl
-same_test true false f g = sym (f refl)
-same_test false true f g = g refl
-same_test false false f g = refl
-
--- with one more product all are within 64 bits where those before are, and it is
-one_more : (low high z : ℤ) → low ≤ℤ high → (is_number (int_min low z) && is_number (int_max high z)) ≡ ((is_number low && is_number high) && is_number z)
-one_more low high z h = same_test _ _ there back
-  where
-    there : (is_number (int_min low z) && is_number (int_max high z)) ≡ true → ((is_number low && is_number high) && is_number z) ≡ true
-    there e =
-        let both = and_parts (is_number (int_min low z)) (is_number (int_max high z)) e in
-        let down = (in_64_bits (int_min low z) both.0).low in
-        let up = (in_64_bits (int_max high z) both.1).high in
-        and_from _ _
-        (and_from _ _
-        (is_in_64_bits low (record { low = omega (arith, ints, clamps); high = omega (arith, ints, clamps) }))
-        (is_in_64_bits high (record { low = omega (arith, ints, clamps); high = omega (arith, ints, clamps) })))
-        (is_in_64_bits z (record { low = omega (arith, ints, clamps); high = omega (arith, ints, clamps) }))
-
-    back : ((is_number low && is_number high) && is_number z) ≡ true → (is_number (int_min low z) && is_number (int_max high z)) ≡ true
-    back e =
-        let all = and_parts (is_number low && is_number high) (is_number z) e in
-        let both = and_parts (is_number low) (is_number high) all.0 in
-        let first = in_64_bits low both.0 in
-        let second = in_64_bits high both.1 in
-        let third = in_64_bits z all.1 in
-        and_from _ _
-        (is_in_64_bits (int_min low z) (record { low = omega (arith, ints, clamps); high = omega (arith, ints, clamps) }))
-        (is_in_64_bits (int_max high z) (record { low = omega (arith, ints, clamps); high = omega (arith, ints, clamps) }))
+use Rattle.fold_trees.proofs.Bounds.{one_more}
 
 -- ---- what is told
 

@@ -7,14 +7,15 @@ use Rattle.function_names.specs.declared.scalar.Scalar2.{Scalar2}
 use Rattle.scalar_fns.specs.Folds.{folded}
 use Rattle.scalar_fns.specs.Items.{number_item}
 use Rattle.scalar_fns.specs.Numbers.{dyadic_on_numbers}
-use Rattle.operator_fns.specs.SumTrees.{line_through, numbers_through, with_number, AreLines}
-use Rattle.operator_fns.proofs.Reduced.{number_items_folded}
-use Rattle.operator_fns.proofs.LineParts.{replaced_here, replaced_other}
-use Rattle.operator_fns.proofs.LinePlaces.{place_spot, spot_place}
-use Rattle.operator_fns.specs.LineTrees.{slot_at, slot_of, replaced, segment, from_two}
+use Rattle.fold_trees.specs.ArrayLines.{line_through, numbers_through, with_number}
+use Rattle.fold_trees.specs.PartTrees.{AreLines}
+use Rattle.scalar_fns.proofs.ItemFolds.{number_items_folded}
+use Rattle.fold_trees.proofs.LineParts.{replaced_here, replaced_other}
+use Rattle.fold_trees.proofs.LinePlaces.{place_spot, spot_place}
+use Rattle.fold_trees.specs.LineTrees.{slot_at, slot_of, replaced, segment}
 use Rattle.fold_trees.specs.FoldTrees.{IsReductionBy}
-use Rattle.operator_fns.proofs.Segments.{segment_same, listed_segment}
-use Rattle.operator_fns.specs.LineBlocks.{line_at}
+use Rattle.fold_trees.proofs.Segments.{segment_same, listed_segment}
+use Rattle.fold_trees.specs.LineBlocks.{line_at}
 
 -- the fold of some numbers is their reduction
 pub reduction_of : (f : Scalar2) (zs : List ℤ) (r : Result ℤ Kind) → 0 < length zs → r ≡ folded (dyadic_on_numbers f) zs → IsReductionBy f zs r
@@ -23,7 +24,7 @@ reduction_of f zs r some is = ap number_item is ∙ sym (number_items_folded f z
 -- the numbers of the line that a place is on, where the one at this place is another
 pub line_with : (count step : ℕ) (numbers : List ℤ) (place : ℕ) (z : ℤ) → AreLines count step (length numbers) → place < length numbers
     → numbers_through (with_number (record { count = count; step = step; numbers = numbers }) place z) place
-    ≡ segment (replaced (slot_of (line_at from_two count step (line_through count step place)) numbers) (place / step % count) z) 0 count
+    ≡ segment (replaced (slot_of (line_at count step (line_through count step place)) numbers) (place / step % count) z) 0 count
 line_with count step numbers place z are inside = sym (listed_segment y 0 count) ∙ segment_same y (replaced x at z) 0 count (λ i low high. same i (omega (arith, high)))
   where
     line : ℕ
@@ -33,10 +34,10 @@ line_with count step numbers place z are inside = sym (listed_segment y 0 count)
     at = place / step % count
 
     x : ℕ → ℤ
-    x = slot_of (line_at from_two count step line) numbers
+    x = slot_of (line_at count step line) numbers
 
     y : ℕ → ℤ
-    y i = get_or (set numbers place z) (slot_at (line_at from_two count step line) i) (pos 0)
+    y i = get_or (set numbers place z) (slot_at (line_at count step line) i) (pos 0)
 
     same : (i : ℕ) → i < count → y i ≡ replaced x at z i
     same i p = elim (cases_eq i at) [
@@ -46,7 +47,7 @@ line_with count step numbers place z are inside = sym (listed_segment y 0 count)
           ∙ get_or-set_same numbers place z (pos 0) inside
           ∙ sym (replaced_here x at z) ∙ sym (ap (replaced x at z) e)
       | inr other ↦
-          get_or-set_other numbers place (slot_at (line_at from_two count step line) i) z (pos 0)
+          get_or-set_other numbers place (slot_at (line_at count step line) i) z (pos 0)
           (λ e. other (sym (spot_place count step are.some are.apart line i p) ∙ ap (λ k. k / step % count) e))
           ∙ sym (replaced_other x at z i other)
     ]

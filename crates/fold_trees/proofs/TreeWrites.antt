@@ -3,16 +3,23 @@ use Rattle.std.proofs.Common.{◌≡◌, ◌≢◌, ◌∙◌, ℕ, ◌*◌, ◌
 use Rattle.std.proofs.lemmas.Bool.{cases_eq}
 use Rattle.std.proofs.lemmas.List.{ext_get_or, length-set, get_or-set_same, get_or-set_other}
 use Rattle.std.proofs.lemmas.Nat.{mod_below}
-use Rattle.operator_fns.specs.SumTrees.{line_through, AreLines, AreLineTrees}
-use Rattle.operator_fns.proofs.LineParts.{replaced_here, replaced_other}
-use Rattle.operator_fns.proofs.LineWrites.{put_here, put_other}
-use Rattle.operator_fns.proofs.LinePlaces.{place_spot}
-use Rattle.operator_fns.specs.declared.line_tree.Line.{Line}
-use Rattle.operator_fns.specs.LineTrees.{slot_at, slot_of, replaced, HasSlots, nth_node, from_two, node_of, ArePartsKept, nodes_in_line}
-use Rattle.operator_fns.proofs.LineSpots.{nodes_apart, slots_apart}
-use Rattle.operator_fns.proofs.Halves.{are_from_two}
-use Rattle.operator_fns.proofs.LineNodes.{kept_alike}
-use Rattle.operator_fns.specs.LineBlocks.{line_at}
+use Rattle.fold_trees.specs.ArrayLines.{line_through}
+use Rattle.fold_trees.specs.PartTrees.{AreLines, AreLineTrees}
+use Rattle.fold_trees.proofs.LineParts.{replaced_here, replaced_other}
+use Rattle.fold_trees.proofs.LinePlaces.{place_spot}
+use Rattle.fold_trees.specs.declared.line.Line.{Line}
+use Rattle.fold_trees.specs.LineTrees.{slot_at, slot_of, replaced, HasSlots, nth_node, node_of, ArePartsKept, nodes_in_line}
+use Rattle.fold_trees.proofs.LineSpots.{nodes_apart, slots_apart}
+use Rattle.fold_trees.proofs.Halves.{steps_apart}
+use Rattle.fold_trees.proofs.LineNodes.{kept_alike}
+use Rattle.fold_trees.specs.LineBlocks.{line_at}
+
+module _ (l : Line) (numbers : List ℤ) (has : HasSlots l (length numbers)) where
+  put_here : (place : ℕ) (z : ℤ) → place < l.count → slot_of l (set numbers (slot_at l place) z) place ≡ z
+  put_here place z h = get_or-set_same numbers (slot_at l place) z (pos 0) (has.slot place h)
+
+  put_other : (place : ℕ) (z : ℤ) (i : ℕ) → i ≢ place → slot_of l (set numbers (slot_at l place) z) i ≡ slot_of l numbers i
+  put_other place z i other = get_or-set_other numbers (slot_at l place) (slot_at l i) z (pos 0) (λ e. other (steps_apart i place l.step has.apart (omega (arith, e))))
 
 -- another number at a place of a line
 pub number_set : (l : Line) (numbers : List ℤ) (place : ℕ) (z : ℤ) → HasSlots l (length numbers) → place < l.count
@@ -29,15 +36,15 @@ number_set l numbers place z has inside i = elim (cases_eq i place) [
 pub record IsWritten {P : Type 0} (blank : P) (tells : P → List ℤ → Type 0) (l : Line) (place : ℕ) (z : ℤ) (numbers after : List ℤ)
     (nodes nodes_after : List P) : Type 0 where
   pub numbers_are : (i : ℕ) → i < l.count → slot_of l after i ≡ replaced (slot_of l numbers) place z i
-  pub kept : ArePartsKept from_two tells l.count (slot_of l after) (node_of from_two blank l nodes_after)
+  pub kept : ArePartsKept tells l.count (slot_of l after) (node_of blank l nodes_after)
   pub other_slots : (p : ℕ) → p ≢ slot_at l place → get_or after p (pos 0) ≡ get_or numbers p (pos 0)
   pub other_nodes : (p : ℕ) → ((meeting : ℕ) → 1 ≤ meeting → meeting < l.count → p ≢ nth_node l meeting) → get_or nodes_after p blank ≡ get_or nodes p blank
   pub slot_count : length after ≡ length numbers
   pub node_count : length nodes_after ≡ length nodes
 
 module _ {P : Type 0} (blank : P) (tells : P → List ℤ → Type 0) (count step : ℕ) (numbers after : List ℤ) (nodes nodes_after : List P) (place : ℕ) (z : ℤ)
-    (trees : AreLineTrees from_two blank tells slot_of count step numbers nodes) (inside : place < length numbers)
-    (new : IsWritten blank tells (line_at from_two count step (line_through count step place)) (place / step % count) z numbers after nodes nodes_after) where
+    (trees : AreLineTrees blank tells count step numbers nodes) (inside : place < length numbers)
+    (new : IsWritten blank tells (line_at count step (line_through count step place)) (place / step % count) z numbers after nodes nodes_after) where
   -- where the place lies
   abbrev line : ℕ
   line = line_through count step place
@@ -45,7 +52,7 @@ module _ {P : Type 0} (blank : P) (tells : P → List ℤ → Type 0) (count ste
   abbrev at : ℕ
   at = place / step % count
 
-  there : slot_at (line_at from_two count step line) at ≡ place
+  there : slot_at (line_at count step line) at ≡ place
   there = place_spot count step trees.lines.some trees.lines.apart place
 
   -- the numbers of all lines
@@ -56,7 +63,7 @@ module _ {P : Type 0} (blank : P) (tells : P → List ℤ → Type 0) (count ste
       here =
           ap (λ k. get_or after k (pos 0)) (sym there)
           ∙ new.numbers_are at (mod_below (place / step) count trees.lines.some)
-          ∙ replaced_here (slot_of (line_at from_two count step line) numbers) at z
+          ∙ replaced_here (slot_of (line_at count step line) numbers) at z
 
       same : (k : ℕ) → k < length after → get_or after k (pos 0) ≡ get_or (set numbers place z) k (pos 0)
       same k h = elim (cases_eq k place) [
@@ -66,18 +73,18 @@ module _ {P : Type 0} (blank : P) (tells : P → List ℤ → Type 0) (count ste
       ]
 
   -- and what is kept of their parts
-  pub written_trees : AreLineTrees from_two blank tells slot_of count step after nodes_after
+  pub written_trees : AreLineTrees blank tells count step after nodes_after
   written_trees = record {
     lines = subst (AreLines count step) (sym new.slot_count) trees.lines;
-    sized = new.node_count ∙ trees.sized ∙ ap (λ n. n / count * nodes_in_line from_two count) (sym new.slot_count);
+    sized = new.node_count ∙ trees.sized ∙ ap (λ n. n / count * nodes_in_line count) (sym new.slot_count);
     kept = λ k h. elim (cases_eq k line) [
-      | inl e ↦ subst (λ j. ArePartsKept from_two tells count (slot_of (line_at from_two count step j) after) (node_of from_two blank (line_at from_two count step j) nodes_after)) (sym e) new.kept
+      | inl e ↦ subst (λ j. ArePartsKept tells count (slot_of (line_at count step j) after) (node_of blank (line_at count step j) nodes_after)) (sym e) new.kept
       | inr other ↦
-          let l = line_at from_two count step k in
+          let l = line_at count step k in
           let within = mod_below (place / step) count trees.lines.some in
-          kept_alike from_two are_from_two tells count (slot_of l numbers) (slot_of l after) (node_of from_two blank l nodes) (node_of from_two blank l nodes_after)
+          kept_alike tells count (slot_of l numbers) (slot_of l after) (node_of blank l nodes) (node_of blank l nodes_after)
           (λ i p. new.other_slots (slot_at l i) (slots_apart count step k line i at trees.lines.apart p within other))
-          (λ m low high. new.other_nodes (nth_node l m) (λ n low2 high2. nodes_apart from_two are_from_two count step k line m n trees.lines.apart low high low2 high2 other))
+          (λ m low high. new.other_nodes (nth_node l m) (λ n low2 high2. nodes_apart count step k line m n trees.lines.apart low high low2 high2 other))
           (trees.kept k (omega (arith, h, ap (λ n. n / count) new.slot_count)))
     ];
   }

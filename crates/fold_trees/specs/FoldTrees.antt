@@ -1,16 +1,20 @@
 -- The trees of the lines of an array that are folded by one of several functions.
-use Rattle.std.specs.Prelude.{◌≡◌, Bool, true, false, ℤ, List, map, Result}
+use Rattle.std.specs.Prelude.{◌≡◌, ℕ, ◌^◌, ◌<◌, ◌≤◌, Bool, true, false, ℤ, List, map, Result}
 use Rattle.arrays_core.specs.declared.item.Item.TheVariants.{Num}
 use Rattle.arrays_core.specs.declared.item.Kind.{Kind}
 use Rattle.scalar_fns.specs.Items.{number_item}
-use Rattle.operator_fns.specs.RightFold.{fold_right}
+use Rattle.scalar_fns.specs.RightFold.{fold_right}
 use Rattle.function_names.specs.declared.scalar.Scalar2.{Scalar2}
 use Rattle.function_names.specs.declared.scalar.Scalar2.TheVariants.{Plus, Times, Maximum, Minimum, And, Or}
-use Rattle.operator_fns.specs.SumTrees.{TreesValue, NewTreesValue, NewPlacesValue, FitBehind, FitNext}
+use Rattle.fold_trees.specs.ArrayLines.{TreesValue, NewTreesValue, NewPlacesValue, FitBehind, FitNext}
 
 -- what the reduction of these numbers by a function gives
 abbrev pub IsReductionBy : Scalar2 → List ℤ → Result ℤ Kind → Type 0
 IsReductionBy f numbers result = number_item result ≡ fold_right f (map (λ z. Num z) numbers)
+
+-- a count is at most how many binary digits a number has; 0 has none
+abbrev pub IsWithinDigitsOf : (number count : ℕ) → Type 0
+IsWithinDigitsOf number count = (digits : ℕ) → number < 2 ^ digits → count ≤ digits
 
 -- the functions whose folds are kept as trees
 abbrev pub has_trees : Scalar2 → Bool

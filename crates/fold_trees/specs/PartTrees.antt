@@ -1,14 +1,43 @@
 -- The trees of all lines of an array along one axis, in a list of numbers and a list of nodes.
-use Rattle.std.specs.Prelude.{◌≡◌, ℕ, ◌+◌, ◌*◌, ◌^◌, ◌<◌, ℤ, List, [], length}
+use Rattle.std.specs.Prelude.{◌≡◌, ℕ, ◌+◌, ◌*◌, ◌/◌, ◌%◌, ◌^◌, ◌<◌, max, ℤ, List, [], length}
 use Rattle.arrays_core.specs.Growth.{IsRoomy, HasRoom}
-use Rattle.operator_fns.specs.SumTrees.{AreLineTrees}
-use Rattle.operator_fns.specs.LineTrees.{from_two, slot_of, nodes_in_line}
+use Rattle.fold_trees.specs.ArrayLines.{TreesValue, line_count}
+use Rattle.fold_trees.specs.LineTrees.{nodes_in_line}
+use Rattle.fold_trees.specs.LineBlocks.{AreAllKept}
 
--- the trees of all lines, in a list of numbers and a list of nodes that lie in pieces of memory of these capacities, each with room for the next power of two as many
+-- so many numbers are those of whole lines, blocks of as many as the step
+pub record AreLines (count step numbers : ℕ) : Type 0 where
+  pub some : 0 < count
+  pub apart : 0 < step
+  pub whole : numbers % (count * step) ≡ 0
+
+-- the trees of all lines, where it is told what is kept of numbers
+pub record AreLineTrees {P : Type 0} (blank : P) (tells : P → List ℤ → Type 0) (count step : ℕ) (numbers : List ℤ) (nodes : List P) : Type 0 where
+  pub lines : AreLines count step (length numbers)
+  pub sized : length nodes ≡ length numbers / count * nodes_in_line count
+  pub kept : AreAllKept blank tells count step numbers nodes
+
+-- where the two lists lie in pieces of memory of these capacities, each with room for the next power of two as many
 pub record ArePartTrees {P : Type 0} (blank : P) (tells : P → List ℤ → Type 0) (count step : ℕ) (numbers : List ℤ) (nodes : List P) (slot_capacity node_capacity : ℕ) : Type 0 where
-  pub trees : AreLineTrees from_two blank tells slot_of count step numbers nodes
+  pub trees : AreLineTrees blank tells count step numbers nodes
   pub slot_room : IsRoomy (length numbers) slot_capacity
   pub node_room : IsRoomy (length nodes) node_capacity
+
+-- one line of all numbers that there are; where there are none it would have one
+pub record IsOneLine (t : TreesValue) : Type 0 where
+  pub near : t.step ≡ 1
+  pub long : t.count ≡ max 1 (length t.numbers)
+
+-- ---- further lines
+
+-- two empty lists that lie in pieces of memory of these capacities, where the numbers or the nodes of so many old lines and of these behind them need others
+-- than those of the old ones lie in
+pub record AreRooms {P : Type 0} (old_lines : ℕ) (more : TreesValue) (slots : List ℤ) (nodes : List P) (slot_capacity node_capacity : ℕ) : Type 0 where
+  pub no_slots : slots ≡ []
+  pub no_nodes : nodes ≡ []
+  pub few : (old_lines + line_count more) * more.count < 2 ^ 63
+  pub slot_room : HasRoom (old_lines * more.count) ((old_lines + line_count more) * more.count) slot_capacity
+  pub node_room : HasRoom (old_lines * nodes_in_line more.count) ((old_lines + line_count more) * nodes_in_line more.count) node_capacity
 
 -- ---- one more place of each line
 
@@ -20,4 +49,4 @@ pub record AreNextPartRooms {P : Type 0} (count : ℕ) (numbers slots : List ℤ
   pub no_nodes : nodes ≡ []
   pub few : (count + 1) * length numbers < 2 ^ 63
   pub slot_room : HasRoom (count * length numbers) ((count + 1) * length numbers) slot_capacity
-  pub node_room : HasRoom (nodes_in_line from_two count * length numbers) (count * length numbers) node_capacity
+  pub node_room : HasRoom (nodes_in_line count * length numbers) (count * length numbers) node_capacity

@@ -1,16 +1,15 @@
 //! The trees of the lines of an array that are folded by one of several functions.
 
 ghost use Rattle.std.specs.Prelude.{◌≡◌, ◌+◌, ◌-◌, ◌*◌, ◌%◌, ◌^◌, ◌<◌, ◌==◌, ◌++◌, ◌∷◌, [], true, length, IfOk};
-ghost use Rattle.operator_fns.specs.SumTree.{IsWithinDigitsOf};
-ghost use Rattle.operator_fns.specs.SumTrees.{line_count, numbers_of_line, with_lines, with_number, with_places, numbers_through};
-ghost use Rattle.fold_trees.specs.FoldTrees.{has_trees, AreFoldedBehind, AreFoldedNext, IsReductionBy};
+ghost use Rattle.fold_trees.specs.FoldTrees.{IsWithinDigitsOf, has_trees, AreFoldedBehind, AreFoldedNext, IsReductionBy};
+ghost use Rattle.fold_trees.specs.ArrayLines.{line_count, numbers_of_line, with_lines, with_number, with_places, numbers_through};
 
 use crate::extremes::{Greatest, Least};
 use crate::part_trees::{NewParts, NextParts, PartTrees};
 use crate::product::Product;
+use crate::summary::Summary;
 use crate::truths::{AllTrue, AnyTrue};
 use arrays_core::Kind;
-use operator_fns::{NewPlaces, NewTrees, SumTrees};
 use scalar_fns::Scalar2;
 use std::alloc::{AllocError, Global};
 use std::cell::Cell;
@@ -34,7 +33,7 @@ pub fn has_trees(function: Scalar2) -> bool
 /// The trees of each function.
 #[derive(Drop)]
 enum Trees {
-    Sum(SumTrees),
+    Sum(PartTrees<Summary>),
     Product(PartTrees<Product>),
     Greatest(PartTrees<Greatest>),
     Least(PartTrees<Least>),
@@ -45,7 +44,7 @@ enum Trees {
 /// Those of further lines.
 #[derive(Drop)]
 enum Lines {
-    Sum(NewTrees),
+    Sum(NewParts<Summary>),
     Product(NewParts<Product>),
     Greatest(NewParts<Greatest>),
     Least(NewParts<Least>),
@@ -56,7 +55,7 @@ enum Lines {
 /// One more place of each line.
 #[derive(Drop)]
 enum Places {
-    Sum(NewPlaces),
+    Sum(NextParts<Summary>),
     Product(NextParts<Product>),
     Greatest(NextParts<Greatest>),
     Least(NextParts<Least>),
@@ -99,7 +98,7 @@ impl FoldTrees {
         ensures { IfOk result (λ t. t ≡ record { function = function; lines = record { count = count; step = step; numbers = numbers.now } }) }
     {
         let trees = match function {
-            Scalar2::Plus => Trees::Sum(SumTrees::build(alloc, numbers, count, step)?),
+            Scalar2::Plus => Trees::Sum(PartTrees::build(alloc, numbers, count, step)?),
             Scalar2::Times => Trees::Product(PartTrees::build(alloc, numbers, count, step)?),
             Scalar2::Maximum => Trees::Greatest(PartTrees::build(alloc, numbers, count, step)?),
             Scalar2::Minimum => Trees::Least(PartTrees::build(alloc, numbers, count, step)?),
@@ -294,7 +293,7 @@ impl NewFolds {
         ensures { IfOk result (λ n. n ≡ record { function = function; lines = record { count = count; step = step; old_lines = old; numbers = numbers.now } }) }
     {
         let lines = match function {
-            Scalar2::Plus => Lines::Sum(NewTrees::build(alloc, numbers, count, step, old)?),
+            Scalar2::Plus => Lines::Sum(NewParts::build(alloc, numbers, count, step, old)?),
             Scalar2::Times => Lines::Product(NewParts::build(alloc, numbers, count, step, old)?),
             Scalar2::Maximum => {
                 Lines::Greatest(NewParts::build(alloc, numbers, count, step, old)?)
@@ -340,7 +339,7 @@ impl NextFolds {
         ensures { IfOk result (λ n. n ≡ record { function = function; places = record { count = count; numbers = numbers.now } }) }
     {
         let places = match function {
-            Scalar2::Plus => Places::Sum(NewPlaces::build(alloc, numbers, count)?),
+            Scalar2::Plus => Places::Sum(NextParts::build(alloc, numbers, count)?),
             Scalar2::Times => Places::Product(NextParts::build(alloc, numbers, count)?),
             Scalar2::Maximum => Places::Greatest(NextParts::build(alloc, numbers, count)?),
             Scalar2::Minimum => Places::Least(NextParts::build(alloc, numbers, count)?),

@@ -3,10 +3,16 @@
 
 mod extremes;
 mod fold_trees;
+mod line;
+mod line_block;
 mod line_tree;
+mod neighbours;
 mod part;
 mod part_trees;
 mod product;
+mod sum_tree;
+mod summary;
 mod truths;
 
 pub use fold_trees::{FoldTrees, NewFolds, NextFolds, has_trees};
+pub use sum_tree::SumTree;

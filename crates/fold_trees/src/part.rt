@@ -23,6 +23,13 @@ pub(crate) trait Part: Copy + Drop {
     fn of(number: i64) -> Self
         ensures { tells result (number ∷ []) };
 
+    /// That of two numbers. A part that is made of two numbers sooner than by a join says how.
+    fn two(left: i64, right: i64) -> Self
+        ensures { tells result (left ∷ right ∷ []) }
+    {
+        Self::of(left).join(&Self::of(right))
+    }
+
     /// That of a list and of a later one after it.
     fn join(&self, later: &Self) -> Self
         requires here { (xs : List ℤ) × tells self.now xs }

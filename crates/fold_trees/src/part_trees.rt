@@ -2,16 +2,18 @@
 
 ghost use Rattle.std.specs.Prelude.{◌≡◌, ℕ, ◌+◌, ◌-◌, ◌*◌, ◌/◌, ◌%◌, ◌^◌, ◌<◌, ◌==◌, ◌++◌, ◌∷◌, [], length, vec_capacity, IfOk};
 ghost use Rattle.arrays_core.specs.Growth.{IsRoomy};
-ghost use Rattle.operator_fns.specs.SumTree.{IsWithinDigitsOf};
-ghost use Rattle.operator_fns.specs.SumTrees.{FitBehind, FitNext, with_lines, with_places, line_count, numbers_of_line, numbers_through, with_number, AreLines, AreLineTrees};
-ghost use Rattle.operator_fns.specs.LineBlocks.{block_at, line_at, AreAllKept};
-ghost use Rattle.operator_fns.specs.LineTrees.{slot_of, shorter, from_two, IsIn, node_of, ArePartsKept, nodes_in_line};
-ghost use Rattle.fold_trees.specs.FoldTrees.{IsReductionBy};
+ghost use Rattle.fold_trees.specs.FoldTrees.{IsWithinDigitsOf, IsReductionBy};
+ghost use Rattle.fold_trees.specs.ArrayLines.{FitBehind, FitNext, with_lines, with_places, line_count, numbers_of_line, numbers_through, with_number};
+ghost use Rattle.fold_trees.specs.PartTrees.{AreLines, AreLineTrees};
+ghost use Rattle.fold_trees.specs.LineBlocks.{block_at, line_at, AreAllKept};
+ghost use Rattle.fold_trees.specs.LineTrees.{slot_of, shorter, IsIn, node_of, ArePartsKept, nodes_in_line};
 
-use crate::line_tree::{LineTree, fill_block, push_line, take_last, write};
+use crate::line::{Line, line_through};
+use crate::line_block::fill_block;
+use crate::line_tree::{LineTree, take_last, write};
+use crate::neighbours::push_line;
 use crate::part::Part;
 use arrays_core::{Kind, copied, put_behind, repeated, room_between, room_of, roomy};
-use operator_fns::{Line, line_through};
 use std::alloc::{AllocError, Global};
 use std::marker::Model;
 
@@ -20,7 +22,7 @@ fn nth_line(count: usize, step: usize, line: usize) -> Line
     requires some { 0 < count }
     requires apart { 0 < step }
     requires fit { line / step * (count * step) + count * step < 2 ^ 64 }
-    ensures { result ≡ line_at from_two count step line }
+    ensures { result ≡ line_at count step line }
 {
     let block = line / step;
     let first = line % step;
@@ -40,13 +42,13 @@ fn nth_tree<'a, P: Part>(
     step: usize,
     line: usize,
 ) -> LineTree<'a, P>
-    requires trees { AreLineTrees from_two P.blank P.tells slot_of count step numbers.now nodes.now }
+    requires trees { AreLineTrees P.blank P.tells count step numbers.now nodes.now }
     requires line { line < length numbers.now / count }
-    ensures line { result.line ≡ line_at from_two count step line }
+    ensures line { result.line ≡ line_at count step line }
     ensures numbers { result.numbers.now ≡ numbers.now }
     ensures nodes { result.nodes.now ≡ nodes.now }
-    ensures inside { IsIn from_two result.line (length result.numbers.now) (length result.nodes.now) }
-    ensures kept { ArePartsKept from_two P.tells result.line.count (slot_of result.line result.numbers.now) (node_of from_two P.blank result.line result.nodes.now) }
+    ensures inside { IsIn result.line (length result.numbers.now) (length result.nodes.now) }
+    ensures kept { ArePartsKept P.tells result.line.count (slot_of result.line result.numbers.now) (node_of P.blank result.line result.nodes.now) }
 {
     let line = nth_line(count, step, line);
     LineTree {
@@ -60,7 +62,7 @@ fn nth_tree<'a, P: Part>(
 fn nth_block(count: usize, step: usize, block: usize) -> Line
     requires some { 0 < count }
     requires fit { block * (count * step) + count * step < 2 ^ 64 }
-    ensures { result ≡ block_at from_two count step block }
+    ensures { result ≡ block_at count step block }
 {
     Line {
         count,
@@ -73,8 +75,8 @@ fn nth_block(count: usize, step: usize, block: usize) -> Line
 /// Joins what is kept of all parts of all lines.
 fn fill_all<P: Part>(numbers: &[i64], nodes: &mut [P], count: usize, step: usize)
     requires lines { AreLines count step (length numbers.now) }
-    requires sized { length nodes.old ≡ length numbers.now / count * nodes_in_line from_two count }
-    ensures kept { AreAllKept from_two P.blank P.tells slot_of count step numbers.now nodes.new }
+    requires sized { length nodes.old ≡ length numbers.now / count * nodes_in_line count }
+    ensures kept { AreAllKept P.blank P.tells count step numbers.now nodes.new }
     ensures length { length nodes.new ≡ length nodes.old }
 {
     for block in 0..numbers.len() / count / step {
@@ -89,8 +91,8 @@ fn nodes_of_lines<P: Part>(
     count: usize,
 ) -> Result<Vec<P>, AllocError>
     requires lines { AreLines count 1 (length numbers.now) }
-    ensures kept { IfOk result (λ v. AreAllKept from_two P.blank P.tells slot_of count 1 numbers.now v.items) }
-    ensures sized { IfOk result (λ v. length v.items ≡ length numbers.now / count * nodes_in_line from_two count) }
+    ensures kept { IfOk result (λ v. AreAllKept P.blank P.tells count 1 numbers.now v.items) }
+    ensures sized { IfOk result (λ v. length v.items ≡ length numbers.now / count * nodes_in_line count) }
     ensures roomy { IfOk result (λ v. IsRoomy (length v.items) (vec_capacity v)) }
 {
     let lines = numbers.len() / count;
@@ -109,8 +111,8 @@ fn nodes_of_blocks<P: Part>(
     step: usize,
 ) -> Result<Vec<P>, AllocError>
     requires lines { AreLines count step (length numbers.now) }
-    ensures kept { IfOk result (λ v. AreAllKept from_two P.blank P.tells slot_of count step numbers.now v.items) }
-    ensures sized { IfOk result (λ v. length v.items ≡ length numbers.now / count * nodes_in_line from_two count) }
+    ensures kept { IfOk result (λ v. AreAllKept P.blank P.tells count step numbers.now v.items) }
+    ensures sized { IfOk result (λ v. length v.items ≡ length numbers.now / count * nodes_in_line count) }
     ensures roomy { IfOk result (λ v. IsRoomy (length v.items) (vec_capacity v)) }
 {
     let node_count = numbers.len() / count * (count - 1);
@@ -125,9 +127,9 @@ fn take_places<P: Part>(numbers: &[i64], nodes: &mut [P], count: usize, step: us
     requires more { 1 < count }
     requires apart { 0 < step }
     requires slot_count { length numbers.now ≡ count * step }
-    requires node_count { length nodes.old ≡ nodes_in_line from_two count * step }
-    requires kept { (line : ℕ) → line < step → ArePartsKept from_two P.tells (count - 1) (slot_of (shorter (line_at from_two count step line)) numbers.now) (node_of from_two P.blank (shorter (line_at from_two count step line)) nodes.old) }
-    ensures kept { (line : ℕ) → line < step → ArePartsKept from_two P.tells count (slot_of (line_at from_two count step line) numbers.now) (node_of from_two P.blank (line_at from_two count step line) nodes.new) }
+    requires node_count { length nodes.old ≡ nodes_in_line count * step }
+    requires kept { (line : ℕ) → line < step → ArePartsKept P.tells (count - 1) (slot_of (shorter (line_at count step line)) numbers.now) (node_of P.blank (shorter (line_at count step line)) nodes.old) }
+    ensures kept { (line : ℕ) → line < step → ArePartsKept P.tells count (slot_of (line_at count step line) numbers.now) (node_of P.blank (line_at count step line) nodes.new) }
     ensures node_length { length nodes.new ≡ length nodes.old }
 {
     for line in 0..step {
@@ -148,7 +150,7 @@ pub(crate) struct PartTrees<P: Part> {
 
 impl<P: Part> Model for PartTrees<P> {
     ghost use Rattle.std.specs.Prelude.{vec_capacity};
-    ghost use Rattle.operator_fns.specs.SumTrees.{TreesValue};
+    ghost use Rattle.fold_trees.specs.ArrayLines.{TreesValue};
     ghost use Rattle.fold_trees.specs.PartTrees.{ArePartTrees};
 
     ghost Value = { TreesValue };
@@ -183,6 +185,13 @@ impl<P: Part> PartTrees<P> {
             numbers,
             nodes,
         })
+    }
+
+    /// How many numbers all lines have.
+    pub(crate) fn places(&self) -> usize
+        ensures { result ≡ length self.now.numbers }
+    {
+        self.numbers.len()
     }
 
     /// How many lines there are.
@@ -277,14 +286,14 @@ pub(crate) struct NewParts<P: Part> {
 
 impl<P: Part> Model for NewParts<P> {
     ghost use Rattle.std.specs.Prelude.{vec_capacity};
-    ghost use Rattle.operator_fns.specs.LineTrees.{from_two};
-    ghost use Rattle.operator_fns.specs.SumTrees.{NewTreesValue, AreRooms};
+    ghost use Rattle.fold_trees.specs.ArrayLines.{NewTreesValue};
+    ghost use Rattle.fold_trees.specs.PartTrees.{AreRooms};
 
     ghost Value = { NewTreesValue };
 
     ghost view = { λ n. record { count = n.trees.count; step = n.trees.step; old_lines = n.old_lines; numbers = n.trees.numbers } };
 
-    ghost invariant = { λ n. AreRooms from_two n.old_lines n.trees n.slots.items n.nodes.items (vec_capacity n.slots) (vec_capacity n.nodes) };
+    ghost invariant = { λ n. AreRooms n.old_lines n.trees n.slots.items n.nodes.items (vec_capacity n.slots) (vec_capacity n.nodes) };
 }
 
 impl<P: Part> NewParts<P> {
@@ -330,7 +339,7 @@ pub(crate) struct NextParts<P: Part> {
 
 impl<P: Part> Model for NextParts<P> {
     ghost use Rattle.std.specs.Prelude.{vec_capacity};
-    ghost use Rattle.operator_fns.specs.SumTrees.{NewPlacesValue};
+    ghost use Rattle.fold_trees.specs.ArrayLines.{NewPlacesValue};
     ghost use Rattle.fold_trees.specs.PartTrees.{AreNextPartRooms};
 
     ghost Value = { NewPlacesValue };

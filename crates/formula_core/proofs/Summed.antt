@@ -16,7 +16,7 @@ use Rattle.index_region.specs.Patches.{PatchValue, patched}
 use Rattle.index_region.specs.Tails.{TailValue, FitsTail}
 use Rattle.change_rules.specs.Currency.{applied}
 use Rattle.change_rules.specs.Nodes.{is_same, is_whole}
-use Rattle.operator_fns.specs.SumTrees.{TreesValue}
+use Rattle.fold_trees.specs.ArrayLines.{TreesValue}
 use Rattle.sum_rules.specs.LineSums.{StandFor, SummedValue, keeps_sums, grown_sums, summed}
 use Rattle.sum_rules.specs.NewLines.{NewLinesValue, FitsSums as FitBehind}
 use Rattle.sum_rules.specs.Totals.{StoodBefore, StoodFor}

@@ -5,9 +5,8 @@ use Rattle.std.proofs.lemmas.List.{ext_get_or, get_or-take, get_or-drop, get_or_
 use Rattle.std.proofs.lemmas.Nat.{div-mul-add, mod-mul-add, div-add-mod'}
 use Rattle.std.proofs.Math.Nat.{mul-le-mul_right}
 use Rattle.arrays_core.specs.declared.item.Kind.{Kind}
-use Rattle.scalar_fns.specs.Folds.{strided, folded}
+use Rattle.scalar_fns.specs.Folds.{strided, folded, line_start}
 use Rattle.scalar_fns.proofs.RightFolds.{length-strided, get_or-strided}
-use Rattle.operator_fns.specs.Strides.{line_start}
 use Rattle.operator_fns.specs.Columns.{EndsInFolds}
 use Rattle.operator_fns.proofs.Folds.{place_high}
 

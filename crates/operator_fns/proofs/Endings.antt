@@ -1,54 +1,18 @@
 -- The sums of the endings of a list of numbers of 64 bits.
-use Rattle.std.proofs.Common.{◌≡◌, suc, ◌^◌, ◌<◌, List, [], ◌∷◌, ◌++◌, length, refl, ap, sym, subst, ◌∙◌, arith, ltb, Bool, true, false, if◌then◌else◌, ℤ, pos, negsuc, ◌+ℤ◌, ◌≤ℤ◌, SFits, w64, Result, Ok, Err}
+use Rattle.std.proofs.Common.{◌≡◌, suc, ◌<◌, List, [], ◌∷◌, ◌++◌, length, refl, ap, sym, subst, ◌∙◌, arith, ℤ, pos, ◌+ℤ◌, ◌≤ℤ◌, Result, Ok, Err}
 use Rattle.std.specs.Int.{int_max, int_min}
 use Rattle.std.specs.List.{All}
 use Rattle.std.proofs.lemmas.Int.{ints, clamps}
-use Rattle.std.proofs.lemmas.Bool.{lt-ltb, ltb-true}
 use Rattle.arrays_core.specs.declared.item.Kind.{Kind}
 use Rattle.arrays_core.specs.declared.item.Kind.TheVariants.{Limit}
 use Rattle.arrays_core.specs.Items.{and_then}
 use Rattle.function_names.specs.declared.scalar.Scalar2.TheVariants.{Plus}
-use Rattle.scalar_fns.specs.Numbers.{dyadic_on_numbers, number_or_limit, is_number}
+use Rattle.scalar_fns.specs.Numbers.{dyadic_on_numbers, number_or_limit}
 use Rattle.scalar_fns.specs.Identities.{least, greatest}
 use Rattle.scalar_fns.specs.Folds.{folded}
 use Rattle.operator_fns.specs.LinearScan.{fold_on, folded_left}
+use Rattle.scalar_fns.proofs.Within.{Within, held_within, held_ok, held_error}
 use Rattle.operator_fns.proofs.Firsts.{Given}
-
--- ---- numbers of 64 bits
-
-pub record Within (z : ℤ) : Type 0 where
-  pub low : least ≤ℤ z
-  pub high : z ≤ℤ greatest
-
-pub within_of : (z : ℤ) → SFits w64 z → Within z
-within_of (pos n) f = let h = f.sfits in record { low = omega (arith, ints); high = omega (arith, ints) }
-within_of (negsuc n) f = let h = f.sfits in record { low = omega (arith, ints); high = omega (arith, ints) }
-
-pub held_within : (z : ℤ) → Within z → number_or_limit z ≡ Ok z
-held_within (pos n) h = let inside : ltb n (2 ^ 63) ≡ true = lt-ltb n (2 ^ 63) (omega (arith, ints, h.high)) in rw inside refl
-held_within (negsuc n) h = let inside : ltb n (2 ^ 63) ≡ true = lt-ltb n (2 ^ 63) (omega (arith, ints, h.low)) in rw inside refl
-
-pub record Holds (z t : ℤ) : Type 0 where
-  pub within : Within z
-  pub same : t ≡ z
-
-pub held_ok : (z t : ℤ) → number_or_limit z ≡ Ok t → Holds z t
-held_ok z t h = decide (is_number z) refl h
-  where
-    inside : (z : ℤ) → is_number z ≡ true → Within z
-    inside (pos n) e = let below = ltb-true n (2 ^ 63) e in record { low = omega (arith, ints); high = omega (arith, ints) }
-    inside (negsuc n) e = let below = ltb-true n (2 ^ 63) e in record { low = omega (arith, ints); high = omega (arith, ints) }
-
-    decide : (b : Bool) → is_number z ≡ b → (if b then Ok z else Err Limit) ≡ Ok t → Holds z t
-    decide true e h = let same : t ≡ z = cc in record { within = inside z e; same = same }
-    decide false e h = let no : ⊥ = cc in absurd no
-
-pub held_error : (z : ℤ) (k : Kind) → number_or_limit z ≡ Err k → k ≡ Limit
-held_error z k h = decide (is_number z) h
-  where
-    decide : (b : Bool) → (if b then Ok z else Err Limit) ≡ Err k → k ≡ Limit
-    decide true h = let no : ⊥ = cc in absurd no
-    decide false h = let same : Limit ≡ k = cc in sym same
 
 -- ---- the sum of a list, and the greatest and the least sum of an ending of it
 

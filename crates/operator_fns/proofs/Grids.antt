@@ -17,10 +17,11 @@ use Rattle.scalar_fns.specs.Items.{dyadic_on_items, number_item}
 use Rattle.scalar_fns.specs.NumberLists.{number_items}
 use Rattle.scalar_fns.specs.ScalarExtension.{extended}
 use Rattle.scalar_fns.specs.Folds.{folded}
+use Rattle.scalar_fns.proofs.ItemFolds.{folded_numbers}
 use Rattle.index_region.specs.Checks.{form_of, Form, whole, limited}
 use Rattle.index_region.specs.Arguments.{has_one_item}
 use Rattle.index_region.proofs.Passing.{gives, limited_gives}
-use Rattle.operator_fns.specs.RightFold.{fold_right}
+use Rattle.scalar_fns.specs.RightFold.{fold_right}
 use Rattle.operator_fns.specs.InnerProduct.{row_rank, row_length, column_length, inner_length, inner_form, inner_item, inner_whole, all_or_last_error}
 use Rattle.operator_fns.specs.RowByColumn.{entry, all_met, folded_all, row_at, column_at, cell, IsGridOf, grid_of}
 use Rattle.operator_fns.specs.Laws.JoinedIndices.{parts, size-append}
@@ -48,15 +49,6 @@ all_numbers (r ∷ rs) = ap (λ rest. and_then rest (λ items. and_then (number_
     moved (Ok zs) (Ok z) = refl
     moved (Ok zs) (Err e) = refl
     moved (Err e) r = refl
-
-folded_numbers : (f : Scalar2) (zs : List ℤ) → folded (dyadic_on_items f) (map (λ z. Num z) zs) ≡ number_item (folded (dyadic_on_numbers f) zs)
-folded_numbers f [] = refl
-folded_numbers f (x ∷ []) = refl
-folded_numbers f (x ∷ y ∷ zs) = ap (λ r. and_then r (dyadic_on_items f (Num x))) (folded_numbers f (y ∷ zs)) ∙ moved (folded (dyadic_on_numbers f) (y ∷ zs))
-  where
-    moved : (r : Result ℤ Kind) → and_then (number_item r) (dyadic_on_items f (Num x)) ≡ number_item (and_then r (dyadic_on_numbers f x))
-    moved (Ok z) = refl
-    moved (Err e) = refl
 
 fold_of_numbers : (f g : Scalar2) (x y : ℕ → ℤ) (count : ℕ)
     → folded_all (dyadic_on_items f) (all_met (dyadic_on_items g) (λ k. Num (x k)) (λ k. Num (y k)) count) ≡ number_item (folded_all (dyadic_on_numbers f) (all_met (dyadic_on_numbers g) x y count))

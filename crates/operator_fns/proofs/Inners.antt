@@ -11,10 +11,10 @@ use Rattle.function_names.specs.declared.scalar.Scalar2.{Scalar2}
 use Rattle.scalar_fns.specs.Items.{dyadic_on_items}
 use Rattle.scalar_fns.specs.ScalarExtension.{extended}
 use Rattle.scalar_fns.specs.Folds.{folded}
-use Rattle.operator_fns.specs.RightFold.{fold_right}
+use Rattle.scalar_fns.specs.RightFold.{fold_right}
 use Rattle.operator_fns.specs.InnerProduct.{row_rank, inner_length, inner_item, all_or_last_error, products}
 use Rattle.operator_fns.specs.RowByColumn.{all_met, folded_all}
-use Rattle.operator_fns.proofs.Folds.{some_folded}
+use Rattle.scalar_fns.proofs.ItemFolds.{some_folded}
 use Rattle.operator_fns.proofs.Meetings.{length-met, met_at}
 
 -- ---- the fold of a row and a column

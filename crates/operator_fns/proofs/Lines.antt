@@ -10,7 +10,7 @@ use Rattle.arrays_core.proofs.Shapes.{as_long, places_below}
 use Rattle.scalar_fns.specs.Folds.{strided}
 use Rattle.scalar_fns.proofs.RightFolds.{length-strided, get_or-strided}
 use Rattle.index_region.specs.Axes.{places_along}
-use Rattle.operator_fns.specs.RightFold.{line}
+use Rattle.operator_fns.specs.Lines.{line}
 use Rattle.operator_fns.specs.Laws.LineIndices.{inside}
 
 stride_more : (i s x y t : ℕ) → x ≡ y + t → i * s + x ≡ i * s + y + t

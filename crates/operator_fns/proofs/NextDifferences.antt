@@ -11,7 +11,7 @@ use Rattle.arrays_core.specs.declared.item.Kind.TheVariants.{Limit}
 use Rattle.arrays_core.specs.Items.{and_then}
 use Rattle.scalar_fns.specs.Numbers.{is_number, number_or_limit}
 use Rattle.operator_fns.specs.Prefixes.{difference}
-use Rattle.operator_fns.proofs.Endings.{Within, within_of, held_within}
+use Rattle.scalar_fns.proofs.Within.{Within, within_of, held_within}
 
 at_most : (a b : ℤ) → Decides (int_le a b) (a ≤ℤ b)
 at_most a b = (λ e. grind (arith, ints), λ h. grind (arith, ints))

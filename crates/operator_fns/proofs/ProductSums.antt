@@ -17,7 +17,7 @@ use Rattle.operator_fns.specs.Sum.{sum_of}
 use Rattle.operator_fns.specs.InnerProduct.{all_or_last_error}
 use Rattle.operator_fns.specs.RowByColumn.{all_met, folded_all}
 use Rattle.operator_fns.specs.SmallProducts.{sum_of_products, IsNoFurther, AddUp, EndsInSums, IsProduct}
-use Rattle.operator_fns.proofs.Endings.{held_within, within_of}
+use Rattle.scalar_fns.proofs.Within.{held_within, within_of}
 use Rattle.operator_fns.proofs.Firsts.{same_rules}
 
 abs_add : (a b : ℤ) → unsigned_abs (a +ℤ b) ≤ unsigned_abs a + unsigned_abs b

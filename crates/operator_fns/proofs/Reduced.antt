@@ -10,14 +10,14 @@ use Rattle.arrays_core.specs.declared.item.Item.TheVariants.{Num}
 use Rattle.arrays_core.specs.declared.item.Kind.{Kind}
 use Rattle.arrays_core.specs.declared.item.ItemType.{ItemType}
 use Rattle.arrays_core.specs.declared.item.ItemType.TheVariants.{Nums}
-use Rattle.arrays_core.specs.Items.{fill, and_then}
+use Rattle.arrays_core.specs.Items.{fill}
 use Rattle.arrays_core.specs.Shapes.{size, is_index_of, places_before}
 use Rattle.arrays_core.specs.Arrays.{ArrayValue, item_of, collect}
 use Rattle.arrays_core.proofs.Shapes.{head_of, places_below}
 use Rattle.function_names.specs.declared.scalar.Scalar2.{Scalar2}
 use Rattle.scalar_fns.specs.Numbers.{dyadic_on_numbers}
-use Rattle.scalar_fns.specs.Items.{dyadic_on_items, number_item}
-use Rattle.scalar_fns.specs.Folds.{strided, folded}
+use Rattle.scalar_fns.specs.Items.{number_item}
+use Rattle.scalar_fns.specs.Folds.{strided, folded, line_start}
 use Rattle.scalar_fns.proofs.RightFolds.{length-strided, get_or-strided}
 use Rattle.function_names.specs.declared.along.Along.{Along}
 use Rattle.index_region.specs.Checks.{form_of}
@@ -25,9 +25,9 @@ use Rattle.function_names.specs.Axes.{axis_at}
 use Rattle.index_region.specs.Axes.{places_along}
 use Rattle.operator_fns.specs.Reduce.{reduce_form, reduce_item, reduce_whole}
 use Rattle.operator_fns.proofs.Placewise.{collected_same}
-use Rattle.operator_fns.specs.RightFold.{fold_right, line}
-use Rattle.operator_fns.specs.Strides.{line_start}
-use Rattle.operator_fns.proofs.Folds.{some_folded}
+use Rattle.scalar_fns.specs.RightFold.{fold_right}
+use Rattle.operator_fns.specs.Lines.{line}
+use Rattle.scalar_fns.proofs.ItemFolds.{number_items_folded}
 use Rattle.operator_fns.proofs.Lines.{line-strided, size-drop-le}
 use Rattle.operator_fns.specs.Laws.ReducedShapes.{reduce_facts}
 
@@ -45,20 +45,6 @@ strided_numbers xs first stride count =
     get_or-strided (Num (pos 0)) items first stride count k (Num (pos 0)) below
     ∙ get_or-map (λ z. Num z) xs (first + k * stride) (pos 0)
     ∙ sym (get_or-map (λ z. Num z) zs k (pos 0) ∙ ap (λ z. Num z) (get_or-strided (pos 0) xs first stride count k (pos 0) below)))
-
-folded_one : (f : Scalar2) (z : ℤ) (r : Result ℤ Kind) → and_then (number_item r) (dyadic_on_items f (Num z)) ≡ number_item (and_then r (dyadic_on_numbers f z))
-folded_one f z (Ok y) = refl
-folded_one f z (Err k) = refl
-
-pub folded_numbers : (f : Scalar2) (zs : List ℤ) → 0 < length zs → folded (dyadic_on_items f) (map (λ z. Num z) zs) ≡ number_item (folded (dyadic_on_numbers f) zs)
-folded_numbers f [] h = absurd (omega arith)
-folded_numbers f (z ∷ []) h = refl
-folded_numbers f (z ∷ y ∷ zs) h =
-    ap (λ r. and_then r (dyadic_on_items f (Num z))) (folded_numbers f (y ∷ zs) (omega arith)) ∙ folded_one f z (folded (dyadic_on_numbers f) (y ∷ zs))
-
--- the reduction of items that are numbers
-pub number_items_folded : (f : Scalar2) (zs : List ℤ) → 0 < length zs → fold_right f (map (λ z. Num z) zs) ≡ number_item (folded (dyadic_on_numbers f) zs)
-number_items_folded f zs some = some_folded f (map (λ z. Num z) zs) (omega (arith, some, length-map zs (λ z. Num z))) ∙ folded_numbers f zs some
 
 -- that of some of them
 pub numbers_folded : (f : Scalar2) (xs : List ℤ) (items : List Item) (first stride count : ℕ) → items ≡ map (λ z. Num z) xs → 1 ≤ count

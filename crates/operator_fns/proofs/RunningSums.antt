@@ -15,7 +15,8 @@ use Rattle.operator_fns.specs.Sum.{IsSmall}
 use Rattle.operator_fns.proofs.SmallSums.{small_left}
 use Rattle.operator_fns.proofs.Runs.{one_deeper, depth_high, run_more, run_some, left_first, left_later}
 use Rattle.operator_fns.proofs.Firsts.{Given, rule_entry, rule_error, same_rules}
-use Rattle.operator_fns.proofs.Endings.{Within, within_of, folded_error, held_error, greatest_step, least_step, sum_from_left, more_most, more_fewest}
+use Rattle.operator_fns.proofs.Endings.{folded_error, greatest_step, least_step, sum_from_left, more_most, more_fewest}
+use Rattle.scalar_fns.proofs.Within.{Within, within_of, held_error}
 
 module _ (zs : List ℤ) (stride count : ℕ) (apart : 0 < stride) (some : 1 ≤ count) where
   abbrev run : ℕ → List ℤ

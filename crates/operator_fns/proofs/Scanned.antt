@@ -18,7 +18,7 @@ use Rattle.function_names.specs.declared.scalar.Scalar2.{Scalar2}
 use Rattle.scalar_fns.specs.Numbers.{dyadic_on_numbers}
 use Rattle.scalar_fns.specs.Items.{number_item}
 use Rattle.scalar_fns.specs.NumberLists.{number_items}
-use Rattle.scalar_fns.specs.Folds.{strided, folded}
+use Rattle.scalar_fns.specs.Folds.{strided, folded, line_start}
 use Rattle.scalar_fns.proofs.RightFolds.{take-strided}
 use Rattle.function_names.specs.declared.along.Along.{Along}
 use Rattle.index_region.specs.Checks.{form_of, limited}
@@ -27,8 +27,8 @@ use Rattle.function_names.specs.Axes.{is_axis, axis_at}
 use Rattle.index_region.specs.Axes.{places_along}
 use Rattle.index_region.specs.Answers.{IsPlaceOf, HasTypeOf}
 use Rattle.index_region.proofs.Passing.{passed, place_inside, typed_check, typed_limited}
-use Rattle.operator_fns.specs.RightFold.{fold_right, line}
-use Rattle.operator_fns.specs.Strides.{line_start}
+use Rattle.scalar_fns.specs.RightFold.{fold_right}
+use Rattle.operator_fns.specs.Lines.{line}
 use Rattle.operator_fns.specs.LinearScan.{depth, run_to, scanned}
 use Rattle.operator_fns.specs.Scan.{scan_type, scan_form, scan_item, scan_whole}
 use Rattle.operator_fns.proofs.Lines.{stride, line-strided, size-drop-le}

@@ -21,11 +21,11 @@ use Rattle.scalar_fns.specs.Folds.{folded}
 use Rattle.function_names.specs.declared.along.Along.{Along}
 use Rattle.function_names.specs.Axes.{axis_at}
 use Rattle.index_region.specs.Axes.{places_along}
-use Rattle.operator_fns.specs.RightFold.{fold_right, line}
+use Rattle.scalar_fns.specs.RightFold.{fold_right}
+use Rattle.operator_fns.specs.Lines.{line}
 use Rattle.operator_fns.specs.LinearScan.{folds_from}
 use Rattle.operator_fns.specs.Scan.{scan_item, scan_along}
-use Rattle.operator_fns.proofs.Folds.{some_folded}
-use Rattle.operator_fns.proofs.Reduced.{folded_numbers}
+use Rattle.scalar_fns.proofs.ItemFolds.{some_folded, folded_numbers}
 use Rattle.operator_fns.proofs.OuterRows.{as_many_as}
 
 -- ---- numbers as the items of a vector
@@ -79,7 +79,7 @@ module _ (f : Scalar2) (along : Along) (b : ArrayValue) (index : List ℕ) (last
   item_there k low high =
       let taken : length (take k zs) ≡ k = omega (arith, length-take k zs) in
       let items = length-map (take k zs) (λ z. Num z) in
-      sym (folded_numbers f (take k zs) (omega arith))
+      sym (folded_numbers f (take k zs))
       ∙ sym (some_folded f (map (λ z. Num z) (take k zs)) (omega arith))
       ∙ ap (fold_right f) (sym (take-map (λ z. Num z) k zs) ∙ ap (take k) read ∙ take-take k last _ high)
       ∙ ap (λ m. fold_right f (take m (line b axis (remove index axis)))) (sym (get_or-set_same index axis k 1 there))

@@ -14,7 +14,7 @@ use Rattle.scalar_fns.proofs.RightFolds.{length-strided}
 use Rattle.operator_fns.specs.LinearScan.{depth, run_to}
 use Rattle.operator_fns.specs.Prefixes.{fold_to}
 use Rattle.operator_fns.specs.Sum.{IsSmall}
-use Rattle.operator_fns.proofs.Endings.{held_within}
+use Rattle.scalar_fns.proofs.Within.{held_within}
 use Rattle.operator_fns.proofs.SmallSums.{fits_between}
 use Rattle.operator_fns.proofs.RunningSums.{run_each}
 use Rattle.operator_fns.proofs.Firsts.{entry_of}

@@ -8,7 +8,8 @@ use Rattle.scalar_fns.specs.Numbers.{dyadic_on_numbers}
 use Rattle.scalar_fns.specs.Folds.{folded}
 use Rattle.operator_fns.specs.LinearScan.{fold_on, folded_left}
 use Rattle.operator_fns.specs.Sum.{IsSmall, sum_of}
-use Rattle.operator_fns.proofs.Endings.{total, most, fewest, folded_sum, held_within}
+use Rattle.operator_fns.proofs.Endings.{total, most, fewest, folded_sum}
+use Rattle.scalar_fns.proofs.Within.{held_within}
 
 pub sum_total : (x : ℤ) (rest : List ℤ) → total x rest ≡ sum_of (x ∷ rest)
 sum_total x [] = omega (arith, ints)

@@ -1,11 +1,11 @@
 -- The products of numbers that are 0, 1 or ¯1, from the left and from the right.
 use Rattle.std.proofs.Common.{◌≡◌, ℕ, zero, suc, ◌+◌, ◌*◌, ◌<◌, ◌≤◌, List, [], ◌∷◌, length, refl, ap, sym, ◌∙◌, arith, pos, negsuc, ℤ, ◌*ℤ◌, Ok}
-use borrow.Author.Differences.{up, down, product_is, same_in}
 use Rattle.std.specs.List.{All}
 use Rattle.arrays_core.specs.Items.{all_or_first_error, and_then}
 use Rattle.function_names.specs.declared.scalar.Scalar2.TheVariants.{Times}
 use Rattle.scalar_fns.specs.Numbers.{dyadic_on_numbers}
 use Rattle.scalar_fns.specs.Folds.{folded}
+use Rattle.scalar_fns.proofs.Products.{times_assoc}
 use Rattle.operator_fns.specs.LinearScan.{fold_on, folded_left, scanned}
 use Rattle.operator_fns.specs.Prefixes.{IsUnit}
 use Rattle.operator_fns.proofs.Firsts.{same_rules}
@@ -55,21 +55,6 @@ from_right x (y ∷ rest) u all =
     let later = from_right y rest (all 0 y (omega arith)) (λ k d below. all (suc k) d (omega arith)) in
     let next = product_of_two x (product_on y rest) u later.unit in
     record { is = ap (λ r. and_then r (dyadic_on_numbers Times x)) later.is ∙ next.is; unit = next.unit }
-
-pub times_assoc : (a b c : ℤ) → (a *ℤ b) *ℤ c ≡ a *ℤ (b *ℤ c)
-times_assoc a b c =
-    let ab = product_is a b in
-    let bc = product_is b c in
-    let by = λ (k m n : ℕ) (e : m ≡ n). ap (λ x. x * k) e in
-    let ups : up ((a *ℤ b) *ℤ c) ≡ up (a *ℤ (b *ℤ c)) =
-    let left = product_is (a *ℤ b) c in
-    let right = product_is a (b *ℤ c) in
-    omega (arith, by (up c) _ _ ab.0, by (down c) _ _ ab.1, by (up a) _ _ bc.0, by (down a) _ _ bc.1) in
-    let downs : down ((a *ℤ b) *ℤ c) ≡ down (a *ℤ (b *ℤ c)) =
-    let left = product_is (a *ℤ b) c in
-    let right = product_is a (b *ℤ c) in
-    omega (arith, by (down c) _ _ ab.0, by (up c) _ _ ab.1, by (down a) _ _ bc.0, by (up a) _ _ bc.1) in
-    same_in _ _ (λ i. ups i + sym downs i)
 
 grouped : (x y : ℤ) (rest : List ℤ) → product_on (x *ℤ y) rest ≡ product_on x (y ∷ rest)
 grouped x y [] = refl

@@ -5,9 +5,8 @@ use Rattle.arrays_core.specs.declared.item.Kind.{Kind}
 use Rattle.arrays_core.specs.Arrays.{ArrayValue, collect}
 use Rattle.arrays_core.specs.Shapes.{places_before}
 use Rattle.scalar_fns.specs.Items.{number_item}
-use Rattle.scalar_fns.specs.Folds.{strided, folded}
+use Rattle.scalar_fns.specs.Folds.{strided, folded, line_start}
 use Rattle.operator_fns.specs.declared.axis_lines.AxisLines.{AxisLines}
-use Rattle.operator_fns.specs.Strides.{line_start}
 use Rattle.operator_fns.specs.LinearScan.{scanned}
 
 -- the fold of the line of a place

@@ -16,7 +16,7 @@ use Rattle.change_core.specs.Sourced.{two_rule}
 use Rattle.function_names.specs.declared.scalar.Scalar2.{Scalar2}
 use Rattle.scalar_fns.specs.Items.{dyadic_on_items}
 use Rattle.scalar_fns.specs.ScalarExtension.{extended}
-use Rattle.operator_fns.specs.RightFold.{fold_right}
+use Rattle.scalar_fns.specs.RightFold.{fold_right}
 
 -- how many axes of a are not folded along: all but the last
 abbrev pub row_rank : ArrayValue → ℕ

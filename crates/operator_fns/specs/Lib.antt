@@ -1,15 +1,10 @@
 -- What public contracts mean.
-pub mod RightFold
+pub mod Lines
 pub mod Reduce
 pub mod Scan
 pub mod OuterProduct
 pub mod InnerProduct
-pub mod LineTrees
-pub mod LineBlocks
-pub mod SumTree
-pub mod SumTrees
 -- What proofs and bodies use.
-pub mod Strides
 pub mod AxisLines
 pub mod Columns
 pub mod SmallProducts
@@ -20,7 +15,6 @@ pub mod ResidueScan
 pub mod RowByColumn
 pub mod OuterResults
 pub mod Sum
-pub mod SumNodes
 -- What changes of results.
 pub mod Growth
 pub mod BoxLines

@@ -48,12 +48,6 @@ pub record AreResultsTo {G : Type 0} (place : ℕ) (rule : ℕ → Result ℤ Ki
   pub made : all_or_first_error (take place (map rule (range_with_len 0 (length zs)))) ≡ Ok results.items
   pub read : (k : ℕ) → k < place → FitsSigned w64 (get_or zs k (pos 0))
 
--- where three are put together it does not matter which two are first, and there is one error at most
-pub record IsAssociative (f : ℤ → ℤ → Result ℤ Kind) : Type 0 where
-  pub kind : Kind
-  pub only : (a b : ℤ) (k : Kind) → f a b ≡ Err k → k ≡ kind
-  pub either : (a b c : ℤ) → and_then (f b c) (f a) ≡ and_then (f a b) (λ z. f z c)
-
 -- a place with this error, and up to it only numbers of 64 bits
 pub record FailsAt (rule : ℕ → Result ℤ Kind) (zs : List ℤ) (kind : Kind) : Type 0 where
   pub place : ℕ

@@ -16,7 +16,8 @@ use Rattle.change_core.specs.RuleModels.{RuleModel, Use}
 use Rattle.change_core.specs.Growth.{growing}
 use Rattle.change_core.specs.Sourced.{one_rule}
 use Rattle.function_names.specs.declared.scalar.Scalar2.{Scalar2}
-use Rattle.operator_fns.specs.RightFold.{fold_right, line}
+use Rattle.scalar_fns.specs.RightFold.{fold_right}
+use Rattle.operator_fns.specs.Lines.{line}
 use Rattle.operator_fns.specs.Growth.{lines_grow}
 
 -- that of b where each line is one item

@@ -18,7 +18,8 @@ use Rattle.change_core.specs.Growth.{growing}
 use Rattle.change_core.specs.Sourced.{one_rule}
 use Rattle.change_core.specs.Ways.{along as on_own_line}
 use Rattle.function_names.specs.declared.scalar.Scalar2.{Scalar2}
-use Rattle.operator_fns.specs.RightFold.{fold_right, line}
+use Rattle.scalar_fns.specs.RightFold.{fold_right}
+use Rattle.operator_fns.specs.Lines.{line}
 use Rattle.operator_fns.specs.Growth.{lines_grow}
 
 -- b itself where the axis is below 2

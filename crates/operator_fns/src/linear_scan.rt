@@ -6,7 +6,8 @@ ghost use Rattle.function_names.specs.declared.scalar.Scalar2.TheVariants.{Plus 
 ghost use Rattle.scalar_fns.specs.Numbers.{dyadic_on_numbers};
 ghost use Rattle.scalar_fns.specs.NumberLists.{IsListAnswerTo};
 ghost use Rattle.operator_fns.specs.AxisLines.{scans_of};
-ghost use Rattle.operator_fns.specs.LinearScan.{folded_left, left_rule, scanned, AreResultsTo, FailsAt, HasRead, IsAssociative};
+ghost use Rattle.operator_fns.specs.LinearScan.{folded_left, left_rule, scanned, AreResultsTo, FailsAt, HasRead};
+ghost use Rattle.scalar_fns.specs.Folds.{IsAssociative};
 
 use crate::axis_lines::AxisLines;
 use crate::bounds::are_within;

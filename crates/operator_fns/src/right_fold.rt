@@ -9,7 +9,8 @@ ghost use Rattle.arrays_core.specs.Shapes.{is_index_of, size, IsWithinLimits};
 ghost use Rattle.scalar_fns.specs.Identities.{identity_of};
 ghost use Rattle.scalar_fns.specs.Folds.{strided};
 ghost use Rattle.index_region.specs.Arguments.{numbers};
-ghost use Rattle.operator_fns.specs.RightFold.{identity_item, fold_right, line};
+ghost use Rattle.scalar_fns.specs.RightFold.{identity_item, fold_right};
+ghost use Rattle.operator_fns.specs.Lines.{line};
 
 use arrays_core::{Item, Kind, position, size, with_axis};
 use index_region::Seen;

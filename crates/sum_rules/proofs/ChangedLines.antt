@@ -13,7 +13,7 @@ use Rattle.arrays_core.specs.Items.{fill, type_of}
 use Rattle.arrays_core.specs.Shapes.{size, is_index_of, places_before}
 use Rattle.arrays_core.proofs.Shapes.{places_below}
 use Rattle.function_names.specs.declared.scalar.Scalar2.{Scalar2}
-use Rattle.scalar_fns.specs.Folds.{strided}
+use Rattle.scalar_fns.specs.Folds.{strided, line_start}
 use Rattle.scalar_fns.proofs.RightFolds.{length-strided, get_or-strided}
 use Rattle.index_region.specs.Arguments.{number_of}
 use Rattle.index_region.specs.Axes.{places_along}
@@ -23,13 +23,13 @@ use Rattle.index_region.specs.Patches.{PatchValue, IsPatch, FitsPatch, patched, 
 use Rattle.index_region.proofs.Boxes.{fits_length}
 use Rattle.index_region.proofs.Patched.{fits_within, patched_at}
 use Rattle.index_region.proofs.Walks.{offset_below, offset_of_walk, walk_of_offset, walk_within}
-use Rattle.operator_fns.specs.Strides.{line_start}
-use Rattle.operator_fns.specs.SumTrees.{TreesValue, line_through, numbers_through, with_number}
+use Rattle.fold_trees.specs.ArrayLines.{TreesValue, line_through, numbers_through, with_number}
 use Rattle.operator_fns.specs.Laws.LineIndices.{inside}
 use Rattle.operator_fns.proofs.BoxTables.{remove_inserted}
 use Rattle.operator_fns.proofs.Lines.{long_with_axis, stride}
 use Rattle.operator_fns.proofs.Reduced.{start_is}
-use Rattle.operator_fns.specs.RightFold.{fold_right, line}
+use Rattle.scalar_fns.specs.RightFold.{fold_right}
+use Rattle.operator_fns.specs.Lines.{line}
 use Rattle.sum_rules.specs.LineSums.{StandFor, array_of_shape, line_length, line_step}
 use Rattle.sum_rules.specs.Totals.{StoodFor, is_one_a_line, box_of_lines}
 use Rattle.sum_rules.proofs.OneAxis.{FitsAxis, fits_axis, size_with_one, walk_with_one, within_axis}

@@ -19,7 +19,7 @@ use Rattle.index_region.specs.Checks.{Form, form_of}
 use Rattle.index_region.specs.Patches.{PatchValue, patched}
 use Rattle.index_region.specs.Tails.{TailValue}
 use Rattle.operator_fns.specs.Reduce.{reduce_form, reduce_item, reduce_whole}
-use Rattle.operator_fns.specs.SumTrees.{TreesValue}
+use Rattle.fold_trees.specs.ArrayLines.{TreesValue}
 use Rattle.operator_fns.specs.Laws.ReducedShapes.{reduce_facts}
 use Rattle.change_core.specs.declared.reach.Reach.TheVariants.{Inside, Unmoved}
 use Rattle.change_core.specs.Parts.{items_in}

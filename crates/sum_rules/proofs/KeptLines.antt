@@ -2,7 +2,7 @@
 use Rattle.std.proofs.Common.{◌≡◌, ◌∙◌, ℕ, zero, suc, ◌+◌, ◌-◌, ◌*◌, ◌/◌, ◌<◌, ℤ, pos, true, false, List, [], ◌∷◌, length, get_or, map, remove, insert, refl, ap, sym, subst, arith, inl, inr, Result}
 use Rattle.std.specs.List.{range_with_len}
 use Rattle.arrays_core.specs.declared.item.Kind.{Kind}
-use Rattle.arrays_core.specs.Items.{all_or_first_error}
+use Rattle.arrays_core.specs.Items.{all_or_first_error, fill}
 use Rattle.change_core.proofs.Collected.{along as items_along, collected, collected_is}
 use Rattle.change_core.proofs.Walking.{box_size-whole, walk_is}
 use Rattle.std.proofs.lemmas.Bool.{and_from, and_parts, cases_Bool, cond-false, eqb-true, false≢true}
@@ -12,12 +12,11 @@ use Rattle.std.proofs.Math.ListN.{get_or-map}
 use Rattle.arrays_core.specs.declared.item.Item.{Item}
 use Rattle.arrays_core.specs.declared.item.Item.TheVariants.{Num}
 use Rattle.arrays_core.specs.Arrays.{ArrayValue, item_of}
-use Rattle.arrays_core.specs.Items.{fill}
 use Rattle.arrays_core.specs.Shapes.{indices, is_index_of, places_before, size}
 use Rattle.arrays_core.proofs.Shapes.{places_below}
 use Rattle.std.proofs.Math.Nat.{mul-div_cancel}
 use Rattle.function_names.specs.declared.scalar.Scalar2.{Scalar2}
-use Rattle.scalar_fns.specs.Folds.{strided}
+use Rattle.scalar_fns.specs.Folds.{strided, line_start}
 use Rattle.scalar_fns.proofs.RightFolds.{length-strided, get_or-strided}
 use Rattle.index_region.specs.Axes.{places_along}
 use Rattle.index_region.specs.Boxes.{Interval, box_offset, is_within, walk_at, whole_of}
@@ -25,12 +24,12 @@ use Rattle.index_region.proofs.Walks.{offset_below, walk_of_offset, walk_within}
 use Rattle.index_region.specs.Patches.{PatchValue, FitsPatch, patched}
 use Rattle.index_region.proofs.Boxes.{fits_length}
 use Rattle.index_region.proofs.Patched.{patched_at}
-use Rattle.operator_fns.specs.Strides.{line_start}
-use Rattle.operator_fns.specs.SumTrees.{TreesValue, line_count, numbers_of_line}
+use Rattle.fold_trees.specs.ArrayLines.{TreesValue, line_count, numbers_of_line}
 use Rattle.operator_fns.specs.Laws.LineIndices.{inside}
 use Rattle.operator_fns.proofs.Lines.{long_with_axis, stride}
 use Rattle.operator_fns.proofs.Reduced.{lines_whole, start_is}
-use Rattle.operator_fns.specs.RightFold.{fold_right, line}
+use Rattle.scalar_fns.specs.RightFold.{fold_right}
+use Rattle.operator_fns.specs.Lines.{line}
 use Rattle.sum_rules.specs.LineSums.{StandFor, line_length, line_step}
 use Rattle.sum_rules.specs.Totals.{box_of_lines, is_one_a_line}
 use Rattle.sum_rules.proofs.OneAxis.{size_with_one, walk_with_one}

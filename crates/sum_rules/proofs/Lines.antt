@@ -3,8 +3,8 @@ use Rattle.std.proofs.Common.{◌≡◌, ℕ, zero, suc, ◌+◌, ◌*◌, ◌/�
 use Rattle.std.proofs.lemmas.Nat.{div-add-mod', div-mul-add, mod-mul-add, mod_below, mul-add-lt}
 use Rattle.std.proofs.Math.Nat.{mul-mod_left}
 use Rattle.arrays_core.specs.Shapes.{size}
-use Rattle.operator_fns.specs.Strides.{line_start}
-use Rattle.operator_fns.specs.SumTrees.{line_through}
+use Rattle.scalar_fns.specs.Folds.{line_start}
+use Rattle.fold_trees.specs.ArrayLines.{line_through}
 use Rattle.operator_fns.proofs.Lines.{size-drop-le}
 use Rattle.operator_fns.proofs.Reduced.{sizes}
 use Rattle.sum_rules.specs.LineSums.{line_length, line_step}

@@ -20,7 +20,7 @@ use Rattle.arrays_core.proofs.Growing.{rank_longer, size_longer}
 use Rattle.arrays_core.proofs.Order.{length-indices, get_or-indices, places_before-index_after}
 use Rattle.arrays_core.proofs.Shapes.{places_below}
 use Rattle.function_names.specs.declared.scalar.Scalar2.{Scalar2}
-use Rattle.scalar_fns.specs.Folds.{strided, folded}
+use Rattle.scalar_fns.specs.Folds.{strided, folded, line_start}
 use Rattle.scalar_fns.specs.Items.{number_item}
 use Rattle.scalar_fns.specs.Numbers.{dyadic_on_numbers}
 use Rattle.scalar_fns.proofs.RightFolds.{length-strided, get_or-strided}
@@ -28,13 +28,13 @@ use Rattle.function_names.specs.Axes.{axis_at, is_axis}
 use Rattle.index_region.specs.Checks.{form_of}
 use Rattle.index_region.specs.Tails.{TailValue}
 use Rattle.operator_fns.specs.Reduce.{reduce_form, reduce_whole}
-use Rattle.operator_fns.specs.RightFold.{fold_right}
-use Rattle.operator_fns.specs.Strides.{line_start}
-use Rattle.operator_fns.specs.SumTrees.{TreesValue, line_count, numbers_of_line}
+use Rattle.scalar_fns.specs.RightFold.{fold_right}
+use Rattle.fold_trees.specs.ArrayLines.{TreesValue, line_count, numbers_of_line}
 use Rattle.operator_fns.specs.declared.reduce.Reduce.{Reduce}
 use Rattle.operator_fns.proofs.Placewise.{collected_same}
 use Rattle.operator_fns.specs.Laws.ReducedShapes.{reduce_facts}
-use Rattle.operator_fns.proofs.Reduced.{reduced_whole, number_items_folded}
+use Rattle.operator_fns.proofs.Reduced.{reduced_whole}
+use Rattle.scalar_fns.proofs.ItemFolds.{number_items_folded}
 use Rattle.sum_rules.specs.LineSums.{StandFor, length_along, line_length, line_step}
 use Rattle.sum_rules.specs.Totals.{StoodBefore, AreJoinsWithin, longer_totals}
 use Rattle.sum_rules.proofs.KeptSums.{along_axis}

@@ -10,7 +10,7 @@ use Rattle.arrays_core.specs.Growth.{one_longer}
 use Rattle.arrays_core.specs.Items.{type_of}
 use Rattle.arrays_core.specs.Shapes.{size}
 use Rattle.arrays_core.proofs.Growing.{size_longer}
-use Rattle.operator_fns.specs.SumTrees.{with_lines}
+use Rattle.fold_trees.specs.ArrayLines.{with_lines}
 use Rattle.fold_trees.specs.FoldTrees.{FoldsValue, NewFoldsValue}
 use Rattle.sum_rules.specs.LineSums.{line_length, line_step, array_of_shape, StandFor}
 use Rattle.sum_rules.specs.NewLines.{lines_behind, AreNewLinesOf, FitsSums}

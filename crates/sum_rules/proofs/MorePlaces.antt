@@ -9,7 +9,7 @@ use Rattle.arrays_core.specs.Growth.{one_longer}
 use Rattle.arrays_core.specs.Items.{type_of}
 use Rattle.arrays_core.specs.Shapes.{size}
 use Rattle.arrays_core.proofs.Growing.{size_longer}
-use Rattle.operator_fns.specs.SumTrees.{FitNext, with_places}
+use Rattle.fold_trees.specs.ArrayLines.{FitNext, with_places}
 use Rattle.fold_trees.specs.FoldTrees.{FoldsValue, NextFoldsValue}
 use Rattle.sum_rules.specs.LineSums.{line_length, line_step, array_of_shape, StandFor}
 use Rattle.sum_rules.specs.NewLines.{lines_behind, AreNewLinesOf, FitsSums}

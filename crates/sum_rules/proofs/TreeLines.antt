@@ -5,10 +5,9 @@ use Rattle.std.proofs.lemmas.List.Elements.{All-head, All-tail, All-get_or, All-
 use Rattle.std.proofs.Math.Nat.{mul-div_cancel}
 use Rattle.std.specs.List.{flat_map}
 use Rattle.std.proofs.lemmas.Nat.{div-add-mod', mod_below, div_below}
-use Rattle.scalar_fns.specs.Folds.{strided}
+use Rattle.scalar_fns.specs.Folds.{strided, line_start}
 use Rattle.scalar_fns.proofs.RightFolds.{length-strided, get_or-strided}
-use Rattle.operator_fns.specs.Strides.{line_start}
-use Rattle.operator_fns.specs.SumTrees.{line_through, numbers_of_line, numbers_through, with_number}
+use Rattle.fold_trees.specs.ArrayLines.{line_through, numbers_of_line, numbers_through, with_number}
 use Rattle.sum_rules.specs.Totals.{AreAllAsLong, all_trees}
 
 abbrev pub all_numbers : List (List ℤ) → List ℤ

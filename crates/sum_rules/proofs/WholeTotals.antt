@@ -12,20 +12,20 @@ use Rattle.arrays_core.specs.Arrays.{ArrayValue, with_items}
 use Rattle.arrays_core.specs.Items.{all_or_first_error}
 use Rattle.arrays_core.specs.Shapes.{size, places_before}
 use Rattle.function_names.specs.declared.scalar.Scalar2.{Scalar2}
-use Rattle.scalar_fns.specs.Folds.{strided, folded}
+use Rattle.scalar_fns.specs.Folds.{strided, folded, line_start}
 use Rattle.scalar_fns.specs.Items.{number_item}
 use Rattle.scalar_fns.specs.Numbers.{dyadic_on_numbers}
 use Rattle.scalar_fns.proofs.RightFolds.{length-strided}
 use Rattle.function_names.specs.Axes.{axis_at}
 use Rattle.index_region.specs.Checks.{form_of}
 use Rattle.operator_fns.specs.Reduce.{reduce_form, reduce_whole}
-use Rattle.operator_fns.specs.RightFold.{fold_right}
-use Rattle.operator_fns.specs.Strides.{line_start}
-use Rattle.operator_fns.specs.SumTrees.{TreesValue, line_count, numbers_of_line}
+use Rattle.scalar_fns.specs.RightFold.{fold_right}
+use Rattle.fold_trees.specs.ArrayLines.{TreesValue, line_count, numbers_of_line}
 use Rattle.operator_fns.specs.declared.reduce.Reduce.{Reduce}
 use Rattle.operator_fns.proofs.Placewise.{collected_same}
 use Rattle.operator_fns.specs.Laws.ReducedShapes.{reduce_facts}
-use Rattle.operator_fns.proofs.Reduced.{lines_whole, reduced_whole, number_items_folded}
+use Rattle.operator_fns.proofs.Reduced.{lines_whole, reduced_whole}
+use Rattle.scalar_fns.proofs.ItemFolds.{number_items_folded}
 use Rattle.sum_rules.specs.LineSums.{StandFor, SummedValue, summed}
 use Rattle.sum_rules.specs.Totals.{all_totals}
 use Rattle.sum_rules.proofs.KeptSums.{summed_is}

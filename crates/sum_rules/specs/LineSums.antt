@@ -12,7 +12,7 @@ use Rattle.function_names.specs.Axes.{is_axis, axis_at}
 use Rattle.function_names.specs.declared.along.Along.{Along}
 use Rattle.index_region.specs.Patches.{PatchValue, patched}
 use Rattle.operator_fns.specs.declared.reduce.Reduce.{Reduce}
-use Rattle.operator_fns.specs.SumTrees.{TreesValue}
+use Rattle.fold_trees.specs.ArrayLines.{TreesValue}
 
 -- ---- the lines of an array
 

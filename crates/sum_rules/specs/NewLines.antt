@@ -5,7 +5,7 @@ use Rattle.arrays_core.specs.declared.item.ItemType.TheVariants.{Nums}
 use Rattle.arrays_core.specs.Shapes.{size, IsWithinLimits}
 use Rattle.function_names.specs.declared.scalar.Scalar2.{Scalar2}
 use Rattle.index_region.specs.Tails.{TailValue, FitsTail}
-use Rattle.operator_fns.specs.SumTrees.{with_lines, with_places}
+use Rattle.fold_trees.specs.ArrayLines.{with_lines, with_places}
 use Rattle.fold_trees.specs.FoldTrees.{FoldsValue, AreFoldedBehind, AreFoldedNext}
 use Rattle.sum_rules.specs.LineSums.{SummedValue, line_length, line_step}
 use Rattle.sum_rules.specs.declared.new_lines.Growth.{Growth}

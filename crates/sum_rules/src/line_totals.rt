@@ -1,24 +1,21 @@
 //! Trees that tell the total of a line where one number of it is another, or one more comes behind it.
 
 ghost use Rattle.std.specs.Prelude.{◌<◌, ◌-◌, ◌/◌, ◌%◌, ◌++◌, ◌∷◌, [], length};
-ghost use Rattle.operator_fns.specs.SumTree.{IsWithinDigitsOf};
-ghost use Rattle.operator_fns.specs.SumTrees.{TreesValue, line_count, numbers_of_line, numbers_through, with_number};
+ghost use Rattle.fold_trees.specs.FoldTrees.{IsWithinDigitsOf, IsReductionBy};
+ghost use Rattle.fold_trees.specs.ArrayLines.{TreesValue, line_count, numbers_of_line, numbers_through, with_number};
 ghost use Rattle.function_names.specs.declared.scalar.Scalar2.{Scalar2 as Function};
 ghost use Rattle.function_names.specs.declared.scalar.Scalar2.TheVariants.{Plus as Sum};
-ghost use Rattle.fold_trees.specs.FoldTrees.{IsReductionBy};
 ghost use Rattle.sum_rules.specs.Totals.{AreAllAsLong, all_trees};
 
 use arrays_core::Kind;
-use fold_trees::FoldTrees;
-use operator_fns::SumTree;
+use fold_trees::{FoldTrees, SumTree};
 
 /// Trees of the lines of an array along one axis, which are folded by a function.
 pub trait LineTotals {
     ghost use Rattle.std.specs.Prelude.{◌<◌, ◌-◌, ◌++◌, ◌∷◌, [], length};
-    ghost use Rattle.operator_fns.specs.SumTree.{IsWithinDigitsOf};
-    ghost use Rattle.operator_fns.specs.SumTrees.{TreesValue, line_count, numbers_of_line, numbers_through, with_number};
+    ghost use Rattle.fold_trees.specs.FoldTrees.{IsWithinDigitsOf, IsReductionBy};
+    ghost use Rattle.fold_trees.specs.ArrayLines.{TreesValue, line_count, numbers_of_line, numbers_through, with_number};
     ghost use Rattle.function_names.specs.declared.scalar.Scalar2.{Scalar2 as Function};
-    ghost use Rattle.fold_trees.specs.FoldTrees.{IsReductionBy};
 
     // The function by which the lines are folded.
     ghost function: { Self → Function };

@@ -12,9 +12,9 @@ ghost use Rattle.function_names.specs.Axes.{is_axis, axis_at};
 ghost use Rattle.index_region.specs.Boxes.{box_size, is_within};
 ghost use Rattle.index_region.specs.Patches.{FitsPatch, patched};
 ghost use Rattle.operator_fns.specs.Reduce.{reduce_item};
-ghost use Rattle.operator_fns.specs.RightFold.{fold_right};
-ghost use Rattle.operator_fns.specs.SumTree.{IsWithinDigitsOf};
-ghost use Rattle.operator_fns.specs.SumTrees.{line_count, numbers_through, with_number};
+ghost use Rattle.scalar_fns.specs.RightFold.{fold_right};
+ghost use Rattle.fold_trees.specs.FoldTrees.{IsWithinDigitsOf};
+ghost use Rattle.fold_trees.specs.ArrayLines.{line_count, numbers_through, with_number};
 ghost use Rattle.change_core.specs.Meters.{ticked, most_ticks};
 ghost use Rattle.change_core.specs.Parts.{HoldsItems, items_in};
 ghost use Rattle.change_core.specs.Reaches.{AllFit};
@@ -33,8 +33,9 @@ use arrays_core::{
 };
 use change_core::{Meter, Reach, Rule};
 use change_rules::refresh_with_cost;
+use fold_trees::SumTree;
 use index_region::{Along, Delta, IndexBox, Patch, Seen, Tail};
-use operator_fns::{Reduce, SumTree};
+use operator_fns::Reduce;
 use scalar_fns::Scalar2;
 use std::alloc::{AllocError, Global};
 

@@ -6,7 +6,7 @@ ghost use Rattle.arrays_core.specs.Arrays.{with_items, IsAnswerTo};
 ghost use Rattle.arrays_core.specs.Items.{all_or_first_error};
 ghost use Rattle.arrays_core.specs.Shapes.{size, IsWithinLimits};
 ghost use Rattle.index_region.specs.declared.delta.Delta.TheVariants.{Whole};
-ghost use Rattle.operator_fns.specs.SumTrees.{line_count};
+ghost use Rattle.fold_trees.specs.ArrayLines.{line_count};
 ghost use Rattle.change_core.specs.Meters.{ticked};
 ghost use Rattle.change_core.specs.RuleModels.{form_size};
 ghost use Rattle.change_rules.specs.Evaluation.{evaluation};

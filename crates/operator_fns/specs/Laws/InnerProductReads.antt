@@ -21,7 +21,7 @@ use Rattle.change_core.specs.Tightness.{Covered, Each}
 use Rattle.change_core.specs.Sourced.{other}
 use Rattle.change_core.proofs.UsedWays.{back-onto, each_all, each_map, front-onto}
 use Rattle.operator_fns.specs.InnerProduct.{all_or_last_error, column_length, inner_form, inner_item, inner_length, row_length, row_rank, column_use, extended_line, row_use}
-use Rattle.operator_fns.specs.RightFold.{fold_right}
+use Rattle.scalar_fns.specs.RightFold.{fold_right}
 use Rattle.operator_fns.specs.Laws.InnerPlaces.{PassedInner, column_place, extended_many, extended_one, passed_inner, row_place}
 use Rattle.change_core.proofs.ReadAlike.{item_same}
 

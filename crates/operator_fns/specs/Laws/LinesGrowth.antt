@@ -19,7 +19,8 @@ use Rattle.change_core.specs.Growth.{IsGrown, IsGrowing}
 use Rattle.change_core.proofs.Growing.{along_longer, item_kept, growing_growing, length-longer, longer_form, one_growing, range_same, remove_longer, shape_grown, some_left, type_grown}
 use Rattle.operator_fns.specs.Reduce.{reduce_form, reduce_item, reduce_type, reduce_rule, reduce_use}
 use Rattle.operator_fns.specs.Scan.{scan_form, scan_item, scan_type, scan_rule, scan_use}
-use Rattle.operator_fns.specs.RightFold.{fold_right, line}
+use Rattle.scalar_fns.specs.RightFold.{fold_right}
+use Rattle.operator_fns.specs.Lines.{line}
 use Rattle.operator_fns.specs.Laws.LineIndices.{inside}
 use Rattle.operator_fns.specs.Laws.ReducedShapes.{reduce_facts}
 use Rattle.operator_fns.specs.Laws.ScannedPlaces.{at_axis, scan_facts}

@@ -5,7 +5,7 @@ use Rattle.std.proofs.lemmas.Bool.{false≢true}
 use Rattle.arrays_core.specs.Arrays.{ArrayValue, item_of, item_if_there}
 use Rattle.arrays_core.specs.Shapes.{is_index_of}
 use Rattle.change_core.proofs.ReadAlike.{item_same}
-use Rattle.operator_fns.specs.RightFold.{line}
+use Rattle.operator_fns.specs.Lines.{line}
 
 -- items that are read alike one after another are the same
 pub items_same : (a c : ArrayValue) (place : ℕ → List ℕ) (from n : ℕ) → ((j : ℕ) → from ≤ j → j < from + n → (is_index_of a.shape (place j) ≡ true) × (is_index_of c.shape (place j) ≡ true))

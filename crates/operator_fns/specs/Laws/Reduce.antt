@@ -17,7 +17,8 @@ use Rattle.change_core.proofs.Growing.{tight_growing}
 use Rattle.change_core.proofs.Sourced.{one_tight}
 use Rattle.change_core.proofs.UsedWays.{lines-covered}
 use Rattle.operator_fns.specs.Reduce.{reduce_form, reduce_item, line_use, reduce_rule, reduce_use}
-use Rattle.operator_fns.specs.RightFold.{fold_right, line}
+use Rattle.scalar_fns.specs.RightFold.{fold_right}
+use Rattle.operator_fns.specs.Lines.{line}
 use Rattle.operator_fns.specs.Laws.LineIndices.{inside}
 use Rattle.operator_fns.specs.Laws.ReducedShapes.{reduce_facts}
 use Rattle.index_region.proofs.RowIndices.{axis_below}

@@ -18,7 +18,8 @@ use Rattle.change_core.proofs.Growing.{tight_growing}
 use Rattle.change_core.proofs.Sourced.{one_tight}
 use Rattle.change_core.proofs.UsedWays.{Follows, along-covered, each_range}
 use Rattle.operator_fns.specs.Scan.{scan_form, scan_item, run_use, scan_rule, scan_use}
-use Rattle.operator_fns.specs.RightFold.{fold_right, line}
+use Rattle.scalar_fns.specs.RightFold.{fold_right}
+use Rattle.operator_fns.specs.Lines.{line}
 use Rattle.operator_fns.specs.Laws.ScannedPlaces.{at_axis, scan_facts}
 use Rattle.index_region.proofs.RowIndices.{axis_below}
 use Rattle.change_core.proofs.ReadAlike.{item_same}

@@ -1,10 +1,9 @@
 use Rattle.std.proofs.Common.{◌≡◌, ◌∙◌, ◌+◌, ◌-◌, ◌*◌, ◌/◌, ◌<◌, ◌≤◌, ◌⊎◌, ◌∷◌, [], set, min, sym, ap, subst, arith, inl, inr, refl, w64, get_or, pos, FitsSigned, rules}
 use Rattle.std.proofs.lemmas.Int.{to_z-of_z}
 use Rattle.std.proofs.lemmas.Nat.{pow_pos}
-use Rattle.operator_fns.specs.LineTrees.{slot_of, segment, from_two, node_of}
-use Rattle.operator_fns.proofs.LineParts.{climb_start, climb_up}
-use Rattle.operator_fns.proofs.Halves.{are_from_two}
-use Rattle.operator_fns.proofs.LineNodes.{IsStepUp, others_stay, step_up, kept_first, all_kept, kept_beside}
+use Rattle.fold_trees.specs.LineTrees.{slot_of, segment, node_of}
+use Rattle.fold_trees.proofs.LineParts.{climb_start, climb_up}
+use Rattle.fold_trees.proofs.LineNodes.{IsStepUp, others_stay, step_up, kept_first, all_kept, kept_beside}
 use Rattle.fold_trees.proofs.line_tree.renew.Goals as goal
 use Rattle.fold_trees.proofs.line_tree.renew.Goals.{then-joined-eq1, else-joined-eq1}
 
@@ -21,7 +20,7 @@ loop-width-init g c =
     record {
       climb = climb_start place;
       told = subst (g.P.Part.tells c.of-kept.result) (ap (λ y. y ∷ []) number ∙ sym (λ i. segment x (start i) (one i))) c.of-kept.ensures;
-      kept = kept_first from_two are_from_two g.P.Part.tells place line.count x (node_of from_two g.P.Part.blank line c.args.nodes.now) c.requires.kept;
+      kept = kept_first g.P.Part.tells place line.count x (node_of g.P.Part.blank line c.args.nodes.now) c.requires.kept;
       others = λ p h. refl;
       sized = refl;
     }
@@ -29,8 +28,8 @@ loop-width-init g c =
 pub widened-wider-requires-clause-kept : goal.widened-wider-requires-clause-kept
 widened-wider-requires-clause-kept g c =
     let inv = c.loop-width.invariant in
-    kept_beside from_two are_from_two g.P.Part.tells c.loop-width.width c.args.place c.loop-width.block c.args.line.count (slot_of c.args.line c.args.numbers.now)
-    (node_of from_two g.P.Part.blank c.args.line c.loop-width.nodes) inv.climb inv.kept
+    kept_beside g.P.Part.tells c.loop-width.width c.args.place c.loop-width.block c.args.line.count (slot_of c.args.line c.args.numbers.now)
+    (node_of g.P.Part.blank c.args.line c.loop-width.nodes) inv.climb inv.kept
 
 pub loop-width-preserved : goal.loop-width-preserved
 loop-width-preserved g c =
@@ -49,7 +48,7 @@ loop-width-preserved g c =
     let p = pow_pos inv.climb.level in
     let width_is = inv.climb.width_is in
     omega (arith, is, p, width_is) in
-    let new : IsStepUp from_two line nodes after block width c.widened-wider.result.0 = elim c.if-joined-eq1.branch [
+    let new : IsStepUp line nodes after block width c.widened-wider.result.0 = elim c.if-joined-eq1.branch [
       | then-joined-eq1 w ↦
           let inside = c.requires.inside.nodes.node meeting some (joined.one w.if-joined-eq1.true) in
           inl (w.nodes-is ∙ ap (λ p. set nodes p c.widened-wider.result.0) w.nth_node.ensures, omega (arith, inside, inv.sized))
@@ -65,14 +64,14 @@ loop-width-preserved g c =
     record {
       climb = climb_up c.args.place block width inv.climb;
       told = told;
-      kept = step_up from_two are_from_two g.P.Part.blank g.P.Part.tells line nodes after x c.args.place block width inv.climb.level c.widened-wider.result.0 inv.climb
+      kept = step_up g.P.Part.blank g.P.Part.tells line nodes after x c.args.place block width inv.climb.level c.widened-wider.result.0 inv.climb
           inv.climb.width_is c.requires.inside.slots.apart inv.kept told new;
-      others = others_stay from_two g.P.Part.blank line nodes after c.args.nodes.now block width c.widened-wider.result.0 new some within inv.others;
+      others = others_stay g.P.Part.blank line nodes after c.args.nodes.now block width c.widened-wider.result.0 new some within inv.others;
       sized = c.if-joined-eq1.auto.nodes ∙ inv.sized;
     }
 
 pub returns-clause-kept : goal.returns-clause-kept
 returns-clause-kept g c =
     let inv = c.loop-width.invariant in
-    all_kept from_two are_from_two g.P.Part.tells c.loop-width.width c.args.place c.args.line.count inv.climb.level (slot_of c.args.line c.args.numbers.now) (node_of from_two g.P.Part.blank c.args.line c.loop-width.nodes)
+    all_kept g.P.Part.tells c.loop-width.width c.args.place c.args.line.count inv.climb.level (slot_of c.args.line c.args.numbers.now) (node_of g.P.Part.blank c.args.line c.loop-width.nodes)
     inv.climb.width_is c.loop-width-test.false inv.kept

@@ -1,9 +1,8 @@
 use Rattle.std.proofs.Common.{◌∙◌, set, ap, to_z, of_z, w64}
 use Rattle.std.proofs.lemmas.Int.{to_z-of_z}
-use Rattle.operator_fns.specs.LineTrees.{slot_of, from_two, node_of}
-use Rattle.operator_fns.proofs.LineParts.{replaced_other}
-use Rattle.operator_fns.proofs.Halves.{are_from_two}
-use Rattle.operator_fns.proofs.LineNodes.{kept_replaced}
+use Rattle.fold_trees.specs.LineTrees.{slot_of, node_of}
+use Rattle.fold_trees.proofs.LineParts.{replaced_other}
+use Rattle.fold_trees.proofs.LineNodes.{kept_replaced}
 use Rattle.fold_trees.proofs.TreeWrites.{number_set}
 use Rattle.fold_trees.proofs.line_tree.write.Goals as goal
 
@@ -14,7 +13,7 @@ renew-requires-clause-kept g c =
     let numbers = c.args.numbers.now in
     let z = to_z w64 (of_z w64 c.args.number) in
     let at = c.slot_at.ensures in
-    kept_replaced from_two are_from_two g.P.Part.tells place line.count (slot_of line numbers) (slot_of line (set numbers c.slot_at.result z)) (node_of from_two g.P.Part.blank line c.args.nodes.now)
+    kept_replaced g.P.Part.tells place line.count (slot_of line numbers) (slot_of line (set numbers c.slot_at.result z)) (node_of g.P.Part.blank line c.args.nodes.now)
     (λ i below apart.
     ap (λ k. slot_of line (set numbers k z) i) at
     ∙ number_set line numbers place z c.requires.inside.slots c.requires.place i

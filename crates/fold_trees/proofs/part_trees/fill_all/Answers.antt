@@ -1,10 +1,9 @@
 use Rattle.std.proofs.Common.{◌≡◌, ◌<◌, ◌≤◌, ◌*◌, ◌/◌, ◌^◌, ◌∙◌, ◌⊎◌, ℕ, length, get_or, rules, sym, subst, arith}
-use Rattle.operator_fns.proofs.Halves.{are_from_two}
-use Rattle.operator_fns.proofs.BlockLines.{block_count, block_ends, have_slots, have_nodes, block_kept}
-use Rattle.operator_fns.proofs.LineSpots.{lines_are}
-use Rattle.operator_fns.specs.declared.line_tree.Line.{Line}
-use Rattle.operator_fns.specs.LineTrees.{slot_of, from_two, node_of, ArePartsKept}
-use Rattle.operator_fns.specs.LineBlocks.{line_of, HaveSlots, nodes_end, HaveNodes}
+use Rattle.fold_trees.proofs.BlockLines.{block_count, block_ends, have_slots, have_nodes, block_kept}
+use Rattle.fold_trees.proofs.LineSpots.{lines_are}
+use Rattle.fold_trees.specs.declared.line.Line.{Line}
+use Rattle.fold_trees.specs.LineTrees.{slot_of, node_of, ArePartsKept}
+use Rattle.fold_trees.specs.LineBlocks.{line_of, HaveSlots, nodes_end, HaveNodes}
 use Rattle.fold_trees.proofs.part_trees.fill_all.Goals as goal
 
 pub nth_block-requires-clause-fit : goal.nth_block-requires-clause-fit
@@ -19,15 +18,15 @@ fill_block-requires-clause-slots g c =
     let long = length c.args.numbers.now in
     let small : long < 2 ^ 62 = search rules in
     subst (λ (l : Line). HaveSlots l long) (sym c.nth_block.ensures)
-    (have_slots c.args.count c.args.step long c.requires.lines c.loop-block.block c.loop-block-test.true from_two small)
+    (have_slots c.args.count c.args.step long c.requires.lines c.loop-block.block c.loop-block-test.true small)
 
 pub fill_block-requires-clause-nodes : goal.fill_block-requires-clause-nodes
 fill_block-requires-clause-nodes g c =
     let long = length c.args.numbers.now in
     let nodes = length c.loop-block.nodes in
     let small : long < 2 ^ 62 = search rules in
-    subst (λ (l : Line). HaveNodes from_two l nodes) (sym c.nth_block.ensures)
-    (have_nodes c.args.count c.args.step long c.requires.lines c.loop-block.block c.loop-block-test.true from_two are_from_two nodes (c.loop-block.invariant.sized ∙ c.requires.sized) small)
+    subst (λ (l : Line). HaveNodes l nodes) (sym c.nth_block.ensures)
+    (have_nodes c.args.count c.args.step long c.requires.lines c.loop-block.block c.loop-block-test.true nodes (c.loop-block.invariant.sized ∙ c.requires.sized) small)
 
 pub loop-block-preserved : goal.loop-block-preserved
 loop-block-preserved g c =
@@ -40,11 +39,11 @@ loop-block-preserved g c =
     let told = c.fill_block.ensures in
     let is = c.nth_block.ensures in
     let here =
-    subst (λ (l : Line). (column : ℕ) → column < l.step → ArePartsKept from_two tells l.count (slot_of (line_of l column) numbers) (node_of from_two blank (line_of l column) after)) is
+    subst (λ (l : Line). (column : ℕ) → column < l.step → ArePartsKept tells l.count (slot_of (line_of l column) numbers) (node_of blank (line_of l column) after)) is
     told.kept in
-    let others = subst (λ (l : Line). (p : ℕ) → (p < l.node ⊎ nodes_end from_two l ≤ p) → get_or after p blank ≡ get_or now p blank) is told.others in
+    let others = subst (λ (l : Line). (p : ℕ) → (p < l.node ⊎ nodes_end l ≤ p) → get_or after p blank ≡ get_or now p blank) is told.others in
     record {
-      kept = block_kept from_two are_from_two blank tells slot_of c.args.count c.args.step numbers now after c.loop-block.block c.requires.lines.apart here others inv.kept;
+      kept = block_kept blank tells c.args.count c.args.step numbers now after c.loop-block.block c.requires.lines.apart here others inv.kept;
       sized = told.length ∙ inv.sized;
     }
 

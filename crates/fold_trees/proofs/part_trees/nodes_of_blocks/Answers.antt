@@ -1,12 +1,12 @@
 use Rattle.std.proofs.Common.{◌≡◌, ◌∙◌, length, drop, sym, subst}
 use Rattle.std.proofs.lemmas.List.{take_at}
-use Rattle.operator_fns.specs.LineTrees.{from_two, slot_of}
-use Rattle.operator_fns.specs.LineBlocks.{AreAllKept}
+use Rattle.fold_trees.specs.LineTrees.{slot_of}
+use Rattle.fold_trees.specs.LineBlocks.{AreAllKept}
 use Rattle.fold_trees.proofs.part_trees.nodes_of_blocks.Goals as goal
 
 pub returns-clause-kept : goal.returns-clause-kept
 returns-clause-kept g c =
     let nodes = c.fill_all.new.nodes in
     let long : length nodes ≡ c.in_ok-nodes.nodes.len = c.fill_all.ensures.length ∙ c.deref_mut.ensures.len in
-    subst (λ ns. AreAllKept from_two g.P.Part.blank g.P.Part.tells slot_of c.args.count c.args.step c.args.numbers.now ns)
+    subst (λ ns. AreAllKept g.P.Part.blank g.P.Part.tells c.args.count c.args.step c.args.numbers.now ns)
     (sym (take_at nodes (drop (length nodes) c.in_ok-nodes.nodes.items) c.in_ok-nodes.nodes.len long)) c.fill_all.ensures.kept

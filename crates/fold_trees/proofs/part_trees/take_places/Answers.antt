@@ -1,8 +1,8 @@
 use Rattle.std.proofs.Common.{◌∙◌, ◌<◌, ◌^◌, length, rules, sym, subst, arith}
-use Rattle.operator_fns.specs.declared.line_tree.Line.{Line}
-use Rattle.fold_trees.proofs.TreeLonger.{in_block}
+use Rattle.fold_trees.specs.declared.line.Line.{Line}
+use Rattle.fold_trees.proofs.LongerTrees.{in_block}
 use Rattle.fold_trees.proofs.TreeTaken.{IsTaken, taken_on}
-use Rattle.operator_fns.specs.LineTrees.{from_two, IsIn}
+use Rattle.fold_trees.specs.LineTrees.{IsIn}
 use Rattle.fold_trees.proofs.part_trees.take_places.Goals as goal
 
 pub take_last-requires-clause-inside : goal.take_last-requires-clause-inside
@@ -10,7 +10,7 @@ take_last-requires-clause-inside g c =
     let long = length c.args.numbers.now in
     let nodes = length c.loop-line.nodes in
     let small : long < 2 ^ 62 = search rules in
-    subst (λ (l : Line). IsIn from_two l long nodes) (sym c.nth_line.ensures)
+    subst (λ (l : Line). IsIn l long nodes) (sym c.nth_line.ensures)
     (in_block c.args.count c.args.step long nodes c.loop-line.line (omega (arith, c.requires.more)) c.requires.apart c.requires.slot_count
     (c.loop-line.invariant.node_count ∙ c.requires.node_count) c.loop-line-test.true small)
 

@@ -4,7 +4,8 @@ use Rattle.scalar_fns.specs.Items.{dyadic_on_items}
 use Rattle.scalar_fns.specs.Folds.{strided, folded}
 use Rattle.scalar_fns.proofs.RightFolds.{strided_last, strided_more, strided_error, length-strided}
 use Rattle.scalar_fns.proofs.Errors.{passed_on}
-use Rattle.operator_fns.proofs.Folds.{some_folded, place_high}
+use Rattle.operator_fns.proofs.Folds.{place_high}
+use Rattle.scalar_fns.proofs.ItemFolds.{some_folded}
 use Rattle.operator_fns.proofs.right_fold.fold_items.Goals as goal
 
 pub overflow_mul-count : goal.overflow_mul-count

@@ -3,7 +3,8 @@ use Rattle.arrays_core.specs.Items.{fill}
 use Rattle.arrays_core.specs.Shapes.{places_before, size}
 use Rattle.scalar_fns.specs.Folds.{strided}
 use Rattle.scalar_fns.proofs.RightFolds.{take-strided}
-use Rattle.operator_fns.specs.RightFold.{fold_right, line}
+use Rattle.scalar_fns.specs.RightFold.{fold_right}
+use Rattle.operator_fns.specs.Lines.{line}
 use Rattle.operator_fns.specs.Laws.LineIndices.{inside}
 use Rattle.operator_fns.proofs.Lines.{line-strided, line_high, long_with_axis}
 use Rattle.operator_fns.proofs.right_fold.fold_line.Goals as goal

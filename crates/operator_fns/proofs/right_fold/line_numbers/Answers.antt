@@ -4,7 +4,7 @@ use Rattle.arrays_core.specs.Shapes.{places_before, size}
 use Rattle.index_region.specs.Arguments.{numbers}
 use Rattle.scalar_fns.specs.Folds.{strided}
 use Rattle.scalar_fns.proofs.RightFolds.{take-strided}
-use Rattle.operator_fns.specs.RightFold.{line}
+use Rattle.operator_fns.specs.Lines.{line}
 use Rattle.operator_fns.specs.Laws.LineIndices.{inside}
 use Rattle.operator_fns.proofs.Lines.{line-strided, line_high, long_with_axis}
 use Rattle.operator_fns.proofs.LineNumbers.{numbers_there}

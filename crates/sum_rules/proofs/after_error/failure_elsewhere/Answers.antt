@@ -8,8 +8,8 @@ use Rattle.index_region.specs.Patches.{patched}
 use Rattle.operator_fns.specs.Reduce.{reduce_item}
 use Rattle.scalar_fns.specs.Items.{number_item}
 use Rattle.index_region.proofs.Patched.{patched_sound}
-use Rattle.operator_fns.specs.RightFold.{fold_right}
-use Rattle.operator_fns.specs.SumTrees.{numbers_of_line}
+use Rattle.scalar_fns.specs.RightFold.{fold_right}
+use Rattle.fold_trees.specs.ArrayLines.{numbers_of_line}
 use Rattle.sum_rules.specs.LineSums.{array_of_shape}
 use Rattle.sum_rules.proofs.KeptLines.{kept_total, line_below}
 use Rattle.sum_rules.proofs.Failures.{one_decides}

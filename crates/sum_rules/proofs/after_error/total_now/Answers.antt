@@ -4,8 +4,8 @@ use Rattle.index_region.specs.Boxes.{is_within}
 use Rattle.index_region.specs.Patches.{patched}
 use Rattle.index_region.proofs.Boxes.{fits_length}
 use Rattle.arrays_core.specs.declared.item.Item.TheVariants.{Num}
-use Rattle.operator_fns.specs.RightFold.{fold_right}
-use Rattle.operator_fns.specs.SumTrees.{numbers_of_line}
+use Rattle.scalar_fns.specs.RightFold.{fold_right}
+use Rattle.fold_trees.specs.ArrayLines.{numbers_of_line}
 use Rattle.operator_fns.specs.Reduce.{reduce_item}
 use Rattle.operator_fns.proofs.BoxTables.{remove_inserted}
 use Rattle.operator_fns.proofs.Lines.{long_with_axis}

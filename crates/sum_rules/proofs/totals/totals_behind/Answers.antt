@@ -4,8 +4,8 @@ use Rattle.arrays_core.specs.declared.item.Item.TheVariants.{Num}
 use Rattle.arrays_core.specs.declared.item.ItemType.TheVariants.{Nums}
 use Rattle.arrays_core.specs.Arrays.{ArrayValue, with_items}
 use Rattle.scalar_fns.specs.Items.{number_item}
-use Rattle.operator_fns.specs.RightFold.{fold_right}
-use Rattle.operator_fns.specs.SumTrees.{numbers_of_line}
+use Rattle.scalar_fns.specs.RightFold.{fold_right}
+use Rattle.fold_trees.specs.ArrayLines.{numbers_of_line}
 use Rattle.change_core.specs.Meters.{MeterValue}
 use Rattle.change_core.proofs.Collected.{collected_is}
 use Rattle.change_core.proofs.Filling.{all_filled, as_many_written, one_filled, one_more_tick}

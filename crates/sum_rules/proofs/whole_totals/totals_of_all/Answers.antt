@@ -4,7 +4,7 @@ use Rattle.arrays_core.specs.declared.item.Item.TheVariants.{Num}
 use Rattle.arrays_core.specs.declared.item.ItemType.TheVariants.{Nums}
 use Rattle.arrays_core.specs.Arrays.{ArrayValue, with_items}
 use Rattle.scalar_fns.specs.Items.{number_item}
-use Rattle.operator_fns.specs.SumTrees.{line_count}
+use Rattle.fold_trees.specs.ArrayLines.{line_count}
 use Rattle.change_core.specs.Meters.{MeterValue}
 use Rattle.change_core.proofs.Collected.{collected_is}
 use Rattle.change_core.proofs.Filling.{all_filled, as_many_written, one_filled, one_more_tick}

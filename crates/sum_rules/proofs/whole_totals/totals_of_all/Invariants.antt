@@ -1,6 +1,6 @@
 use Rattle.std.proofs.Common.{◌≡◌, ◌≤◌, ◌<◌, ◌+◌, take, length}
 use Rattle.arrays_core.specs.declared.item.ItemType.TheVariants.{Nums}
-use Rattle.operator_fns.specs.SumTrees.{line_count}
+use Rattle.fold_trees.specs.ArrayLines.{line_count}
 use Rattle.change_core.specs.Meters.{ticked}
 use Rattle.change_core.proofs.Collected.{collected}
 use Rattle.change_core.proofs.Walking.{prepend, rest_from}

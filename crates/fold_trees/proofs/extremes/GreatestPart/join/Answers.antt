@@ -1,7 +1,7 @@
 use Rattle.std.proofs.Common.{◌≡◌, ap, sym, ◌∙◌, to_z, of_z, w64, rules, Ok}
 use Rattle.std.specs.Int.{int_max}
 use Rattle.std.proofs.lemmas.Int.{to_z-of_z}
-use Rattle.operator_fns.proofs.Associates.{maximum}
+use Rattle.scalar_fns.proofs.Associative.{maximum}
 use Rattle.fold_trees.proofs.JoinedFolds.{joined_values}
 use Rattle.fold_trees.proofs.extremes.GreatestPart.join.Goals as goal
 

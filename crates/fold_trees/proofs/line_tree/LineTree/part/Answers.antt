@@ -1,8 +1,8 @@
 use Rattle.std.proofs.Common.{◌≡◌, ◌≢◌, ◌∙◌, ◌+◌, ◌-◌, ◌*◌, ◌/◌, ◌^◌, ◌≤◌, ◌<◌, min, sym, ap, subst, get_or, length, arith}
 use Rattle.std.proofs.lemmas.List.{get_or_default}
 use Rattle.std.proofs.lemmas.Nat.{pow_pos}
-use Rattle.operator_fns.specs.LineTrees.{slot_of, nth_node, segment, from_two, node_of}
-use Rattle.operator_fns.proofs.LineParts.{least_part, half_level}
+use Rattle.fold_trees.specs.LineTrees.{slot_of, nth_node, segment, node_of}
+use Rattle.fold_trees.proofs.LineParts.{least_part, half_level}
 use Rattle.fold_trees.proofs.line_tree.LineTree.part.Goals as goal
 
 pub returns : goal.returns
@@ -11,7 +11,7 @@ returns g c =
     let from = c.args.from in
     let tells = g.P.Part.tells in
     let x = slot_of tree.line tree.numbers.now in
-    let node = node_of from_two g.P.Part.blank tree.line tree.nodes.now in
+    let node = node_of g.P.Part.blank tree.line tree.nodes.now in
     let next = c.next_power_of_two-half.ensures in
     let some = c.if-long-eq1.false in
     let long_is = c.min-long.ensures in

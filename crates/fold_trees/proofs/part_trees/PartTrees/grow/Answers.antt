@@ -1,14 +1,13 @@
 use Rattle.std.proofs.Common.{◌≡◌, ◌∙◌, ℕ, ◌+◌, ◌*◌, ◌/◌, ◌<◌, ◌^◌, ◌++◌, ℤ, List, length, sym, ap, subst, arith, vec_capacity}
 use Rattle.arrays_core.specs.Growth.{HasRoom}
-use Rattle.operator_fns.specs.SumTrees.{TreesValue, NewTreesValue, line_count, AreLineTrees}
-use Rattle.operator_fns.proofs.LineSpots.{all_slots, fewer_nodes}
-use Rattle.operator_fns.proofs.MoreLines.{in_all}
-use Rattle.operator_fns.proofs.Halves.{are_from_two}
-use Rattle.operator_fns.proofs.LineTables.{slots_read}
-use Rattle.operator_fns.proofs.MoreTrees.{more_trees}
+use Rattle.fold_trees.specs.ArrayLines.{TreesValue, NewTreesValue, line_count}
+use Rattle.fold_trees.specs.PartTrees.{AreLineTrees}
+use Rattle.fold_trees.proofs.LineSpots.{all_slots, fewer_nodes}
+use Rattle.fold_trees.proofs.MoreLines.{in_all}
+use Rattle.fold_trees.proofs.MoreTrees.{more_trees}
 use Rattle.fold_trees.proofs.part_trees.PartTrees.grow.Given.{Over}
 use Rattle.fold_trees.proofs.part_trees.PartTrees.grow.Goals.{After-trees}
-use Rattle.operator_fns.specs.LineTrees.{from_two, nodes_in_line, slot_of}
+use Rattle.fold_trees.specs.LineTrees.{nodes_in_line, slot_of}
 use Rattle.fold_trees.proofs.part_trees.PartTrees.grow.Goals as goal
 
 -- ---- the new lines are as long as the old ones, their neighbours as far apart, and the room is for them
@@ -25,14 +24,14 @@ same_step g c =
     ∙ sym (ap (λ (t : TreesValue). t.step) c.self.view_is)
 
 new_trees : (g : Over) (c : After-trees g)
-    → AreLineTrees from_two g.P.Part.blank g.P.Part.tells slot_of c.self.inside.count c.self.inside.step c.trees.inside.numbers.items c.trees.inside.nodes.items
+    → AreLineTrees g.P.Part.blank g.P.Part.tells c.self.inside.count c.self.inside.step c.trees.inside.numbers.items c.trees.inside.nodes.items
 new_trees g c =
     let blank = g.P.Part.blank in
     let tells = g.P.Part.tells in
     let numbers = c.trees.inside.numbers.items in
     let nodes = c.trees.inside.nodes.items in
-    subst (λ (step : ℕ). AreLineTrees from_two blank tells slot_of c.self.inside.count step numbers nodes) (same_step g c)
-    (subst (λ (count : ℕ). AreLineTrees from_two blank tells slot_of count c.trees.inside.step numbers nodes) (same_count g c) c.trees.invariant.trees)
+    subst (λ (step : ℕ). AreLineTrees blank tells c.self.inside.count step numbers nodes) (same_step g c)
+    (subst (λ (count : ℕ). AreLineTrees blank tells count c.trees.inside.step numbers nodes) (same_count g c) c.trees.invariant.trees)
 
 old_count : (g : Over) (c : After-trees g) → c.more.inside.old_lines ≡ length c.self.inside.numbers.items / c.self.inside.count
 old_count g c = ap (λ (n : NewTreesValue). n.old_lines) c.more.view_is ∙ c.requires.old_lines ∙ sym (ap (λ (t : TreesValue). line_count t) c.self.view_is)
@@ -71,8 +70,8 @@ put_behind-requires-2-clause-few g c =
     let count = c.self.inside.count in
     let step = c.self.inside.step in
     let trees = new_trees g before in
-    let old = fewer_nodes count step (length c.self.inside.numbers.items) c.self.invariant.trees.lines (nodes_in_line from_two count) (length c.self.inside.nodes.items) (omega arith) c.self.invariant.trees.sized in
-    let new = fewer_nodes count step (length c.trees.inside.numbers.items) trees.lines (nodes_in_line from_two count) (length c.trees.inside.nodes.items) (omega arith) trees.sized in
+    let old = fewer_nodes count step (length c.self.inside.numbers.items) c.self.invariant.trees.lines (nodes_in_line count) (length c.self.inside.nodes.items) (omega arith) c.self.invariant.trees.sized in
+    let new = fewer_nodes count step (length c.trees.inside.numbers.items) trees.lines (nodes_in_line count) (length c.trees.inside.nodes.items) (omega arith) trees.sized in
     omega (arith, old, new, few_numbers g before)
 
 pub put_behind-requires-clause-room : goal.put_behind-requires-clause-room
@@ -95,11 +94,11 @@ put_behind-requires-2-clause-room g c =
     let trees = new_trees g before in
     let nodes = length c.self.inside.nodes.items in
     let more = length c.trees.inside.nodes.items in
-    let old_nodes = c.self.invariant.trees.sized ∙ ap (λ n. n * nodes_in_line from_two count) (sym (old_count g before)) in
-    let new_nodes = trees.sized ∙ ap (λ n. n * nodes_in_line from_two count) (sym (new_count g before)) in
+    let old_nodes = c.self.invariant.trees.sized ∙ ap (λ n. n * nodes_in_line count) (sym (old_count g before)) in
+    let new_nodes = trees.sized ∙ ap (λ n. n * nodes_in_line count) (sym (new_count g before)) in
     subst (λ n. HasRoom n (nodes + more) capacity) (sym old_nodes)
-    (subst (λ n. HasRoom (old * nodes_in_line from_two count) n capacity) (in_all old new nodes more (nodes_in_line from_two count) old_nodes new_nodes)
-    (subst (λ n. HasRoom (old * nodes_in_line from_two n) ((old + new) * nodes_in_line from_two n) capacity) (seen_count g before) c.more.invariant.node_room))
+    (subst (λ n. HasRoom (old * nodes_in_line count) n capacity) (in_all old new nodes more (nodes_in_line count) old_nodes new_nodes)
+    (subst (λ n. HasRoom (old * nodes_in_line n) ((old + new) * nodes_in_line n) capacity) (seen_count g before) c.more.invariant.node_room))
 
 -- ---- the lists of both
 
@@ -113,10 +112,10 @@ invariant_of-self g c =
     let nodes = c.self.inside.nodes.items in
     let more = c.trees.inside.numbers.items in
     let more_nodes = c.trees.inside.nodes.items in
-    let all = more_trees from_two are_from_two blank tells slot_of slots_read count step numbers more nodes more_nodes c.self.invariant.trees (new_trees g (goal.at.invariant_of-self g c).After-trees) in
+    let all = more_trees blank tells count step numbers more nodes more_nodes c.self.invariant.trees (new_trees g (goal.at.invariant_of-self g c).After-trees) in
     record {
-      trees = subst (λ (l : List ℤ). AreLineTrees from_two blank tells slot_of count step l c.put_behind-2.new.items.items) (sym c.put_behind.ensures.items)
-          (subst (λ (l : List g.row.P.Denot). AreLineTrees from_two blank tells slot_of count step (numbers ++ more) l) (sym c.put_behind-2.ensures.items) all);
+      trees = subst (λ (l : List ℤ). AreLineTrees blank tells count step l c.put_behind-2.new.items.items) (sym c.put_behind.ensures.items)
+          (subst (λ (l : List g.row.P.Denot). AreLineTrees blank tells count step (numbers ++ more) l) (sym c.put_behind-2.ensures.items) all);
       slot_room = c.put_behind.ensures.room;
       node_room = c.put_behind-2.ensures.room;
     }

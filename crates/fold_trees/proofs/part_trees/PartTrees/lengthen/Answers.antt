@@ -1,16 +1,13 @@
 use Rattle.std.proofs.Common.{◌≡◌, ◌∙◌, ◌+◌, ◌-◌, ◌*◌, ◌++◌, ℤ, List, length, sym, ap, subst, arith, vec_capacity}
 use Rattle.std.proofs.lemmas.List.{with_items_is}
 use Rattle.arrays_core.specs.Growth.{IsRoomy, HasRoom}
-use Rattle.operator_fns.specs.SumTrees.{TreesValue, NewPlacesValue, AreLineTrees}
-use Rattle.operator_fns.specs.LineTrees.{slot_of, shorter, from_two, node_of, ArePartsKept, nodes_in_line}
-use Rattle.fold_trees.specs.PartTrees.{ArePartTrees}
-use Rattle.operator_fns.proofs.Halves.{are_from_two}
-use Rattle.operator_fns.proofs.LineTables.{slots_read}
-use Rattle.operator_fns.proofs.LongerTrees.{all_long, held_nodes, kept_without, longer_trees}
-use Rattle.fold_trees.proofs.TreeLonger.{nodes_long}
+use Rattle.fold_trees.specs.ArrayLines.{TreesValue, NewPlacesValue}
+use Rattle.fold_trees.specs.PartTrees.{AreLineTrees, ArePartTrees}
+use Rattle.fold_trees.specs.LineTrees.{slot_of, shorter, node_of, ArePartsKept, nodes_in_line}
+use Rattle.fold_trees.proofs.LongerTrees.{all_long, held_nodes, kept_without, longer_trees, nodes_long}
 use Rattle.fold_trees.proofs.part_trees.PartTrees.lengthen.Given.{Over}
 use Rattle.fold_trees.proofs.part_trees.PartTrees.lengthen.Goals.{After-more, After-deref_mut}
-use Rattle.operator_fns.specs.LineBlocks.{line_at}
+use Rattle.fold_trees.specs.LineBlocks.{line_at}
 use Rattle.fold_trees.proofs.part_trees.PartTrees.lengthen.Goals as goal
 
 -- ---- the numbers are those of one more place of each line, and the room is for them
@@ -24,18 +21,18 @@ wide g c = ap (λ (n : NewPlacesValue). length n.numbers) c.more.view_is ∙ c.r
 between : (g : Over) (c : After-more g) → length c.self.inside.numbers.items ≡ c.self.inside.count * c.self.inside.step
 between g c = ap (λ (t : TreesValue). length t.numbers) c.self.view_is ∙ c.requires.between ∙ sym (ap (λ (t : TreesValue). t.count * t.step) c.self.view_is)
 
-held : (g : Over) (c : After-more g) → length c.self.inside.nodes.items ≡ nodes_in_line from_two c.self.inside.count * c.self.inside.step
+held : (g : Over) (c : After-more g) → length c.self.inside.nodes.items ≡ nodes_in_line c.self.inside.count * c.self.inside.step
 held g c =
-    held_nodes from_two g.P.Part.blank g.P.Part.tells slot_of c.self.inside.count c.self.inside.step c.self.inside.numbers.items c.self.inside.nodes.items c.self.invariant.trees (between g c)
+    held_nodes g.P.Part.blank g.P.Part.tells c.self.inside.count c.self.inside.step c.self.inside.numbers.items c.self.inside.nodes.items c.self.invariant.trees (between g c)
 
-old_nodes : (g : Over) (c : After-more g) → nodes_in_line from_two c.more.inside.count * length c.more.inside.numbers.items ≡ length c.self.inside.nodes.items
-old_nodes g c = (λ i. nodes_in_line from_two (same_count g c i) * wide g c i) ∙ sym (held g c)
+old_nodes : (g : Over) (c : After-more g) → nodes_in_line c.more.inside.count * length c.more.inside.numbers.items ≡ length c.self.inside.nodes.items
+old_nodes g c = (λ i. nodes_in_line (same_count g c i) * wide g c i) ∙ sym (held g c)
 
 nodes_in_all : (g : Over) (c : After-more g)
     → c.more.inside.count * length c.more.inside.numbers.items ≡ length c.self.inside.nodes.items + length c.more.inside.more_nodes.items
 nodes_in_all g c =
     let step = c.self.inside.step in
-    let before = nodes_in_line from_two c.self.inside.count in
+    let before = nodes_in_line c.self.inside.count in
     let some = c.self.invariant.trees.lines.some in
     let whole : c.self.inside.count ≡ before + 1 = omega (arith, some) in
     let sum : (before + 1) * step ≡ before * step + step = grind arith in
@@ -47,7 +44,7 @@ put_behind-requires-2-clause-room g c =
     let before = (goal.at.put_behind-requires-2-clause-room g c).After-more in
     let capacity = vec_capacity c.more.inside.nodes in
     subst (λ n. HasRoom n (length c.self.inside.nodes.items + length c.more.inside.more_nodes.items) capacity) (old_nodes g before)
-    (subst (λ n. HasRoom (nodes_in_line from_two c.more.inside.count * length c.more.inside.numbers.items) n capacity) (nodes_in_all g before) c.more.invariant.node_room)
+    (subst (λ n. HasRoom (nodes_in_line c.more.inside.count * length c.more.inside.numbers.items) n capacity) (nodes_in_all g before) c.more.invariant.node_room)
 
 -- ---- the lists with the new numbers and nodes
 
@@ -63,7 +60,7 @@ numbers_long g c =
     ap (λ (l : List ℤ). length l) (numbers_are g c)
     ∙ all_long c.self.inside.count c.self.inside.step c.self.inside.numbers.items c.more.inside.numbers.items (between g before) (wide g before)
 
-nodes_count : (g : Over) (c : After-deref_mut g) → length c.deref_mut.result.now ≡ nodes_in_line from_two (c.self.inside.count + 1) * c.self.inside.step
+nodes_count : (g : Over) (c : After-deref_mut g) → length c.deref_mut.result.now ≡ nodes_in_line (c.self.inside.count + 1) * c.self.inside.step
 nodes_count g c =
     let before = (goal.at-After-deref_mut g c).After-more in
     ap (λ (l : List g.row.P.Denot). length l) (nodes_are g c)
@@ -82,10 +79,10 @@ take_places-requires-clause-kept g c line h =
     let numbers = c.self.inside.numbers.items in
     let more = c.more.inside.numbers.items in
     let before = (goal.at.take_places-requires-clause-kept g c).After-more in
-    let l = shorter (line_at from_two (count + 1) step line) in
-    subst (λ (s : List ℤ). ArePartsKept from_two tells (count + 1 - 1) (slot_of l s) (node_of from_two blank l c.deref_mut.result.now)) (sym (numbers_are g c))
-    (subst (λ (n : List g.row.P.Denot). ArePartsKept from_two tells (count + 1 - 1) (slot_of l (numbers ++ more)) (node_of from_two blank l n)) (sym (nodes_are g c))
-    (kept_without from_two are_from_two blank tells slot_of slots_read count step numbers more c.self.inside.nodes.items c.more.inside.more_nodes.items c.self.invariant.trees
+    let l = shorter (line_at (count + 1) step line) in
+    subst (λ (s : List ℤ). ArePartsKept tells (count + 1 - 1) (slot_of l s) (node_of blank l c.deref_mut.result.now)) (sym (numbers_are g c))
+    (subst (λ (n : List g.row.P.Denot). ArePartsKept tells (count + 1 - 1) (slot_of l (numbers ++ more)) (node_of blank l n)) (sym (nodes_are g c))
+    (kept_without blank tells count step numbers more c.self.inside.nodes.items c.more.inside.more_nodes.items c.self.invariant.trees
     (between g before) line h))
 
 -- ---- when all lines have taken theirs
@@ -103,10 +100,10 @@ invariant_of-self g c =
     let before = (goal.at.invariant_of-self g c).After-deref_mut in
     let nodes_kept = with_items_is nodes after (told.node_length ∙ c.deref_mut.ensures.len) in
     let node_count = told.node_length ∙ ap (λ (l : List g.row.P.Denot). length l) c.deref_mut.ensures.value in
-    let trees = longer_trees from_two blank tells slot_of (count + 1) step c.deref.result.now after (omega arith) c.self.invariant.trees.lines.apart (numbers_long g before)
+    let trees = longer_trees blank tells (count + 1) step c.deref.result.now after (omega arith) c.self.invariant.trees.lines.apart (numbers_long g before)
     (told.node_length ∙ nodes_count g before) told.kept in
     let whole : ArePartTrees blank tells (count + 1) step numbers.items after (vec_capacity numbers) (vec_capacity nodes) = record {
-      trees = subst (λ (l : List ℤ). AreLineTrees from_two blank tells slot_of (count + 1) step l after) c.deref.ensures.value trees;
+      trees = subst (λ (l : List ℤ). AreLineTrees blank tells (count + 1) step l after) c.deref.ensures.value trees;
       slot_room = c.put_behind.ensures.room;
       node_room = subst (λ n. IsRoomy n (vec_capacity nodes)) (sym node_count) c.put_behind-2.ensures.room;
     } in

@@ -1,11 +1,11 @@
 use Rattle.std.proofs.Common.{◌≡◌, ◌∙◌, ◌<◌, ℕ, ℤ, List, length, subst, arith}
-use Rattle.operator_fns.specs.SumTrees.{TreesValue, numbers_of_line}
-use Rattle.operator_fns.specs.declared.line_tree.Line.{Line}
-use Rattle.operator_fns.specs.LineTrees.{slot_of, segment, from_two}
+use Rattle.fold_trees.specs.ArrayLines.{TreesValue, numbers_of_line}
+use Rattle.fold_trees.specs.declared.line.Line.{Line}
+use Rattle.fold_trees.specs.LineTrees.{slot_of, segment}
 use Rattle.fold_trees.specs.FoldTrees.{IsReductionBy}
 use Rattle.fold_trees.proofs.TreeFolds.{reduction_of}
-use Rattle.operator_fns.proofs.Segments.{listed_segment, long_segment}
-use Rattle.operator_fns.specs.LineBlocks.{line_at}
+use Rattle.fold_trees.proofs.Segments.{listed_segment, long_segment}
+use Rattle.fold_trees.specs.LineBlocks.{line_at}
 use Rattle.fold_trees.proofs.part_trees.PartTrees.result.Goals as goal
 
 pub returns : goal.returns
@@ -19,13 +19,13 @@ returns g c =
     let whole = c.whole.result in
     let tree = c.nth_tree-tree.result in
     let read = c.nth_tree-tree.ensures.numbers ∙ c.deref.ensures.value in
-    let xs = segment (slot_of (line_at from_two count step line) numbers) 0 count in
+    let xs = segment (slot_of (line_at count step line) numbers) 0 count in
     let told : tells whole xs =
     subst (λ (l : Line). tells whole (segment (slot_of l numbers) 0 l.count)) c.nth_tree-tree.ensures.line
     (subst (λ (s : List ℤ). tells whole (segment (slot_of tree.line s) 0 tree.line.count)) read c.whole.ensures) in
-    let long : length xs ≡ count = long_segment (slot_of (line_at from_two count step line) numbers) 0 count in
+    let long : length xs ≡ count = long_segment (slot_of (line_at count step line) numbers) 0 count in
     let two : 1 < length xs = omega (arith, long, c.self.invariant.trees.lines.some, c.if-self-eq1.false) in
     let reduced = reduction_of f xs c.fold.result (omega (arith, two)) (c.fold.ensures xs told two) in
-    let y = λ (i : ℕ). slot_of (line_at from_two count step line) numbers i in
+    let y = λ (i : ℕ). slot_of (line_at count step line) numbers i in
     subst (λ (t : TreesValue). IsReductionBy f (numbers_of_line t line) c.fold.result) c.self.view_is
     (subst (λ (l : List ℤ). IsReductionBy f l c.fold.result) (listed_segment y 0 count) reduced)

@@ -1,13 +1,13 @@
 use Rattle.std.proofs.Common.{◌≡◌, ◌∙◌, ◌+◌, ◌/◌, ◌<◌, ◌++◌, ◌∷◌, [], ℤ, List, length, ap, subst, arith, w64}
 use Rattle.std.proofs.lemmas.Int.{to_z-of_z}
 use Rattle.std.proofs.lemmas.List.{length-append}
-use Rattle.operator_fns.specs.SumTrees.{TreesValue, line_count, numbers_of_line}
-use Rattle.operator_fns.specs.declared.line_tree.Line.{Line}
-use Rattle.operator_fns.specs.LineTrees.{slot_of, segment, from_two}
+use Rattle.fold_trees.specs.ArrayLines.{TreesValue, line_count, numbers_of_line}
+use Rattle.fold_trees.specs.declared.line.Line.{Line}
+use Rattle.fold_trees.specs.LineTrees.{slot_of, segment}
 use Rattle.fold_trees.specs.FoldTrees.{IsReductionBy}
 use Rattle.fold_trees.proofs.TreeFolds.{reduction_of}
-use Rattle.operator_fns.proofs.Segments.{listed_segment, long_segment}
-use Rattle.operator_fns.specs.LineBlocks.{line_at}
+use Rattle.fold_trees.proofs.Segments.{listed_segment, long_segment}
+use Rattle.fold_trees.specs.LineBlocks.{line_at}
 use Rattle.fold_trees.proofs.part_trees.PartTrees.result_behind.Goals as goal
 
 pub nth_tree-tree-requires-clause-line : goal.nth_tree-tree-requires-clause-line
@@ -31,7 +31,7 @@ returns g c =
     let tree = c.nth_tree-tree.result in
     let read = c.nth_tree-tree.ensures.numbers ∙ c.deref.ensures.value in
     let at = c.nth_tree-tree.ensures.line in
-    let x = slot_of (line_at from_two count step line) numbers in
+    let x = slot_of (line_at count step line) numbers in
     let before : tells c.whole.result (segment x 0 count) =
     subst (λ (l : Line). tells c.whole.result (segment (slot_of l numbers) 0 l.count)) at
     (subst (λ (s : List ℤ). tells c.whole.result (segment (slot_of tree.line s) 0 tree.line.count)) read c.whole.ensures) in

@@ -3,17 +3,16 @@ use Rattle.std.proofs.lemmas.Int.{to_z-of_z}
 use Rattle.std.proofs.lemmas.List.{with_items_is}
 use Rattle.std.specs.Vec.{with_items}
 use Rattle.arrays_core.specs.Growth.{IsRoomy}
-use Rattle.operator_fns.specs.SumTrees.{TreesValue, line_through, with_number}
-use Rattle.operator_fns.proofs.Halves.{are_from_two}
-use Rattle.operator_fns.proofs.LinePlaces.{line_within}
-use Rattle.operator_fns.proofs.LineSpots.{line_fits, in_both}
-use Rattle.operator_fns.specs.declared.line_tree.Line.{Line}
-use Rattle.operator_fns.specs.LineTrees.{slot_of, from_two, IsIn, node_of, ArePartsKept}
+use Rattle.fold_trees.specs.ArrayLines.{TreesValue, line_through, with_number}
+use Rattle.fold_trees.proofs.LinePlaces.{line_within}
+use Rattle.fold_trees.proofs.LineSpots.{line_fits, in_both}
+use Rattle.fold_trees.specs.declared.line.Line.{Line}
+use Rattle.fold_trees.specs.LineTrees.{slot_of, IsIn, node_of, ArePartsKept}
 use Rattle.fold_trees.specs.PartTrees.{ArePartTrees}
 use Rattle.fold_trees.proofs.TreeWrites.{IsWritten, written_numbers, written_trees}
 use Rattle.fold_trees.proofs.part_trees.PartTrees.set.Given.{Over}
 use Rattle.fold_trees.proofs.part_trees.PartTrees.set.Goals.{After-self, After-nth_line-line, After-write}
-use Rattle.operator_fns.specs.LineBlocks.{line_at}
+use Rattle.fold_trees.specs.LineBlocks.{line_at}
 use Rattle.fold_trees.proofs.part_trees.PartTrees.set.Goals as goal
 
 -- ---- where the place lies
@@ -27,8 +26,8 @@ is_below g c =
     line_within c.self.inside.count c.self.inside.step long c.self.invariant.trees.lines c.args.place (is_inside g c)
 
 line_is : (g : Over) (c : After-nth_line-line g)
-    → c.nth_line-line.result ≡ line_at from_two c.self.inside.count c.self.inside.step (line_through c.self.inside.count c.self.inside.step c.args.place)
-line_is g c = c.nth_line-line.ensures ∙ ap (line_at from_two c.self.inside.count c.self.inside.step) c.line_through-line.ensures
+    → c.nth_line-line.result ≡ line_at c.self.inside.count c.self.inside.step (line_through c.self.inside.count c.self.inside.step c.args.place)
+line_is g c = c.nth_line-line.ensures ∙ ap (line_at c.self.inside.count c.self.inside.step) c.line_through-line.ensures
 
 pub nth_line-line-requires-clause-fit : goal.nth_line-line-requires-clause-fit
 nth_line-line-requires-clause-fit g c =
@@ -52,10 +51,10 @@ write-requires-clause-inside g c =
     let line = line_through count step c.args.place in
     let small : length numbers < 2 ^ 62 = search rules in
     let is = line_is g (goal.at.write-requires-clause-inside g c).After-nth_line-line in
-    subst (λ (l : Line). IsIn from_two l (length c.deref_mut.result.now) (length c.deref_mut-2.result.now)) (sym is)
-    (subst (λ (s : List ℤ). IsIn from_two (line_at from_two count step line) (length s) (length c.deref_mut-2.result.now)) (sym c.deref_mut.ensures.value)
-    (subst (λ (n : List g.row.P.Denot). IsIn from_two (line_at from_two count step line) (length numbers) (length n)) (sym c.deref_mut-2.ensures.value)
-    (in_both from_two are_from_two count step (length numbers) trees.lines line (is_below g (goal.at.write-requires-clause-inside g c).After-self) (length nodes) trees.sized small)))
+    subst (λ (l : Line). IsIn l (length c.deref_mut.result.now) (length c.deref_mut-2.result.now)) (sym is)
+    (subst (λ (s : List ℤ). IsIn (line_at count step line) (length s) (length c.deref_mut-2.result.now)) (sym c.deref_mut.ensures.value)
+    (subst (λ (n : List g.row.P.Denot). IsIn (line_at count step line) (length numbers) (length n)) (sym c.deref_mut-2.ensures.value)
+    (in_both count step (length numbers) trees.lines line (is_below g (goal.at.write-requires-clause-inside g c).After-self) (length nodes) trees.sized small)))
 
 pub write-requires-clause-kept : goal.write-requires-clause-kept
 write-requires-clause-kept g c =
@@ -65,17 +64,17 @@ write-requires-clause-kept g c =
     let step = c.self.inside.step in
     let numbers = c.self.inside.numbers.items in
     let line = line_through count step c.args.place in
-    let l = line_at from_two count step line in
+    let l = line_at count step line in
     let is = line_is g (goal.at.write-requires-clause-kept g c).After-nth_line-line in
-    subst (λ (l : Line). ArePartsKept from_two tells l.count (slot_of l c.deref_mut.result.now) (node_of from_two blank l c.deref_mut-2.result.now)) (sym is)
-    (subst (λ (s : List ℤ). ArePartsKept from_two tells count (slot_of l s) (node_of from_two blank l c.deref_mut-2.result.now)) (sym c.deref_mut.ensures.value)
-    (subst (λ (n : List g.row.P.Denot). ArePartsKept from_two tells count (slot_of l numbers) (node_of from_two blank l n)) (sym c.deref_mut-2.ensures.value)
+    subst (λ (l : Line). ArePartsKept tells l.count (slot_of l c.deref_mut.result.now) (node_of blank l c.deref_mut-2.result.now)) (sym is)
+    (subst (λ (s : List ℤ). ArePartsKept tells count (slot_of l s) (node_of blank l c.deref_mut-2.result.now)) (sym c.deref_mut.ensures.value)
+    (subst (λ (n : List g.row.P.Denot). ArePartsKept tells count (slot_of l numbers) (node_of blank l n)) (sym c.deref_mut-2.ensures.value)
     (c.self.invariant.trees.kept line (is_below g (goal.at.write-requires-clause-kept g c).After-self))))
 
 -- ---- what is written
 
 is_written : (g : Over) (c : After-write g)
-    → IsWritten g.P.Part.blank g.P.Part.tells (line_at from_two c.self.inside.count c.self.inside.step (line_through c.self.inside.count c.self.inside.step c.args.place))
+    → IsWritten g.P.Part.blank g.P.Part.tells (line_at c.self.inside.count c.self.inside.step (line_through c.self.inside.count c.self.inside.step c.args.place))
     (c.args.place / c.self.inside.step % c.self.inside.count) c.args.number c.self.inside.numbers.items c.write.new.numbers c.self.inside.nodes.items c.write.new.nodes
 is_written g c =
     let blank = g.P.Part.blank in
@@ -98,7 +97,7 @@ is_written g c =
       slot_count = told.slot_count;
       node_count = told.node_count;
     } in
-    let l = line_at from_two count step line in
+    let l = line_at count step line in
     subst (λ (n : List g.row.P.Denot). IsWritten blank tells l place z c.self.inside.numbers.items after n nodes_after) c.deref_mut-2.ensures.value
     (subst (λ (s : List ℤ). IsWritten blank tells l place z s after c.deref_mut-2.result.now nodes_after) c.deref_mut.ensures.value
     (subst (λ (l : Line). IsWritten blank tells l place z c.deref_mut.result.now after c.deref_mut-2.result.now nodes_after) is

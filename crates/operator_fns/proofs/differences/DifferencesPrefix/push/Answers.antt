@@ -2,7 +2,7 @@ use Rattle.std.proofs.Common.{◌≡◌, sym, ◌≤ℤ◌, ◌+ℤ◌, ◌-ℤ�
 use Rattle.std.specs.Int.{saturate_signed}
 use Rattle.std.proofs.lemmas.Int.{ints, to_z-of_z}
 use Rattle.scalar_fns.specs.Numbers.{number_or_limit}
-use Rattle.operator_fns.proofs.Endings.{within_of, held_ok}
+use Rattle.scalar_fns.proofs.Within.{within_of, held_ok}
 use Rattle.operator_fns.proofs.NextDifferences.{next_difference}
 use Rattle.operator_fns.proofs.differences.DifferencesPrefix.push.Goals as goal
 

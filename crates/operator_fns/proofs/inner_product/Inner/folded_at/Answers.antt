@@ -2,7 +2,7 @@ use Rattle.std.proofs.Common.{◌∙◌, ap, sym, take, drop, arith}
 use Rattle.arrays_core.specs.Items.{fill, and_then}
 use Rattle.scalar_fns.specs.Items.{dyadic_on_items}
 use Rattle.operator_fns.specs.InnerProduct.{row_rank, all_or_last_error}
-use Rattle.operator_fns.specs.RightFold.{fold_right}
+use Rattle.scalar_fns.specs.RightFold.{fold_right}
 use Rattle.operator_fns.specs.RowByColumn.{entry, all_met}
 use Rattle.operator_fns.proofs.Joined.{long_enough}
 use Rattle.operator_fns.proofs.Meetings.{length-met}

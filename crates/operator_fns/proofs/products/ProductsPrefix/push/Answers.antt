@@ -1,7 +1,7 @@
 use Rattle.std.proofs.Common.{◌≡◌, sym, ◌*ℤ◌, Ok, to_z, of_z, w64, SFits, rules}
 use Rattle.std.proofs.lemmas.Int.{to_z-of_z}
 use Rattle.scalar_fns.specs.Numbers.{number_or_limit}
-use Rattle.operator_fns.proofs.Endings.{held_ok}
+use Rattle.scalar_fns.proofs.Within.{held_ok}
 use Rattle.operator_fns.proofs.NextProducts.{next_product}
 use Rattle.operator_fns.proofs.products.ProductsPrefix.push.Goals as goal
 

@@ -1,6 +1,7 @@
 use Rattle.std.proofs.Common.{rules, ◌≡◌, ◌∙◌, ◌<◌, ap, get_or, length}
 use Rattle.function_names.specs.Axes.{axis_at}
-use Rattle.operator_fns.specs.RightFold.{fold_right, line}
+use Rattle.scalar_fns.specs.RightFold.{fold_right}
+use Rattle.operator_fns.specs.Lines.{line}
 use Rattle.operator_fns.proofs.Reduced.{all_of_line}
 use Rattle.operator_fns.proofs.reduce.Reduce.folded_at.Goals as goal
 

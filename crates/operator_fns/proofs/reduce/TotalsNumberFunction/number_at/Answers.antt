@@ -2,9 +2,8 @@ use Rattle.std.proofs.Common.{◌≡◌, ◌∙◌, ◌+◌, ◌-◌, ◌*◌, �
 use Rattle.std.proofs.lemmas.Nat.{div-add-mod', mod_below}
 use Rattle.function_names.specs.declared.scalar.Scalar2.TheVariants.{Plus}
 use Rattle.scalar_fns.specs.Numbers.{dyadic_on_numbers}
-use Rattle.scalar_fns.specs.Folds.{strided, folded}
+use Rattle.scalar_fns.specs.Folds.{strided, folded, line_start}
 use Rattle.scalar_fns.proofs.RightFolds.{strided_run}
-use Rattle.operator_fns.specs.Strides.{line_start}
 use Rattle.operator_fns.proofs.Reduced.{whole_line}
 use Rattle.operator_fns.proofs.reduce.TotalsNumberFunction.number_at.Goals as goal
 

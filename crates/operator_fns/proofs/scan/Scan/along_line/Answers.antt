@@ -9,7 +9,7 @@ use Rattle.scalar_fns.specs.Numbers.{dyadic_on_numbers}
 use Rattle.scalar_fns.specs.NumberLists.{number_items}
 use Rattle.function_names.specs.Axes.{axis_at}
 use Rattle.operator_fns.specs.LinearScan.{folds_from}
-use Rattle.operator_fns.specs.RightFold.{line}
+use Rattle.operator_fns.specs.Lines.{line}
 use Rattle.operator_fns.specs.Laws.ScannedPlaces.{at_axis}
 use Rattle.operator_fns.proofs.Scanned.{scan_place}
 use Rattle.operator_fns.proofs.ScannedLine.{along_is, as_many}

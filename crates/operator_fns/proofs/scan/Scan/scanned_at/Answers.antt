@@ -2,7 +2,8 @@ use Rattle.std.proofs.Common.{rules, ◌≡◌, ◌∙◌, ◌<◌, ap, sym, sub
 use Rattle.std.proofs.lemmas.List.{get_or_default}
 use Rattle.arrays_core.proofs.Shapes.{as_long}
 use Rattle.function_names.specs.Axes.{axis_at}
-use Rattle.operator_fns.specs.RightFold.{fold_right, line}
+use Rattle.scalar_fns.specs.RightFold.{fold_right}
+use Rattle.operator_fns.specs.Lines.{line}
 use Rattle.operator_fns.specs.Laws.ScannedPlaces.{at_axis}
 use Rattle.operator_fns.proofs.Scanned.{scan_place, scan_typed}
 use Rattle.operator_fns.proofs.scan.Scan.scanned_at.Goals as goal

@@ -1,6 +1,7 @@
 use Rattle.std.proofs.Common.{◌≡◌, [], ℤ, List, get_or, sym, subst, arith}
 use Rattle.std.proofs.lemmas.List.{get_or_default}
-use Rattle.operator_fns.specs.SumTree.{IsReductionBySum}
+use Rattle.fold_trees.specs.FoldTrees.{IsReductionBy}
+use Rattle.function_names.specs.declared.scalar.Scalar2.TheVariants.{Plus}
 use Rattle.sum_rules.proofs.TreeLines.{line_below, line_told}
 use Rattle.sum_rules.proofs.line_totals.TreeALineLineTotals.total.Goals as goal
 
@@ -20,5 +21,5 @@ returns c =
     let line = c.args.line in
     let there = line_below count trees line c.args.self.now.each c.args.self.now.some c.requires in
     let told : get_or trees line c.index-self-line.result ≡ get_or trees line [] = get_or_default trees line c.index-self-line.result [] there in
-    subst (λ (l : List ℤ). IsReductionBySum l c.result.result) (sym (line_told count trees line c.args.self.now.each c.args.self.now.some c.requires))
-    (subst (λ (l : List ℤ). IsReductionBySum l c.result.result) told c.result.ensures)
+    subst (λ (l : List ℤ). IsReductionBy Plus l c.result.result) (sym (line_told count trees line c.args.self.now.each c.args.self.now.some c.requires))
+    (subst (λ (l : List ℤ). IsReductionBy Plus l c.result.result) told c.result.ensures)

@@ -3,7 +3,8 @@ use Rattle.std.proofs.lemmas.Int.{to_z-of_z}
 use Rattle.std.proofs.lemmas.List.{get_or_default}
 use Rattle.std.proofs.lemmas.List.Elements.{All-get_or}
 use Rattle.std.proofs.lemmas.Nat.{mod_below}
-use Rattle.operator_fns.specs.SumTree.{IsReductionBySum, IsWithinDigitsOf}
+use Rattle.fold_trees.specs.FoldTrees.{IsReductionBy, IsWithinDigitsOf}
+use Rattle.function_names.specs.declared.scalar.Scalar2.TheVariants.{Plus}
 use Rattle.sum_rules.proofs.TreeLines.{line_there, through_line}
 use Rattle.sum_rules.proofs.line_totals.TreeALineLineTotals.total_with.Goals as goal
 
@@ -34,9 +35,9 @@ returns-clause-total c =
     let there = line_there count trees place z c.args.self.now.each c.args.self.now.some c.requires in
     let line : get_or trees (place / count) c.index-self-place.result ≡ get_or trees (place / count) [] = get_or_default trees (place / count) c.index-self-place.result [] there in
     let number : to_z w64 (of_z w64 z) ≡ z = to_z-of_z w64 z c.ranges.number in
-    subst (λ (l : List ℤ). IsReductionBySum l c.result_with.result.0) (sym (through_line count trees place z c.args.self.now.each c.args.self.now.some c.requires))
-    (subst (λ (l : List ℤ). IsReductionBySum (set l (place % count) z) c.result_with.result.0) line
-    (subst (λ (y : ℤ). IsReductionBySum (set (get_or trees (place / count) c.index-self-place.result) (place % count) y) c.result_with.result.0) number c.result_with.ensures.result))
+    subst (λ (l : List ℤ). IsReductionBy Plus l c.result_with.result.0) (sym (through_line count trees place z c.args.self.now.each c.args.self.now.some c.requires))
+    (subst (λ (l : List ℤ). IsReductionBy Plus (set l (place % count) z) c.result_with.result.0) line
+    (subst (λ (y : ℤ). IsReductionBy Plus (set (get_or trees (place / count) c.index-self-place.result) (place % count) y) c.result_with.result.0) number c.result_with.ensures.result))
 
 pub returns-clause-joins : goal.returns-clause-joins
 returns-clause-joins c =

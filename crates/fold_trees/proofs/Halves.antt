@@ -1,0 +1,84 @@
+-- How wide the halves of parts are, and where they meet.
+use Rattle.std.proofs.Common.{◌≡◌, ◌∙◌, ℕ, suc, ◌+◌, ◌-◌, ◌*◌, ◌^◌, ◌<◌, ◌≤◌, ◌⊎◌, ap, sym, arith, inl, inr}
+use Rattle.std.proofs.lemmas.Nat.{pow_pos, pow-add}
+use Rattle.std.proofs.Math.Nat.{pow-le-pow_right}
+use Rattle.std.proofs.lemmas.Bool.{cases_lt}
+
+-- steps of a line that are apart
+pub steps_apart : (a b step : ℕ) → 0 < step → a * step ≡ b * step → a ≡ b
+steps_apart a b step some e = elim (cases_lt a b) [
+  | inl less ↦
+      let more = b - a - 1 in
+      let is : b ≡ a + 1 + more = omega (arith, less) in
+      let all : b * step ≡ a * step + step + more * step = ap (λ k. k * step) is ∙ grind arith in
+      let no : ⊥ = omega (arith, all, e, some) in
+      absurd no
+  | inr enough ↦ elim (cases_lt b a) [
+    | inl less ↦
+        let more = a - b - 1 in
+        let is : a ≡ b + 1 + more = omega (arith, less) in
+        let all : a * step ≡ b * step + step + more * step = ap (λ k. k * step) is ∙ grind arith in
+        let no : ⊥ = omega (arith, all, e, some) in
+        absurd no
+    | inr rest ↦ omega (arith, enough, rest)
+  ]
+]
+
+-- an odd multiple of a power of two is one of no other
+pub odd_multiples : (a b i j : ℕ) → (2 * a + 1) * 2 ^ i ≡ (2 * b + 1) * 2 ^ j → i ≡ j
+odd_multiples a b i j e = elim (cases_lt i j) [
+  | inl less ↦ absurd (uneven a b i j less e)
+  | inr enough ↦ elim (cases_lt j i) [
+    | inl less ↦ absurd (uneven b a j i less (sym e))
+    | inr rest ↦ omega (arith, enough, rest)
+  ]
+]
+  where
+    uneven : (a b i j : ℕ) → i < j → (2 * a + 1) * 2 ^ i ≡ (2 * b + 1) * 2 ^ j → ⊥
+    uneven a b i j less e =
+        let more = j - i - 1 in
+        let is : j ≡ suc more + i = omega (arith, less) in
+        let power : 2 ^ j ≡ 2 * 2 ^ more * 2 ^ i = ap (λ k. 2 ^ k) is ∙ pow-add 2 (suc more) i ∙ ap (λ p. p * 2 ^ i) (grind arith) in
+        let all : (2 * b + 1) * 2 ^ j ≡ 2 * ((2 * b + 1) * 2 ^ more) * 2 ^ i = ap (λ p. (2 * b + 1) * p) power ∙ grind arith in
+        let same = steps_apart (2 * a + 1) (2 * ((2 * b + 1) * 2 ^ more)) (2 ^ i) (pow_pos i) (e ∙ all) in
+        omega (arith, same)
+
+-- ---- how wide they are
+
+pub half_up : (level : ℕ) → 2 ^ suc level ≡ 2 * 2 ^ level
+half_up level = grind arith
+
+pub half_grows : (low high : ℕ) → low ≤ high → 2 ^ low ≤ 2 ^ high
+half_grows low high less = let two : 0 < 2 = omega arith in pow-le-pow_right two less
+
+pub half_doubled : (low high : ℕ) → low < high → 2 * 2 ^ low ≤ 2 ^ high
+half_doubled low high less = omega (arith, half_up low, half_grows (suc low) high (omega (arith, less)))
+
+pub half_or_same : (level at : ℕ) → 2 ^ level ≤ 2 ^ at → 2 * 2 ^ level ≤ 2 ^ at ⊎ 2 ^ level ≡ 2 ^ at
+half_or_same level at few = elim (cases_lt level at) [
+  | inl less ↦ inl (half_doubled level at less)
+  | inr enough ↦ inr (omega (arith, half_grows at level enough, few))
+]
+
+pub half_below : (low high : ℕ) → 2 ^ low < 2 ^ high → low < high
+half_below low high more = elim (cases_lt low high) [
+  | inl less ↦ less
+  | inr enough ↦ let no : ⊥ = omega (arith, half_grows high low enough, more) in absurd no
+]
+
+-- a wider one is so many times as wide
+pub half_times : (low high : ℕ) → low ≤ high → 2 ^ high ≡ 2 ^ (high - low) * 2 ^ low
+half_times low high less = let all : high ≡ high - low + low = omega (arith, less) in ap (λ k. 2 ^ k) all ∙ pow-add 2 (high - low) low
+
+-- ---- where two halves of a part meet
+
+meets : (level place : ℕ) → place * (2 * 2 ^ level) + 2 ^ level ≡ (2 * place + 1) * 2 ^ level
+meets level place = grind arith
+
+-- it is no first place
+pub meeting_some : (level place : ℕ) → 1 ≤ place * (2 * 2 ^ level) + 2 ^ level
+meeting_some level place = let p = pow_pos level in omega (arith, p)
+
+-- parts with one meeting
+pub meetings_apart : (level place other_level other : ℕ) → place * (2 * 2 ^ level) + 2 ^ level ≡ other * (2 * 2 ^ other_level) + 2 ^ other_level → level ≡ other_level
+meetings_apart level place other_level other e = odd_multiples place other level other_level (sym (meets level place) ∙ e ∙ meets other_level other)

@@ -1,0 +1,201 @@
+-- Parts of a line of numbers: where they begin, and the way up from a place.
+use Rattle.std.proofs.Common.{◌≡◌, ◌≢◌, ◌∙◌, ℕ, ℤ, zero, suc, ◌+◌, ◌-◌, ◌*◌, ◌/◌, ◌%◌, ◌^◌, ◌<◌, ◌≤◌, ◌++◌, min, refl, ap, sym, arith, inl, inr}
+use Rattle.std.specs.Int.{IsNextPowerOfTwo}
+use Rattle.std.proofs.lemmas.Nat.{pow_pos, pow-add}
+use Rattle.std.proofs.Math.Nat.{pow-le-pow_right}
+use Rattle.std.proofs.lemmas.Bool.{cases_lt, cases_eq, eq-eqb, ne_eqb, cond-true, cond-false}
+use Rattle.fold_trees.specs.LineTrees.{IsPart, other_half, AreSameIn, replaced, segment, numbers_of_block}
+use Rattle.fold_trees.proofs.Segments.{segment_split}
+
+-- ---- where a part begins
+
+-- the least part that has so many numbers, where they are the first of a part
+pub record IsLeast (from width long p : ℕ) : Type 0 where
+  pub level : ℕ
+  pub place : ℕ
+  pub power : p ≡ 2 ^ level
+  pub from_is : from ≡ place * 2 ^ level
+  pub enough : long ≤ p
+  pub within : p ≤ width
+
+pub least_part : (from width long p : ℕ) → IsPart from width → 1 ≤ long → long ≤ width → IsNextPowerOfTwo long p → IsLeast from width long p
+least_part from width long p part some few next = elim (cases_lt part.level e) [
+  | inl above ↦
+      let below = e - 1 in
+      let up : e ≡ suc below = omega arith in
+      let double : 2 ^ suc below ≡ 2 * 2 ^ below = grind arith in
+      let p_is : p ≡ 2 * 2 ^ below = next.0.1 ∙ ap (λ k. 2 ^ k) up ∙ double in
+      let two : 0 < 2 = omega arith in
+      let more : 2 ^ part.level ≤ 2 ^ below = pow-le-pow_right two (omega arith) in
+      let positive = pow_pos below in
+      let width_is = part.width_is in
+      let half = next.2 in
+      let no : ⊥ = omega (arith, half, few) in
+      absurd no
+  | inr within ↦
+      let rest = part.level - e in
+      let all : part.level ≡ rest + e = omega arith in
+      let pieces : 2 ^ part.level ≡ 2 ^ rest * 2 ^ e = ap (λ k. 2 ^ k) all ∙ pow-add 2 rest e in
+      let two : 0 < 2 = omega arith in
+      let less : 2 ^ e ≤ 2 ^ part.level = pow-le-pow_right two within in
+      let width_is = part.width_is in
+      let p_is = next.0.1 in
+      record {
+        level = e;
+        place = part.place * 2 ^ rest;
+        power = next.0.1;
+        from_is = part.from_is ∙ ap (λ k. part.place * k) pieces ∙ grind arith;
+        enough = next.1;
+        within = omega arith;
+      }
+]
+  where
+    e : ℕ
+    e = next.0.0
+
+-- a power of two that has a half
+pub half_level : (level p : ℕ) → p ≡ 2 ^ level → 2 ≤ p → (less : ℕ) × (p ≡ 2 * 2 ^ less)
+half_level zero p is some = let no : ⊥ = omega (arith, is, some) in absurd no
+half_level (suc less) p is some = let double : 2 ^ suc less ≡ 2 * 2 ^ less = grind arith in (less, is ∙ double)
+
+-- a power of two whose half is 1
+pub one_level : (level p : ℕ) → p ≡ 2 ^ level → p / 2 ≡ 1 → level ≡ 1
+one_level zero p is half = let no : ⊥ = omega (arith, is, half) in absurd no
+one_level (suc zero) p is half = refl
+one_level (suc (suc more)) p is half =
+    let double : 2 ^ suc (suc more) ≡ 4 * 2 ^ more = grind arith in
+    let positive = pow_pos more in
+    let no : ⊥ = omega (arith, is, half) in
+    absurd no
+
+-- one whose half is more
+pub more_levels : (level p : ℕ) → p ≡ 2 ^ level → 2 ≤ p → (p / 2 ≡ 1 → ⊥) → (less : ℕ) × (p ≡ 2 * (2 * 2 ^ less)) × (level ≡ suc (suc less))
+more_levels zero p is some half = let no : ⊥ = omega (arith, is, some) in absurd no
+more_levels (suc zero) p is some half = let one : p / 2 ≡ 1 = omega (arith, is) in absurd (half one)
+more_levels (suc (suc more)) p is some half = let double : 2 ^ suc (suc more) ≡ 2 * (2 * 2 ^ more) = grind arith in (more, is ∙ double, refl)
+
+-- ---- a part and the one twice as wide
+
+-- where it begins
+pub odd_block : (block width : ℕ) → block % 2 ≡ 1 → (block * width ≡ 2 * (block / 2 * width) + width) × (other_half block * width ≡ 2 * (block / 2 * width)) × (block / 2 * (2 * width) ≡ 2 * (block / 2 * width))
+odd_block block width odd =
+    let half = block / 2 in
+    let is : block ≡ 2 * half + 1 = omega (arith, odd) in
+    let before : block - 1 ≡ 2 * half = omega (arith, odd) in
+    (ap (λ b. b * width) is ∙ grind arith, ap (λ b. b * width) (cond-false _ _ _ (ne_eqb (block % 2) 0 (λ e. let no : ⊥ = omega (arith, e, odd) in no)) ∙ before) ∙ grind arith, grind arith)
+
+pub even_block : (block width : ℕ) → block % 2 ≡ 0 → (block * width ≡ 2 * (block / 2 * width)) × (other_half block * width ≡ 2 * (block / 2 * width) + width) × (block / 2 * (2 * width) ≡ 2 * (block / 2 * width))
+even_block block width even =
+    let half = block / 2 in
+    let is : block ≡ 2 * half = omega (arith, even) in
+    let behind : block + 1 ≡ 2 * half + 1 = omega (arith, even) in
+    (ap (λ b. b * width) is ∙ grind arith, ap (λ b. b * width) (cond-true _ _ _ (eq-eqb (block % 2) 0 even) ∙ behind) ∙ grind arith, grind arith)
+
+-- the numbers of a part and of the one twice as wide
+module _ (count : ℕ) (x : ℕ → ℤ) (block width : ℕ) where
+  pub widen_odd : block % 2 ≡ 1 → block * width < count
+      → segment x (block * width - width) (min width (count - (block * width - width))) ++ numbers_of_block count x block width ≡ numbers_of_block count x (block / 2) (2 * width)
+  widen_odd odd below =
+      let at = odd_block block width odd in
+      let start = block / 2 * (2 * width) in
+      let first : block * width - width ≡ start = omega (arith, at.0, at.2) in
+      let whole : min width (count - (block * width - width)) ≡ width = omega (arith, at.0, below) in
+      let next : block * width ≡ start + width = omega (arith, at.0, at.2) in
+      let all : width + min width (count - block * width) ≡ min (2 * width) (count - start) = omega (arith, at.0, at.2, below) in
+      (λ i. segment x (first i) (whole i) ++ segment x (next i) (min width (count - block * width)))
+      ∙ sym (segment_split x start width (min width (count - block * width)))
+      ∙ ap (segment x start) all
+
+  pub widen_even : block % 2 ≡ 0 → block * width + width < count
+      → numbers_of_block count x block width ++ segment x (block * width + width) (min width (count - (block * width + width))) ≡ numbers_of_block count x (block / 2) (2 * width)
+  widen_even even below =
+      let at = even_block block width even in
+      let start = block / 2 * (2 * width) in
+      let first : block * width ≡ start = omega (arith, at.0, at.2) in
+      let whole : min width (count - block * width) ≡ width = omega (arith, below) in
+      let next : block * width + width ≡ start + width = omega (arith, at.0, at.2) in
+      let all : width + min width (count - (block * width + width)) ≡ min (2 * width) (count - start) = omega (arith, at.0, at.2, below) in
+      (λ i. segment x (first i) (whole i) ++ segment x (next i) (min width (count - (block * width + width))))
+      ∙ sym (segment_split x start width (min width (count - (block * width + width))))
+      ∙ ap (segment x start) all
+
+  pub widen_alone : block % 2 ≡ 0 → block * width < count → count ≤ block * width + width → numbers_of_block count x block width ≡ numbers_of_block count x (block / 2) (2 * width)
+  widen_alone even some last =
+      let at = even_block block width even in
+      let start = block / 2 * (2 * width) in
+      let first : block * width ≡ start = omega (arith, at.0, at.2) in
+      let all : min width (count - block * width) ≡ min (2 * width) (count - start) = omega (arith, at.0, at.2, some, last) in
+      λ i. segment x (first i) (all i)
+
+-- ---- the way up from a place
+
+-- so far up: the block of the place
+pub record IsClimb (place block width : ℕ) : Type 0 where
+  pub level : ℕ
+  pub width_is : width ≡ 2 ^ level
+  pub low : block * width ≤ place
+  pub high : place < block * width + width
+
+pub climb_start : (place : ℕ) → IsClimb place place 1
+climb_start place = record { level = 0; width_is = refl; low = grind arith; high = grind arith }
+
+pub climb_up : (place block width : ℕ) → IsClimb place block width → IsClimb place (block / 2) (2 * width)
+climb_up place block width climb = record {
+  level = suc climb.level;
+  width_is = ap (λ w. 2 * w) climb.width_is ∙ grind arith;
+  low = within.0;
+  high = within.1;
+}
+  where
+    within : (block / 2 * (2 * width) ≤ place) × (place < block / 2 * (2 * width) + 2 * width)
+    within = elim (cases_eq (block % 2) 0) [
+      | inl even ↦ let at = even_block block width even in (omega (arith, at.0, at.2, climb.low), omega (arith, at.0, at.2, climb.high))
+      | inr odd ↦
+          let is : block % 2 ≡ 1 = omega (arith, odd) in
+          let at = odd_block block width is in
+          (omega (arith, at.0, at.2, climb.low), omega (arith, at.0, at.2, climb.high))
+    ]
+
+pub level_up : (place block width : ℕ) (climb : IsClimb place block width) → (climb_up place block width climb).level ≡ suc climb.level
+unfolding climb_up
+level_up place block width climb = refl
+
+-- at its end the block is the whole line
+pub climb_end : (count place block width : ℕ) → IsClimb place block width → place < count → count ≤ width → block ≡ 0
+climb_end count place zero width climb h wide = refl
+climb_end count place (suc block) width climb h wide =
+    let more : suc block * width ≡ block * width + width = grind arith in
+    let no : ⊥ = omega (arith, more, climb.low, h, wide) in
+    absurd no
+
+-- as many levels as the count less one has binary digits
+pub levels_within : (level digits count : ℕ) → 2 ^ level < 2 * count → count - 1 < 2 ^ digits → level ≤ digits
+levels_within level digits count few enough = elim (cases_lt digits level) [
+  | inl above ↦
+      let two : 0 < 2 = omega arith in
+      let more : 2 ^ suc digits ≤ 2 ^ level = pow-le-pow_right two above in
+      let double : 2 ^ suc digits ≡ 2 * 2 ^ digits = grind arith in
+      let no : ⊥ = omega (arith, more, double, few, enough) in
+      absurd no
+  | inr within ↦ within
+]
+
+-- the number at the place, and those at others
+pub replaced_here : (x : ℕ → ℤ) (place : ℕ) (z : ℤ) → replaced x place z place ≡ z
+replaced_here x place z = cond-true _ _ _ (eq-eqb place place refl)
+
+pub replaced_other : (x : ℕ → ℤ) (place : ℕ) (z : ℤ) (i : ℕ) → i ≢ place → replaced x place z i ≡ x i
+replaced_other x place z i h = cond-false _ _ _ (ne_eqb i place h)
+
+-- the other half has no number of the block
+pub other_half_same : (place block width : ℕ) (x : ℕ → ℤ) (z : ℤ) → IsClimb place block width → AreSameIn (other_half block * width) width x (replaced x place z)
+other_half_same place block width x z climb i low high = sym (replaced_other x place z i apart)
+  where
+    apart : i ≢ place
+    apart e = elim (cases_eq (block % 2) 0) [
+      | inl even ↦ let at = even_block block width even in omega (arith, at.0, at.1, low, high, e, climb.low, climb.high)
+      | inr odd ↦
+          let is : block % 2 ≡ 1 = omega (arith, odd) in
+          let at = odd_block block width is in
+          omega (arith, at.0, at.1, low, high, e, climb.low, climb.high)
+    ]

@@ -1,0 +1,44 @@
+use Rattle.std.proofs.Common.{◌∙◌, suc, ◌*◌, ◌/◌, refl, ap, arith, inl, inr}
+use Rattle.std.proofs.lemmas.Nat.{div-add-mod'}
+use Rattle.fold_trees.specs.LineTrees.{slot_of}
+use Rattle.fold_trees.proofs.BlockParts.{begin_from, end_from}
+use Rattle.fold_trees.proofs.line_block.fill_from.Goals as goal
+
+pub loop-half-init : goal.loop-half-init
+loop-half-init g c = record {
+  half = (0, refl);
+  whole = (c.args.from, grind arith);
+  kept = begin_from g.P.Part.blank g.P.Part.tells c.args.from c.args.first c.args.numbers.now c.args.nodes.now c.requires.two c.requires.kept;
+  others = λ p away. refl;
+  sized = refl;
+}
+
+pub join_row-requires-clause-from : goal.join_row-requires-clause-from
+join_row-requires-clause-from g c =
+    let parts = div-add-mod' c.args.from (2 * c.loop-half.half) in
+    (c.args.from / (2 * c.loop-half.half), omega (arith, parts, c.if-from-half-eq0.true))
+
+pub loop-half-preserved : goal.loop-half-preserved
+loop-half-preserved g c =
+    let inv = c.loop-half.invariant in
+    let joined = c.join_row.ensures in
+    let parts = div-add-mod' c.args.from (2 * c.loop-half.half) in
+    record {
+      half = (suc inv.half.0, ap (λ k. 2 * k) inv.half.1 ∙ grind arith);
+      whole = (c.args.from / (2 * c.loop-half.half), omega (arith, parts, c.if-from-half-eq0.true));
+      kept = joined.kept;
+      others = λ p away. joined.others p away ∙ inv.others p away;
+      sized = joined.length ∙ inv.sized;
+    }
+
+pub returns-else-from-half-eq0-clause-kept : goal.returns-else-from-half-eq0-clause-kept
+returns-else-from-half-eq0-clause-kept g c =
+    let inv = c.loop-half.invariant in
+    end_from g.P.Part.blank g.P.Part.tells c.args.from c.args.first c.args.numbers.now c.loop-half.nodes c.loop-half.half inv.half.0 inv.half.1
+    (inr c.if-from-half-eq0.false) inv.kept
+
+pub returns-after-loop-half-clause-kept : goal.returns-after-loop-half-clause-kept
+returns-after-loop-half-clause-kept g c =
+    let inv = c.loop-half.invariant in
+    end_from g.P.Part.blank g.P.Part.tells c.args.from c.args.first c.args.numbers.now c.loop-half.nodes c.loop-half.half inv.half.0 inv.half.1
+    (inl (omega (arith, c.loop-half-test.false))) inv.kept

@@ -1,0 +1,115 @@
+use Rattle.std.proofs.Common.{◌≡◌, ◌∙◌, ◌+◌, ◌-◌, ◌*◌, ◌/◌, ◌%◌, ◌<◌, ◌++◌, List, ℤ, min, length, sym, ap, subst, arith, rules}
+use Rattle.std.proofs.lemmas.Nat.{pow_pos}
+use Rattle.std.proofs.lemmas.List.{length-set}
+use Rattle.fold_trees.specs.declared.line.Line.{Line}
+use Rattle.fold_trees.specs.LineTrees.{slot_of, nth_node, segment, numbers_of_block, node_of, ArePartsKeptIn}
+use Rattle.fold_trees.specs.LineBlocks.{line_of}
+use Rattle.fold_trees.proofs.BlockRows.{told_on, others_on, line_node, column_away, node_row}
+use Rattle.fold_trees.proofs.LineParts.{widen_even}
+use Rattle.fold_trees.proofs.BlockParts.{kept_in_first, kept_in_second, kept_in_still}
+use Rattle.fold_trees.proofs.line_block.last_row.Goals as goal
+use Rattle.fold_trees.proofs.line_block.last_row.Given.{Over}
+
+pub part-requires-clause-part : goal.part-requires-clause-part
+part-requires-clause-part g c =
+    let half = c.requires.half in
+    let from = c.requires.from in
+    record { level = half.0; place = 2 * from.0; width_is = half.1; from_is = from.1 ∙ ap (λ k. from.0 * (2 * k)) half.1 ∙ grind arith }
+
+pub part-requires-in-loop-column-clause-part : goal.part-requires-in-loop-column-clause-part
+part-requires-in-loop-column-clause-part g c =
+    let half = c.requires.half in
+    let from = c.requires.from in
+    record { level = half.0; place = 2 * from.0 + 1; width_is = half.1; from_is = (λ i. from.1 i + c.args.half) ∙ (λ i. from.0 * (2 * half.1 i) + half.1 i) ∙ grind arith }
+
+pub part-requires-clause-kept : goal.part-requires-clause-kept
+part-requires-clause-kept g c =
+    let first = c.args.first in
+    let numbers = c.args.numbers.now in
+    let from = c.args.from in
+    let half = c.args.half in
+    let nodes = c.loop-column.nodes in
+    let k = c.loop-column.column in
+    let below = c.loop-column-test.true in
+    let l = line_of first k in
+    let tells = g.P.Part.tells in
+    let blank = g.P.Part.blank in
+    subst (λ (m : Line). ArePartsKeptIn tells from half m.count (slot_of m numbers) (node_of blank m nodes)) (sym c.nth-line.ensures)
+    (kept_in_still tells from half first.count (slot_of l numbers) (node_of blank l c.args.nodes.now) (node_of blank l nodes)
+    (λ a. c.loop-column.invariant.others (nth_node l a) (column_away first k k a (from + half) below (omega arith)))
+    (kept_in_first blank tells from first numbers c.args.nodes.now half k below c.requires.kept))
+
+pub part-requires-in-loop-column-clause-kept : goal.part-requires-in-loop-column-clause-kept
+part-requires-in-loop-column-clause-kept g c =
+    let first = c.args.first in
+    let numbers = c.args.numbers.now in
+    let from = c.args.from in
+    let half = c.args.half in
+    let nodes = c.loop-column.nodes in
+    let k = c.loop-column.column in
+    let below = c.loop-column-test.true in
+    let l = line_of first k in
+    let tells = g.P.Part.tells in
+    let blank = g.P.Part.blank in
+    let p = pow_pos c.requires.half.0 in
+    let some : 0 < half = omega (arith, p, c.requires.half.1) in
+    subst (λ (m : Line). ArePartsKeptIn tells (from + half) half m.count (slot_of m numbers) (node_of blank m nodes)) (sym c.nth-line.ensures)
+    (kept_in_still tells (from + half) half first.count (slot_of l numbers) (node_of blank l c.args.nodes.now) (node_of blank l nodes)
+    (λ a. c.loop-column.invariant.others (nth_node l a) (column_away first k k a (from + half) below (omega arith)))
+    (kept_in_second blank tells from first numbers c.args.nodes.now half k below some c.requires.kept))
+
+-- the node of the line, and that it is one of the list
+here : (g : Over) (c : goal.After-nth_node g) → c.nth_node.result ≡ nth_node c.args.first (c.args.from + c.args.half) + c.loop-column.column
+here g c =
+    c.nth_node.ensures ∙ ap (λ (m : Line). nth_node m (c.args.from + c.args.half)) c.nth-line.ensures ∙ line_node c.args.first c.loop-column.column (c.args.from + c.args.half)
+
+inside : (g : Over) (c : goal.After-nth_node g) → c.nth_node.result < length c.loop-column.nodes
+inside g c =
+    let p = pow_pos c.requires.half.0 in
+    let row = node_row c.args.first (length c.args.nodes.now) (c.args.from + c.args.half) c.requires.nodes (omega (arith, p, c.requires.half.1)) c.requires.short in
+    omega (arith, row, here g c, c.loop-column-test.true, c.loop-column.invariant.sized)
+
+pub offset_bounds-nodes-nth_node : goal.offset_bounds-nodes-nth_node
+offset_bounds-nodes-nth_node g c = let below = inside g c in search rules
+
+pub loop-column-preserved : goal.loop-column-preserved
+loop-column-preserved g c =
+    let first = c.args.first in
+    let numbers = c.args.numbers.now in
+    let from = c.args.from in
+    let half = c.args.half in
+    let before = c.args.nodes.now in
+    let tells = g.P.Part.tells in
+    let blank = g.P.Part.blank in
+    let nodes = c.loop-column.nodes in
+    let k = c.loop-column.column in
+    let inv = c.loop-column.invariant in
+    let s = c.join-both.result in
+    let below = c.loop-column-test.true in
+    let line = c.nth-line.result in
+    let l = line_of first k in
+    let x = slot_of l numbers in
+    let count = first.count in
+    let part = c.requires.from.0 in
+    let is = c.nth-line.ensures in
+    let node = c.nth_node.result in
+    let one : Line → List ℤ = λ m. segment (slot_of m numbers) from (min half (m.count - from)) in
+    let other : Line → List ℤ = λ m. segment (slot_of m numbers) (from + half) (min half (m.count - (from + half))) in
+    let told : tells s (one line ++ other line) = c.join-both.ensures (one line) (other line) c.part.ensures c.part-in-loop-column.ensures in
+    let even : 2 * part % 2 ≡ 0 = omega arith in
+    let block : 2 * part / 2 ≡ part = omega arith in
+    let start : from ≡ 2 * part * half = c.requires.from.1 ∙ grind arith in
+    let next : from + half ≡ 2 * part * half + half = omega (arith, start) in
+    let all = (λ i. segment x (start i) (min half (count - start i)) ++ segment x (next i) (min half (count - next i)))
+    ∙ widen_even count x (2 * part) half even (omega (arith, next, c.requires.short))
+    ∙ ap (λ b. numbers_of_block count x b (2 * half)) block
+    ∙ sym (ap (λ f. segment x f (min (2 * half) (count - f))) c.requires.from.1) in
+    let made : tells s (segment x from (min (2 * half) (count - from))) =
+    subst (tells s) all (subst (λ (m : Line). tells s (one m ++ other m)) is told) in
+    record {
+      told = told_on blank (λ column t. tells t (segment (slot_of (line_of first column) numbers) from (min (2 * half) (count - from))))
+          (λ column. nth_node (line_of first column) (from + half)) (nth_node first (from + half))
+          (λ column. line_node first column (from + half)) nodes k node s (here g c) (inside g c) inv.told made;
+      others = others_on blank nodes before (nth_node first (from + half)) k node s (here g c) inv.others;
+      sized = length-set nodes node s ∙ inv.sized;
+    }

@@ -1,0 +1,7 @@
+use Rattle.std.proofs.Common.{◌∙◌}
+use Rattle.fold_trees.specs.Sums.{sums_of}
+use Rattle.fold_trees.proofs.SumEndings.{some_folded}
+use Rattle.fold_trees.proofs.summary.SummaryPart.fold.Goals as goal
+
+pub returns : goal.returns
+returns c xs h more = c.sum.ensures (sums_of xs) h.tells ∙ some_folded xs more h.numbers

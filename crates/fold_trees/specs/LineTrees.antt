@@ -1,0 +1,100 @@
+-- Where a line of numbers lies, and what is kept of its parts.
+use Rattle.std.specs.Prelude.{◌≡◌, ℕ, zero, suc, ◌+◌, ◌-◌, ◌*◌, ◌%◌, ◌^◌, ◌<◌, ◌≤◌, min, nat_eq, ℤ, pos, List, [], ◌∷◌, get_or, if◌then◌else◌, ◌⊎◌}
+use Rattle.fold_trees.specs.declared.line.Line.{Line}
+
+-- the slot of a place
+abbrev pub slot_at : Line → ℕ → ℕ
+slot_at l place = l.slot + place * l.step
+
+-- a node of the line, counted from 1
+abbrev pub nth_node : Line → ℕ → ℕ
+nth_node l k = l.node + (k - 1) * l.step
+
+-- the number in the slot of a place
+abbrev pub slot_of : Line → List ℤ → ℕ → ℤ
+slot_of l slots place = get_or slots (slot_at l place) (pos 0)
+
+-- a list of so many slots is long enough for the line
+pub record HasSlots (l : Line) (slots : ℕ) : Type 0 where
+  pub few : l.count < 2 ^ 62
+  pub apart : 0 < l.step
+  pub fit : slots < 2 ^ 64
+  pub slot : (place : ℕ) → place < l.count → slot_at l place < slots
+
+-- a part has a power of two as its width, and begins at a multiple of that
+pub record IsPart (from width : ℕ) : Type 0 where
+  pub level : ℕ
+  pub place : ℕ
+  pub width_is : width ≡ 2 ^ level
+  pub from_is : from ≡ place * 2 ^ level
+
+-- the other half of the part twice as wide, parts of one width counted from 0
+abbrev pub other_half : ℕ → ℕ
+other_half block = if nat_eq (block % 2) 0 then block + 1 else block - 1
+
+-- the numbers of a part are the same
+abbrev pub AreSameIn : (from width : ℕ) → (x y : ℕ → ℤ) → Type 0
+AreSameIn from width x y = (i : ℕ) → from ≤ i → i < from + width → x i ≡ y i
+
+-- the numbers where the one at a place is another
+abbrev pub replaced : (ℕ → ℤ) → (place : ℕ) → ℤ → ℕ → ℤ
+replaced x place number i = if nat_eq i place then number else x i
+
+-- the line without its last number
+abbrev pub shorter : Line → Line
+shorter l = record { count = l.count - 1; step = l.step; slot = l.slot; node = l.node }
+
+-- ---- the parts of two numbers and more, each of which has a node: that of the place at which its halves meet
+
+-- how many nodes a line of so many numbers has
+abbrev pub nodes_in_line : ℕ → ℕ
+nodes_in_line count = count - 1
+
+-- what is kept of two parts that meet at a place
+abbrev pub node_of : {P : Type 0} → P → Line → List P → ℕ → P
+node_of blank l nodes meeting = get_or nodes (nth_node l meeting) blank
+
+-- a list of so many nodes is long enough for the line
+pub record HasNodes (l : Line) (nodes : ℕ) : Type 0 where
+  pub fit : nodes < 2 ^ 64
+  pub node : (meeting : ℕ) → 1 ≤ meeting → meeting < l.count → nth_node l meeting < nodes
+
+-- the lists of its slots and of its nodes are
+pub record IsIn (l : Line) (slot_count node_count : ℕ) : Type 0 where
+  pub slots : HasSlots l slot_count
+  pub nodes : HasNodes l node_count
+
+-- ---- what is kept of them, told by a relation between it and numbers
+
+-- so many numbers from a place on
+abbrev pub segment : (ℕ → ℤ) → (from count : ℕ) → List ℤ
+segment x from zero = []
+segment x from (suc count) = x from ∷ segment x (from + 1) count
+
+-- the numbers of the part at a block that has this width, or ends with the line
+abbrev pub numbers_of_block : (count : ℕ) → (ℕ → ℤ) → (block width : ℕ) → List ℤ
+numbers_of_block count x block width = segment x (block * width) (min width (count - block * width))
+
+-- what is kept for a part whose second half has numbers tells of the numbers of the part
+abbrev pub IsKept : {P : Type 0} → (P → List ℤ → Type 0) → (count : ℕ) → (ℕ → ℤ) → (ℕ → P) → (from half : ℕ) → Type 0
+IsKept tells count x node from half = from + half < count → tells (node (from + half)) (segment x from (min (2 * half) (count - from)))
+
+-- for all parts that have a node
+abbrev pub ArePartsKept : {P : Type 0} → (P → List ℤ → Type 0) → (count : ℕ) → (ℕ → ℤ) → (ℕ → P) → Type 0
+ArePartsKept tells count x node = (level place : ℕ) → IsKept tells count x node (place * (2 * 2 ^ level)) (2 ^ level)
+
+-- for those within a part
+abbrev pub ArePartsKeptIn : {P : Type 0} → (P → List ℤ → Type 0) → (from width count : ℕ) → (ℕ → ℤ) → (ℕ → P) → Type 0
+ArePartsKeptIn tells from width count x node = (level place : ℕ) → from ≤ place * (2 * 2 ^ level) → place * (2 * 2 ^ level) + 2 * 2 ^ level ≤ from + width
+    → IsKept tells count x node (place * (2 * 2 ^ level)) (2 ^ level)
+
+-- for those that a place is not in
+abbrev pub ArePartsKeptBeside : {P : Type 0} → (P → List ℤ → Type 0) → (at count : ℕ) → (ℕ → ℤ) → (ℕ → P) → Type 0
+ArePartsKeptBeside tells at count x node = (level place : ℕ) → (at < place * (2 * 2 ^ level) ⊎ place * (2 * 2 ^ level) + 2 * 2 ^ level ≤ at)
+    → IsKept tells count x node (place * (2 * 2 ^ level)) (2 ^ level)
+
+-- for those that end before a place, and for those that end there and are no wider than this
+abbrev pub ArePartsKeptUpTo : {P : Type 0} → (P → List ℤ → Type 0) → (end width count : ℕ) → (ℕ → ℤ) → (ℕ → P) → Type 0
+ArePartsKeptUpTo tells end width count x node = (level place : ℕ)
+    → (place * (2 * 2 ^ level) + 2 * 2 ^ level < end ⊎ place * (2 * 2 ^ level) + 2 * 2 ^ level ≡ end × 2 * 2 ^ level ≤ width)
+    → IsKept tells count x node (place * (2 * 2 ^ level)) (2 ^ level)

@@ -1,0 +1,61 @@
+//! Where lines of numbers lie among those of several.
+
+ghost use Rattle.std.specs.Prelude.{◌≡◌, ◌+◌, ◌^◌, ◌<◌, ◌≤◌};
+ghost use Rattle.fold_trees.specs.ArrayLines.{line_through};
+ghost use Rattle.fold_trees.specs.LineTrees.{slot_at, nth_node};
+ghost use Rattle.fold_trees.specs.LineBlocks.{line_of};
+
+/// Where a line of numbers lies in a list of slots, and what is kept of its parts in a list of nodes.
+#[derive(Clone, Copy)]
+pub(crate) struct Line {
+    /// How many numbers there are.
+    pub(crate) count: usize,
+    /// From one of them to the next in their list, and likewise from node to node.
+    pub(crate) step: usize,
+    /// The slot of the first.
+    pub(crate) slot: usize,
+    /// The first node.
+    pub(crate) node: usize,
+}
+
+impl Line {
+    /// The slot of a place.
+    pub(crate) fn slot_at(&self, place: usize) -> usize
+        requires { slot_at self.now place < 2 ^ 64 }
+        ensures { result ≡ slot_at self.now place }
+    {
+        self.slot + place * self.step
+    }
+
+    /// A node of the line, counted from 1.
+    pub(crate) fn nth_node(&self, node: usize) -> usize
+        requires some { 1 ≤ node }
+        requires fit { nth_node self.now node < 2 ^ 64 }
+        ensures { result ≡ nth_node self.now node }
+    {
+        self.node + (node - 1) * self.step
+    }
+
+    /// The line so many behind the first one of a block.
+    pub(crate) fn nth(&self, column: usize) -> Line
+        requires slot { self.now.slot + column < 2 ^ 64 }
+        requires node { self.now.node + column < 2 ^ 64 }
+        ensures { result ≡ line_of self.now column }
+    {
+        Line {
+            count: self.count,
+            step: self.step,
+            slot: self.slot + column,
+            node: self.node + column,
+        }
+    }
+}
+
+/// The line that a place of all numbers is on, lines and places counted from 0.
+pub(crate) fn line_through(count: usize, step: usize, place: usize) -> usize
+    requires some { 0 < count }
+    requires apart { 0 < step }
+    ensures { result ≡ line_through count step place }
+{
+    place / step / count * step + place % step
+}

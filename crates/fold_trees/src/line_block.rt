@@ -1,0 +1,127 @@
+//! What is kept of the parts of all lines of a block, made from the last parts to the first.
+
+ghost use Rattle.std.specs.Prelude.{◌≡◌, get_or, ℕ, ◌+◌, ◌-◌, ◌*◌, ◌/◌, ◌%◌, ◌^◌, ◌<◌, ◌≤◌, ◌++◌, min, ℤ, List, length, ◌⊎◌};
+ghost use Rattle.fold_trees.specs.LineTrees.{nth_node, slot_of, segment, node_of, ArePartsKept};
+ghost use Rattle.fold_trees.specs.LineBlocks.{line_of, HaveSlots, nodes_end, HaveNodes, ArePartsKeptBehind, ArePartsKeptFrom};
+
+use crate::line::Line;
+use crate::line_tree::LineTree;
+use crate::part::Part;
+
+/// Joins two numbers that are neighbours, for each line of a block.
+fn pairs_row<P: Part>(numbers: &[i64], nodes: &mut [P], first: Line, from: usize)
+    requires slots { HaveSlots first (length numbers.now) }
+    requires nodes { HaveNodes first (length nodes.old) }
+    requires full { from + 2 ≤ first.count }
+    ensures told { (column : ℕ) → column < first.step → P.tells (node_of P.blank (line_of first column) nodes.new (from + 1)) (segment (slot_of (line_of first column) numbers.now) from 2) }
+    ensures others { (p : ℕ) → (p < nth_node first (from + 1) ⊎ nth_node first (from + 1) + first.step ≤ p) → get_or nodes.new p P.blank ≡ get_or nodes.old p P.blank }
+    ensures length { length nodes.new ≡ length nodes.old }
+{
+    let row = first.slot_at(from);
+    let node = first.nth_node(from + 1);
+    for column in 0..first.step {
+        let at = row + column;
+        nodes[node + column] = P::two(numbers[at], numbers[at + first.step]);
+    }
+}
+
+/// Joins the nodes of the two halves of the part that begins at a place, where both are of two numbers and more, for each line of a block.
+fn halves_row<P: Part>(nodes: &mut [P], first: Line, from: usize, half: usize)
+    requires nodes { HaveNodes first (length nodes.old) }
+    requires wide { 2 ≤ half }
+    requires full { from + 2 * half ≤ first.count }
+    requires told { (column : ℕ) → column < first.step → (xs : List ℤ) × P.tells (node_of P.blank (line_of first column) nodes.old (from + half / 2)) xs }
+    requires later { (column : ℕ) → column < first.step → (xs : List ℤ) × P.tells (node_of P.blank (line_of first column) nodes.old (from + half + half / 2)) xs }
+    ensures told { (column : ℕ) → column < first.step → (earlier rest : List ℤ) → P.tells (node_of P.blank (line_of first column) nodes.old (from + half / 2)) earlier
+        → P.tells (node_of P.blank (line_of first column) nodes.old (from + half + half / 2)) rest → P.tells (node_of P.blank (line_of first column) nodes.new (from + half)) (earlier ++ rest) }
+    ensures others { (p : ℕ) → (p < nth_node first (from + half) ⊎ nth_node first (from + half) + first.step ≤ p) → get_or nodes.new p P.blank ≡ get_or nodes.old p P.blank }
+    ensures length { length nodes.new ≡ length nodes.old }
+{
+    let earlier = first.nth_node(from + half / 2);
+    let later = first.nth_node(from + half + half / 2);
+    let node = first.nth_node(from + half);
+    for column in 0..first.step {
+        nodes[node + column] = nodes[earlier + column].join(&nodes[later + column]);
+    }
+}
+
+/// Joins what is kept of the part that begins at a place and has halves so wide, or ends with the line, for each line of a block.
+#[inline(never)]
+fn last_row<P: Part>(numbers: &[i64], nodes: &mut [P], first: Line, from: usize, half: usize)
+    requires slots { HaveSlots first (length numbers.now) }
+    requires nodes { HaveNodes first (length nodes.old) }
+    requires half { (level : ℕ) × (half ≡ 2 ^ level) }
+    requires from { (place : ℕ) × (from ≡ place * (2 * half)) }
+    requires short { from + half < first.count }
+    requires kept { ArePartsKeptBehind P.blank P.tells from half first numbers.now nodes.old }
+    ensures told { (column : ℕ) → column < first.step
+        → P.tells (node_of P.blank (line_of first column) nodes.new (from + half)) (segment (slot_of (line_of first column) numbers.now) from (min (2 * half) (first.count - from))) }
+    ensures others { (p : ℕ) → (p < nth_node first (from + half) ⊎ nth_node first (from + half) + first.step ≤ p) → get_or nodes.new p P.blank ≡ get_or nodes.old p P.blank }
+    ensures length { length nodes.new ≡ length nodes.old }
+{
+    for column in 0..first.step {
+        let line = first.nth(column);
+        let tree = LineTree {
+            line,
+            numbers,
+            nodes: &*nodes,
+        };
+        let both = tree.part(from, half).join(&tree.part(from + half, half));
+        nodes[line.nth_node(from + half)] = both;
+    }
+}
+
+/// Joins what is kept of the part that begins at a place and has halves so wide, for each line of a block, where that of the parts behind it and of the
+/// narrower ones that begin there is.
+fn join_row<P: Part>(numbers: &[i64], nodes: &mut [P], first: Line, from: usize, half: usize)
+    requires slots { HaveSlots first (length numbers.now) }
+    requires nodes { HaveNodes first (length nodes.old) }
+    requires half { (level : ℕ) × (half ≡ 2 ^ level) }
+    requires from { (place : ℕ) × (from ≡ place * (2 * half)) }
+    requires short { from + half < first.count }
+    requires kept { ArePartsKeptBehind P.blank P.tells from half first numbers.now nodes.old }
+    ensures kept { ArePartsKeptBehind P.blank P.tells from (2 * half) first numbers.now nodes.new }
+    ensures others { (p : ℕ) → (p < first.node ⊎ nodes_end first ≤ p) → get_or nodes.new p P.blank ≡ get_or nodes.old p P.blank }
+    ensures length { length nodes.new ≡ length nodes.old }
+{
+    if first.count - from < 2 * half {
+        last_row(numbers, nodes, first, from, half);
+    } else if half == 1 {
+        pairs_row(numbers, nodes, first, from);
+    } else {
+        halves_row(nodes, first, from, half);
+    }
+}
+
+/// Joins what is kept of all parts that begin at a place, for each line of a block, where that of the parts behind it is.
+fn fill_from<P: Part>(numbers: &[i64], nodes: &mut [P], first: Line, from: usize)
+    requires slots { HaveSlots first (length numbers.now) }
+    requires nodes { HaveNodes first (length nodes.old) }
+    requires two { from % 2 ≡ 0 }
+    requires below { from < first.count }
+    requires kept { ArePartsKeptFrom P.blank P.tells (from + 2) first numbers.now nodes.old }
+    ensures kept { ArePartsKeptFrom P.blank P.tells from first numbers.now nodes.new }
+    ensures others { (p : ℕ) → (p < first.node ⊎ nodes_end first ≤ p) → get_or nodes.new p P.blank ≡ get_or nodes.old p P.blank }
+    ensures length { length nodes.new ≡ length nodes.old }
+{
+    let mut half = 1;
+    while half < first.count - from && from % (2 * half) == 0 {
+        join_row(numbers, nodes, first, from, half);
+        half = 2 * half;
+    }
+}
+
+/// Joins what is kept of all parts of each line of a block, from the last ones to the first.
+pub(crate) fn fill_block<P: Part>(numbers: &[i64], nodes: &mut [P], first: Line)
+    requires slots { HaveSlots first (length numbers.now) }
+    requires nodes { HaveNodes first (length nodes.old) }
+    ensures kept { (column : ℕ) → column < first.step → ArePartsKept P.tells first.count (slot_of (line_of first column) numbers.now) (node_of P.blank (line_of first column) nodes.new) }
+    ensures others { (p : ℕ) → (p < first.node ⊎ nodes_end first ≤ p) → get_or nodes.new p P.blank ≡ get_or nodes.old p P.blank }
+    ensures length { length nodes.new ≡ length nodes.old }
+{
+    let mut pairs = first.count.div_ceil(2);
+    while pairs > 0 {
+        pairs -= 1;
+        fill_from(numbers, nodes, first, 2 * pairs);
+    }
+}

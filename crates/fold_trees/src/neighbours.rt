@@ -1,0 +1,142 @@
+//! What is kept of the parts of a line whose numbers are neighbours, made from the first parts to the last.
+
+ghost use Rattle.std.specs.Prelude.{◌≡◌, get_or, ℕ, ◌+◌, ◌-◌, ◌*◌, ◌/◌, ◌%◌, ◌^◌, ◌<◌, ◌≤◌, ◌++◌, ◌∷◌, [], ℤ, length, vec_len, vec_capacity};
+ghost use Rattle.fold_trees.specs.LineTrees.{nth_node, slot_of, HasSlots, segment, node_of, ArePartsKept, ArePartsKeptIn, ArePartsKeptUpTo};
+ghost use Rattle.fold_trees.specs.LineBlocks.{nodes_end};
+
+use crate::line::Line;
+use crate::line_tree::renew;
+use crate::part::Part;
+
+/// Joins what is kept of all parts that end at a place of a line whose numbers are neighbours, from the narrowest to the widest, where that of those up to
+/// a width is, and that of all parts that end before the place.
+fn close_parts<P: Part>(nodes: &mut [P], line: Line, end: usize, width: usize)
+    requires few { line.count < 2 ^ 62 }
+    requires near { line.step ≡ 1 }
+    requires some { 0 < end }
+    requires below { end < line.count }
+    requires width { (level : ℕ) × (width ≡ 2 * 2 ^ level) }
+    requires within { width ≤ end }
+    requires nodes { nth_node line end < length nodes.old }
+    requires kept { (x : ℕ → ℤ) × ArePartsKeptUpTo P.tells end width line.count x (node_of P.blank line nodes.old) }
+    ensures kept { (x : ℕ → ℤ) → ArePartsKeptUpTo P.tells end width line.count x (node_of P.blank line nodes.old) → ArePartsKeptIn P.tells 0 end line.count x (node_of P.blank line nodes.new) }
+    ensures others { (p : ℕ) → p < line.node → get_or nodes.new p P.blank ≡ get_or nodes.old p P.blank }
+    ensures length { length nodes.new ≡ length nodes.old }
+{
+    let mut half = width;
+    while end % (2 * half) == 0 {
+        let node = line.node + (end - half) - 1;
+        nodes[node] = nodes[node - half / 2].join(&nodes[node + half / 2]);
+        half = 2 * half;
+    }
+}
+
+/// Puts a node behind the others, for which there is room. It takes no memory.
+fn push_node<P: Part>(nodes: &mut Vec<P>, node: P)
+    requires { vec_len nodes.old < vec_capacity nodes.old }
+    ensures items { nodes.new.items ≡ nodes.old.items ++ node ∷ [] }
+    ensures room { vec_capacity nodes.old ≤ vec_capacity nodes.new }
+{
+    match nodes.push(node) {
+        Ok(()) => (),
+        Err(_) => unreachable!(),
+    }
+}
+
+/// What is kept of the two numbers from a place on of a line whose numbers are neighbours.
+fn two_from<P: Part>(numbers: &[i64], line: Line, from: usize) -> P
+    requires slots { HasSlots line (length numbers.now) }
+    requires near { line.step ≡ 1 }
+    requires full { from + 2 ≤ line.count }
+    ensures { P.tells result (segment (slot_of line numbers.now) from 2) }
+{
+    let at = line.slot + from;
+    P::two(numbers[at], numbers[at + 1])
+}
+
+/// Puts the nodes of the two numbers from a place on behind the others, of a line whose numbers are neighbours: that of the part of these two, and one in
+/// whose place that of a wider part comes; and joins what is kept of all wider parts that end with the two. It takes no memory.
+fn push_pair<P: Part>(numbers: &[i64], nodes: &mut Vec<P>, line: Line, from: usize)
+    requires slots { HasSlots line (length numbers.now) }
+    requires near { line.step ≡ 1 }
+    requires two { from % 2 ≡ 0 }
+    requires full { from + 2 < line.count }
+    requires here { vec_len nodes.old ≡ line.node + from }
+    requires room { line.node + from + 2 ≤ vec_capacity nodes.old }
+    requires kept { ArePartsKeptIn P.tells 0 from line.count (slot_of line numbers.now) (node_of P.blank line nodes.old.items) }
+    ensures kept { ArePartsKeptIn P.tells 0 (from + 2) line.count (slot_of line numbers.now) (node_of P.blank line nodes.new.items) }
+    ensures others { (p : ℕ) → p < line.node → get_or nodes.new.items p P.blank ≡ get_or nodes.old.items p P.blank }
+    ensures length { vec_len nodes.new ≡ line.node + from + 2 }
+    ensures room { vec_capacity nodes.old ≤ vec_capacity nodes.new }
+{
+    let pair: P = two_from(numbers, line, from);
+    push_node(nodes, pair);
+    push_node(nodes, pair);
+    close_parts(nodes, line, from + 2, 2);
+}
+
+/// Puts the nodes of the four numbers from a place on behind the others, of a line whose numbers are neighbours: those of the parts of the first two, of all
+/// and of the last two, and one in whose place that of a wider part comes; and joins what is kept of all wider parts that end with the four. It takes no
+/// memory.
+fn push_four<P: Part>(numbers: &[i64], nodes: &mut Vec<P>, line: Line, from: usize)
+    requires slots { HasSlots line (length numbers.now) }
+    requires near { line.step ≡ 1 }
+    requires four { from % 4 ≡ 0 }
+    requires full { from + 4 < line.count }
+    requires here { vec_len nodes.old ≡ line.node + from }
+    requires room { line.node + from + 4 ≤ vec_capacity nodes.old }
+    requires kept { ArePartsKeptIn P.tells 0 from line.count (slot_of line numbers.now) (node_of P.blank line nodes.old.items) }
+    ensures kept { ArePartsKeptIn P.tells 0 (from + 4) line.count (slot_of line numbers.now) (node_of P.blank line nodes.new.items) }
+    ensures others { (p : ℕ) → p < line.node → get_or nodes.new.items p P.blank ≡ get_or nodes.old.items p P.blank }
+    ensures length { vec_len nodes.new ≡ line.node + from + 4 }
+    ensures room { vec_capacity nodes.old ≤ vec_capacity nodes.new }
+{
+    let first: P = two_from(numbers, line, from);
+    let second: P = two_from(numbers, line, from + 2);
+    push_node(nodes, first);
+    push_node(nodes, first.join(&second));
+    push_node(nodes, second);
+    push_node(nodes, second);
+    close_parts(nodes, line, from + 4, 4);
+}
+
+/// Puts the nodes of a line whose numbers are neighbours behind the others as far as they are those of pairs before its last number. It takes no memory.
+fn push_fours<P: Part>(numbers: &[i64], nodes: &mut Vec<P>, line: Line)
+    requires slots { HasSlots line (length numbers.now) }
+    requires near { line.step ≡ 1 }
+    requires some { 0 < line.count }
+    requires here { vec_len nodes.old ≡ line.node }
+    requires room { nodes_end line ≤ vec_capacity nodes.old }
+    ensures kept { ArePartsKeptIn P.tells 0 (2 * ((line.count - 1) / 2)) line.count (slot_of line numbers.now) (node_of P.blank line nodes.new.items) }
+    ensures others { (p : ℕ) → p < line.node → get_or nodes.new.items p P.blank ≡ get_or nodes.old.items p P.blank }
+    ensures length { vec_len nodes.new ≡ line.node + 2 * ((line.count - 1) / 2) }
+    ensures room { vec_capacity nodes.old ≤ vec_capacity nodes.new }
+{
+    let last = line.count - 1;
+    for four in 0..last / 4 {
+        push_four(numbers, nodes, line, 4 * four);
+    }
+    if last % 4 > 1 {
+        push_pair(numbers, nodes, line, 4 * (last / 4));
+    }
+}
+
+/// Puts the nodes of a line whose numbers are neighbours behind the others, from the first parts to the last. It takes no memory.
+pub(crate) fn push_line<P: Part>(numbers: &[i64], nodes: &mut Vec<P>, line: Line)
+    requires slots { HasSlots line (length numbers.now) }
+    requires near { line.step ≡ 1 }
+    requires some { 0 < line.count }
+    requires here { vec_len nodes.old ≡ line.node }
+    requires room { nodes_end line ≤ vec_capacity nodes.old }
+    ensures kept { ArePartsKept P.tells line.count (slot_of line numbers.now) (node_of P.blank line nodes.new.items) }
+    ensures others { (p : ℕ) → p < line.node → get_or nodes.new.items p P.blank ≡ get_or nodes.old.items p P.blank }
+    ensures length { vec_len nodes.new ≡ nodes_end line }
+    ensures room { vec_capacity nodes.old ≤ vec_capacity nodes.new }
+{
+    push_fours(numbers, nodes, line);
+    let last = line.count - 1;
+    if last % 2 == 1 {
+        push_node(nodes, P::of(numbers[line.slot + last]));
+    }
+    renew(numbers, nodes, line, last);
+}
