@@ -38,19 +38,19 @@ use Rattle.formula_core.specs.Tables.{IsOperand, tree_of_operand}
 use Rattle.formula_core.proofs.Applied.{cost_before, least_before, most_before, size_before, summed_before}
 use Rattle.formula_core.proofs.Stepping.{array_delta, cost_stepped, whole_all}
 use Rattle.formula_core.proofs.Summed.{at_axis, was_summed}
-use Rattle.formula_core.proofs.Totalled.{total_is}
+use Rattle.formula_core.proofs.Totalled.{total_has, total_is}
 
 -- ---- the sums that are kept
 
-some_summed : (fold : Reduce) (a : ArrayValue) → is_some (summed_in fold (Ok a)) ≡ keeps_sums fold.along a
-some_summed fold a = elim (cases_Bool (keeps_sums fold.along a)) [
-  | inl t ↦ ap is_some (cond-true (keeps_sums fold.along a) (Some (at_axis fold.function (axis_at (length a.shape) fold.along) a)) None t) ∙ sym t
-  | inr f ↦ ap is_some (cond-false (keeps_sums fold.along a) (Some (at_axis fold.function (axis_at (length a.shape) fold.along) a)) None f) ∙ sym f
+some_summed : (fold : Reduce) (a : ArrayValue) → is_some (summed_in fold (Ok a)) ≡ keeps_sums fold a
+some_summed fold a = elim (cases_Bool (keeps_sums fold a)) [
+  | inl t ↦ ap is_some (cond-true (keeps_sums fold a) (Some (at_axis fold.function (axis_at (length a.shape) fold.along) a)) None t) ∙ sym t
+  | inr f ↦ ap is_some (cond-false (keeps_sums fold a) (Some (at_axis fold.function (axis_at (length a.shape) fold.along) a)) None f) ∙ sym f
 ]
 
-kept_beside : (fold : Reduce) (p : PatchValue) (a : ArrayValue) (kept : Option SummedValue) (old : Outcome) → FitsIn (Patch p) old → applied (Patch p) old ≡ Ok a → kept ≡ summed_in fold old → is_some kept ≡ keeps_sums fold.along a
+kept_beside : (fold : Reduce) (p : PatchValue) (a : ArrayValue) (kept : Option SummedValue) (old : Outcome) → FitsIn (Patch p) old → applied (Patch p) old ≡ Ok a → kept ≡ summed_in fold old → is_some kept ≡ keeps_sums fold a
 kept_beside fold p a kept (Err e) fit is keeps = absurd fit
-kept_beside fold p a kept (Ok b) fit is keeps = let same : patched b p ≡ a = cc in ap is_some keeps ∙ (some_summed fold b ∙ ap (keeps_sums fold.along) same)
+kept_beside fold p a kept (Ok b) fit is keeps = let same : patched b p ≡ a = cc in ap is_some keeps ∙ (some_summed fold b ∙ ap (keeps_sums fold) same)
 
 grown_beside : (fold : Reduce) (t : TailValue) (a : ArrayValue) (kept : Option SummedValue) (old : Outcome) → FitsIn (Grown t) old → applied (Grown t) old ≡ Ok a → kept ≡ summed_in fold old → WereSumsKept fold a t kept
 grown_beside fold t a kept (Err e) fit is keeps = absurd fit
@@ -61,6 +61,7 @@ pub kept_well : (s : Stage) (f : Function1) (b : Operand) → IsOperand (length 
     → ((c : NamesChange) → (names : List (List ℕ)) → (trees : List Tree) → IsStaged c names trees s → GivesItsTree s.is_new c (tree_of_operand names trees b) i)
     → (fold : Reduce) → total_of f ≡ Some fold → AreSumsKept fold (shown i) (delta_of i) kept
 kept_well s f b within kept keeps i ready fold total = record {
+  folded = total_has f fold total;
   changed = λ p a patch now.
       let was = was_summed fold c names trees s staged b within i (ready c names trees staged) kept held (ap is_whole patch) in
       kept_beside fold p a kept old (subst (λ (d : Delta). FitsIn d old) patch was.fit) (ap (λ (d : Delta). applied d old) (sym patch) ∙ (was.becomes ∙ now)) was.keeps;

@@ -44,8 +44,8 @@ abbrev pub at_axis : Scalar2 → ℕ → ArrayValue → SummedValue
 at_axis function axis a = record { function = function; axis = axis; array = a }
 
 -- an array whose sums are kept is summed up along the axis that is meant
-as_summed : (fold : Reduce) (axis : ℕ) (a : ArrayValue) → axis ≡ axis_at (length a.shape) fold.along → keeps_sums fold.along a ≡ true → Some (at_axis fold.function axis a) ≡ summed fold a
-as_summed fold axis a meant keeps = ap (λ k. Some (at_axis fold.function k a)) meant ∙ sym (cond-true (keeps_sums fold.along a) (Some (at_axis fold.function (axis_at (length a.shape) fold.along) a)) None keeps)
+as_summed : (fold : Reduce) (axis : ℕ) (a : ArrayValue) → axis ≡ axis_at (length a.shape) fold.along → keeps_sums fold a ≡ true → Some (at_axis fold.function axis a) ≡ summed fold a
+as_summed fold axis a meant keeps = ap (λ k. Some (at_axis fold.function k a)) meant ∙ sym (cond-true (keeps_sums fold a) (Some (at_axis fold.function (axis_at (length a.shape) fold.along) a)) None keeps)
 
 -- ---- an array that is patched
 
@@ -54,11 +54,11 @@ pub record Kept (fold : Reduce) (o : Outcome) (s : SummedValue) : Type 0 where
   pub is : o ≡ Ok s.array
   pub folded : s.function ≡ fold.function
   pub meant : s.axis ≡ axis_at (length s.array.shape) fold.along
-  pub long : keeps_sums fold.along s.array ≡ true
+  pub long : keeps_sums fold s.array ≡ true
 
 pub kept_of : (fold : Reduce) (o : Outcome) (s : SummedValue) → Some s ≡ summed_in fold o → Kept fold o s
 kept_of fold (Err e) s is = absurd (let no : ⊥ = cc in no)
-kept_of fold (Ok b) s is = elim (cases_Bool (keeps_sums fold.along b)) [
+kept_of fold (Ok b) s is = elim (cases_Bool (keeps_sums fold b)) [
   | inl t ↦
       let same : Some s ≡ Some (at_axis fold.function (axis_at (length b.shape) fold.along) b) = is ∙ cond-true _ _ _ t in
       let here : s ≡ at_axis fold.function (axis_at (length b.shape) fold.along) b = cc in
@@ -67,7 +67,7 @@ kept_of fold (Ok b) s is = elim (cases_Bool (keeps_sums fold.along b)) [
         is = ap (λ (x : ArrayValue). Ok x) (sym array);
         folded = ap (λ (x : SummedValue). x.function) here;
         meant = ap (λ (x : SummedValue). x.axis) here ∙ ap (λ (x : ArrayValue). axis_at (length x.shape) fold.along) (sym array);
-        long = ap (keeps_sums fold.along) array ∙ t;
+        long = ap (keeps_sums fold) array ∙ t;
       }
   | inr f ↦ let none : Some s ≡ None = is ∙ cond-false _ _ _ f in absurd (let no : ⊥ = cc in no)
 ]
@@ -80,7 +80,7 @@ stood_for fold a p s t was stand =
     let same : a ≡ patched s.array p = cc in
     record {
       before = s.array;
-      on_axis = (kept_parts fold.along s.array kept.long).on_axis;
+      on_axis = (kept_parts fold s.array kept.long).on_axis;
       lines = subst (λ (axis : ℕ). StandFor t axis s.array) kept.meant stand;
       fit = was.fit;
       is = same;
@@ -96,14 +96,14 @@ stood_before fold a t s trees was stand =
     let same : a ≡ grown_by s.array t.items = cc in
     record {
       before = s.array;
-      on_axis = (kept_parts fold.along s.array kept.long).on_axis;
+      on_axis = (kept_parts fold s.array kept.long).on_axis;
       lines = subst (λ (axis : ℕ). StandFor trees axis s.array) kept.meant stand;
       fit = was.fit;
       is = same;
     }
 
 -- by new lines along the axis of the sums that are kept
-pub lines_taken : (fold : Reduce) (now : ArrayValue) (t : TailValue) (q : Box NewLinesValue Global) (kept : Option SummedValue) → is_some kept ≡ true → keeps_sums fold.along now ≡ true
+pub lines_taken : (fold : Reduce) (now : ArrayValue) (t : TailValue) (q : Box NewLinesValue Global) (kept : Option SummedValue) → is_some kept ≡ true → keeps_sums fold now ≡ true
     → q.value.function ≡ fold.function → q.value.axis ≡ axis_at (length now.shape) fold.along → q.value.tail ≡ t → IsSumsDelta fold (Ok now) (Grown t) kept (sums.Grown q)
 lines_taken fold now t q None some keeps by on_axis is = absurd (false≢true some)
 lines_taken fold now t q (Some s) some keeps by on_axis is = record { right = right; fit = fit }

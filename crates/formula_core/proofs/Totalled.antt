@@ -99,7 +99,7 @@ pub kept_serve : (fold : Reduce) (a : ArrayValue) (d : Delta) (held : Outcome) (
     → ((is_of_numbers a.item_type && had_trees d held (length_along fold.along a.shape)) ≡ true) × (1 < length_along fold.along a.shape)
 kept_serve fold a (Patch p) held s summed narrow =
     let was = summed.changed p s refl refl in
-    let kept = kept_parts fold.along s.array (kept_of fold (Ok s.array) s (sym was.lines)).long in
+    let kept = kept_parts fold s.array (kept_of fold (Ok s.array) s (sym was.lines)).long in
     let becomes : Ok a ≡ Ok (patched s.array p) = was.becomes in
     let same : a ≡ patched s.array p = cc in
     let long : length_along fold.along a.shape ≡ line_length (axis_at (length s.array.shape) fold.along) s.array.shape =
@@ -110,7 +110,7 @@ kept_serve fold a (Patch p) held s summed narrow =
     )
 kept_serve fold a (Grown t) held s summed narrow =
     let was = summed.grew t s refl refl in
-    let kept = kept_parts fold.along s.array (kept_of fold (Ok s.array) s (sym was.lines)).long in
+    let kept = kept_parts fold s.array (kept_of fold (Ok s.array) s (sym was.lines)).long in
     let becomes : Ok a ≡ Ok (grown_by s.array t.items) = was.becomes in
     let same : a ≡ grown_by s.array t.items = cc in
     let long = one_more_place fold.along a s.array t (eqb-true _ _ narrow) was.fit.some_axis same kept.on_axis in
@@ -147,11 +147,11 @@ none_kept fold a (Patch p) held fit well has =
     let one = and_parts _ _ has in
     let long = length_along fold.along a.shape in
     let two = and_parts (is_of_numbers a.item_type) (is_ok held || nat_lt most_without_tree long) one.1 in
-    let none : keeps_sums fold.along a ≡ false = sym (well.changed p a refl refl) in
+    let none : keeps_sums fold a ≡ false = sym (well.changed p a refl refl) in
     let some : nat_lt 0 (size a.shape) ≡ true = lt-ltb 0 (size a.shape) (some_items a p fit) in
     let numbers = two.0 in
     let short : long ≤ 3 = elim (cases_Bool (nat_lt most_without_tree long)) [
-      | inl t ↦ absurd (false≢true (sym none ∙ and_from _ _ numbers (and_from _ _ some t)))
+      | inl t ↦ absurd (false≢true (sym none ∙ and_from _ _ well.folded (and_from _ _ numbers (and_from _ _ some t))))
       | inr f ↦ let few : long ≤ 3 = ltb-false most_without_tree long f in few
     ] in
     let digits : long - 1 ≤ binary_digits (long - 1) = few_within_digits (long - 1) (omega (arith, short)) in
@@ -171,7 +171,7 @@ none_kept fold a (Grown t) held fit well has =
     let numbers : is_of_numbers b.item_type ≡ true = ap (λ (x : ArrayValue). is_of_numbers x.item_type) (sym was.becomes) ∙ three.0 in
     let enough : nat_lt most_without_tree (length_along fold.along b.shape) ≡ true = lt-ltb most_without_tree (length_along fold.along b.shape) (omega (arith, more, before)) in
     let none : size b.shape ≤ 0 = elim (cases_Bool (nat_lt 0 (size b.shape))) [
-      | inl some ↦ absurd (false≢true (was.keeps ∙ and_from _ _ numbers (and_from _ _ some enough)))
+      | inl some ↦ absurd (false≢true (was.keeps ∙ and_from _ _ well.folded (and_from _ _ numbers (and_from _ _ some enough))))
       | inr f ↦ ltb-false 0 (size b.shape) f
     ] in
     let here : axis_at (length b.shape) fold.along ≡ 0 = ap (λ n. axis_at n fold.along) (sym rank) ∙ first in

@@ -1,5 +1,5 @@
 -- The trees of lines that the totals of a formula keep.
-use Rattle.std.specs.Prelude.{◌≡◌, ℕ, List, false, Option, Some, None, is_some, Ok, Err, if◌then◌else◌}
+use Rattle.std.specs.Prelude.{◌≡◌, ℕ, List, true, false, Option, Some, None, is_some, Ok, Err, if◌then◌else◌}
 use Rattle.std.specs.Option.{option_map, option_map_or}
 use Rattle.apl_expr.specs.Trees.{Tree, Const, Name, Monad, Dyad, Index, Scan, Outer, Inner}
 use Rattle.apl_expr.specs.Trees as tree
@@ -110,9 +110,10 @@ pub record WereSumsKept (fold : Reduce) (now : ArrayValue) (t : TailValue) (kept
   pub before : ArrayValue
   pub fit : FitsTail before t
   pub becomes : now ≡ grown_by before t.items
-  pub keeps : is_some kept ≡ keeps_sums fold.along before
+  pub keeps : is_some kept ≡ keeps_sums fold before
 
--- where an array is patched, the sums of its lines are kept if these are long enough; where it grew, if they were so before
+-- where an array is patched, trees of its lines are kept if the fold keeps them; where it grew, if it kept them before
 pub record AreSumsKept (fold : Reduce) (now : Outcome) (d : Delta) (kept : Option SummedValue) : Type 0 where
-  pub changed : (p : PatchValue) (a : ArrayValue) → d ≡ PatchDelta p → now ≡ Ok a → is_some kept ≡ keeps_sums fold.along a
+  pub folded : has_trees fold.function ≡ true
+  pub changed : (p : PatchValue) (a : ArrayValue) → d ≡ PatchDelta p → now ≡ Ok a → is_some kept ≡ keeps_sums fold a
   pub grew : (t : TailValue) (a : ArrayValue) → d ≡ GrownDelta t → now ≡ Ok a → WereSumsKept fold a t kept

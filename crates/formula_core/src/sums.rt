@@ -1,7 +1,6 @@
 //! The trees of lines that the totals of a formula keep.
 
 ghost use Rattle.std.specs.Prelude.{◌≡◌, true, Option, Ok, IfOk};
-ghost use Rattle.fold_trees.specs.FoldTrees.{has_trees as has_such};
 ghost use Rattle.index_region.specs.declared.delta.Delta.TheVariants.{Patch as PatchDelta, Grown as GrownDelta};
 ghost use Rattle.index_region.specs.Patches.{FitsPatch};
 ghost use Rattle.sum_rules.specs.LineSums.{SummedValue};
@@ -53,8 +52,7 @@ pub(crate) fn sums_delta(
     input: &Input,
     kept: &Option<LineSums>,
 ) -> Result<SumsDelta, AllocError>
-    requires function { has_such fold.function ≡ true }
-    requires fit { HasFit input.now }
+    requires { HasFit input.now }
     ensures { IfOk result (IsSumsDelta fold (shown input.now) (delta_of input.now) kept.now) }
 {
     match input {
@@ -70,7 +68,6 @@ pub(crate) fn sums_delta(
 
 /// The sums of the lines of an array, made anew if lines like these have any.
 fn made_anew(alloc: Global, fold: Reduce, array: &Seen) -> Result<SumsDelta, AllocError>
-    requires { has_such fold.function ≡ true }
     ensures { IfOk result (λ s. (d : Delta) → (kept : Option SummedValue) → IsSumsDelta fold (Ok array.now) d kept s) }
 {
     Ok(SumsDelta::Whole(LineSums::of(alloc, fold, array)?))
@@ -85,8 +82,7 @@ fn patch_delta(
     patch: &Patch,
     kept: &Option<LineSums>,
 ) -> Result<SumsDelta, AllocError>
-    requires function { has_such fold.function ≡ true }
-    requires fit { FitsPatch array.now patch.now }
+    requires { FitsPatch array.now patch.now }
     ensures { IfOk result (IsSumsDelta fold (Ok array.now) (PatchDelta patch.now) kept.now) }
 {
     let places = array.places() as usize;
@@ -108,11 +104,10 @@ fn grown_delta(
     tail: &Tail,
     kept: &Option<LineSums>,
 ) -> Result<SumsDelta, AllocError>
-    requires function { has_such fold.function ≡ true }
-    requires grown { HasGrown array.now tail.now }
+    requires { HasGrown array.now tail.now }
     ensures { IfOk result (IsSumsDelta fold (Ok array.now) (GrownDelta tail.now) kept.now) }
 {
-    if kept.is_some() && keeps_sums(fold.along, array) {
+    if kept.is_some() && keeps_sums(fold, array) {
         let axis = fold.along.axis_at(array.shape().as_slice().len() as u32);
         let lines = NewLines::of(alloc, fold.function, axis, tail)?;
         return Ok(SumsDelta::Grown(Box::new(alloc, lines)?));

@@ -37,9 +37,10 @@ long_lines along shape long = elim (cases_Bool (is_axis (length shape) along)) [
   | inr f ↦ absurd (let none = cond-false (is_axis (length shape) along) (line_length (axis_at (length shape) along) shape) 0 f in omega (arith, long, none))
 ]
 
-pub kept_parts : (along : Along) (a : ArrayValue) → keeps_sums along a ≡ true → HasLongLines along a
-kept_parts along a keeps =
-    let one = and_parts _ _ keeps in
+pub kept_parts : (fold : Reduce) (a : ArrayValue) → keeps_sums fold a ≡ true → HasLongLines fold.along a
+kept_parts fold a keeps =
+    let along = fold.along in
+    let one = and_parts _ _ (and_parts _ _ keeps).1 in
     let two = and_parts _ _ one.1 in
     let long : most_without_tree < length_along along a.shape = ltb-true most_without_tree (length_along along a.shape) two.1 in
     let on = long_lines along a.shape long in
@@ -53,10 +54,10 @@ kept_parts along a keeps =
     }
 
 -- of what array they are kept, and along which axis
-pub summed_is : (fold : Reduce) (a : ArrayValue) (s : SummedValue) → summed fold a ≡ Some s → (keeps_sums fold.along a ≡ true) × (s ≡ record { function = fold.function; axis = axis_at (length a.shape) fold.along; array = a })
-summed_is fold a s h = elim (cases_Bool (keeps_sums fold.along a)) [
-  | inl w ↦ (w, (let same = sym (cond-true (keeps_sums fold.along a) (Some (record { function = fold.function; axis = axis_at (length a.shape) fold.along; array = a })) None w) ∙ h in cc))
-  | inr f ↦ absurd (let none = sym (cond-false (keeps_sums fold.along a) (Some (record { function = fold.function; axis = axis_at (length a.shape) fold.along; array = a })) None f) ∙ h in cc)
+pub summed_is : (fold : Reduce) (a : ArrayValue) (s : SummedValue) → summed fold a ≡ Some s → (keeps_sums fold a ≡ true) × (s ≡ record { function = fold.function; axis = axis_at (length a.shape) fold.along; array = a })
+summed_is fold a s h = elim (cases_Bool (keeps_sums fold a)) [
+  | inl w ↦ (w, (let same = sym (cond-true (keeps_sums fold a) (Some (record { function = fold.function; axis = axis_at (length a.shape) fold.along; array = a })) None w) ∙ h in cc))
+  | inr f ↦ absurd (let none = sym (cond-false (keeps_sums fold a) (Some (record { function = fold.function; axis = axis_at (length a.shape) fold.along; array = a })) None f) ∙ h in cc)
 ]
 
 -- trees of an array stand for what it was where a patch is laid over it
@@ -65,7 +66,7 @@ stood_for fold a s t p h stand fit =
     let both = summed_is fold a s h in
     record {
       before = a;
-      on_axis = (kept_parts fold.along a both.0).on_axis;
+      on_axis = (kept_parts fold a both.0).on_axis;
       lines = subst (λ (v : SummedValue). StandFor t v.axis v.array) both.1 stand;
       fit = fit;
       is = refl;

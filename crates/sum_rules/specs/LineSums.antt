@@ -12,6 +12,7 @@ use Rattle.function_names.specs.Axes.{is_axis, axis_at}
 use Rattle.function_names.specs.declared.along.Along.{Along}
 use Rattle.index_region.specs.Patches.{PatchValue, patched}
 use Rattle.operator_fns.specs.declared.reduce.Reduce.{Reduce}
+use Rattle.fold_trees.specs.FoldTrees.{has_trees}
 use Rattle.fold_trees.specs.ArrayLines.{TreesValue}
 
 -- ---- the lines of an array
@@ -40,13 +41,13 @@ pub record SummedValue : Type 0 where
 abbrev pub most_without_tree : ℕ
 most_without_tree = 3
 
--- the totals of its lines along the axis that is written are kept by trees: it is of numbers, there are some, and its lines are long enough
-abbrev pub keeps_sums : Along → ArrayValue → Bool
-keeps_sums along a = is_of_numbers a.item_type && (nat_lt 0 (size a.shape) && nat_lt most_without_tree (length_along along a.shape))
+-- a fold of an array along an axis keeps trees: what is kept of parts tells its folds, the array is of numbers, there are some, and its lines are long enough
+abbrev pub keeps_sums : Reduce → ArrayValue → Bool
+keeps_sums r a = has_trees r.function && (is_of_numbers a.item_type && (nat_lt 0 (size a.shape) && nat_lt most_without_tree (length_along r.along a.shape)))
 
 -- the array whose lines are folded, if they are
 abbrev pub summed : Reduce → ArrayValue → Option SummedValue
-summed r a = if keeps_sums r.along a then Some (record { function = r.function; axis = axis_at (length a.shape) r.along; array = a }) else None
+summed r a = if keeps_sums r a then Some (record { function = r.function; axis = axis_at (length a.shape) r.along; array = a }) else None
 
 -- a patch is laid over the array
 abbrev pub patched_sums : SummedValue → PatchValue → SummedValue

@@ -8,20 +8,19 @@ ghost use Rattle.arrays_core.specs.Items.{type_of};
 ghost use Rattle.arrays_core.specs.Shapes.{size, IsWithinLimits};
 ghost use Rattle.function_names.specs.Axes.{is_axis, axis_at};
 ghost use Rattle.index_region.specs.Patches.{FitsPatch, patched};
-ghost use Rattle.fold_trees.specs.FoldTrees.{has_trees};
 ghost use Rattle.sum_rules.specs.LineSums.{length_along, line_length, line_step, keeps_sums, summed, array_of_shape, patched_sums, grown_sums, StandFor};
 ghost use Rattle.sum_rules.specs.NewLines.{FitsSums, FitsTrees, trees_grown};
 
 use crate::new_lines::{Growth, NewLines};
 use arrays_core::{Array, Item, ItemType, Shape, places_before, shape_of, size};
-use fold_trees::FoldTrees;
+use fold_trees::{FoldTrees, has_trees};
 use index_region::{Along, Patch, Seen};
 use operator_fns::Reduce;
 use std::alloc::{AllocError, Global};
 use std::cell::Cell;
 use std::marker::Model;
 
-/// A line with no more items is folded as fast without a tree.
+/// A line with no more numbers has no tree.
 const MOST_WITHOUT_TREE: u32 = 3;
 
 /// How long the lines along an axis are, axes counted from 0; 0 where there is no such axis.
@@ -56,20 +55,20 @@ pub(crate) fn length_along(along: Along, shape: &[u32]) -> u32
     line_length(along.axis_at(rank), shape)
 }
 
-/// The folds of the lines of an array along this axis are worth keeping: it is of numbers, there are some, and its lines are long
-/// enough.
-pub fn keeps_sums(along: Along, array: &Seen) -> bool
-    ensures { result ≡ keeps_sums along array.now }
+/// Returns whether a fold of an array keeps trees: it is by `+ × ⌈ ⌊ ∧ ∨`, and the array is of numbers, has some, and has lines along the axis
+/// of more than three. Shorter lines are folded as fast without a tree.
+pub fn keeps_sums(fold: Reduce, array: &Seen) -> bool
+    ensures { result ≡ keeps_sums fold array.now }
 {
-    array.item_type() == ItemType::Nums
+    has_trees(fold.function)
+        && array.item_type() == ItemType::Nums
         && array.places() > 0
-        && length_along(along, array.shape().as_slice()) > MOST_WITHOUT_TREE
+        && length_along(fold.along, array.shape().as_slice()) > MOST_WITHOUT_TREE
 }
 
 /// The folds of the lines of an array whose lines are long enough.
 fn sums_of(alloc: Global, fold: Reduce, array: &Array) -> Result<Option<LineSums>, AllocError>
-    requires function { has_trees fold.function ≡ true }
-    requires kept { keeps_sums fold.along array.now ≡ true }
+    requires { keeps_sums fold array.now ≡ true }
     ensures { IfOk result (λ s. s ≡ summed fold array.now) }
 {
     let shape = array.shape();
@@ -167,13 +166,11 @@ impl Model for LineSums {
 }
 
 impl LineSums {
-    /// The folds of the lines of an array of numbers along an axis; none for characters, where there are no numbers or no such axis, or
-    /// where a line has no more than 3 items, which are folded as fast without a tree.
+    /// Returns the trees of the lines of an array that are folded, or none where `keeps_sums` says so. AllocError where memory for them is refused.
     pub fn of(alloc: Global, fold: Reduce, array: &Seen) -> Result<Option<LineSums>, AllocError>
-        requires { has_trees fold.function ≡ true }
         ensures { IfOk result (λ s. s ≡ summed fold array.now) }
     {
-        if !keeps_sums(fold.along, array) {
+        if !keeps_sums(fold, array) {
             return Ok(None);
         }
         match array.array() {
