@@ -67,18 +67,6 @@ rows_outside blank first meeting nodes after low high others p away = others p (
 -- ---- from one place to the one before it
 
 module _ {P : Type 0} (blank : P) (tells : P → List ℤ → Type 0) (from : ℕ) (first : Line) (slots : List ℤ) (nodes : List P) where
-  -- all parts begin at multiples of the least width
-  pub begin_from : from % 2 ≡ 0 → ArePartsKeptFrom blank tells (from + 2) first slots nodes → ArePartsKeptBehind blank tells from 1 first slots nodes
-  begin_from whole kept column below level place which inside = elim which [
-    | inl behind ↦ kept column below level place (next_multiple behind) inside
-    | inr here ↦ let no : ⊥ = omega (arith, here.1, pow_pos level) in absurd no
-  ]
-    where
-      next_multiple : from < place * (2 * 2 ^ level) → from + 2 ≤ place * (2 * 2 ^ level)
-      next_multiple behind =
-          let even : place * (2 * 2 ^ level) ≡ 2 * (place * 2 ^ level) = grind arith in
-          omega (arith, even, whole, behind)
-
   -- no wider part that begins there has a second half, or none does begin there
   pub end_from : (half at : ℕ) → half ≡ 2 ^ at → (first.count ≤ from + half ⊎ from % (2 * half) ≢ 0) → ArePartsKeptBehind blank tells from half first slots nodes
       → ArePartsKeptFrom blank tells from first slots nodes

@@ -8,6 +8,8 @@ pub mod LineSpots
 pub mod LinePlaces
 pub mod BlockRows
 pub mod BlockParts
+pub mod Fours
+pub mod FourRows
 pub mod BlockLines
 pub mod LongerTrees
 pub mod MoreLines

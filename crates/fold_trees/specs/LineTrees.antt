@@ -98,3 +98,9 @@ abbrev pub ArePartsKeptUpTo : {P : Type 0} → (P → List ℤ → Type 0) → (
 ArePartsKeptUpTo tells end width count x node = (level place : ℕ)
     → (place * (2 * 2 ^ level) + 2 * 2 ^ level < end ⊎ place * (2 * 2 ^ level) + 2 * 2 ^ level ≡ end × 2 * 2 ^ level ≤ width)
     → IsKept tells count x node (place * (2 * 2 ^ level)) (2 ^ level)
+
+-- of four numbers from a place on: of the first two, of all and of the last two
+pub record AreFourKept {P : Type 0} (tells : P → List ℤ → Type 0) (x : ℕ → ℤ) (node : ℕ → P) (from : ℕ) : Type 0 where
+  pub first : tells (node (from + 1)) (segment x from 2)
+  pub all : tells (node (from + 2)) (segment x from 4)
+  pub last : tells (node (from + 3)) (segment x (from + 2) 2)

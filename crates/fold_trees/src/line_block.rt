@@ -1,27 +1,33 @@
 //! What is kept of the parts of all lines of a block, made from the last parts to the first.
 
 ghost use Rattle.std.specs.Prelude.{◌≡◌, get_or, ℕ, ◌+◌, ◌-◌, ◌*◌, ◌/◌, ◌%◌, ◌^◌, ◌<◌, ◌≤◌, ◌++◌, min, ℤ, List, length, ◌⊎◌};
-ghost use Rattle.fold_trees.specs.LineTrees.{nth_node, slot_of, segment, node_of, ArePartsKept};
+ghost use Rattle.fold_trees.specs.LineTrees.{nth_node, slot_of, segment, node_of, ArePartsKept, AreFourKept};
 ghost use Rattle.fold_trees.specs.LineBlocks.{line_of, HaveSlots, nodes_end, HaveNodes, ArePartsKeptBehind, ArePartsKeptFrom};
 
 use crate::line::Line;
 use crate::line_tree::LineTree;
 use crate::part::Part;
 
-/// Joins two numbers that are neighbours, for each line of a block.
-fn pairs_row<P: Part>(numbers: &[i64], nodes: &mut [P], first: Line, from: usize)
+/// Joins the four numbers from a place on, two by two and all, for each line of a block.
+fn fours_row<P: Part>(numbers: &[i64], nodes: &mut [P], first: Line, from: usize)
     requires slots { HaveSlots first (length numbers.now) }
     requires nodes { HaveNodes first (length nodes.old) }
-    requires full { from + 2 ≤ first.count }
-    ensures told { (column : ℕ) → column < first.step → P.tells (node_of P.blank (line_of first column) nodes.new (from + 1)) (segment (slot_of (line_of first column) numbers.now) from 2) }
-    ensures others { (p : ℕ) → (p < nth_node first (from + 1) ⊎ nth_node first (from + 1) + first.step ≤ p) → get_or nodes.new p P.blank ≡ get_or nodes.old p P.blank }
+    requires full { from + 4 ≤ first.count }
+    ensures told { (column : ℕ) → column < first.step → AreFourKept P.tells (slot_of (line_of first column) numbers.now) (node_of P.blank (line_of first column) nodes.new) from }
+    ensures others { (p : ℕ) → (p < nth_node first (from + 1) ⊎ nth_node first (from + 3) + first.step ≤ p) → get_or nodes.new p P.blank ≡ get_or nodes.old p P.blank }
     ensures length { length nodes.new ≡ length nodes.old }
 {
+    let step = first.step;
     let row = first.slot_at(from);
     let node = first.nth_node(from + 1);
-    for column in 0..first.step {
+    for column in 0..step {
         let at = row + column;
-        nodes[node + column] = P::two(numbers[at], numbers[at + first.step]);
+        let here = node + column;
+        let earlier = P::two(numbers[at], numbers[at + step]);
+        let later = P::two(numbers[at + 2 * step], numbers[at + 3 * step]);
+        nodes[here] = earlier;
+        nodes[here + step] = earlier.join(&later);
+        nodes[here + 2 * step] = later;
     }
 }
 
@@ -77,6 +83,7 @@ fn join_row<P: Part>(numbers: &[i64], nodes: &mut [P], first: Line, from: usize,
     requires slots { HaveSlots first (length numbers.now) }
     requires nodes { HaveNodes first (length nodes.old) }
     requires half { (level : ℕ) × (half ≡ 2 ^ level) }
+    requires wide { 2 ≤ half }
     requires from { (place : ℕ) × (from ≡ place * (2 * half)) }
     requires short { from + half < first.count }
     requires kept { ArePartsKeptBehind P.blank P.tells from half first numbers.now nodes.old }
@@ -86,25 +93,48 @@ fn join_row<P: Part>(numbers: &[i64], nodes: &mut [P], first: Line, from: usize,
 {
     if first.count - from < 2 * half {
         last_row(numbers, nodes, first, from, half);
-    } else if half == 1 {
-        pairs_row(numbers, nodes, first, from);
     } else {
         halves_row(nodes, first, from, half);
     }
+}
+
+/// Joins what is kept of the parts of the next four numbers from a place on, for each line of a block, where that of the parts behind them is. Returns the width of the part that is
+/// kept from there on: 4, or 2 where the line has fewer numbers.
+fn begin_from<P: Part>(numbers: &[i64], nodes: &mut [P], first: Line, from: usize) -> usize
+    requires slots { HaveSlots first (length numbers.now) }
+    requires nodes { HaveNodes first (length nodes.old) }
+    requires four { from % 4 ≡ 0 }
+    requires below { from < first.count }
+    requires kept { ArePartsKeptFrom P.blank P.tells (from + 4) first numbers.now nodes.old }
+    ensures width { result ≡ 2 ⊎ result ≡ 4 }
+    ensures kept { ArePartsKeptBehind P.blank P.tells from result first numbers.now nodes.new }
+    ensures others { (p : ℕ) → (p < first.node ⊎ nodes_end first ≤ p) → get_or nodes.new p P.blank ≡ get_or nodes.old p P.blank }
+    ensures length { length nodes.new ≡ length nodes.old }
+{
+    let left = first.count - from;
+    if left < 2 {
+        return 2;
+    }
+    if left < 4 {
+        last_row(numbers, nodes, first, from, 1);
+        return 2;
+    }
+    fours_row(numbers, nodes, first, from);
+    4
 }
 
 /// Joins what is kept of all parts that begin at a place, for each line of a block, where that of the parts behind it is.
 fn fill_from<P: Part>(numbers: &[i64], nodes: &mut [P], first: Line, from: usize)
     requires slots { HaveSlots first (length numbers.now) }
     requires nodes { HaveNodes first (length nodes.old) }
-    requires two { from % 2 ≡ 0 }
+    requires four { from % 4 ≡ 0 }
     requires below { from < first.count }
-    requires kept { ArePartsKeptFrom P.blank P.tells (from + 2) first numbers.now nodes.old }
+    requires kept { ArePartsKeptFrom P.blank P.tells (from + 4) first numbers.now nodes.old }
     ensures kept { ArePartsKeptFrom P.blank P.tells from first numbers.now nodes.new }
     ensures others { (p : ℕ) → (p < first.node ⊎ nodes_end first ≤ p) → get_or nodes.new p P.blank ≡ get_or nodes.old p P.blank }
     ensures length { length nodes.new ≡ length nodes.old }
 {
-    let mut half = 1;
+    let mut half = begin_from(numbers, nodes, first, from);
     while half < first.count - from && from % (2 * half) == 0 {
         join_row(numbers, nodes, first, from, half);
         half = 2 * half;
@@ -119,9 +149,9 @@ pub(crate) fn fill_block<P: Part>(numbers: &[i64], nodes: &mut [P], first: Line)
     ensures others { (p : ℕ) → (p < first.node ⊎ nodes_end first ≤ p) → get_or nodes.new p P.blank ≡ get_or nodes.old p P.blank }
     ensures length { length nodes.new ≡ length nodes.old }
 {
-    let mut pairs = first.count.div_ceil(2);
-    while pairs > 0 {
-        pairs -= 1;
-        fill_from(numbers, nodes, first, 2 * pairs);
+    let mut fours = first.count.div_ceil(4);
+    while fours > 0 {
+        fours -= 1;
+        fill_from(numbers, nodes, first, 4 * fours);
     }
 }

@@ -31,18 +31,6 @@ fn close_parts<P: Part>(nodes: &mut [P], line: Line, end: usize, width: usize)
     }
 }
 
-/// Puts a node behind the others, for which there is room. It takes no memory.
-fn push_node<P: Part>(nodes: &mut Vec<P>, node: P)
-    requires { vec_len nodes.old < vec_capacity nodes.old }
-    ensures items { nodes.new.items ≡ nodes.old.items ++ node ∷ [] }
-    ensures room { vec_capacity nodes.old ≤ vec_capacity nodes.new }
-{
-    match nodes.push(node) {
-        Ok(()) => (),
-        Err(_) => unreachable!(),
-    }
-}
-
 /// What is kept of the two numbers from a place on of a line whose numbers are neighbours.
 fn two_from<P: Part>(numbers: &[i64], line: Line, from: usize) -> P
     requires slots { HasSlots line (length numbers.now) }
@@ -70,8 +58,8 @@ fn push_pair<P: Part>(numbers: &[i64], nodes: &mut Vec<P>, line: Line, from: usi
     ensures room { vec_capacity nodes.old ≤ vec_capacity nodes.new }
 {
     let pair: P = two_from(numbers, line, from);
-    push_node(nodes, pair);
-    push_node(nodes, pair);
+    nodes.push_reserved(pair);
+    nodes.push_reserved(pair);
     close_parts(nodes, line, from + 2, 2);
 }
 
@@ -93,10 +81,10 @@ fn push_four<P: Part>(numbers: &[i64], nodes: &mut Vec<P>, line: Line, from: usi
 {
     let first: P = two_from(numbers, line, from);
     let second: P = two_from(numbers, line, from + 2);
-    push_node(nodes, first);
-    push_node(nodes, first.join(&second));
-    push_node(nodes, second);
-    push_node(nodes, second);
+    nodes.push_reserved(first);
+    nodes.push_reserved(first.join(&second));
+    nodes.push_reserved(second);
+    nodes.push_reserved(second);
     close_parts(nodes, line, from + 4, 4);
 }
 
@@ -136,7 +124,7 @@ pub(crate) fn push_line<P: Part>(numbers: &[i64], nodes: &mut Vec<P>, line: Line
     push_fours(numbers, nodes, line);
     let last = line.count - 1;
     if last % 2 == 1 {
-        push_node(nodes, P::of(numbers[line.slot + last]));
+        nodes.push_reserved(P::of(numbers[line.slot + last]));
     }
     renew(numbers, nodes, line, last);
 }

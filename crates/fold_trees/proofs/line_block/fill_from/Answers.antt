@@ -1,17 +1,29 @@
-use Rattle.std.proofs.Common.{◌∙◌, suc, ◌*◌, ◌/◌, refl, ap, arith, inl, inr}
+use Rattle.std.proofs.Common.{◌∙◌, suc, ◌*◌, ◌/◌, refl, ap, sym, arith, inl, inr}
 use Rattle.std.proofs.lemmas.Nat.{div-add-mod'}
 use Rattle.fold_trees.specs.LineTrees.{slot_of}
-use Rattle.fold_trees.proofs.BlockParts.{begin_from, end_from}
+use Rattle.fold_trees.proofs.BlockParts.{end_from}
 use Rattle.fold_trees.proofs.line_block.fill_from.Goals as goal
 
 pub loop-half-init : goal.loop-half-init
-loop-half-init g c = record {
-  half = (0, refl);
-  whole = (c.args.from, grind arith);
-  kept = begin_from g.P.Part.blank g.P.Part.tells c.args.from c.args.first c.args.numbers.now c.args.nodes.now c.requires.two c.requires.kept;
-  others = λ p away. refl;
-  sized = refl;
-}
+loop-half-init g c =
+    let kept = c.begin_from-half.ensures in
+    record {
+      half = elim kept.width [
+        | inl two ↦ (1, two)
+        | inr four ↦ (2, four)
+      ];
+      wide = elim kept.width [
+        | inl two ↦ omega (arith, two)
+        | inr four ↦ omega (arith, four)
+      ];
+      whole = elim kept.width [
+        | inl two ↦ (c.args.from / 2, omega (arith, c.requires.four) ∙ sym (ap (λ k. c.args.from / 2 * k) two))
+        | inr four ↦ (c.args.from / 4, omega (arith, c.requires.four) ∙ sym (ap (λ k. c.args.from / 4 * k) four))
+      ];
+      kept = kept.kept;
+      others = λ p away. refl;
+      sized = refl;
+    }
 
 pub join_row-requires-clause-from : goal.join_row-requires-clause-from
 join_row-requires-clause-from g c =
@@ -25,6 +37,7 @@ loop-half-preserved g c =
     let parts = div-add-mod' c.args.from (2 * c.loop-half.half) in
     record {
       half = (suc inv.half.0, ap (λ k. 2 * k) inv.half.1 ∙ grind arith);
+      wide = omega (arith, inv.wide);
       whole = (c.args.from / (2 * c.loop-half.half), omega (arith, parts, c.if-from-half-eq0.true));
       kept = joined.kept;
       others = λ p away. joined.others p away ∙ inv.others p away;

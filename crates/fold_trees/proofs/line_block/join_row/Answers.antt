@@ -8,7 +8,7 @@ use Rattle.fold_trees.proofs.line_block.join_row.Goals as goal
 
 pub halves_row-requires-clause-told : goal.halves_row-requires-clause-told
 halves_row-requires-clause-told g c column below =
-    let low = quarter c.args.half c.requires.half.0 c.requires.half.1 c.if-half-eq1.false in (
+    let low = quarter c.args.half c.requires.half.0 c.requires.half.1 (λ e. let no : ⊥ = omega (arith, e, c.requires.wide) in no) in (
       segment (slot_of (line_of c.args.first column) c.args.numbers.now) c.args.from c.args.half,
       half_told g.P.Part.blank g.P.Part.tells c.args.from c.args.half low.0 c.requires.from.0 c.args.first c.args.numbers.now c.args.nodes.now low.1 c.requires.from.1
           (omega (arith, c.if-first-from.false, c.requires.short)) c.requires.kept column below,
@@ -16,7 +16,7 @@ halves_row-requires-clause-told g c column below =
 
 pub halves_row-requires-clause-later : goal.halves_row-requires-clause-later
 halves_row-requires-clause-later g c column below =
-    let low = quarter c.args.half c.requires.half.0 c.requires.half.1 c.if-half-eq1.false in (
+    let low = quarter c.args.half c.requires.half.0 c.requires.half.1 (λ e. let no : ⊥ = omega (arith, e, c.requires.wide) in no) in (
       segment (slot_of (line_of c.args.first column) c.args.numbers.now) (c.args.from + c.args.half) c.args.half,
       later_told g.P.Part.blank g.P.Part.tells c.args.from c.args.half low.0 c.requires.from.0 c.args.first c.args.numbers.now c.args.nodes.now low.1 c.requires.from.1
           (omega (arith, c.if-first-from.false, c.requires.short)) c.requires.kept column below,
@@ -27,28 +27,8 @@ returns-then-first-from-clause-kept g c =
     kept_on g.P.Part.blank g.P.Part.tells c.args.first c.args.numbers.now c.args.nodes.now c.last_row.new.nodes c.requires.half.0 c.requires.from.0 c.args.from c.args.half
     c.requires.half.1 c.requires.from.1 c.last_row.ensures.others c.last_row.ensures.told c.requires.kept
 
-pub returns-then-half-eq1-clause-kept : goal.returns-then-half-eq1-clause-kept
-returns-then-half-eq1-clause-kept g c =
-    let first = c.args.first in
-    let numbers = c.args.numbers.now in
-    let from = c.args.from in
-    let half = c.args.half in
-    let tells = g.P.Part.tells in
-    let blank = g.P.Part.blank in
-    let after = c.pairs_row.new.nodes in
-    let one : 1 ≡ half = sym c.if-half-eq1.true in
-    let long : 2 ≡ min (2 * half) (first.count - from) = omega (arith, one, c.if-first-from.false, c.requires.short) in
-    let nodes = c.args.nodes.now in
-    let others = subst (λ h. (p : ℕ) → (p < nth_node first (from + h) ⊎ nth_node first (from + h) + first.step ≤ p) → get_or after p blank ≡ get_or nodes p blank) one
-    c.pairs_row.ensures.others in
-    kept_on blank tells first numbers nodes after c.requires.half.0 c.requires.from.0 from half c.requires.half.1 c.requires.from.1 others
-    (λ column below. subst (tells (node_of blank (line_of first column) after (from + half))) (ap (segment (slot_of (line_of first column) numbers) from) long)
-    (subst (λ h. tells (node_of blank (line_of first column) after (from + h)) (segment (slot_of (line_of first column) numbers) from 2)) one
-    (c.pairs_row.ensures.told column below)))
-    c.requires.kept
-
-pub returns-else-half-eq1-clause-kept : goal.returns-else-half-eq1-clause-kept
-returns-else-half-eq1-clause-kept g c =
+pub returns-else-first-from-clause-kept : goal.returns-else-first-from-clause-kept
+returns-else-first-from-clause-kept g c =
     let first = c.args.first in
     let numbers = c.args.numbers.now in
     let from = c.args.from in
@@ -57,7 +37,7 @@ returns-else-half-eq1-clause-kept g c =
     let blank = g.P.Part.blank in
     let nodes = c.args.nodes.now in
     let after = c.halves_row.new.nodes in
-    let low = quarter half c.requires.half.0 c.requires.half.1 c.if-half-eq1.false in
+    let low = quarter half c.requires.half.0 c.requires.half.1 (λ e. let no : ⊥ = omega (arith, e, c.requires.wide) in no) in
     let full : from + 2 * half ≤ first.count = omega (arith, c.if-first-from.false, c.requires.short) in
     let long : half + half ≡ min (2 * half) (first.count - from) = omega (arith, full) in
     kept_on blank tells first numbers nodes after c.requires.half.0 c.requires.from.0 from half c.requires.half.1 c.requires.from.1 c.halves_row.ensures.others
@@ -69,7 +49,7 @@ returns-else-half-eq1-clause-kept g c =
     (later_told blank tells from half low.0 c.requires.from.0 first numbers nodes low.1 c.requires.from.1 full c.requires.kept column below)))
     c.requires.kept
 
-pub returns-else-half-eq1-clause-others : goal.returns-else-half-eq1-clause-others
-returns-else-half-eq1-clause-others g c =
+pub returns-else-first-from-clause-others : goal.returns-else-first-from-clause-others
+returns-else-first-from-clause-others g c =
     rows_outside g.P.Part.blank c.args.first (c.args.from + c.args.half) c.args.nodes.now c.halves_row.new.nodes
-    (omega (arith, c.if-half-eq1.false, c.requires.half.1, pow_pos c.requires.half.0)) c.requires.short c.halves_row.ensures.others
+    (omega (arith, c.requires.wide)) c.requires.short c.halves_row.ensures.others

@@ -3,7 +3,7 @@ use Rattle.std.proofs.lemmas.List.{take_at, length-append, get_or_append_left, g
 use Rattle.fold_trees.specs.LineTrees.{nth_node, slot_of, segment, node_of, ArePartsKeptIn, ArePartsKeptUpTo}
 use Rattle.fold_trees.proofs.LineEnds.{near_node}
 use Rattle.fold_trees.proofs.Segments.{segment_split}
-use Rattle.fold_trees.proofs.PairEnds.{four_more}
+use Rattle.fold_trees.proofs.Fours.{four_more}
 use Rattle.fold_trees.proofs.neighbours.push_four.Goals as goal
 use Rattle.fold_trees.proofs.neighbours.push_four.Goals.{After-deref_mut}
 use Rattle.fold_trees.proofs.neighbours.push_four.Given.{Over}
@@ -46,10 +46,10 @@ module _ {P : Type 0} (blank : P) (nodes : List P) (a b c d : P) where
 -- the nodes that are pushed
 pushed : (g : Over) (c : After-deref_mut g) → c.deref_mut.result.now ≡ all g.P.Part.blank c.args.nodes.now.items c.two_from-first.result c.join.result c.two_from-second.result c.two_from-second.result
 pushed g c =
-    c.deref_mut.ensures.value ∙ c.push_node-4.ensures.items
-    ∙ ap (λ ns. ns ++ c.two_from-second.result ∷ []) (c.push_node-3.ensures.items
-    ∙ ap (λ ns. ns ++ c.two_from-second.result ∷ []) (c.push_node-2.ensures.items
-    ∙ ap (λ ns. ns ++ c.join.result ∷ []) c.push_node.ensures.items))
+    c.deref_mut.ensures.value ∙ c.push_reserved-4.ensures.items
+    ∙ ap (λ ns. ns ++ c.two_from-second.result ∷ []) (c.push_reserved-3.ensures.items
+    ∙ ap (λ ns. ns ++ c.two_from-second.result ∷ []) (c.push_reserved-2.ensures.items
+    ∙ ap (λ ns. ns ++ c.join.result ∷ []) c.push_reserved.ensures.items))
 
 -- what was there before
 before : (g : Over) (c : After-deref_mut g) (p : ℕ) → p < c.args.line.node + c.args.from → get_or c.deref_mut.result.now p g.P.Part.blank ≡ get_or c.args.nodes.now.items p g.P.Part.blank
@@ -81,9 +81,11 @@ kept g c =
     let joined : tells b (segment x from 4) = subst (tells b) (sym (segment_split x from 2 2)) (c.join.ensures (segment x from 2) (segment x (from + 2) 2) c.two_from-first.ensures c.two_from-second.ensures) in
     four_more tells from line.count x (node_of blank line nodes) (node_of blank line now) c.requires.four (omega (arith, c.requires.full))
     (λ meeting some below. before g c (nth_node line meeting) (omega (arith, near_node line meeting near, some, below)))
-    (subst (λ t. tells t (segment x from 2)) (sym first) c.two_from-first.ensures)
-    (subst (λ t. tells t (segment x from 4)) (sym both) joined)
-    (subst (λ t. tells t (segment x (from + 2) 2)) (sym second) c.two_from-second.ensures) c.requires.kept
+    (record {
+      first = subst (λ t. tells t (segment x from 2)) (sym first) c.two_from-first.ensures;
+      all = subst (λ t. tells t (segment x from 4)) (sym both) joined;
+      last = subst (λ t. tells t (segment x (from + 2) 2)) (sym second) c.two_from-second.ensures;
+    }) c.requires.kept
 
 pub join-requires-clause-here : goal.join-requires-clause-here
 join-requires-clause-here g c = (segment (slot_of c.args.line c.args.numbers.now) c.args.from 2, c.two_from-first.ensures)
@@ -102,14 +104,14 @@ returns-clause-kept g c =
     let line = c.args.line in
     let x = slot_of line c.args.numbers.now in
     let nodes = c.close_parts.new.nodes in
-    let long : length nodes ≡ c.push_node-4.new.nodes.len = c.close_parts.ensures.length ∙ c.deref_mut.ensures.len in
+    let long : length nodes ≡ c.push_reserved-4.new.self.len = c.close_parts.ensures.length ∙ c.deref_mut.ensures.len in
     subst (λ ns. ArePartsKeptIn g.P.Part.tells 0 (c.args.from + 4) line.count x (node_of g.P.Part.blank line ns))
-    (sym (take_at nodes (drop (length nodes) c.push_node-4.new.nodes.items) c.push_node-4.new.nodes.len long))
+    (sym (take_at nodes (drop (length nodes) c.push_reserved-4.new.self.items) c.push_reserved-4.new.self.len long))
     (c.close_parts.ensures.kept x (kept g (goal.at.returns-clause-kept g c).After-deref_mut))
 
 pub returns-clause-others : goal.returns-clause-others
 returns-clause-others g c p below =
     let nodes = c.close_parts.new.nodes in
-    let long : length nodes ≡ c.push_node-4.new.nodes.len = c.close_parts.ensures.length ∙ c.deref_mut.ensures.len in
-    ap (λ ns. get_or ns p g.P.Part.blank) (take_at nodes (drop (length nodes) c.push_node-4.new.nodes.items) c.push_node-4.new.nodes.len long)
+    let long : length nodes ≡ c.push_reserved-4.new.self.len = c.close_parts.ensures.length ∙ c.deref_mut.ensures.len in
+    ap (λ ns. get_or ns p g.P.Part.blank) (take_at nodes (drop (length nodes) c.push_reserved-4.new.self.items) c.push_reserved-4.new.self.len long)
     ∙ c.close_parts.ensures.others p below ∙ before g (goal.at.returns-clause-others g c).After-deref_mut p (omega (arith, below))

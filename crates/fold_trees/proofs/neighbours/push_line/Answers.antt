@@ -15,7 +15,7 @@ before g c p below =
     ap (λ ns. get_or ns p blank) c.deref_mut.ensures.value
     ∙ elim c.if-last-eq1.branch [
       | then-last-eq1 w ↦
-          ap (λ v. get_or v.items p blank) w.nodes-is ∙ ap (λ ns. get_or ns p blank) w.push_node.ensures.items
+          ap (λ v. get_or v.items p blank) w.nodes-is ∙ ap (λ ns. get_or ns p blank) w.push_reserved.ensures.items
           ∙ get_or_append_left nodes (w.of.result ∷ []) blank p (omega (arith, long, below))
       | else-last-eq1 w ↦ ap (λ v. get_or v.items p blank) w.nodes-is
     ]

@@ -8,7 +8,7 @@ use Rattle.fold_trees.proofs.neighbours.push_pair.Given.{Over}
 
 -- the nodes that are pushed
 pushed : (g : Over) (c : After-deref_mut g) → c.deref_mut.result.now ≡ (c.args.nodes.now.items ++ c.two_from-pair.result ∷ []) ++ c.two_from-pair.result ∷ []
-pushed g c = c.deref_mut.ensures.value ∙ c.push_node-2.ensures.items ∙ ap (λ ns. ns ++ c.two_from-pair.result ∷ []) c.push_node.ensures.items
+pushed g c = c.deref_mut.ensures.value ∙ c.push_reserved-2.ensures.items ∙ ap (λ ns. ns ++ c.two_from-pair.result ∷ []) c.push_reserved.ensures.items
 
 -- what was there before
 before : (g : Over) (c : After-deref_mut g) (p : ℕ) → p < c.args.line.node + c.args.from → get_or c.deref_mut.result.now p g.P.Part.blank ≡ get_or c.args.nodes.now.items p g.P.Part.blank
@@ -56,14 +56,14 @@ returns-clause-kept g c =
     let line = c.args.line in
     let x = slot_of line c.args.numbers.now in
     let nodes = c.close_parts.new.nodes in
-    let long : length nodes ≡ c.push_node-2.new.nodes.len = c.close_parts.ensures.length ∙ c.deref_mut.ensures.len in
+    let long : length nodes ≡ c.push_reserved-2.new.self.len = c.close_parts.ensures.length ∙ c.deref_mut.ensures.len in
     subst (λ ns. ArePartsKeptIn g.P.Part.tells 0 (c.args.from + 2) line.count x (node_of g.P.Part.blank line ns))
-    (sym (take_at nodes (drop (length nodes) c.push_node-2.new.nodes.items) c.push_node-2.new.nodes.len long))
+    (sym (take_at nodes (drop (length nodes) c.push_reserved-2.new.self.items) c.push_reserved-2.new.self.len long))
     (c.close_parts.ensures.kept x (kept g (goal.at.returns-clause-kept g c).After-deref_mut))
 
 pub returns-clause-others : goal.returns-clause-others
 returns-clause-others g c p below =
     let nodes = c.close_parts.new.nodes in
-    let long : length nodes ≡ c.push_node-2.new.nodes.len = c.close_parts.ensures.length ∙ c.deref_mut.ensures.len in
-    ap (λ ns. get_or ns p g.P.Part.blank) (take_at nodes (drop (length nodes) c.push_node-2.new.nodes.items) c.push_node-2.new.nodes.len long)
+    let long : length nodes ≡ c.push_reserved-2.new.self.len = c.close_parts.ensures.length ∙ c.deref_mut.ensures.len in
+    ap (λ ns. get_or ns p g.P.Part.blank) (take_at nodes (drop (length nodes) c.push_reserved-2.new.self.items) c.push_reserved-2.new.self.len long)
     ∙ c.close_parts.ensures.others p below ∙ before g (goal.at.returns-clause-others g c).After-deref_mut p (omega (arith, below))

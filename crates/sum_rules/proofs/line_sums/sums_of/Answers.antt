@@ -17,4 +17,4 @@ build-requires-clause-whole c =
     let count : c.line_length-count.result ≡ line_length (axis_at (length a.shape) c.args.fold.along) a.shape = c.line_length-count.ensures ∙ (λ i. line_length (axis i) (shaped i)) in
     let step : c.line_step-step.result ≡ line_step (axis_at (length a.shape) c.args.fold.along) a.shape = c.line_step-step.ensures ∙ (λ i. line_step (axis i) (shaped i)) in
     let many : length numbers ≡ size a.shape = sym (length-map numbers (λ (z : ℤ). Num z)) ∙ ap length (sym c.in-Some.ensures.is.1) ∙ c.shape-shape.ensures.sound.one_item_a_place in
-    (λ i. many i % (count i * step i)) ∙ whole_lines (axis_at (length a.shape) c.args.fold.along) a.shape (kept_parts c.args.fold a c.requires.kept).there
+    (λ i. many i % (count i * step i)) ∙ whole_lines (axis_at (length a.shape) c.args.fold.along) a.shape (kept_parts c.args.fold a c.requires).there
