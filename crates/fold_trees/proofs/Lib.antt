@@ -2,6 +2,7 @@ pub mod Segments
 pub mod Halves
 pub mod LineParts
 pub mod LineNodes
+pub mod LineJoins
 pub mod LineEnds
 pub mod PairEnds
 pub mod LineSpots

@@ -1,6 +1,7 @@
 -- What public contracts mean.
 pub mod FoldTrees
 pub mod ArrayLines
+pub mod Joined
 -- What proofs and bodies use.
 pub mod FoldKinds
 pub mod Parts

@@ -1,5 +1,5 @@
 -- Where a line of numbers lies, and what is kept of its parts.
-use Rattle.std.specs.Prelude.{◌≡◌, ℕ, zero, suc, ◌+◌, ◌-◌, ◌*◌, ◌%◌, ◌^◌, ◌<◌, ◌≤◌, min, nat_eq, ℤ, pos, List, [], ◌∷◌, get_or, if◌then◌else◌, ◌⊎◌}
+use Rattle.std.specs.Prelude.{◌≡◌, ℕ, zero, suc, ◌+◌, ◌-◌, ◌*◌, ◌/◌, ◌%◌, ◌^◌, ◌<◌, ◌≤◌, min, nat_eq, ℤ, pos, List, [], ◌∷◌, length, get_or, if◌then◌else◌, ◌⊎◌}
 use Rattle.fold_trees.specs.declared.line.Line.{Line}
 
 -- the slot of a place
@@ -104,3 +104,15 @@ pub record AreFourKept {P : Type 0} (tells : P → List ℤ → Type 0) (x : ℕ
   pub first : tells (node (from + 1)) (segment x from 2)
   pub all : tells (node (from + 2)) (segment x from 4)
   pub last : tells (node (from + 3)) (segment x (from + 2) 2)
+
+-- ---- what is joined where the number at a place is another
+
+-- the block of a place so many levels up, blocks of one width counted from 0
+abbrev pub block_up : (place level : ℕ) → ℕ
+block_up place zero = place
+block_up place (suc level) = block_up place level / 2
+
+-- parts tell the numbers of the blocks of a place, one part for each width, from two numbers to all
+pub record AreJoined {P : Type 0} (tells : P → List ℤ → Type 0) (count : ℕ) (x : ℕ → ℤ) (place : ℕ) (parts : List P) : Type 0 where
+  pub each : (level : ℕ) (blank : P) → level < length parts → tells (get_or parts level blank) (numbers_of_block count x (block_up place (suc level)) (2 ^ suc level))
+  pub enough : count ≤ 2 ^ length parts

@@ -1,9 +1,9 @@
 -- The trees of all lines of an array along one axis, in a list of numbers and a list of nodes.
 use Rattle.std.specs.Prelude.{◌≡◌, ℕ, ◌+◌, ◌*◌, ◌/◌, ◌%◌, ◌^◌, ◌<◌, max, ℤ, List, [], length}
 use Rattle.arrays_core.specs.Growth.{IsRoomy, HasRoom}
-use Rattle.fold_trees.specs.ArrayLines.{TreesValue, line_count}
-use Rattle.fold_trees.specs.LineTrees.{nodes_in_line}
-use Rattle.fold_trees.specs.LineBlocks.{AreAllKept}
+use Rattle.fold_trees.specs.ArrayLines.{TreesValue, line_count, line_through}
+use Rattle.fold_trees.specs.LineTrees.{nodes_in_line, slot_of, replaced, AreJoined}
+use Rattle.fold_trees.specs.LineBlocks.{line_at, AreAllKept}
 
 -- so many numbers are those of whole lines, blocks of as many as the step
 pub record AreLines (count step numbers : ℕ) : Type 0 where
@@ -27,6 +27,12 @@ pub record ArePartTrees {P : Type 0} (blank : P) (tells : P → List ℤ → Typ
 pub record IsOneLine (t : TreesValue) : Type 0 where
   pub near : t.step ≡ 1
   pub long : t.count ≡ max 1 (length t.numbers)
+
+-- parts are those of the line that a place is on, one for each width, where the number at this place is another
+abbrev pub AreJoinedFor : {P : Type 0} → (P → List ℤ → Type 0) → TreesValue → (place : ℕ) → ℤ → List P → Type 0
+AreJoinedFor tells t place number parts =
+    let at = place / t.step % t.count in
+    AreJoined tells t.count (replaced (slot_of (line_at t.count t.step (line_through t.count t.step place)) t.numbers) at number) at parts
 
 -- ---- further lines
 

@@ -1,10 +1,12 @@
 //! The trees of the lines of an array that are folded by one of several functions.
 
-ghost use Rattle.std.specs.Prelude.{◌≡◌, ◌+◌, ◌-◌, ◌*◌, ◌%◌, ◌^◌, ◌<◌, ◌==◌, ◌++◌, ◌∷◌, [], true, length, IfOk};
+ghost use Rattle.std.specs.Prelude.{◌≡◌, ◌+◌, ◌-◌, ◌*◌, ◌%◌, ◌^◌, ◌<◌, ◌==◌, ◌++◌, ◌∷◌, [], true, length, IfOk, OnOk};
 ghost use Rattle.fold_trees.specs.FoldTrees.{IsWithinDigitsOf, has_trees, AreFoldedBehind, AreFoldedNext, IsReductionBy};
 ghost use Rattle.fold_trees.specs.ArrayLines.{line_count, numbers_of_line, with_lines, with_number, with_places, numbers_through};
+ghost use Rattle.fold_trees.specs.Joined.{ArePartsFor, IsJoinedFor};
 
 use crate::extremes::{Greatest, Least};
+use crate::joined::{Joined, JoinedParts};
 use crate::part_trees::{NewParts, NextParts, PartTrees};
 use crate::product::Product;
 use crate::summary::Summary;
@@ -209,18 +211,76 @@ impl FoldTrees {
         }
     }
 
+    /// Does what `result_with` does, and keeps the fold and the parts that it joins, in place of those that were kept, for `set_joined`. It takes
+    /// memory only for more parts than were kept at any time; AllocError where that is refused.
+    pub fn join(&self, place: usize, number: i64, joined: &mut Joined) -> Result<(), AllocError>
+        requires { place < length self.now.lines.numbers }
+        ensures joined { OnOk result (IsJoinedFor self.now joined.new) }
+        ensures place { OnOk result (joined.new.place ≡ place) }
+        ensures number { OnOk result (joined.new.number ≡ number) }
+    {
+        let (total, joins) = self.join_parts(place, number, &mut joined.parts)?;
+        joined.place = place;
+        joined.number = number;
+        joined.total = total;
+        joined.joins = joins;
+        Ok(())
+    }
+
+    /// Does what `result_with` does, and puts the parts that it joins in the list of the function. AllocError where memory for more of them is
+    /// refused.
+    fn join_parts(
+        &self,
+        place: usize,
+        number: i64,
+        parts: &mut JoinedParts,
+    ) -> Result<(Result<i64, Kind>, u32), AllocError>
+        requires { place < length self.now.lines.numbers }
+        ensures parts { IfOk result (λ r. ArePartsFor self.now.function self.now.lines place number parts.new) }
+        ensures result { IfOk result (λ r. IsReductionBy self.now.function (numbers_through (with_number self.now.lines place number) place) r.0) }
+        ensures most { IfOk result (λ r. IsWithinDigitsOf (self.now.lines.count - 1) r.1) }
+        ensures least { IfOk result (λ r. 1 < self.now.lines.count → 0 < r.1) }
+    {
+        match &self.trees {
+            Trees::Sum(trees) => trees.join(place, number, &mut parts.sums),
+            Trees::Product(trees) => trees.join(place, number, &mut parts.products),
+            Trees::Greatest(trees) => trees.join(place, number, &mut parts.greatest),
+            Trees::Least(trees) => trees.join(place, number, &mut parts.least),
+            Trees::AllTrue(trees) => trees.join(place, number, &mut parts.all_true),
+            Trees::AnyTrue(trees) => trees.join(place, number, &mut parts.any_true),
+        }
+    }
+
+    /// Puts the number at the place for which it was joined, and writes the parts that were joined for it. It joins nothing, and takes no memory.
+    pub fn set_joined(&mut self, joined: &Joined)
+        requires { IsJoinedFor self.old joined.now }
+        ensures { self.new ≡ record { function = self.old.function; lines = with_number self.old.lines joined.now.place joined.now.number } }
+    {
+        let place = joined.place;
+        let number = joined.number;
+        let parts = &joined.parts;
+        match &mut self.trees {
+            Trees::Sum(trees) => trees.set(place, number, Some(parts.sums.as_slice())),
+            Trees::Product(trees) => trees.set(place, number, Some(parts.products.as_slice())),
+            Trees::Greatest(trees) => trees.set(place, number, Some(parts.greatest.as_slice())),
+            Trees::Least(trees) => trees.set(place, number, Some(parts.least.as_slice())),
+            Trees::AllTrue(trees) => trees.set(place, number, Some(parts.all_true.as_slice())),
+            Trees::AnyTrue(trees) => trees.set(place, number, Some(parts.any_true.as_slice())),
+        }
+    }
+
     /// Puts another number at a place of all lines, places counted from 0. It takes no memory.
     pub fn set(&mut self, place: usize, number: i64)
         requires { place < length self.old.lines.numbers }
         ensures { self.new ≡ record { function = self.old.function; lines = with_number self.old.lines place number } }
     {
         match &mut self.trees {
-            Trees::Sum(trees) => trees.set(place, number),
-            Trees::Product(trees) => trees.set(place, number),
-            Trees::Greatest(trees) => trees.set(place, number),
-            Trees::Least(trees) => trees.set(place, number),
-            Trees::AllTrue(trees) => trees.set(place, number),
-            Trees::AnyTrue(trees) => trees.set(place, number),
+            Trees::Sum(trees) => trees.set(place, number, None),
+            Trees::Product(trees) => trees.set(place, number, None),
+            Trees::Greatest(trees) => trees.set(place, number, None),
+            Trees::Least(trees) => trees.set(place, number, None),
+            Trees::AllTrue(trees) => trees.set(place, number, None),
+            Trees::AnyTrue(trees) => trees.set(place, number, None),
         }
     }
 

@@ -3,6 +3,7 @@
 
 mod extremes;
 mod fold_trees;
+mod joined;
 mod line;
 mod line_block;
 mod line_tree;
@@ -15,4 +16,5 @@ mod summary;
 mod truths;
 
 pub use fold_trees::{FoldTrees, NewFolds, NextFolds, has_trees};
+pub use joined::Joined;
 pub use sum_tree::SumTree;

@@ -1,11 +1,12 @@
 //! What is kept of the parts of one line of numbers, among lists that hold those of several.
 
-ghost use Rattle.std.specs.Prelude.{◌≡◌, ◌≢◌, pos, get_or, ℕ, ◌+◌, ◌-◌, ◌*◌, ◌/◌, ◌%◌, ◌^◌, ◌<◌, ◌≤◌, min, ℤ, List, length};
+ghost use Rattle.std.specs.Prelude.{◌≡◌, ◌≢◌, pos, get_or, ℕ, ◌+◌, ◌-◌, ◌*◌, ◌/◌, ◌%◌, ◌^◌, ◌<◌, ◌≤◌, min, ℤ, List, [], length, IfOk, IfSome};
 ghost use Rattle.fold_trees.specs.FoldTrees.{IsWithinDigitsOf};
-ghost use Rattle.fold_trees.specs.LineTrees.{slot_at, nth_node, slot_of, IsPart, AreSameIn, other_half, replaced, shorter, segment, numbers_of_block, IsIn, node_of, ArePartsKept, ArePartsKeptIn, ArePartsKeptBeside};
+ghost use Rattle.fold_trees.specs.LineTrees.{slot_at, nth_node, slot_of, IsPart, AreSameIn, other_half, replaced, shorter, segment, numbers_of_block, HasNodes, IsIn, node_of, ArePartsKept, ArePartsKeptIn, ArePartsKeptBeside, AreJoined};
 
 use crate::line::Line;
 use crate::part::Part;
+use std::alloc::AllocError;
 
 /// A line with the lists that it lies in.
 #[derive(Clone, Copy)]
@@ -90,6 +91,39 @@ impl<'a, P: Part> LineTree<'a, P> {
         }
         (kept, joins)
     }
+
+    /// Does what `with` does, and appends the part of each width that it makes, from two numbers to all. It takes memory only beyond the
+    /// capacity of the list; AllocError where that is refused.
+    pub(crate) fn join_up(
+        &self,
+        place: usize,
+        number: i64,
+        parts: &mut Vec<P>,
+    ) -> Result<(P, u32), AllocError>
+        requires inside { IsIn self.now.line (length self.now.numbers.now) (length self.now.nodes.now) }
+        requires place { place < self.now.line.count }
+        requires kept { ArePartsKept P.tells self.now.line.count (slot_of self.now.line self.now.numbers.now) (node_of P.blank self.now.line self.now.nodes.now) }
+        requires none { parts.old.items ≡ [] }
+        ensures parts { IfOk result (λ r. AreJoined P.tells self.now.line.count (replaced (slot_of self.now.line self.now.numbers.now) place number) place parts.new.items) }
+        ensures is { IfOk result (λ r. P.tells r.0 (segment (replaced (slot_of self.now.line self.now.numbers.now) place number) 0 self.now.line.count)) }
+        ensures most { IfOk result (λ r. IsWithinDigitsOf (self.now.line.count - 1) r.1) }
+        ensures least { IfOk result (λ r. 1 < self.now.line.count → 0 < r.1) }
+    {
+        let mut kept = P::of(number);
+        let mut block = place;
+        let mut width = 1;
+        let mut joins = 0;
+        let count = self.line.count;
+        while width < count {
+            let (wider, more) = self.widened(block, width, &kept);
+            kept = wider;
+            joins += more;
+            block /= 2;
+            width = 2 * width;
+            parts.push(wider)?;
+        }
+        Ok((kept, joins))
+    }
 }
 
 /// Joins anew what is kept of the parts that a place is in.
@@ -120,17 +154,46 @@ pub(crate) fn renew<P: Part>(numbers: &[i64], nodes: &mut [P], line: Line, place
     }
 }
 
-/// Puts another number at a place of a line, and joins anew what is kept of the parts that the place is in.
+/// Writes the parts that `join_up` joined for a place of a line as nodes. It joins nothing.
+fn put_parts<P: Part>(nodes: &mut [P], line: Line, place: usize, parts: &[P])
+    requires few { line.count < 2 ^ 62 }
+    requires apart { 0 < line.step }
+    requires nodes { HasNodes line (length nodes.old) }
+    requires place { place < line.count }
+    requires joined { line.count ≤ 2 ^ length parts.now }
+    ensures kept { (x : ℕ → ℤ) → ArePartsKeptBeside P.tells place line.count x (node_of P.blank line nodes.old) → AreJoined P.tells line.count x place parts.now
+        → ArePartsKept P.tells line.count x (node_of P.blank line nodes.new) }
+    ensures others { (p : ℕ) → ((meeting : ℕ) → 1 ≤ meeting → meeting < line.count → p ≢ nth_node line meeting) → get_or nodes.new p P.blank ≡ get_or nodes.old p P.blank }
+    ensures length { length nodes.new ≡ length nodes.old }
+{
+    let mut block = place;
+    let mut width = 1;
+    let mut level = 0;
+    while width < line.count {
+        let meeting = (block / 2 * 2 + 1) * width;
+        if meeting < line.count {
+            nodes[line.nth_node(meeting)] = parts[level];
+        }
+        block /= 2;
+        width = 2 * width;
+        level += 1;
+    }
+}
+
+/// Puts another number at a place of a line, and writes the parts that the place is in as nodes: those that `join_up` joined for this
+/// number, or else joined here.
 pub(crate) fn write<P: Part>(
     numbers: &mut [i64],
     nodes: &mut [P],
     line: Line,
     place: usize,
     number: i64,
+    joined: Option<&[P]>,
 )
     requires inside { IsIn line (length numbers.old) (length nodes.old) }
     requires place { place < line.count }
     requires kept { ArePartsKept P.tells line.count (slot_of line numbers.old) (node_of P.blank line nodes.old) }
+    requires joined { IfSome joined (λ parts. AreJoined P.tells line.count (replaced (slot_of line numbers.old) place number) place parts.now) }
     ensures numbers { (i : ℕ) → i < line.count → slot_of line numbers.new i ≡ replaced (slot_of line numbers.old) place number i }
     ensures kept { ArePartsKept P.tells line.count (slot_of line numbers.new) (node_of P.blank line nodes.new) }
     ensures other_slots { (p : ℕ) → p ≢ slot_at line place → get_or numbers.new p (pos 0) ≡ get_or numbers.old p (pos 0) }
@@ -139,7 +202,10 @@ pub(crate) fn write<P: Part>(
     ensures node_count { length nodes.new ≡ length nodes.old }
 {
     numbers[line.slot_at(place)] = number;
-    renew(numbers, nodes, line, place);
+    match joined {
+        Some(parts) => put_parts(nodes, line, place, parts),
+        None => renew(numbers, nodes, line, place),
+    }
 }
 
 /// Takes one more number for a line, the one that lies behind its others, and joins anew what is kept of the parts that it is in. The

@@ -1,10 +1,10 @@
 //! The trees of all lines of an array along one axis, in a list of numbers and a list of nodes.
 
-ghost use Rattle.std.specs.Prelude.{◌≡◌, ℕ, ◌+◌, ◌-◌, ◌*◌, ◌/◌, ◌%◌, ◌^◌, ◌<◌, ◌==◌, ◌++◌, ◌∷◌, [], length, vec_capacity, IfOk};
+ghost use Rattle.std.specs.Prelude.{◌≡◌, ℕ, ◌+◌, ◌-◌, ◌*◌, ◌/◌, ◌%◌, ◌^◌, ◌<◌, ◌==◌, ◌++◌, ◌∷◌, [], length, vec_capacity, IfOk, IfSome};
 ghost use Rattle.arrays_core.specs.Growth.{IsRoomy};
 ghost use Rattle.fold_trees.specs.FoldTrees.{IsWithinDigitsOf, IsReductionBy};
 ghost use Rattle.fold_trees.specs.ArrayLines.{FitBehind, FitNext, with_lines, with_places, line_count, numbers_of_line, numbers_through, with_number};
-ghost use Rattle.fold_trees.specs.PartTrees.{AreLines, AreLineTrees};
+ghost use Rattle.fold_trees.specs.PartTrees.{AreLines, AreLineTrees, AreJoinedFor};
 ghost use Rattle.fold_trees.specs.LineBlocks.{block_at, line_at, AreAllKept};
 ghost use Rattle.fold_trees.specs.LineTrees.{slot_of, shorter, IsIn, node_of, ArePartsKept, nodes_in_line};
 
@@ -16,6 +16,9 @@ use crate::part::Part;
 use arrays_core::{Kind, copied, put_behind, repeated, room_between, room_of, roomy};
 use std::alloc::{AllocError, Global};
 use std::marker::Model;
+
+/// A line of as many numbers as an array may have is joined in so many parts.
+const MOST_PARTS: usize = 20;
 
 /// Where a line lies among those of so many numbers, lines counted from 0.
 fn nth_line(count: usize, step: usize, line: usize) -> Line
@@ -241,15 +244,49 @@ impl<P: Part> PartTrees<P> {
         (all.fold(), joins)
     }
 
-    /// Puts another number at a place of all lines, places counted from 0. It takes no memory.
-    pub(crate) fn set(&mut self, place: usize, number: i64)
-        requires { place < length self.old.numbers }
+    /// Does what `result_with` does, and replaces the items of a list by the parts that it joins. It takes memory only beyond the capacity of
+    /// the list; AllocError where that is refused.
+    pub(crate) fn join(
+        &self,
+        place: usize,
+        number: i64,
+        parts: &mut Vec<P>,
+    ) -> Result<(Result<i64, Kind>, u32), AllocError>
+        requires { place < length self.now.numbers }
+        ensures parts { IfOk result (λ r. AreJoinedFor P.tells self.now place number parts.new.items) }
+        ensures result { IfOk result (λ r. IsReductionBy P.function (numbers_through (with_number self.now place number) place) r.0) }
+        ensures most { IfOk result (λ r. IsWithinDigitsOf (self.now.count - 1) r.1) }
+        ensures least { IfOk result (λ r. 1 < self.now.count → 0 < r.1) }
+    {
+        parts.clear();
+        parts.reserve(MOST_PARTS)?;
+        let line = line_through(self.count, self.step, place);
+        let tree = nth_tree(&self.numbers, &self.nodes, self.count, self.step, line);
+        let (all, joins) = tree.join_up(place / self.step % self.count, number, parts)?;
+        if self.count == 1 {
+            return Ok((Ok(number), joins));
+        }
+        Ok((all.fold(), joins))
+    }
+
+    /// Puts another number at a place of all lines, places counted from 0, with the parts that `join` joined for it, or else joins them here.
+    /// It takes no memory.
+    pub(crate) fn set(&mut self, place: usize, number: i64, joined: Option<&[P]>)
+        requires place { place < length self.old.numbers }
+        requires joined { IfSome joined (λ parts. AreJoinedFor P.tells self.old place number parts.now) }
         ensures { self.new ≡ with_number self.old place number }
     {
         let line = line_through(self.count, self.step, place);
         let line = nth_line(self.count, self.step, line);
         let place = place / self.step % self.count;
-        write(&mut self.numbers, &mut self.nodes, line, place, number);
+        write(
+            &mut self.numbers,
+            &mut self.nodes,
+            line,
+            place,
+            number,
+            joined,
+        );
     }
 
     /// Takes one more number for each line, behind its last one. It takes no memory.

@@ -88,6 +88,6 @@ impl SumTree {
         requires { place < length self.old }
         ensures { self.new ≡ slice_set self.old place number }
     {
-        self.trees.set(place, number);
+        self.trees.set(place, number, None);
     }
 }

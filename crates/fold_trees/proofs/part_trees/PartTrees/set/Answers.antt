@@ -1,4 +1,4 @@
-use Rattle.std.proofs.Common.{rules, ◌^◌, ◌≡◌, ◌∙◌, ◌+◌, ◌*◌, ◌/◌, ◌%◌, ◌<◌, ℤ, List, length, sym, ap, subst, arith, vec_capacity, to_z, of_z, w64}
+use Rattle.std.proofs.Common.{rules, ◌^◌, ◌≡◌, ◌∙◌, ◌+◌, ◌*◌, ◌/◌, ◌%◌, ◌<◌, ℤ, List, length, sym, ap, subst, arith, vec_capacity, IfSome, to_z, of_z, w64}
 use Rattle.std.proofs.lemmas.Int.{to_z-of_z}
 use Rattle.std.proofs.lemmas.List.{with_items_is}
 use Rattle.std.specs.Vec.{with_items}
@@ -7,8 +7,8 @@ use Rattle.fold_trees.specs.ArrayLines.{TreesValue, line_through, with_number}
 use Rattle.fold_trees.proofs.LinePlaces.{line_within}
 use Rattle.fold_trees.proofs.LineSpots.{line_fits, in_both}
 use Rattle.fold_trees.specs.declared.line.Line.{Line}
-use Rattle.fold_trees.specs.LineTrees.{slot_of, IsIn, node_of, ArePartsKept}
-use Rattle.fold_trees.specs.PartTrees.{ArePartTrees}
+use Rattle.fold_trees.specs.LineTrees.{slot_of, replaced, IsIn, node_of, ArePartsKept, AreJoined}
+use Rattle.fold_trees.specs.PartTrees.{ArePartTrees, AreJoinedFor}
 use Rattle.fold_trees.proofs.TreeWrites.{IsWritten, written_numbers, written_trees}
 use Rattle.fold_trees.proofs.part_trees.PartTrees.set.Given.{Over}
 use Rattle.fold_trees.proofs.part_trees.PartTrees.set.Goals.{After-self, After-nth_line-line, After-write}
@@ -18,7 +18,7 @@ use Rattle.fold_trees.proofs.part_trees.PartTrees.set.Goals as goal
 -- ---- where the place lies
 
 is_inside : (g : Over) (c : After-self g) → c.args.place < length c.self.inside.numbers.items
-is_inside g c = omega (arith, c.requires, ap (λ (t : TreesValue). length t.numbers) c.self.view_is)
+is_inside g c = omega (arith, c.requires.place, ap (λ (t : TreesValue). length t.numbers) c.self.view_is)
 
 is_below : (g : Over) (c : After-self g) → line_through c.self.inside.count c.self.inside.step c.args.place < length c.self.inside.numbers.items / c.self.inside.count
 is_below g c =
@@ -70,6 +70,21 @@ write-requires-clause-kept g c =
     (subst (λ (s : List ℤ). ArePartsKept tells count (slot_of l s) (node_of blank l c.deref_mut-2.result.now)) (sym c.deref_mut.ensures.value)
     (subst (λ (n : List g.row.P.Denot). ArePartsKept tells count (slot_of l numbers) (node_of blank l n)) (sym c.deref_mut-2.ensures.value)
     (c.self.invariant.trees.kept line (is_below g (goal.at.write-requires-clause-kept g c).After-self))))
+
+pub write-requires-clause-joined : goal.write-requires-clause-joined
+write-requires-clause-joined g c =
+    let count = c.self.inside.count in
+    let step = c.self.inside.step in
+    let numbers = c.self.inside.numbers.items in
+    let z = c.args.number in
+    let at = c.args.place / step % count in
+    let l = line_at count step (line_through count step c.args.place) in
+    let is = line_is g (goal.at.write-requires-clause-joined g c).After-nth_line-line in
+    let held = λ (l : Line) (s : List ℤ) (y : ℤ). IfSome c.args.joined (λ parts. AreJoined g.P.Part.tells l.count (replaced (slot_of l s) at y) at parts.now) in
+    let given : held l numbers z = subst (λ (t : TreesValue). IfSome c.args.joined (λ parts. AreJoinedFor g.P.Part.tells t c.args.place z parts.now)) (sym c.self.view_is) c.requires.joined in
+    subst (λ (l : Line). held l c.deref_mut.result.now (to_z w64 (of_z w64 z))) (sym is)
+    (subst (λ (s : List ℤ). held l s (to_z w64 (of_z w64 z))) (sym c.deref_mut.ensures.value)
+    (subst (held l numbers) (sym (to_z-of_z w64 z c.ranges.number)) given))
 
 -- ---- what is written
 

@@ -1,0 +1,112 @@
+use Rattle.std.proofs.Common.{◌≡◌, ◌∙◌, suc, ◌-◌, ◌*◌, ◌/◌, ◌^◌, ◌∷◌, [], length, min, sym, ap, subst, arith, inl, inr, refl, to_z, of_z, w64}
+use Rattle.std.proofs.lemmas.Int.{to_z-of_z}
+use Rattle.std.proofs.lemmas.List.{length-append}
+use Rattle.fold_trees.specs.LineTrees.{slot_of, replaced, segment, numbers_of_block, block_up, AreJoined}
+use Rattle.fold_trees.proofs.LineParts.{climb_start, climb_up, level_up, climb_end, levels_within, replaced_here, other_half_same, even_block}
+use Rattle.fold_trees.proofs.LineJoins.{AreTold, told_more}
+use Rattle.fold_trees.proofs.line_tree.LineTree.join_up.Goals as goal
+
+pub loop-width-init : goal.loop-width-init
+loop-width-init g c =
+    let line = c.args.self.now.line in
+    let place = c.args.place in
+    let z = to_z w64 (of_z w64 c.args.number) in
+    let x = replaced (slot_of line c.args.self.now.numbers.now) place z in
+    let start : place * 1 ≡ place = omega arith in
+    let one : min 1 (line.count - place * 1) ≡ 1 = omega (arith, c.requires.place) in
+    record {
+      climb = climb_start place;
+      few = omega (arith, c.requires.place);
+      told = subst (g.P.Part.tells c.of-kept.result) (ap (λ y. y ∷ []) (sym (replaced_here (slot_of line c.args.self.now.numbers.now) place z)) ∙ sym (λ i. segment x (start i) (one i)))
+          c.of-kept.ensures;
+      most = omega arith;
+      none = λ e. (start, inl refl);
+      wide = sym (ap (λ ps. 2 ^ length ps) c.requires.none);
+      up = sym (ap (λ ps. block_up place (length ps)) c.requires.none);
+      each = λ level blank below. let no : ⊥ = omega (arith, below, ap (λ ps. length ps) c.requires.none) in absurd no;
+    }
+
+pub overflow_add-joins : goal.overflow_add-joins
+overflow_add-joins g c =
+    let inv = c.loop-width.invariant in
+    let few = c.requires.inside.slots.few in
+    let width_is = inv.climb.width_is in
+    let short = inv.few in
+    let levels = levels_within inv.climb.level 62 c.args.self.now.line.count (omega (arith, width_is, short)) (omega (arith, few)) in
+    record { fits = omega (arith, levels, inv.most, c.widened-wider.ensures.joins) }
+
+pub loop-width-preserved : goal.loop-width-preserved
+loop-width-preserved g c =
+    let line = c.args.self.now.line in
+    let place = c.args.place in
+    let block = c.loop-width.block in
+    let width = c.loop-width.width in
+    let z = to_z w64 (of_z w64 c.args.number) in
+    let numbers = slot_of line c.args.self.now.numbers.now in
+    let inv = c.loop-width.invariant in
+    let short = c.loop-width-test.true in
+    let joined = c.widened-wider.ensures in
+    let up = climb_up place block width inv.climb in
+    let level : up.level ≡ suc inv.climb.level = level_up place block width inv.climb in
+    let x = replaced numbers place z in
+    let told = joined.is x (other_half_same place block width numbers z inv.climb) inv.told in
+    let parts = c.loop-width.parts.items in
+    let pushed = c.in_ok-push.ensures.items in
+    let double : 2 * 2 ^ length parts ≡ 2 ^ suc (length parts) = grind arith in
+    let longer : suc (length parts) ≡ length c.push.new.self.items =
+    omega (arith, length-append parts (c.widened-wider.result.0 ∷ []), ap (λ ps. length ps) pushed) in
+    record {
+      climb = up;
+      few = omega (arith, short);
+      told = told;
+      most = omega (arith, level, inv.most, joined.joins);
+      none = λ e.
+          let nothing = inv.none (omega (arith, e)) in
+          let alone = joined.none (omega (arith, e)) in
+          let at = even_block block width alone.0 in (
+            omega (arith, at.0, at.2, nothing.0),
+            inr (elim nothing.1 [
+              | inl one ↦ omega (arith, one, alone.1, nothing.0)
+              | inr last ↦ last
+            ]),
+          );
+      wide = ap (λ w. 2 * w) inv.wide ∙ double ∙ ap (λ k. 2 ^ k) longer;
+      up = ap (λ b. b / 2) inv.up ∙ ap (block_up place) longer;
+      each = subst (AreTold g.P.Part.tells line.count x place) (sym pushed)
+          (told_more g.P.Part.tells line.count x place parts c.widened-wider.result.0 inv.each
+          (subst (g.P.Part.tells c.widened-wider.result.0) (λ i. numbers_of_block line.count x (inv.up i / 2) (2 * inv.wide i)) told));
+    }
+
+pub returns-clause-is : goal.returns-clause-is
+returns-clause-is g c =
+    let line = c.args.self.now.line in
+    let place = c.args.place in
+    let block = c.loop-width.block in
+    let width = c.loop-width.width in
+    let z = to_z w64 (of_z w64 c.args.number) in
+    let number : z ≡ c.args.number = to_z-of_z w64 c.args.number c.ranges.number in
+    let numbers = slot_of line c.args.self.now.numbers.now in
+    let inv = c.loop-width.invariant in
+    let wide = c.loop-width-test.false in
+    let first = climb_end line.count place block width inv.climb c.requires.place wide in
+    let start : block * width ≡ 0 = ap (λ b. b * width) first ∙ grind arith in
+    let all : min width (line.count - block * width) ≡ line.count = omega (arith, start, wide) in
+    subst (g.P.Part.tells c.loop-width.kept) (λ i. segment (replaced numbers place (number i)) (start i) (all i)) inv.told
+
+pub returns-clause-most : goal.returns-clause-most
+returns-clause-most g c digits enough =
+    let inv = c.loop-width.invariant in
+    let width_is = inv.climb.width_is in
+    let short = inv.few in
+    let levels = levels_within inv.climb.level digits c.args.self.now.line.count (omega (arith, width_is, short)) enough in
+    omega (arith, levels, inv.most)
+
+pub returns-clause-parts : goal.returns-clause-parts
+returns-clause-parts g c =
+    let line = c.args.self.now.line in
+    let numbers = slot_of line c.args.self.now.numbers.now in
+    let parts = c.loop-width.parts.items in
+    let inv = c.loop-width.invariant in
+    let joined : AreJoined g.P.Part.tells line.count (replaced numbers c.args.place (to_z w64 (of_z w64 c.args.number))) c.args.place parts =
+    record { each = inv.each; enough = omega (arith, c.loop-width-test.false, inv.wide) } in
+    subst (λ y. AreJoined g.P.Part.tells line.count (replaced numbers c.args.place y) c.args.place parts) (to_z-of_z w64 c.args.number c.ranges.number) joined
