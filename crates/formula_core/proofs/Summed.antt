@@ -35,7 +35,7 @@ use Rattle.formula_core.specs.Tables.{tree_of_operand, tree_of_node, IsOperand, 
 use Rattle.formula_core.specs.Changes.{NamesChange, change, FitsIn}
 use Rattle.formula_core.specs.Inputs.{shown, delta_of, IsInput}
 use Rattle.formula_core.specs.Stages.{IsStaged, GivesItsTree, IsKeptBy, IsMadeBy, IsSumsStep}
-use Rattle.formula_core.specs.Sums.{summed_in, summed_at, total_of, totalled, WasGrown, WasPatched, WasSummed, AreNewSums, IsSumsDelta, IsSummedFor}
+use Rattle.formula_core.specs.Sums.{summed_in, summed_at, total_of, totalled, WasGrown, WasPatched, WasSummed, AreNewSums, FitsInSums, IsJoinedFrom, IsSumsDelta, IsSummedFor}
 use Rattle.formula_core.proofs.Applied.{summed_before, summed_between}
 use Rattle.formula_core.proofs.Steps.{operand_changed}
 
@@ -291,3 +291,11 @@ made_for s f b made by i ready fold total = λ sums is.
 pub change_or : (P Q : SumsDelta → Type 0) (r : Result SumsDelta AllocError) → ((d : SumsDelta) → P d → Q d) → IfOk r P → IfOk r Q
 change_or P Q (Ok d) step h = step d h
 change_or P Q (Err e) step h = tt
+
+-- what was joined for a change that fits the sums was joined for them
+pub joined_for : (d : SumsDelta) (kept : Option SummedValue) → FitsInSums d kept → IsJoinedFrom kept d
+joined_for d None fit = tt
+joined_for sums.Same (Some s) fit = tt
+joined_for (sums.Patch p) (Some s) fit = fit.1
+joined_for (sums.Grown l) (Some s) fit = tt
+joined_for (sums.Whole w) (Some s) fit = tt

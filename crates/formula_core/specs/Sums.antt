@@ -15,6 +15,7 @@ use Rattle.index_region.specs.Tails.{TailValue, FitsTail}
 use Rattle.change_rules.specs.Currency.{applied}
 use Rattle.change_rules.specs.Nodes.{is_whole}
 use Rattle.sum_rules.specs.LineSums.{SummedValue, keeps_sums, summed, patched_sums, grown_sums}
+use Rattle.sum_rules.specs.JoinedPatches.{IsJoinedWith}
 use Rattle.sum_rules.specs.NewLines.{FitsSums as FitBehind}
 use Rattle.formula_core.specs.declared.sums.SumsDelta.{SumsDelta}
 use Rattle.formula_core.specs.declared.sums.SumsDelta.TheVariants.{Same, Patch, Grown, Whole}
@@ -59,15 +60,20 @@ totalled (node.Index array positions) = None
 -- the sums that a node keeps, with their change
 abbrev pub resummed : SumsDelta → Option SummedValue → Option SummedValue
 resummed Same kept = kept
-resummed (Patch p) (Some s) = Some (patched_sums s p.value)
+resummed (Patch p) (Some s) = Some (patched_sums s p.value.patch)
 resummed (Patch p) None = None
 resummed (Grown l) (Some s) = Some (grown_sums s l.value.tail.items)
 resummed (Grown l) None = None
 resummed (Whole s) kept = s
 
--- a box that changes lies in the array whose lines are folded, and new lines are what that grows by
+-- what was joined for a patch, if anything was, was joined for the sums that are kept
+abbrev pub IsJoinedFrom : Option SummedValue → SumsDelta → Type 0
+IsJoinedFrom (Some s) (Patch p) = IsJoinedWith s p.value
+IsJoinedFrom _ _ = Unit {0}
+
+-- a box that changes lies in the array whose lines are folded, and what was joined for it was so for its sums; new lines are what that grows by
 abbrev pub FitsInSums : SumsDelta → Option SummedValue → Type 0
-FitsInSums (Patch p) (Some s) = FitsPatch s.array p.value
+FitsInSums (Patch p) (Some s) = FitsPatch s.array p.value.patch × IsJoinedWith s p.value
 FitsInSums (Patch p) None = ⊥
 FitsInSums (Grown l) (Some s) = FitBehind s l.value
 FitsInSums (Grown l) None = ⊥

@@ -11,11 +11,11 @@ ghost use Rattle.sum_rules.specs.Totals.{total_rule};
 ghost use Rattle.formula_core.specs.Inputs.{shown, delta_of, HasFit, IsOperationChange};
 ghost use Rattle.formula_core.specs.Rules.{right_rule, both_rule, with_change};
 ghost use Rattle.formula_core.specs.Stages.{AreTotalsJoined};
-ghost use Rattle.formula_core.specs.Sums.{total_of as fold_of_total, IsSummedFor, AreNewSums, AreSumsKept};
+ghost use Rattle.formula_core.specs.Sums.{total_of as fold_of_total, IsSummedFor, IsJoinedFrom, AreNewSums, AreSumsKept};
 
 use crate::input::Input;
 use crate::refreshing::Operation;
-use crate::sums::{SumsDelta, total_of};
+use crate::sums::{SumsDelta, total_of, trees_with};
 use apl_expr::{Function1, Function2};
 use arrays_core::{Array, Fault};
 use change_core::Meter;
@@ -72,6 +72,7 @@ pub(crate) fn change_of_monad(
     requires fit { HasFit right.now }
     requires kept { (fold : Reduce) → fold_of_total function ≡ Some fold → IsSummedFor fold (shown right.now) (delta_of right.now) kept.now }
     requires made { (fold : Reduce) → fold_of_total function ≡ Some fold → AreNewSums fold (shown right.now) made.now }
+    requires joined { IsJoinedFrom kept.now made.now }
     ensures change { IsOperationChange (right_rule function) (right.now ∷ []) held.now meter.old.ticks meter.new.ticks (with_change change.new result) }
     ensures joins { (fold : Reduce) → fold_of_total function ≡ Some fold → AreSumsKept fold (shown right.now) (delta_of right.now) kept.now
         → AreTotalsJoined fold right.now held.now meter.old.joins meter.new.joins (with_change change.new result) }
@@ -98,6 +99,7 @@ fn change_of_total(
     requires fit { HasFit right.now }
     requires kept { IsSummedFor fold (shown right.now) (delta_of right.now) kept.now }
     requires made { AreNewSums fold (shown right.now) made.now }
+    requires joined { IsJoinedFrom kept.now made.now }
     ensures change { IsOperationChange (total_rule fold) (right.now ∷ []) held.now meter.old.ticks meter.new.ticks (with_change change.new result) }
     ensures joins { AreSumsKept fold (shown right.now) (delta_of right.now) kept.now → AreTotalsJoined fold right.now held.now meter.old.joins meter.new.joins (with_change change.new result) }
 {
@@ -113,7 +115,8 @@ fn change_of_total(
             let arg = (array.again(), *delta);
             match kept {
                 Some(sums) => {
-                    refresh_totals_with_cost(alloc, fold, arg, held, sums.trees(), change, meter)
+                    let trees = trees_with(sums, made);
+                    refresh_totals_with_cost(alloc, fold, arg, held, &trees, change, meter)
                 }
                 None => fold_totals_with_cost(alloc, fold, arg, held, change, meter),
             }

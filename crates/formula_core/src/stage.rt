@@ -17,7 +17,7 @@ ghost use Rattle.formula_core.specs.Joins.{least_joins};
 ghost use Rattle.formula_core.specs.Plans.{node_change};
 ghost use Rattle.formula_core.specs.Rules.{with_change};
 ghost use Rattle.formula_core.specs.Stages.{IsStaged, StagedBy, IsKeptBy, IsMadeBy, IsTaken, GivesItsTree, GiveTheirTrees, IsStep, IsJoined, IsNodeStep, IsSumsStep, IsLiteralChange};
-ghost use Rattle.formula_core.specs.Sums.{summed_at, totalled};
+ghost use Rattle.formula_core.specs.Sums.{summed_at, totalled, IsJoinedFrom};
 ghost use Rattle.formula_core.specs.Tables.{IsOperand, AreOperands, IsNode, tree_at, tree_of_index, tree_of_operand, tree_of_node};
 
 use crate::constant::Constant;
@@ -201,6 +201,7 @@ impl<'a> Stage<'a> {
         requires staged { StagedBy self.now }
         requires kept { IsKeptBy self.now node.now kept.now }
         requires made { IsMadeBy self.now node.now made.now }
+        requires joined { IsJoinedFrom kept.now made.now }
         requires literals { IsLiteralChange self.now.is_new self.now.of_literals.now }
         ensures step { (c : NamesChange) → (names : List (List ℕ)) → (trees : List Tree) → IsStaged c names trees self.now
             → (self.now.is_new ≡ false → held.now ≡ eval (tree_of_node names trees node.now) c.old)

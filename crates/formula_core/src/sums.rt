@@ -1,12 +1,12 @@
 //! The trees of lines that the totals of a formula keep.
 
-ghost use Rattle.std.specs.Prelude.{◌≡◌, true, Option, Ok, IfOk};
+ghost use Rattle.std.specs.Prelude.{◌≡◌, Some, true, Option, Ok, IfOk};
 ghost use Rattle.index_region.specs.declared.delta.Delta.TheVariants.{Patch as PatchDelta, Grown as GrownDelta};
 ghost use Rattle.index_region.specs.Patches.{FitsPatch};
-ghost use Rattle.sum_rules.specs.LineSums.{SummedValue};
+ghost use Rattle.sum_rules.specs.LineSums.{SummedValue, StandFor};
 ghost use Rattle.formula_core.specs.Changes.{HasGrown};
 ghost use Rattle.formula_core.specs.Inputs.{shown, delta_of, HasFit};
-ghost use Rattle.formula_core.specs.Sums.{total_of as fold_of_total, resummed, FitsInSums, IsSumsDelta};
+ghost use Rattle.formula_core.specs.Sums.{total_of as fold_of_total, resummed, FitsInSums, IsJoinedFrom, IsSumsDelta};
 
 use crate::input::Input;
 use apl_expr::Function1;
@@ -14,7 +14,7 @@ use fold_trees::has_trees;
 use index_region::{Delta, Patch, Seen, Tail};
 use operator_fns::Reduce;
 use std::alloc::{AllocError, Global};
-use sum_rules::{LineSums, NewLines, keeps_sums};
+use sum_rules::{JoinedPatch, JoinedTrees, LineSums, NewLines, keeps_sums};
 
 /// A patch of more than one place in so many makes the sums anew: taking its items one by one would be slower.
 const PLACES_TO_ONE_NEW: usize = 16;
@@ -24,8 +24,8 @@ const PLACES_TO_ONE_NEW: usize = 16;
 pub(crate) enum SumsDelta {
     /// Nothing.
     Same,
-    /// New items for a box of the array whose lines are folded.
-    Patch(Box<Patch>),
+    /// New items for a box of the array whose lines are folded, with what was joined for them.
+    Patch(Box<JoinedPatch>),
     /// What the lines get where the array grew.
     Grown(Box<NewLines>),
     /// Other sums, or none.
@@ -88,7 +88,7 @@ fn patch_delta(
     let places = array.places() as usize;
     if let Some(sums) = kept {
         if patch.region().size() <= places / PLACES_TO_ONE_NEW + 1 {
-            return Ok(SumsDelta::Patch(sums.boxed(alloc, patch.copy()?)?));
+            return Ok(SumsDelta::Patch(sums.joined(alloc, patch.copy()?)?));
         }
     }
     made_anew(alloc, fold, array)
@@ -115,6 +115,18 @@ fn grown_delta(
     made_anew(alloc, fold, array)
 }
 
+/// Returns the trees of sums that are kept, with what was joined for their change.
+pub(crate) fn trees_with<'a>(sums: &'a LineSums, made: &'a SumsDelta) -> JoinedTrees<'a>
+    requires { IsJoinedFrom (Some sums.now) made.now }
+    ensures function { result.function ≡ sums.now.function }
+    ensures lines { StandFor result.lines sums.now.axis sums.now.array }
+{
+    match made {
+        SumsDelta::Patch(patch) => sums.trees_with(patch),
+        _ => JoinedTrees::alone(sums.trees()),
+    }
+}
+
 /// The sums that a node keeps take their change. No memory is asked for.
 pub(crate) fn take_sums_delta(kept: &mut Option<LineSums>, change: SumsDelta)
     requires { FitsInSums change kept.old }
@@ -125,8 +137,7 @@ pub(crate) fn take_sums_delta(kept: &mut Option<LineSums>, change: SumsDelta)
         SumsDelta::Whole(sums) => *kept = sums,
         SumsDelta::Patch(patch) => {
             if let Some(sums) = kept {
-                sums.write(&patch);
-                sums.keep_box(patch);
+                sums.take(patch);
             }
         }
         SumsDelta::Grown(lines) => {

@@ -9,11 +9,14 @@ ghost use Rattle.arrays_core.specs.Shapes.{size, IsWithinLimits};
 ghost use Rattle.function_names.specs.Axes.{is_axis, axis_at};
 ghost use Rattle.index_region.specs.Patches.{FitsPatch, patched};
 ghost use Rattle.sum_rules.specs.LineSums.{length_along, line_length, line_step, keeps_sums, summed, array_of_shape, patched_sums, grown_sums, StandFor};
+ghost use Rattle.sum_rules.specs.JoinedPatches.{IsJoinedIn, IsJoinedWith};
 ghost use Rattle.sum_rules.specs.NewLines.{FitsSums, FitsTrees, trees_grown};
 
+use crate::joined_patch::JoinedPatch;
+use crate::line_totals::JoinedTrees;
 use crate::new_lines::{Growth, NewLines};
 use arrays_core::{Array, Item, ItemType, Shape, places_before, shape_of, size};
-use fold_trees::{FoldTrees, has_trees};
+use fold_trees::{FoldTrees, Joined, has_trees};
 use index_region::{Along, Patch, Seen};
 use operator_fns::Reduce;
 use std::alloc::{AllocError, Global};
@@ -128,6 +131,52 @@ fn write_into(shape: &Shape, trees: &mut FoldTrees, patch: &Patch)
     }
 }
 
+/// Joins the fold of the line of a patch of one place that lies in an array of this shape. Returns false, and joins nothing, where the patch has more
+/// places, lies elsewhere or has no number. AllocError where memory for the parts is refused.
+fn join_one(
+    shape: &Shape,
+    trees: &FoldTrees,
+    patch: &Patch,
+    joined: &mut Joined,
+) -> Result<bool, AllocError>
+    requires { IsArray (array_of_shape shape.now.items trees.now.lines.numbers) }
+    ensures { IfOk result (λ done. done ≡ true → IsJoinedIn shape.now.items trees.now patch.now joined.new) }
+{
+    let region = patch.region();
+    if !region.lies_in(shape.as_slice()) {
+        return Ok(false);
+    }
+    if region.size() != 1 {
+        return Ok(false);
+    }
+    let index = region.index_at(0);
+    let Item::Num(number) = patch.item(index.as_slice()) else {
+        return Ok(false);
+    };
+    let place = places_before(shape, index.as_slice()) as usize;
+    trees.join(place, number, joined)?;
+    Ok(true)
+}
+
+/// Puts the new items of a patch into the lines of an array of this shape, and writes what was joined for it.
+fn write_joined(shape: &Shape, trees: &mut FoldTrees, patch: &JoinedPatch)
+    requires lines { IsArray (array_of_shape shape.now.items trees.old.lines.numbers) }
+    requires fit { FitsPatch (array_of_shape shape.now.items trees.old.lines.numbers) patch.now.patch }
+    requires joined { patch.now.is_joined ≡ true → IsJoinedIn shape.now.items trees.old patch.now.patch patch.now.joined }
+    ensures numbers { array_of_shape shape.now.items trees.new.lines.numbers ≡ patched (array_of_shape shape.now.items trees.old.lines.numbers) patch.now.patch }
+    ensures sound { IsArray (array_of_shape shape.now.items trees.new.lines.numbers) }
+    ensures function { trees.new.function ≡ trees.old.function }
+    ensures count { trees.new.lines.count ≡ trees.old.lines.count }
+    ensures step { trees.new.lines.step ≡ trees.old.lines.step }
+{
+    if !patch.is_joined {
+        write_into(shape, trees, &patch.patch);
+        return;
+    }
+    let _one_item = patch.patch.item_type();
+    trees.set_joined(&patch.joined);
+}
+
 /// Trees take new lines behind the others, or one more place of each line. They take no memory.
 fn take_growth(trees: &mut FoldTrees, growth: Growth)
     requires { FitsTrees trees.old growth }
@@ -146,7 +195,7 @@ struct Lines {
     shape: Shape,
     trees: FoldTrees,
     /// A box for the next patch, kept from the last one.
-    room: Cell<Option<Box<Patch>>>,
+    room: Cell<Option<Box<JoinedPatch>>>,
 }
 
 /// The folds of the lines of an array of numbers along an axis by a function, as trees. They lie in a box, since most nodes of formulas have none.
@@ -187,24 +236,67 @@ impl LineSums {
         &self.lines.trees
     }
 
-    /// A patch in a box: the one that was kept, if there is one.
-    pub fn boxed(&self, alloc: Global, patch: Patch) -> Result<Box<Patch>, AllocError>
-        ensures { IfOk result (λ b. b.value ≡ patch) }
+    /// Returns the trees of the lines with what was joined for a patch.
+    pub fn trees_with<'a>(&'a self, patch: &'a JoinedPatch) -> JoinedTrees<'a>
+        requires { IsJoinedWith self.now patch.now }
+        ensures function { result.function ≡ self.now.function }
+        ensures lines { StandFor result.lines self.now.axis self.now.array }
     {
-        match self.lines.room.take() {
-            Some(mut room) => {
-                *room = patch;
-                Ok(room)
-            }
-            None => Ok(Box::new(alloc, patch)?),
+        let trees = &self.lines.trees;
+        if patch.is_joined {
+            JoinedTrees::of(trees, &patch.joined)
+        } else {
+            JoinedTrees::alone(trees)
         }
     }
 
-    /// Keeps the box of a patch for the next one.
-    pub fn keep_box(&mut self, patch: Box<Patch>)
-        ensures { self.new ≡ self.old }
+    /// Returns a patch with what is joined for it, in the memory of the last patch. It takes memory only for the first patch and for longer lines;
+    /// AllocError where that is refused.
+    pub fn joined(&self, alloc: Global, patch: Patch) -> Result<Box<JoinedPatch>, AllocError>
+        ensures patch { IfOk result (λ b. b.value.patch ≡ patch) }
+        ensures joined { IfOk result (λ b. IsJoinedWith self.now b.value) }
     {
-        self.lines.room.set(Some(patch));
+        let mut boxed = self.boxed(alloc, patch)?;
+        let made = &mut *boxed;
+        made.is_joined = join_one(
+            &self.lines.shape,
+            &self.lines.trees,
+            &made.patch,
+            &mut made.joined,
+        )?;
+        Ok(boxed)
+    }
+
+    /// Returns a patch in the box that was kept, or in a new one.
+    fn boxed(&self, alloc: Global, patch: Patch) -> Result<Box<JoinedPatch>, AllocError>
+        ensures { IfOk result (λ b. b.value.patch ≡ patch) }
+    {
+        match self.lines.room.take() {
+            Some(mut room) => {
+                room.patch = patch;
+                Ok(room)
+            }
+            None => {
+                let joined = Joined::new(alloc);
+                let patch = JoinedPatch {
+                    patch,
+                    is_joined: false,
+                    joined,
+                };
+                Ok(Box::new(alloc, patch)?)
+            }
+        }
+    }
+
+    /// Takes the items of a patch for which parts may have been joined, and keeps its box for the next one. It takes no memory.
+    pub fn take(&mut self, patch: Box<JoinedPatch>)
+        requires fit { FitsPatch self.old.array patch.value.patch }
+        requires joined { IsJoinedWith self.old patch.value }
+        ensures { self.new ≡ patched_sums self.old patch.value.patch }
+    {
+        let kept = &mut *self.lines;
+        write_joined(&kept.shape, &mut kept.trees, &patch);
+        kept.room.set(Some(patch));
     }
 
     /// Takes new items for the places of a box. It takes no memory.

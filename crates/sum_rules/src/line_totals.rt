@@ -1,14 +1,16 @@
 //! Trees that tell the total of a line where one number of it is another, or one more comes behind it.
 
-ghost use Rattle.std.specs.Prelude.{◌<◌, ◌-◌, ◌/◌, ◌%◌, ◌++◌, ◌∷◌, [], length};
+ghost use Rattle.std.specs.Prelude.{◌≡◌, ◌<◌, ◌-◌, ◌/◌, ◌%◌, ◌++◌, ◌∷◌, [], length};
 ghost use Rattle.fold_trees.specs.FoldTrees.{IsWithinDigitsOf, IsReductionBy};
+ghost use Rattle.fold_trees.specs.Joined.{IsJoinedFor};
 ghost use Rattle.fold_trees.specs.ArrayLines.{TreesValue, line_count, numbers_of_line, numbers_through, with_number};
 ghost use Rattle.function_names.specs.declared.scalar.Scalar2.{Scalar2 as Function};
 ghost use Rattle.function_names.specs.declared.scalar.Scalar2.TheVariants.{Plus as Sum};
 ghost use Rattle.sum_rules.specs.Totals.{AreAllAsLong, all_trees};
 
 use arrays_core::Kind;
-use fold_trees::{FoldTrees, SumTree};
+use fold_trees::{FoldTrees, Joined, SumTree};
+use std::marker::Model;
 
 /// Trees of the lines of an array along one axis, which are folded by a function.
 pub trait LineTotals {
@@ -74,6 +76,79 @@ impl LineTotals for FoldTrees {
 
     fn total_behind(&self, line: usize, number: i64) -> Result<i64, Kind> {
         self.result_behind(line, number)
+    }
+}
+
+/// Trees with what was joined for another number at one place of their lines, if anything was.
+#[derive(Drop)]
+pub struct JoinedTrees<'a> {
+    trees: &'a FoldTrees,
+    joined: Option<&'a Joined>,
+}
+
+impl<'a> Model for JoinedTrees<'a> {
+    ghost use Rattle.std.specs.Prelude.{IfSome};
+    ghost use Rattle.fold_trees.specs.FoldTrees.{FoldsValue};
+    ghost use Rattle.fold_trees.specs.Joined.{IsJoinedFor};
+
+    ghost Value = { FoldsValue };
+
+    ghost view = { λ t. t.trees.now };
+
+    ghost invariant = { λ t. IfSome t.joined (λ j. IsJoinedFor t.trees.now j.now) };
+}
+
+impl<'a> JoinedTrees<'a> {
+    /// Returns trees with what was joined for another number at a place.
+    pub(crate) fn of(trees: &'a FoldTrees, joined: &'a Joined) -> JoinedTrees<'a>
+        requires { IsJoinedFor trees.now joined.now }
+        ensures { result ≡ trees.now }
+    {
+        JoinedTrees {
+            trees,
+            joined: Some(joined),
+        }
+    }
+
+    /// Returns trees for which nothing was joined.
+    pub fn alone(trees: &'a FoldTrees) -> JoinedTrees<'a>
+        ensures { result ≡ trees.now }
+    {
+        JoinedTrees {
+            trees,
+            joined: None,
+        }
+    }
+}
+
+impl<'a> LineTotals for JoinedTrees<'a> {
+    ghost function = { λ t. t.function };
+
+    ghost trees = { λ t. t.lines };
+
+    fn total_with(&self, place: usize, number: i64) -> (Result<i64, Kind>, u32) {
+        if let Some(joined) = self.joined {
+            if joined.is_for(place, number) {
+                return joined.result();
+            }
+        }
+        self.trees.result_with(place, number)
+    }
+
+    fn total(&self, line: usize) -> Result<i64, Kind> {
+        self.trees.result(line)
+    }
+
+    fn failing_line(&self) -> usize {
+        self.trees.failing_line()
+    }
+
+    fn remember_failing(&self, line: usize) {
+        self.trees.remember_failing(line);
+    }
+
+    fn total_behind(&self, line: usize, number: i64) -> Result<i64, Kind> {
+        self.trees.result_behind(line, number)
     }
 }
 

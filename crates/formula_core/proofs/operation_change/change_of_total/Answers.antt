@@ -19,21 +19,21 @@ pub refresh_totals_with_cost-requires-clause-sums : goal.refresh_totals_with_cos
 refresh_totals_with_cost-requires-clause-sums c =
     let fold = c.args.fold in
     let sums = c.in-Some-kept.sums in
-    let trees = c.trees.result.now.lines in
+    let trees = c.trees_with-trees.result.lines in
     record {
       changed = λ p is.
           let was = c.requires.kept.changed p sums (ap delta_of c.in-Good.is ∙ is) c.in-Some-kept.is in
           let here : WasPatched fold (Ok c.in-Good.array) p sums = subst (λ (o : Outcome). WasPatched fold o p sums) (ap shown c.in-Good.is) was in
           let folded = (kept_of fold (Ok sums.array) sums (sym here.lines)).folded in (
-            c.trees.ensures.function ∙ folded,
-            subst (λ (a : ArrayValue). StoodFor fold.along trees p a) (sym c.again.ensures) (stood_for fold c.in-Good.array p sums trees here c.trees.ensures.lines),
+            c.trees_with-trees.ensures.function ∙ folded,
+            subst (λ (a : ArrayValue). StoodFor fold.along trees p a) (sym c.again.ensures) (stood_for fold c.in-Good.array p sums trees here c.trees_with-trees.ensures.lines),
           );
       grew = λ t is.
           let was = c.requires.kept.grew t sums (ap delta_of c.in-Good.is ∙ is) c.in-Some-kept.is in
           let here : WasGrown fold (Ok c.in-Good.array) t sums = subst (λ (o : Outcome). WasGrown fold o t sums) (ap shown c.in-Good.is) was in
           let folded = (kept_of fold (Ok sums.array) sums (sym here.lines)).folded in (
-            c.trees.ensures.function ∙ folded,
-            subst (λ (a : ArrayValue). StoodBefore fold.along trees t a) (sym c.again.ensures) (stood_before fold c.in-Good.array t sums trees here c.trees.ensures.lines),
+            c.trees_with-trees.ensures.function ∙ folded,
+            subst (λ (a : ArrayValue). StoodBefore fold.along trees t a) (sym c.again.ensures) (stood_before fold c.in-Good.array t sums trees here c.trees_with-trees.ensures.lines),
           );
     }
 

@@ -4,6 +4,7 @@ use Rattle.formula_core.specs.Holdings.{Holding}
 use Rattle.formula_core.specs.Sums.{resummed}
 use Rattle.formula_core.specs.declared.sums.SumsDelta.{SumsDelta}
 use Rattle.formula_core.proofs.Planned.{next_node, next_held, next_fits, next_step}
+use Rattle.formula_core.proofs.Summed.{joined_for}
 use Rattle.formula_core.proofs.stage.Stage.next.Goals as goal
 
 pub change_of-requires-clause-node : goal.change_of-requires-clause-node
@@ -29,6 +30,15 @@ change_of-requires-clause-made c =
     let at = get_or_default s.nodes.now (length s.changes.now) k c.index-self-self.result c.requires.below in
     let step = c.in_ok-sums.ensures w.0 w.1.0 w.1.1.0 w.1.1.1 (λ old. ap (λ (h : Holding). h.sums) (next_held w.0 w.1.0 w.1.1.0 s w.1.1.1 c.requires.below k at old)) in
     (w.0, (w.1.0, (w.1.1.0, (w.1.1.1, λ sums is. ap (λ (d : SumsDelta). resummed d k.sums) (sym is) ∙ step.right))))
+
+pub change_of-requires-clause-joined : goal.change_of-requires-clause-joined
+change_of-requires-clause-joined c =
+    let w = c.requires.staged in
+    let s = c.args.self.now in
+    let k = get_or s.nodes.now (length s.changes.now) c.index-self-self.result in
+    let at = get_or_default s.nodes.now (length s.changes.now) k c.index-self-self.result c.requires.below in
+    let step = c.in_ok-sums.ensures w.0 w.1.0 w.1.1.0 w.1.1.1 (λ old. ap (λ (h : Holding). h.sums) (next_held w.0 w.1.0 w.1.1.0 s w.1.1.1 c.requires.below k at old)) in
+    joined_for c.in_ok-sums.sums k.sums step.fit
 
 pub sums_of-requires-clause-node : goal.sums_of-requires-clause-node
 sums_of-requires-clause-node c =
