@@ -1,6 +1,6 @@
 -- What is kept of the parts of each line of a block, from the last parts to the first.
 use Rattle.std.proofs.Common.{◌≡◌, ◌≢◌, ◌∙◌, ℕ, zero, suc, ◌+◌, ◌-◌, ◌*◌, ◌/◌, ◌%◌, ◌^◌, ◌<◌, ◌≤◌, ◌⊎◌, min, List, get_or, ap, sym, subst, arith, inl, inr, ℤ}
-use Rattle.std.proofs.lemmas.Nat.{pow_pos, mod-mul-add, div-add-mod', mul-le}
+use Rattle.std.proofs.lemmas.Nat.{pow_pos, mod-mul-add}
 use Rattle.std.proofs.lemmas.Bool.{cases_lt}
 use Rattle.fold_trees.specs.declared.line.Line.{Line}
 use Rattle.fold_trees.specs.LineTrees.{nth_node, slot_of, node_of, segment, IsKept, ArePartsKeptIn}

@@ -1,6 +1,6 @@
 -- The products of the endings of a list tell its product from the right.
 use Rattle.std.proofs.Common.{◌≡◌, ◌^◌, ◌<◌, length, List, [], ◌∷◌, refl, ap, sym, ◌∙◌, arith, inl, inr, Bool, true, false, ◌&&◌, if◌then◌else◌, ℤ, pos, neg_ℤ, ◌-ℤ◌, ◌*ℤ◌, ◌≤ℤ◌, Ok, Err}
-use Rattle.std.specs.Int.{int_max, int_min}
+use Rattle.std.specs.Int.{int_max}
 use Rattle.std.specs.List.{All}
 use Rattle.std.proofs.lemmas.Int.{ints, clamps}
 use Rattle.std.proofs.lemmas.List.Elements.{All-head, All-tail}

@@ -1,5 +1,5 @@
 -- What was joined for another number at a place of the lines of an array.
-use Rattle.std.specs.Prelude.{◌≡◌, ℕ, ◌-◌, ◌<◌, ℤ, length}
+use Rattle.std.specs.Prelude.{ℕ, ◌-◌, ◌<◌, ℤ, length}
 use Rattle.function_names.specs.declared.scalar.Scalar2.{Scalar2}
 use Rattle.function_names.specs.declared.scalar.Scalar2.TheVariants.{Plus, Times, Maximum, Minimum, And, Or}
 use Rattle.fold_trees.specs.declared.joined.Joined.{Joined}

@@ -1,5 +1,5 @@
 -- What is joined for a patch of one place of an array whose lines are kept as trees.
-use Rattle.std.proofs.Common.{◌≡◌, ◌∙◌, ℕ, ◌<◌, ℤ, List, [], ◌∷◌, get_or, set, map, true, refl, sym, ap, subst, arith}
+use Rattle.std.proofs.Common.{◌≡◌, ◌∙◌, ℕ, ℤ, List, [], ◌∷◌, get_or, set, map, true, refl, sym, ap, subst, arith}
 use Rattle.std.proofs.lemmas.List.{map-set}
 use Rattle.arrays_core.specs.declared.item.Item.{Item}
 use Rattle.arrays_core.specs.declared.item.Item.TheVariants.{Num}
@@ -13,7 +13,7 @@ use Rattle.index_region.specs.Patches.{PatchValue, FitsPatch, patched}
 use Rattle.index_region.proofs.Written.{IsWritten, written_none, written_more, written_all}
 use Rattle.fold_trees.specs.ArrayLines.{TreesValue}
 use Rattle.fold_trees.specs.FoldTrees.{FoldsValue}
-use Rattle.sum_rules.specs.LineSums.{SummedValue, StandFor, array_of_shape}
+use Rattle.sum_rules.specs.LineSums.{StandFor, array_of_shape}
 use Rattle.sum_rules.specs.JoinedPatches.{IsJoinedIn, IsJoinedWith}
 use Rattle.sum_rules.specs.declared.joined_patch.JoinedPatch.{JoinedPatch}
 

@@ -1,6 +1,5 @@
 use Rattle.std.proofs.Common.{◌∙◌, suc, ◌*◌, ◌/◌, refl, ap, sym, arith, inl, inr}
 use Rattle.std.proofs.lemmas.Nat.{div-add-mod'}
-use Rattle.fold_trees.specs.LineTrees.{slot_of}
 use Rattle.fold_trees.proofs.BlockParts.{end_from}
 use Rattle.fold_trees.proofs.line_block.fill_from.Goals as goal
 

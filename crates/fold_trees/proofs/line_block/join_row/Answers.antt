@@ -1,6 +1,5 @@
-use Rattle.std.proofs.Common.{◌≡◌, ◌∙◌, ℕ, ◌+◌, ◌-◌, ◌*◌, ◌<◌, ◌≤◌, ◌⊎◌, get_or, min, sym, ap, subst, arith}
-use Rattle.std.proofs.lemmas.Nat.{pow_pos}
-use Rattle.fold_trees.specs.LineTrees.{slot_of, nth_node, segment, node_of}
+use Rattle.std.proofs.Common.{◌≡◌, ◌∙◌, ◌+◌, ◌-◌, ◌*◌, ◌≤◌, min, sym, ap, subst, arith}
+use Rattle.fold_trees.specs.LineTrees.{slot_of, segment, node_of}
 use Rattle.fold_trees.specs.LineBlocks.{line_of}
 use Rattle.fold_trees.proofs.Segments.{segment_split}
 use Rattle.fold_trees.proofs.BlockParts.{kept_on, rows_outside, quarter, half_told, later_told}

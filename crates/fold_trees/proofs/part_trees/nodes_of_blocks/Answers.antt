@@ -1,6 +1,5 @@
 use Rattle.std.proofs.Common.{◌≡◌, ◌∙◌, length, drop, sym, subst}
 use Rattle.std.proofs.lemmas.List.{take_at}
-use Rattle.fold_trees.specs.LineTrees.{slot_of}
 use Rattle.fold_trees.specs.LineBlocks.{AreAllKept}
 use Rattle.fold_trees.proofs.part_trees.nodes_of_blocks.Goals as goal
 

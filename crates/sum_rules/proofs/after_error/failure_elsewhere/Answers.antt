@@ -1,4 +1,4 @@
-use Rattle.std.proofs.Common.{◌≡◌, ◌∙◌, ◌+◌, ◌-◌, ◌<◌, true, false, ℕ, ℤ, List, length, map, remove, Err, refl, ap, sym, subst, arith}
+use Rattle.std.proofs.Common.{◌≡◌, ◌∙◌, ◌+◌, ◌-◌, ◌<◌, true, ℕ, ℤ, List, length, map, remove, Err, refl, ap, sym, subst, arith}
 use Rattle.arrays_core.specs.declared.item.Item.TheVariants.{Num}
 use Rattle.arrays_core.specs.Shapes.{is_index_of, index_after, size, places_before}
 use Rattle.arrays_core.proofs.Order.{index_after-within, places_before-index_after}

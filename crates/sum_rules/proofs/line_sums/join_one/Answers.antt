@@ -1,4 +1,4 @@
-use Rattle.std.proofs.Common.{◌≡◌, ◌<◌, ◌∙◌, ℕ, ℤ, List, set, Bool, true, get_or, sym, ap, subst, arith, rules, w64, SFits}
+use Rattle.std.proofs.Common.{◌≡◌, ◌<◌, ◌∙◌, ℕ, List, set, Bool, true, get_or, sym, ap, subst, arith, rules, w64, SFits}
 use Rattle.std.proofs.lemmas.Int.{to_z-of_z}
 use Rattle.arrays_core.specs.Items.{fill, type_of}
 use Rattle.arrays_core.specs.Shapes.{is_index_of, places_before}

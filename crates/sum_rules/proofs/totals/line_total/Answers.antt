@@ -1,4 +1,4 @@
-use Rattle.std.proofs.Common.{◌≡◌, ◌∙◌, ◌-◌, length, sym, ap, arith}
+use Rattle.std.proofs.Common.{◌≡◌, ◌∙◌, length, sym, ap, arith}
 use Rattle.arrays_core.specs.Shapes.{places_before}
 use Rattle.function_names.specs.Axes.{axis_at}
 use Rattle.index_region.proofs.Patched.{fits_within}

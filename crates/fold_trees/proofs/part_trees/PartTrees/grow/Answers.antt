@@ -7,7 +7,7 @@ use Rattle.fold_trees.proofs.MoreLines.{in_all}
 use Rattle.fold_trees.proofs.MoreTrees.{more_trees}
 use Rattle.fold_trees.proofs.part_trees.PartTrees.grow.Given.{Over}
 use Rattle.fold_trees.proofs.part_trees.PartTrees.grow.Goals.{After-trees}
-use Rattle.fold_trees.specs.LineTrees.{nodes_in_line, slot_of}
+use Rattle.fold_trees.specs.LineTrees.{nodes_in_line}
 use Rattle.fold_trees.proofs.part_trees.PartTrees.grow.Goals as goal
 
 -- ---- the new lines are as long as the old ones, their neighbours as far apart, and the room is for them

@@ -1,4 +1,4 @@
-use Rattle.std.proofs.Common.{◌≡◌, ◌∙◌, ap, sym, subst, List, [], ◌∷◌, ℤ, to_z, of_z, w64}
+use Rattle.std.proofs.Common.{◌≡◌, sym, subst, List, [], ◌∷◌, ℤ, to_z, of_z, w64}
 use Rattle.std.proofs.lemmas.Int.{to_z-of_z}
 use Rattle.fold_trees.specs.Sums.{IsSummaryOf, sums_of}
 use Rattle.fold_trees.proofs.JoinedSums.{sums_append}
