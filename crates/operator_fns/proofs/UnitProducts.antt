@@ -1,5 +1,5 @@
 -- The products of numbers that are 0, 1 or ¯1, from the left and from the right.
-use Rattle.std.proofs.Common.{◌≡◌, ℕ, zero, suc, ◌+◌, ◌*◌, ◌<◌, ◌≤◌, List, [], ◌∷◌, length, refl, ap, sym, ◌∙◌, arith, pos, negsuc, ℤ, ◌*ℤ◌, Ok}
+use Rattle.std.proofs.Common.{◌≡◌, ℕ, zero, suc, ◌<◌, ◌≤◌, List, [], ◌∷◌, length, refl, ap, sym, ◌∙◌, arith, pos, negsuc, ℤ, ◌*ℤ◌, Ok}
 use Rattle.std.specs.List.{All}
 use Rattle.arrays_core.specs.Items.{all_or_first_error, and_then}
 use Rattle.function_names.specs.declared.scalar.Scalar2.TheVariants.{Times}
