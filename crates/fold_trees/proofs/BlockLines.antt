@@ -49,7 +49,7 @@ module _ (count step slots : ℕ) (are : AreLines count step slots) where
             let wide : count * 1 ≤ count * step = mul-le count 1 count step (omega arith) (omega (arith, some)) in
             omega (arith, block_ends, wide, few)
 
-    -- so do its nodes, of which each line has so many
+    -- so do its nodes, which each line has in equal number
     pub nodes_ends : (unit nodes : ℕ) → nodes ≡ slots / count * unit → block * (unit * step) + unit * step ≤ nodes
     nodes_ends unit nodes sized =
         let before = units_before (unit * step) block (blocks count step slots are) (omega (arith, h, block_count)) in
@@ -69,7 +69,7 @@ node_before count step line block meeting apart low one below =
     let ends = units_before (nodes_in_line count * step) (line / step) block (div_below line step block apart low) in
     omega (arith, row, ends, mod_below line step apart)
 
--- where their nodes begin, if each has so many
+-- the first node of each line, if every line has this count of nodes
 pub line_node_first : (unit line : ℕ) → line / 1 * (unit * 1) + line % 1 ≡ line * unit
 line_node_first unit line =
     let whole : line / 1 ≡ line = omega arith in
@@ -81,7 +81,7 @@ pub line_nodes_end : (count line : ℕ) → nodes_end (line_at count 1 line) ≡
 line_nodes_end count line = ap (λ n. n + nodes_in_line count * 1) (line_node_first (nodes_in_line count) line) ∙ grind arith
 
 module _ {P : Type 0} (blank : P) (tells : P → List ℤ → Type 0) where
-  -- what is kept of the lines of one more block
+  -- the nodes of one more block of lines
   pub block_kept : (count step : ℕ) (slots : List ℤ) (now after : List P) (block : ℕ) → 0 < step
       → ((column : ℕ) → column < step → ArePartsKept tells count (slot_of (line_of (block_at count step block) column) slots) (node_of blank (line_of (block_at count step block) column) after))
       → ((p : ℕ) → (p < block * (nodes_in_line count * step) ⊎ block * (nodes_in_line count * step) + nodes_in_line count * step ≤ p) → get_or after p blank ≡ get_or now p blank)

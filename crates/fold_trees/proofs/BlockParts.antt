@@ -104,7 +104,7 @@ module _ {P : Type 0} (blank : P) (tells : P → List ℤ → Type 0) (from : �
       → ArePartsKeptIn tells (from + half) half first.count (slot_of (line_of first column) slots) (node_of blank (line_of first column) nodes)
   kept_in_second half column below some kept level place low high inside = kept column below level place (inl (omega (arith, low, some))) inside
 
--- what is kept stays with the nodes of the line
+-- the parts of a line depend on its nodes alone
 pub kept_in_still : {P : Type 0} (tells : P → List ℤ → Type 0) (from width count : ℕ) (x : ℕ → ℤ) (m n : ℕ → P) → ((meeting : ℕ) → n meeting ≡ m meeting)
     → ArePartsKeptIn tells from width count x m → ArePartsKeptIn tells from width count x n
 kept_in_still tells from width count x m n same kept level place low high inside =
@@ -121,7 +121,7 @@ quarter half (suc low) is other = (low, is ∙ half_up low)
 module _ {P : Type 0} (blank : P) (tells : P → List ℤ → Type 0) (from half low part : ℕ) (first : Line) (slots : List ℤ) (nodes : List P)
     (half_is : half ≡ 2 * 2 ^ low) (from_is : from ≡ part * (2 * half)) (full : from + 2 * half ≤ first.count) (kept : ArePartsKeptBehind blank tells from half first slots nodes)
     (column : ℕ) (below : column < first.step) where
-  -- a full part of the line is told by its node
+  -- the node of a full part tells its numbers
   told_at : (start place : ℕ) → start ≡ place * (2 * 2 ^ low) → start + half ≤ first.count
       → IsKept tells first.count (slot_of (line_of first column) slots) (node_of blank (line_of first column) nodes) (place * (2 * 2 ^ low)) (2 ^ low)
       → tells (node_of blank (line_of first column) nodes (start + half / 2)) (segment (slot_of (line_of first column) slots) start half)

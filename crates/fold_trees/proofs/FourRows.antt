@@ -83,7 +83,7 @@ module _ {P : Type 0} (blank : P) (first : Line) (from k here : ℕ) (nodes : Li
       elsewhere (nth_node (line_of first column) m) (apart column m 0 here inside other (omega arith)) (apart column m 1 (here + first.step) inside other (omega arith))
       (apart column m 2 (here + 2 * first.step) inside other (omega arith))
 
-  -- what is kept of one line more
+  -- the nodes of one more line
   pub four_on : (tells : P → List ℤ → Type 0) (slots : List ℤ) → tells a (segment (slot_of (line_of first k) slots) from 2) → tells b (segment (slot_of (line_of first k) slots) from 4)
       → tells d (segment (slot_of (line_of first k) slots) (from + 2) 2)
       → ((column : ℕ) → column < k → AreFourKept tells (slot_of (line_of first column) slots) (node_of blank (line_of first column) nodes) from)

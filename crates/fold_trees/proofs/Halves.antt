@@ -66,7 +66,7 @@ half_below low high more = elim (cases_lt low high) [
   | inr enough ↦ let no : ⊥ = omega (arith, half_grows high low enough, more) in absurd no
 ]
 
--- a wider one is so many times as wide
+-- the width of a wider part is a multiple of this
 pub half_times : (low high : ℕ) → low ≤ high → 2 ^ high ≡ 2 ^ (high - low) * 2 ^ low
 half_times low high less = let all : high ≡ high - low + low = omega (arith, less) in ap (λ k. 2 ^ k) all ∙ pow-add 2 (high - low) low
 

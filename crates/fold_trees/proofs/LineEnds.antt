@@ -36,7 +36,7 @@ module _ {P : Type 0} (blank : P) (tells : P → List ℤ → Type 0) (l : Line)
           let less : (suc k - 1) * (2 * half) ≡ k * (2 * half) = ap (λ j. j * (2 * half)) (omega arith) in
           omega (arith, is, whole, more, less)
 
-  -- a half of it is told by its node
+  -- the node of a half tells its numbers
   told_at : (start place : ℕ) → start ≡ place * (2 * 2 ^ low) → start + half ≤ end → IsKept tells l.count x (node_of blank l nodes) (place * (2 * 2 ^ low)) (2 ^ low)
       → tells (node_of blank l nodes (start + half / 2)) (segment x start half)
   told_at start place is ends this =

@@ -91,7 +91,7 @@ module _ {P : Type 0} (blank : P) (tells : P → List ℤ → Type 0) (count ste
       ∙ get_or_append_left nodes more blank (nth_node (line_at count step line) meeting)
       (node_within count step (length slots) old.lines line (there line below) (length nodes) old.sized meeting low high)
 
-  -- what is kept is that of the lines without them
+  -- the nodes are those of the lines without them
   pub kept_without : (line : ℕ) → line < step
       → ArePartsKept tells (count + 1 - 1) (slot_of (shorter (line_at (count + 1) step line)) (slots ++ numbers)) (node_of blank (shorter (line_at (count + 1) step line)) (nodes ++ more))
   kept_without line below =

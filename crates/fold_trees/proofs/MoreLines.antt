@@ -30,7 +30,7 @@ module _ (count step slots more : ℕ) (old : AreLines count step slots) (new : 
       ap (λ n. n / count) (omega (arith, sum, all_slots count step slots old, all_slots count step more new))
       ∙ div-mul-add (slots / count + more / count) count 0 old.some
 
--- the spots of a line behind all these, where each line has so many
+-- the spots of a later line, where each line has this count
 pub spot_after : (count step slots : ℕ) → AreLines count step slots → (unit line place : ℕ)
     → spot unit step (slots / count + line) place ≡ slots / count * unit + spot unit step line place
 spot_after count step slots are unit line place =
@@ -42,7 +42,7 @@ spot_after count step slots are unit line place =
 
 -- ---- how many slots and nodes there are in all
 
--- so many lines have few slots, and few nodes, of which each line has so many
+-- bounds on the slots and nodes of all lines
 pub record AreFew (lines count unit : ℕ) : Type 0 where
   pub lines_few : lines < 2 ^ 63
   pub slots_few : lines * count < 2 ^ 63
@@ -61,6 +61,6 @@ few_in_all old new count unit numbers less some many few =
       nodes_few = omega (arith, parts, new_slots, sum, fewer, few);
     }
 
--- of lines of so many slots each, and of others behind them
+-- of lines of this length, and of later lines
 pub in_all : (old new held more each : ℕ) → held ≡ old * each → more ≡ new * each → (old + new) * each ≡ held + more
 in_all old new held more each a b = let sum : (old + new) * each ≡ old * each + new * each = grind arith in omega (arith, sum, a, b)

@@ -27,7 +27,7 @@ module _ {P : Type 0} (blank : P) (tells : P → List ℤ → Type 0) (count ste
       let unit = nodes_in_line count in
       spot_after count step (length slots) there unit line (meeting - 1) ∙ ap (λ n. n + spot unit step line (meeting - 1)) (sym old.sized)
 
-  -- what is kept of the parts of both
+  -- the nodes of both
   first_kept : (line : ℕ) → line < old_lines
       → ArePartsKept tells count (slot_of (line_at count step line) (slots ++ more)) (node_of blank (line_at count step line) (nodes ++ more_nodes))
   first_kept line h =

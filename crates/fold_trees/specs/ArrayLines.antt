@@ -2,17 +2,17 @@
 use Rattle.std.specs.Prelude.{◌≡◌, ℕ, ◌+◌, ◌*◌, ◌/◌, ◌%◌, ℤ, pos, List, ◌++◌, length, set}
 use Rattle.scalar_fns.specs.Folds.{strided, line_start}
 
--- how long the lines are, how far apart the neighbours of a line lie, and the numbers of all lines as they lie in the array
+-- the length of the lines, the step from one number of a line to the next, and all numbers in the order of the array
 pub record TreesValue : Type 0 where
   pub count : ℕ
   pub step : ℕ
   pub numbers : List ℤ
 
--- how many lines there are
+-- the count of lines
 abbrev pub line_count : TreesValue → ℕ
 line_count t = length t.numbers / t.count
 
--- the numbers of a line, lines counted from 0: as many of them as the step lie between one another, and the next ones behind all these
+-- the numbers of a line, by its index from 0: each block of `step` lines is interleaved, and the blocks follow one another
 abbrev pub numbers_of_line : TreesValue → (line : ℕ) → List ℤ
 numbers_of_line t line = strided (pos 0) t.numbers (line_start t.step t.count line) t.step t.count
 
@@ -34,7 +34,7 @@ with_lines t numbers = record { count = t.count; step = t.step; numbers = t.numb
 
 -- ---- further lines
 
--- the lines of an array that come behind so many old ones
+-- the lines that an array grows by, and the count of the old lines
 pub record NewTreesValue : Type 0 where
   pub count : ℕ
   pub step : ℕ
@@ -49,12 +49,12 @@ pub record FitBehind (t : TreesValue) (more : NewTreesValue) : Type 0 where
 
 -- ---- one more place of each line
 
--- the numbers of one more place of each line, where each has so many until then and all of them lie between one another
+-- the last number of each interleaved line, and the length of the lines without it
 pub record NewPlacesValue : Type 0 where
   pub count : ℕ
   pub numbers : List ℤ
 
--- all lines lie between one another, and these are the numbers of the place behind their last one
+-- all lines are interleaved, and these are their next numbers
 pub record FitNext (t : TreesValue) (more : NewPlacesValue) : Type 0 where
   pub count : more.count ≡ t.count
   pub step : length more.numbers ≡ t.step

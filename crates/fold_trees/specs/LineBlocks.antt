@@ -1,10 +1,10 @@
--- As many lines as their step, which lie between one another, and all the lines of such blocks.
+-- Blocks of interleaved lines: as many lines as the step.
 use Rattle.std.specs.Prelude.{◌≡◌, ℕ, ◌+◌, ◌*◌, ◌/◌, ◌%◌, ◌^◌, ◌<◌, ◌≤◌, ◌⊎◌, ℤ, List, length}
 use Rattle.scalar_fns.specs.Folds.{line_start}
 use Rattle.fold_trees.specs.declared.line.Line.{Line}
 use Rattle.fold_trees.specs.LineTrees.{slot_of, nodes_in_line, node_of, IsKept, ArePartsKept}
 
--- a line of a block, of which the first one is told
+-- a line of a block, by the first line of the block and an offset
 abbrev pub line_of : Line → (column : ℕ) → Line
 line_of first column = record { count = first.count; step = first.step; slot = first.slot + column; node = first.node + column }
 
@@ -29,19 +29,19 @@ line_at count step line = record {
   node = line / step * (nodes_in_line count * step) + line % step;
 }
 
--- a list of so many slots is long enough for the block
+-- a list of this count of slots holds the block
 pub record HaveSlots (first : Line) (slots : ℕ) : Type 0 where
   pub few : first.count < 2 ^ 62
   pub apart : 0 < first.step
   pub fit : slots < 2 ^ 62
   pub end : slots_end first ≤ slots
 
--- and one of so many nodes
+-- and a list of this count of nodes
 pub record HaveNodes (first : Line) (nodes : ℕ) : Type 0 where
   pub fit : nodes < 2 ^ 62
   pub end : nodes_end first ≤ nodes
 
--- ---- what is kept of the parts of each line
+-- ---- the nodes of each line
 
 -- of those that begin behind a place, and of those that begin there and are no wider than this
 abbrev pub ArePartsKeptBehind : {P : Type 0} → P → (P → List ℤ → Type 0) → (from width : ℕ) → Line → List ℤ → List P → Type 0

@@ -1,4 +1,4 @@
--- Where a line of numbers lies, and what is kept of its parts.
+-- The places of a line of numbers, and the nodes of its parts.
 use Rattle.std.specs.Prelude.{◌≡◌, ℕ, zero, suc, ◌+◌, ◌-◌, ◌*◌, ◌/◌, ◌%◌, ◌^◌, ◌<◌, ◌≤◌, min, nat_eq, ℤ, pos, List, [], ◌∷◌, length, get_or, if◌then◌else◌, ◌⊎◌}
 use Rattle.fold_trees.specs.declared.line.Line.{Line}
 
@@ -14,7 +14,7 @@ nth_node l k = l.node + (k - 1) * l.step
 abbrev pub slot_of : Line → List ℤ → ℕ → ℤ
 slot_of l slots place = get_or slots (slot_at l place) (pos 0)
 
--- a list of so many slots is long enough for the line
+-- a list of this count of slots holds the line
 pub record HasSlots (l : Line) (slots : ℕ) : Type 0 where
   pub few : l.count < 2 ^ 62
   pub apart : 0 < l.step
@@ -44,17 +44,17 @@ replaced x place number i = if nat_eq i place then number else x i
 abbrev pub shorter : Line → Line
 shorter l = record { count = l.count - 1; step = l.step; slot = l.slot; node = l.node }
 
--- ---- the parts of two numbers and more, each of which has a node: that of the place at which its halves meet
+-- ---- the parts of two or more numbers: each has a node, at the place where its halves meet
 
--- how many nodes a line of so many numbers has
+-- the count of nodes of a line, by the count of its numbers
 abbrev pub nodes_in_line : ℕ → ℕ
 nodes_in_line count = count - 1
 
--- what is kept of two parts that meet at a place
+-- the node of the part whose halves meet at a place
 abbrev pub node_of : {P : Type 0} → P → Line → List P → ℕ → P
 node_of blank l nodes meeting = get_or nodes (nth_node l meeting) blank
 
--- a list of so many nodes is long enough for the line
+-- a list of this count of nodes holds the line
 pub record HasNodes (l : Line) (nodes : ℕ) : Type 0 where
   pub fit : nodes < 2 ^ 64
   pub node : (meeting : ℕ) → 1 ≤ meeting → meeting < l.count → nth_node l meeting < nodes
@@ -64,9 +64,9 @@ pub record IsIn (l : Line) (slot_count node_count : ℕ) : Type 0 where
   pub slots : HasSlots l slot_count
   pub nodes : HasNodes l node_count
 
--- ---- what is kept of them, told by a relation between it and numbers
+-- ---- the nodes, by a relation between a part and its numbers
 
--- so many numbers from a place on
+-- a count of numbers from a place on
 abbrev pub segment : (ℕ → ℤ) → (from count : ℕ) → List ℤ
 segment x from zero = []
 segment x from (suc count) = x from ∷ segment x (from + 1) count
@@ -75,7 +75,7 @@ segment x from (suc count) = x from ∷ segment x (from + 1) count
 abbrev pub numbers_of_block : (count : ℕ) → (ℕ → ℤ) → (block width : ℕ) → List ℤ
 numbers_of_block count x block width = segment x (block * width) (min width (count - block * width))
 
--- what is kept for a part whose second half has numbers tells of the numbers of the part
+-- the node of a part tells the numbers of the part
 abbrev pub IsKept : {P : Type 0} → (P → List ℤ → Type 0) → (count : ℕ) → (ℕ → ℤ) → (ℕ → P) → (from half : ℕ) → Type 0
 IsKept tells count x node from half = from + half < count → tells (node (from + half)) (segment x from (min (2 * half) (count - from)))
 
@@ -107,7 +107,7 @@ pub record AreFourKept {P : Type 0} (tells : P → List ℤ → Type 0) (x : ℕ
 
 -- ---- what is joined where the number at a place is another
 
--- the block of a place so many levels up, blocks of one width counted from 0
+-- the block that holds a place at a level, by its index among blocks of one width
 abbrev pub block_up : (place level : ℕ) → ℕ
 block_up place zero = place
 block_up place (suc level) = block_up place level / 2

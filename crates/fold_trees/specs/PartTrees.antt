@@ -5,13 +5,13 @@ use Rattle.fold_trees.specs.ArrayLines.{TreesValue, line_count, line_through}
 use Rattle.fold_trees.specs.LineTrees.{nodes_in_line, slot_of, replaced, AreJoined}
 use Rattle.fold_trees.specs.LineBlocks.{line_at, AreAllKept}
 
--- so many numbers are those of whole lines, blocks of as many as the step
+-- a count of numbers fills whole blocks of lines
 pub record AreLines (count step numbers : ℕ) : Type 0 where
   pub some : 0 < count
   pub apart : 0 < step
   pub whole : numbers % (count * step) ≡ 0
 
--- the trees of all lines, where it is told what is kept of numbers
+-- the trees of all lines, by the relation between a part and its numbers
 pub record AreLineTrees {P : Type 0} (blank : P) (tells : P → List ℤ → Type 0) (count step : ℕ) (numbers : List ℤ) (nodes : List P) : Type 0 where
   pub lines : AreLines count step (length numbers)
   pub sized : length nodes ≡ length numbers / count * nodes_in_line count
@@ -36,8 +36,8 @@ AreJoinedFor tells t place number parts =
 
 -- ---- further lines
 
--- two empty lists that lie in pieces of memory of these capacities, where the numbers or the nodes of so many old lines and of these behind them need others
--- than those of the old ones lie in
+-- two empty lists of these capacities, where the numbers or the nodes of the old lines and of these need more room than the old lines
+-- have
 pub record AreRooms {P : Type 0} (old_lines : ℕ) (more : TreesValue) (slots : List ℤ) (nodes : List P) (slot_capacity node_capacity : ℕ) : Type 0 where
   pub no_slots : slots ≡ []
   pub no_nodes : nodes ≡ []
@@ -47,8 +47,8 @@ pub record AreRooms {P : Type 0} (old_lines : ℕ) (more : TreesValue) (slots : 
 
 -- ---- one more place of each line
 
--- the nodes that lines of so many numbers have more with one more number, and two empty lists that lie in pieces of memory of these capacities, where the numbers
--- or the nodes of the longer lines need others than those of the old ones lie in
+-- the nodes that one more number adds to lines of this length, and two empty lists of these capacities, where the numbers or the nodes of
+-- the longer lines need more room than the old lines have
 pub record AreNextPartRooms {P : Type 0} (count : ℕ) (numbers slots : List ℤ) (more nodes : List P) (slot_capacity node_capacity : ℕ) : Type 0 where
   pub more_nodes : length more ≡ length numbers
   pub no_slots : slots ≡ []

@@ -1,16 +1,16 @@
-//! Where lines of numbers lie among those of several.
+//! The places of a line of numbers, and of its nodes, in the lists of all lines.
 
 ghost use Rattle.std.specs.Prelude.{◌≡◌, ◌+◌, ◌^◌, ◌<◌, ◌≤◌};
 ghost use Rattle.fold_trees.specs.ArrayLines.{line_through};
 ghost use Rattle.fold_trees.specs.LineTrees.{slot_at, nth_node};
 ghost use Rattle.fold_trees.specs.LineBlocks.{line_of};
 
-/// Where a line of numbers lies in a list of slots, and what is kept of its parts in a list of nodes.
+/// The places of a line's numbers in a list of slots, and of its nodes in a list of nodes.
 #[derive(Clone, Copy)]
 pub(crate) struct Line {
-    /// How many numbers there are.
+    /// The count of its numbers.
     pub(crate) count: usize,
-    /// From one of them to the next in their list, and likewise from node to node.
+    /// The distance from one number to the next in the list, and from node to node.
     pub(crate) step: usize,
     /// The slot of the first.
     pub(crate) slot: usize,
@@ -19,7 +19,7 @@ pub(crate) struct Line {
 }
 
 impl Line {
-    /// The slot of a place.
+    /// Returns the slot of a place.
     pub(crate) fn slot_at(&self, place: usize) -> usize
         requires { slot_at self.now place < 2 ^ 64 }
         ensures { result ≡ slot_at self.now place }
@@ -27,7 +27,7 @@ impl Line {
         self.slot + place * self.step
     }
 
-    /// A node of the line, counted from 1.
+    /// Returns the place of a node, counted from 1.
     pub(crate) fn nth_node(&self, node: usize) -> usize
         requires some { 1 ≤ node }
         requires fit { nth_node self.now node < 2 ^ 64 }
@@ -36,7 +36,7 @@ impl Line {
         self.node + (node - 1) * self.step
     }
 
-    /// The line so many behind the first one of a block.
+    /// Returns a line of the block that begins with this line, by its offset.
     pub(crate) fn nth(&self, column: usize) -> Line
         requires slot { self.now.slot + column < 2 ^ 64 }
         requires node { self.now.node + column < 2 ^ 64 }

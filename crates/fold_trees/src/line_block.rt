@@ -1,4 +1,4 @@
-//! What is kept of the parts of all lines of a block, made from the last parts to the first.
+//! Makes the nodes of all lines of a block, from the last part to the first.
 
 ghost use Rattle.std.specs.Prelude.{◌≡◌, get_or, ℕ, ◌+◌, ◌-◌, ◌*◌, ◌/◌, ◌%◌, ◌^◌, ◌<◌, ◌≤◌, ◌++◌, min, ℤ, List, length, ◌⊎◌};
 ghost use Rattle.fold_trees.specs.LineTrees.{nth_node, slot_of, segment, node_of, ArePartsKept, AreFourKept};
@@ -51,7 +51,7 @@ fn halves_row<P: Part>(nodes: &mut [P], first: Line, from: usize, half: usize)
     }
 }
 
-/// Joins what is kept of the part that begins at a place and has halves so wide, or ends with the line, for each line of a block.
+/// Writes the node of the part that begins at a place and whose first half has this width, for each line of a block. The part may end with the line.
 #[inline(never)]
 fn last_row<P: Part>(numbers: &[i64], nodes: &mut [P], first: Line, from: usize, half: usize)
     requires slots { HaveSlots first (length numbers.now) }
@@ -77,8 +77,8 @@ fn last_row<P: Part>(numbers: &[i64], nodes: &mut [P], first: Line, from: usize,
     }
 }
 
-/// Joins what is kept of the part that begins at a place and has halves so wide, for each line of a block, where that of the parts behind it and of the
-/// narrower ones that begin there is.
+/// Writes the node of the part that begins at a place and whose halves have this width, for each line of a block. The nodes of later parts, and of
+/// narrower parts at this place, exist.
 fn join_row<P: Part>(numbers: &[i64], nodes: &mut [P], first: Line, from: usize, half: usize)
     requires slots { HaveSlots first (length numbers.now) }
     requires nodes { HaveNodes first (length nodes.old) }
@@ -98,8 +98,8 @@ fn join_row<P: Part>(numbers: &[i64], nodes: &mut [P], first: Line, from: usize,
     }
 }
 
-/// Joins what is kept of the parts of the next four numbers from a place on, for each line of a block, where that of the parts behind them is. Returns the width of the part that is
-/// kept from there on: 4, or 2 where the line has fewer numbers.
+/// Writes the nodes of the four numbers that begin at a place, for each line of a block. The nodes of later parts exist. Returns the width of the widest
+/// part written: 4, or 2 if the line has fewer numbers.
 fn begin_from<P: Part>(numbers: &[i64], nodes: &mut [P], first: Line, from: usize) -> usize
     requires slots { HaveSlots first (length numbers.now) }
     requires nodes { HaveNodes first (length nodes.old) }
@@ -123,7 +123,7 @@ fn begin_from<P: Part>(numbers: &[i64], nodes: &mut [P], first: Line, from: usiz
     4
 }
 
-/// Joins what is kept of all parts that begin at a place, for each line of a block, where that of the parts behind it is.
+/// Writes the nodes of all parts that begin at a place, for each line of a block. The nodes of later parts exist.
 fn fill_from<P: Part>(numbers: &[i64], nodes: &mut [P], first: Line, from: usize)
     requires slots { HaveSlots first (length numbers.now) }
     requires nodes { HaveNodes first (length nodes.old) }
@@ -141,7 +141,7 @@ fn fill_from<P: Part>(numbers: &[i64], nodes: &mut [P], first: Line, from: usize
     }
 }
 
-/// Joins what is kept of all parts of each line of a block, from the last ones to the first.
+/// Writes all nodes of each line of a block, from the last part to the first.
 pub(crate) fn fill_block<P: Part>(numbers: &[i64], nodes: &mut [P], first: Line)
     requires slots { HaveSlots first (length numbers.now) }
     requires nodes { HaveNodes first (length nodes.old) }

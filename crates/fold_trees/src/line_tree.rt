@@ -1,4 +1,4 @@
-//! What is kept of the parts of one line of numbers, among lists that hold those of several.
+//! The tree of one line, in lists that hold the numbers and nodes of all lines.
 
 ghost use Rattle.std.specs.Prelude.{◌≡◌, ◌≢◌, pos, get_or, ℕ, ◌+◌, ◌-◌, ◌*◌, ◌/◌, ◌%◌, ◌^◌, ◌<◌, ◌≤◌, min, ℤ, List, [], length, IfOk, IfSome};
 ghost use Rattle.fold_trees.specs.FoldTrees.{IsWithinDigitsOf};
@@ -8,7 +8,7 @@ use crate::line::Line;
 use crate::part::Part;
 use std::alloc::AllocError;
 
-/// A line with the lists that it lies in.
+/// A line and the lists that hold its numbers and nodes.
 #[derive(Clone, Copy)]
 pub(crate) struct LineTree<'a, P> {
     pub(crate) line: Line,
@@ -17,7 +17,7 @@ pub(crate) struct LineTree<'a, P> {
 }
 
 impl<'a, P: Part> LineTree<'a, P> {
-    /// What is kept of the part that begins at a place and has this width, or ends with the line.
+    /// Returns the part that begins at a place and has this width, or ends with the line.
     pub(crate) fn part(&self, from: usize, width: usize) -> P
         requires inside { IsIn self.now.line (length self.now.numbers.now) (length self.now.nodes.now) }
         requires from { from < self.now.line.count }
@@ -33,7 +33,7 @@ impl<'a, P: Part> LineTree<'a, P> {
         self.nodes[self.line.nth_node(from + half)]
     }
 
-    /// What is kept of all numbers.
+    /// Returns the part of all numbers.
     pub(crate) fn whole(&self) -> P
         requires inside { IsIn self.now.line (length self.now.numbers.now) (length self.now.nodes.now) }
         requires some { 0 < self.now.line.count }
@@ -43,8 +43,8 @@ impl<'a, P: Part> LineTree<'a, P> {
         self.part(0, self.line.count.next_power_of_two())
     }
 
-    /// What is to be kept of the part twice as wide as a block of which this is, and how many parts were joined for it: none where
-    /// the line ends with that block, else one more.
+    /// Returns the part twice as wide as a block, made from the part of the block, and the count of joins: 0 if the line ends with the
+    /// block, else 1.
     fn widened(&self, block: usize, width: usize, kept: &P) -> (P, u32)
         requires inside { IsIn self.now.line (length self.now.numbers.now) (length self.now.nodes.now) }
         requires from { block * width < self.now.line.count }
@@ -68,8 +68,8 @@ impl<'a, P: Part> LineTree<'a, P> {
         (kept.join(&self.part(from + width, width)), 1)
     }
 
-    /// What is to be kept of all numbers where the one at a place is another, and how many parts were joined for it: at most as many
-    /// as the count less one has binary digits.
+    /// Returns the part of all numbers with another number at a place, and the count of joins: at most as many as the count less one has
+    /// binary digits.
     pub(crate) fn with(&self, place: usize, number: i64) -> (P, u32)
         requires inside { IsIn self.now.line (length self.now.numbers.now) (length self.now.nodes.now) }
         requires place { place < self.now.line.count }
@@ -92,8 +92,8 @@ impl<'a, P: Part> LineTree<'a, P> {
         (kept, joins)
     }
 
-    /// Does what `with` does, and appends the part of each width that it makes, from two numbers to all. It takes memory only beyond the
-    /// capacity of the list; AllocError where that is refused.
+    /// Joins as `with` does, and appends the part of each width, from two numbers to all. It allocates only beyond the capacity of the
+    /// list; AllocError if that is refused.
     pub(crate) fn join_up(
         &self,
         place: usize,
@@ -126,7 +126,7 @@ impl<'a, P: Part> LineTree<'a, P> {
     }
 }
 
-/// Joins anew what is kept of the parts that a place is in.
+/// Makes the nodes of all parts that hold a place again.
 pub(crate) fn renew<P: Part>(numbers: &[i64], nodes: &mut [P], line: Line, place: usize)
     requires inside { IsIn line (length numbers.now) (length nodes.old) }
     requires place { place < line.count }
@@ -208,8 +208,8 @@ pub(crate) fn write<P: Part>(
     }
 }
 
-/// Takes one more number for a line, the one that lies behind its others, and joins anew what is kept of the parts that it is in. The
-/// line is told with that number; what is kept until then is that of the line without it.
+/// Joins the last number of a line to its tree, and makes the nodes of all parts that hold it again. The nodes are those of the line
+/// without it.
 pub(crate) fn take_last<P: Part>(numbers: &[i64], nodes: &mut [P], line: Line)
     requires inside { IsIn line (length numbers.now) (length nodes.old) }
     requires more { 1 < line.count }

@@ -1,4 +1,4 @@
-//! What is kept of the parts of a line whose numbers are neighbours, made from the first parts to the last.
+//! Makes the nodes of a contiguous line, from the first part to the last.
 
 ghost use Rattle.std.specs.Prelude.{◌≡◌, get_or, ℕ, ◌+◌, ◌-◌, ◌*◌, ◌/◌, ◌%◌, ◌^◌, ◌<◌, ◌≤◌, ◌++◌, ◌∷◌, [], ℤ, length, vec_len, vec_capacity};
 ghost use Rattle.fold_trees.specs.LineTrees.{nth_node, slot_of, HasSlots, segment, node_of, ArePartsKept, ArePartsKeptIn, ArePartsKeptUpTo};
@@ -8,8 +8,8 @@ use crate::line::Line;
 use crate::line_tree::renew;
 use crate::part::Part;
 
-/// Joins what is kept of all parts that end at a place of a line whose numbers are neighbours, from the narrowest to the widest, where that of those up to
-/// a width is, and that of all parts that end before the place.
+/// Writes the nodes of all parts of a contiguous line that end at a place, from the narrowest to the widest. The nodes up to a width, and of parts that
+/// end earlier, exist.
 fn close_parts<P: Part>(nodes: &mut [P], line: Line, end: usize, width: usize)
     requires few { line.count < 2 ^ 62 }
     requires near { line.step ≡ 1 }
@@ -31,7 +31,7 @@ fn close_parts<P: Part>(nodes: &mut [P], line: Line, end: usize, width: usize)
     }
 }
 
-/// What is kept of the two numbers from a place on of a line whose numbers are neighbours.
+/// Returns the part of two consecutive numbers of a contiguous line.
 fn two_from<P: Part>(numbers: &[i64], line: Line, from: usize) -> P
     requires slots { HasSlots line (length numbers.now) }
     requires near { line.step ≡ 1 }
@@ -42,8 +42,8 @@ fn two_from<P: Part>(numbers: &[i64], line: Line, from: usize) -> P
     P::two(numbers[at], numbers[at + 1])
 }
 
-/// Puts the nodes of the two numbers from a place on behind the others, of a line whose numbers are neighbours: that of the part of these two, and one in
-/// whose place that of a wider part comes; and joins what is kept of all wider parts that end with the two. It takes no memory.
+/// Appends the node of the next two numbers of a contiguous line and a placeholder for a wider part, and writes the nodes of all wider parts that end
+/// with the two. It allocates nothing.
 fn push_pair<P: Part>(numbers: &[i64], nodes: &mut Vec<P>, line: Line, from: usize)
     requires slots { HasSlots line (length numbers.now) }
     requires near { line.step ≡ 1 }
@@ -63,9 +63,8 @@ fn push_pair<P: Part>(numbers: &[i64], nodes: &mut Vec<P>, line: Line, from: usi
     close_parts(nodes, line, from + 2, 2);
 }
 
-/// Puts the nodes of the four numbers from a place on behind the others, of a line whose numbers are neighbours: those of the parts of the first two, of all
-/// and of the last two, and one in whose place that of a wider part comes; and joins what is kept of all wider parts that end with the four. It takes no
-/// memory.
+/// Appends the nodes of the next four numbers of a contiguous line (the first two, all four, the last two) and a placeholder for a wider part, and writes
+/// the nodes of all wider parts that end with the four. It allocates nothing.
 fn push_four<P: Part>(numbers: &[i64], nodes: &mut Vec<P>, line: Line, from: usize)
     requires slots { HasSlots line (length numbers.now) }
     requires near { line.step ≡ 1 }
@@ -88,7 +87,7 @@ fn push_four<P: Part>(numbers: &[i64], nodes: &mut Vec<P>, line: Line, from: usi
     close_parts(nodes, line, from + 4, 4);
 }
 
-/// Puts the nodes of a line whose numbers are neighbours behind the others as far as they are those of pairs before its last number. It takes no memory.
+/// Appends the nodes of a contiguous line, up to the last pair before its last number. It allocates nothing.
 fn push_fours<P: Part>(numbers: &[i64], nodes: &mut Vec<P>, line: Line)
     requires slots { HasSlots line (length numbers.now) }
     requires near { line.step ≡ 1 }
@@ -109,7 +108,7 @@ fn push_fours<P: Part>(numbers: &[i64], nodes: &mut Vec<P>, line: Line)
     }
 }
 
-/// Puts the nodes of a line whose numbers are neighbours behind the others, from the first parts to the last. It takes no memory.
+/// Appends all nodes of a contiguous line, from the first part to the last. It allocates nothing.
 pub(crate) fn push_line<P: Part>(numbers: &[i64], nodes: &mut Vec<P>, line: Line)
     requires slots { HasSlots line (length numbers.now) }
     requires near { line.step ≡ 1 }

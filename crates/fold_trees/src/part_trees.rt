@@ -17,10 +17,10 @@ use arrays_core::{Kind, copied, put_behind, repeated, room_between, room_of, roo
 use std::alloc::{AllocError, Global};
 use std::marker::Model;
 
-/// A line of as many numbers as an array may have is joined in so many parts.
+/// The most parts that one replaced number joins: the binary digits of the most numbers of an array.
 const MOST_PARTS: usize = 20;
 
-/// Where a line lies among those of so many numbers, lines counted from 0.
+/// Returns the places of a line, by its index from 0.
 fn nth_line(count: usize, step: usize, line: usize) -> Line
     requires some { 0 < count }
     requires apart { 0 < step }
@@ -37,7 +37,7 @@ fn nth_line(count: usize, step: usize, line: usize) -> Line
     }
 }
 
-/// The tree of a line, lines counted from 0.
+/// Returns the tree of a line, by its index from 0.
 fn nth_tree<'a, P: Part>(
     numbers: &'a [i64],
     nodes: &'a [P],
@@ -61,7 +61,7 @@ fn nth_tree<'a, P: Part>(
     }
 }
 
-/// Where the first line of a block of as many lines as the step lies among all numbers, blocks counted from 0.
+/// Returns the places of the first line of a block, by the index of the block from 0. A block has `step` lines.
 fn nth_block(count: usize, step: usize, block: usize) -> Line
     requires some { 0 < count }
     requires fit { block * (count * step) + count * step < 2 ^ 64 }
@@ -75,7 +75,7 @@ fn nth_block(count: usize, step: usize, block: usize) -> Line
     }
 }
 
-/// Joins what is kept of all parts of all lines.
+/// Writes the nodes of all lines.
 fn fill_all<P: Part>(numbers: &[i64], nodes: &mut [P], count: usize, step: usize)
     requires lines { AreLines count step (length numbers.now) }
     requires sized { length nodes.old ≡ length numbers.now / count * nodes_in_line count }
@@ -87,7 +87,7 @@ fn fill_all<P: Part>(numbers: &[i64], nodes: &mut [P], count: usize, step: usize
     }
 }
 
-/// What is kept of the parts of lines whose numbers are neighbours. AllocError where memory for it is refused.
+/// Makes the nodes of contiguous lines. AllocError if memory for them is refused.
 fn nodes_of_lines<P: Part>(
     alloc: Global,
     numbers: &[i64],
@@ -106,7 +106,7 @@ fn nodes_of_lines<P: Part>(
     Ok(nodes)
 }
 
-/// What is kept of the parts of lines that lie between one another. AllocError where memory for it is refused.
+/// Makes the nodes of interleaved lines. AllocError if memory for them is refused.
 fn nodes_of_blocks<P: Part>(
     alloc: Global,
     numbers: &[i64],
@@ -124,8 +124,8 @@ fn nodes_of_blocks<P: Part>(
     Ok(nodes)
 }
 
-/// Takes one more number for each line, where all lines lie between one another and these numbers behind the others. The count is that with
-/// these numbers; what is kept until then is that of the lines without them.
+/// Joins the last number of each interleaved line to its tree. The count includes these numbers; the nodes are those of the lines without
+/// them.
 fn take_places<P: Part>(numbers: &[i64], nodes: &mut [P], count: usize, step: usize)
     requires more { 1 < count }
     requires apart { 0 < step }
@@ -140,9 +140,9 @@ fn take_places<P: Part>(numbers: &[i64], nodes: &mut [P], count: usize, step: us
     }
 }
 
-/// All lines of an array along one axis, with what is kept of the parts of each as a tree, so that one number can be replaced in as many
-/// steps as the length of its line has binary digits. The numbers and the nodes of all lines lie in two lists, each in a piece of memory
-/// for the next power of two of its length.
+/// All lines of an array along one axis, with a tree of parts for each. One number is replaced in at most as many joins as the length of
+/// its line has binary digits. The numbers and the nodes of all lines are two lists, each with a capacity of the next power of two of its
+/// length.
 #[derive(Drop)]
 pub(crate) struct PartTrees<P: Part> {
     count: usize,

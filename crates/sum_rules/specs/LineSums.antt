@@ -41,7 +41,7 @@ pub record SummedValue : Type 0 where
 abbrev pub most_without_tree : ℕ
 most_without_tree = 3
 
--- a fold of an array along an axis keeps trees: what is kept of parts tells its folds, the array is of numbers, there are some, and its lines are long enough
+-- a fold of an array along an axis keeps trees: its function has parts, the array has numbers only and at least one, and its lines are long enough
 abbrev pub keeps_sums : Reduce → ArrayValue → Bool
 keeps_sums r a = has_trees r.function && (is_of_numbers a.item_type && (nat_lt 0 (size a.shape) && nat_lt most_without_tree (length_along r.along a.shape)))
 
