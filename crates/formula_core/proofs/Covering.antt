@@ -32,9 +32,10 @@ use Rattle.search_fns.specs.Laws.IndexOf.{index_of_tight}
 use Rattle.search_fns.specs.Laws.Member.{member_tight}
 use Rattle.search_fns.specs.Laws.Encode.{encode_tight}
 use Rattle.search_fns.specs.Laws.Decode.{decode_tight}
-use Rattle.operator_fns.specs.Laws.Reduce.{reduce_tight}
-use Rattle.operator_fns.specs.Laws.Scan.{scan_tight}
-use Rattle.operator_fns.specs.Laws.LinesGrowth.{reduce_growing, scan_growing}
+use Rattle.reduce_fns.specs.Laws.Reduce.{reduce_tight}
+use Rattle.scan_fns.specs.Laws.Scan.{scan_tight}
+use Rattle.reduce_fns.specs.Laws.LinesGrowth.{reduce_growing}
+use Rattle.scan_fns.specs.Laws.ScanGrowth.{scan_growing}
 use Rattle.operator_fns.specs.Laws.OuterProduct.{outer_tight}
 use Rattle.operator_fns.specs.Laws.OuterProductGrowth.{outer_growing}
 use Rattle.operator_fns.specs.Laws.InnerProduct.{inner_tight}

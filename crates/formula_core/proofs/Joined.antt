@@ -10,7 +10,7 @@ use Rattle.arrays_core.specs.Growth.{grown_by}
 use Rattle.arrays_core.specs.declared.fault.Fault.{Fault}
 use Rattle.index_region.specs.Arguments.{is_of_numbers}
 use Rattle.function_names.specs.Axes.{axis_at}
-use Rattle.operator_fns.specs.declared.reduce.Reduce.{Reduce}
+use Rattle.reduce_fns.specs.declared.reduce.Reduce.{Reduce}
 use Rattle.index_region.specs.declared.delta.Delta.{Delta}
 use Rattle.index_region.specs.declared.delta.Delta.TheVariants.{Same, Patch, Grown, Whole}
 use Rattle.index_region.specs.Patches.{PatchValue, patched}

@@ -7,15 +7,15 @@ use Rattle.arrays_core.specs.Arrays.{ArrayValue}
 use Rattle.arrays_core.specs.Shapes.{size}
 use Rattle.arrays_core.specs.declared.item.Kind.{Kind}
 use Rattle.function_names.specs.Axes.{axis_at}
-use Rattle.operator_fns.specs.declared.reduce.Reduce.{Reduce}
+use Rattle.reduce_fns.specs.declared.reduce.Reduce.{Reduce}
 use Rattle.index_region.specs.declared.delta.Delta.TheVariants.{Patch, Grown}
 use Rattle.index_region.specs.Boxes.{Interval, box_size, fits, is_empty, join_boxes, met, unless_empty}
 use Rattle.index_region.specs.Checks.{Form}
 use Rattle.index_region.specs.Patches.{PatchValue}
 use Rattle.index_region.specs.Tails.{TailValue}
 use Rattle.index_region.proofs.Boxes.{fits_length}
-use Rattle.operator_fns.specs.Reduce.{reduce_form}
-use Rattle.operator_fns.specs.Laws.ReducedShapes.{reduce_facts}
+use Rattle.reduce_fns.specs.Reduce.{reduce_form}
+use Rattle.reduce_fns.specs.Laws.ReducedShapes.{reduce_facts}
 use Rattle.change_core.specs.RuleModels.{form_size}
 use Rattle.change_core.specs.Reaches.{as_reach, reach_by, reach_of}
 use Rattle.change_rules.specs.Nodes.{Argument, reached_cost, size_in}

@@ -9,7 +9,7 @@ use Rattle.arrays_core.specs.Growth.{grown_by}
 use Rattle.arrays_core.proofs.Growing.{rank_longer}
 use Rattle.function_names.specs.Axes.{axis_at}
 use Rattle.function_names.specs.declared.scalar.Scalar2.{Scalar2}
-use Rattle.operator_fns.specs.declared.reduce.Reduce.{Reduce}
+use Rattle.reduce_fns.specs.declared.reduce.Reduce.{Reduce}
 use Rattle.index_region.specs.declared.delta.Delta.{Delta}
 use Rattle.index_region.specs.declared.delta.Delta.TheVariants.{Same, Patch, Grown, Whole}
 use Rattle.index_region.specs.Patches.{PatchValue, patched}

@@ -10,7 +10,7 @@ use Rattle.apl_expr.specs.Trees as tree
 use Rattle.apl_expr.specs.declared.functions.Function1.TheVariants as function1
 use Rattle.change_core.specs.Meters.{ticked}
 use Rattle.change_rules.specs.Nodes.{is_error}
-use Rattle.operator_fns.specs.declared.reduce.Reduce.{Reduce}
+use Rattle.reduce_fns.specs.declared.reduce.Reduce.{Reduce}
 use Rattle.index_region.specs.declared.delta.Delta.{Delta}
 use Rattle.sum_rules.specs.LineSums.{length_along}
 use Rattle.sum_rules.specs.Totals.{new_items}

@@ -15,7 +15,7 @@ use Rattle.index_region.specs.Arguments.{is_of_numbers}
 use Rattle.function_names.specs.Axes.{axis_at, is_axis}
 use Rattle.function_names.specs.declared.along.Along.{Along}
 use Rattle.index_region.specs.Tails.{TailValue}
-use Rattle.operator_fns.specs.declared.reduce.Reduce.{Reduce}
+use Rattle.reduce_fns.specs.declared.reduce.Reduce.{Reduce}
 use Rattle.index_region.specs.declared.delta.Delta.{Delta}
 use Rattle.index_region.specs.declared.delta.Delta.TheVariants.{Same, Patch, Grown, Whole}
 use Rattle.index_region.specs.Patches.{FitsPatch, PatchValue, patched}

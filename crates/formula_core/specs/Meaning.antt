@@ -30,8 +30,8 @@ use Rattle.search_fns.specs.IndexOf.{index_of_whole}
 use Rattle.search_fns.specs.Member.{member_whole}
 use Rattle.search_fns.specs.Encode.{encode_whole}
 use Rattle.search_fns.specs.Decode.{decode_whole}
-use Rattle.operator_fns.specs.Reduce.{reduce_whole}
-use Rattle.operator_fns.specs.Scan.{scan_whole}
+use Rattle.reduce_fns.specs.Reduce.{reduce_whole}
+use Rattle.scan_fns.specs.Scan.{scan_whole}
 use Rattle.operator_fns.specs.OuterProduct.{outer_whole}
 use Rattle.operator_fns.specs.InnerProduct.{inner_whole}
 use Rattle.arrays_core.specs.declared.fault.Fault.{Fault}

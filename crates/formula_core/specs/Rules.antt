@@ -32,8 +32,8 @@ use Rattle.search_fns.specs.IndexOf.{index_of_rule}
 use Rattle.search_fns.specs.Member.{member_rule}
 use Rattle.search_fns.specs.Encode.{encode_rule}
 use Rattle.search_fns.specs.Decode.{decode_rule}
-use Rattle.operator_fns.specs.Reduce.{reduce_rule}
-use Rattle.operator_fns.specs.Scan.{scan_rule}
+use Rattle.reduce_fns.specs.Reduce.{reduce_rule}
+use Rattle.scan_fns.specs.Scan.{scan_rule}
 use Rattle.operator_fns.specs.OuterProduct.{outer_rule}
 use Rattle.operator_fns.specs.InnerProduct.{inner_rule}
 

@@ -5,7 +5,7 @@ use Rattle.std.specs.List.{Contains, sum_by}
 use Rattle.apl_expr.specs.Trees.{Tree}
 use Rattle.arrays_core.specs.Arrays.{IsArray}
 use Rattle.arrays_core.specs.declared.item.Kind.TheVariants.{Value}
-use Rattle.operator_fns.specs.declared.reduce.Reduce.{Reduce}
+use Rattle.reduce_fns.specs.declared.reduce.Reduce.{Reduce}
 use Rattle.index_region.specs.declared.delta.Delta.{Delta}
 use Rattle.index_region.specs.declared.delta.Delta.TheVariants.{Same}
 use Rattle.change_core.specs.Meters.{ticked, MeterValue}

@@ -8,8 +8,8 @@ use Rattle.index_region.specs.Boxes.{Interval}
 use Rattle.function_names.specs.declared.scalar.Scalar2.TheVariants as two
 use Rattle.change_core.specs.declared.reach.Reach.TheVariants.{Unmoved, Inside, Anew}
 use Rattle.change_core.specs.Reaches.{reach_of}
-use Rattle.operator_fns.specs.Reduce.{reduce_rule}
-use Rattle.operator_fns.specs.Scan.{scan_rule}
+use Rattle.reduce_fns.specs.Reduce.{reduce_rule}
+use Rattle.scan_fns.specs.Scan.{scan_rule}
 use Rattle.operator_fns.specs.OuterProduct.{outer_rule}
 use Rattle.operator_fns.specs.InnerProduct.{inner_rule}
 

@@ -26,12 +26,12 @@ use Rattle.operator_fns.specs.InnerProduct.{row_rank, row_length, column_length,
 use Rattle.operator_fns.specs.RowByColumn.{entry, all_met, folded_all, row_at, column_at, cell, IsGridOf, grid_of}
 use Rattle.operator_fns.specs.Laws.JoinedIndices.{parts, size-append}
 use Rattle.operator_fns.proofs.Joined.{number_there}
-use Rattle.operator_fns.proofs.Lines.{size-drop-le}
+use Rattle.reduce_fns.proofs.Lines.{size-drop-le}
 use Rattle.operator_fns.proofs.Meetings.{length-met}
 use Rattle.operator_fns.specs.Laws.InnerPlaces.{extended_one, extended_many, row_place, column_place, last_axis, rank_of_rows, lengths_of}
 use Rattle.operator_fns.proofs.Inners.{products_met, fold_of_some}
 use Rattle.operator_fns.proofs.Outers.{as_many}
-use Rattle.operator_fns.proofs.Placewise.{collected_same}
+use Rattle.reduce_fns.proofs.Placewise.{collected_same}
 
 -- ---- folds of numbers are folds of items
 

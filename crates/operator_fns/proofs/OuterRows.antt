@@ -1,5 +1,5 @@
 -- Outer products of numbers, row by row.
-use Rattle.std.proofs.Common.{◌≡◌, Vec, ℕ, zero, suc, ◌+◌, ◌*◌, ◌/◌, ◌%◌, ◌<◌, List, [], ◌∷◌, ◌++◌, append-nil, length, get_or, map, take, drop, ℤ, pos, Result, Ok, Err, refl, ap, sym, ◌∙◌, arith}
+use Rattle.std.proofs.Common.{◌≡◌, Vec, ℕ, zero, suc, ◌+◌, ◌*◌, ◌/◌, ◌%◌, ◌<◌, List, [], ◌∷◌, ◌++◌, append-nil, length, get_or, map, take, drop, ℤ, pos, Result, Ok, Err, ap, sym, ◌∙◌, arith}
 use Rattle.std.specs.List.{range_with_len}
 use Rattle.std.proofs.lemmas.List.{length-map, length-append, get_or_append_left, get_or-append-add, get_or-map, ext_get_or, take_more, take-append-drop}
 use Rattle.std.proofs.lemmas.List.FromFn.{length-map-range_with_len, get_or-map-range_with_len}
@@ -11,40 +11,8 @@ use Rattle.std.specs.Result.{IsErr, IsErrAnd}
 use Rattle.arrays_core.specs.declared.fault.ApplyFault.{ApplyFault}
 use Rattle.arrays_core.specs.declared.fault.ApplyFault.TheVariants.{Kind as KindFault, NoMemory}
 use Rattle.scalar_fns.specs.NumberLists.{IsListAnswerTo}
-use Rattle.arrays_core.specs.Items.{all_or_first_error, after, and_then}
-use Rattle.operator_fns.specs.OuterResults.{outer_results, with_results, LeavesOrFails}
-
--- ---- results after others
-
-again : (r : Result (List ℤ) Kind) → r ≡ and_then r (λ zs. Ok ([] ++ zs))
-again (Ok zs) = refl
-again (Err e) = refl
-
-pub after_parts : (x : ℤ) (r : Result (List ℤ) Kind) (all : List ℤ) (B : Type 0) → after x r ≡ Ok all → ((rest : List ℤ) → r ≡ Ok rest → all ≡ x ∷ rest → B) → B
-after_parts x (Ok rest) all B h then = then rest refl (let e : x ∷ rest ≡ all = cc in sym e)
-after_parts x (Err e) all B h then = let none : ⊥ = cc in absurd none
-
-after_more : (x : ℤ) (rest : List ℤ) (r : Result (List ℤ) Kind) → after x (and_then r (λ zs. Ok (rest ++ zs))) ≡ and_then r (λ zs. Ok (x ∷ (rest ++ zs)))
-after_more x rest (Ok zs) = refl
-after_more x rest (Err e) = refl
-
-pub all_then : (front rs : List (Result ℤ Kind)) (zs : List ℤ) → all_or_first_error front ≡ Ok zs → all_or_first_error (front ++ rs) ≡ with_results zs rs
-all_then [] rs zs h = let e : zs ≡ [] = cc in rw e (again (all_or_first_error rs))
-all_then (Err e ∷ front) rs zs h = cc
-all_then (Ok x ∷ front) rs zs h =
-    after_parts x (all_or_first_error front) zs (all_or_first_error (Ok x ∷ front ++ rs) ≡ with_results zs rs) h (λ rest made is.
-    ap (after x) (all_then front rs rest made)
-    ∙ after_more x rest (all_or_first_error rs)
-    ∙ sym (ap (λ ys. with_results ys rs) is))
-
-pub error_in_front : (front rs : List (Result ℤ Kind)) (e : Kind) → all_or_first_error front ≡ Err e → all_or_first_error (front ++ rs) ≡ Err e
-error_in_front [] rs e h = cc
-error_in_front (Err k ∷ front) rs e h = h
-error_in_front (Ok x ∷ front) rs e h = ap (after x) (error_in_front front rs e (failed (all_or_first_error front) h)) ∙ refl
-  where
-    failed : (r : Result (List ℤ) Kind) → after x r ≡ Err e → r ≡ Err e
-    failed (Ok zs) g = cc
-    failed (Err k) g = g
+use Rattle.arrays_core.specs.Items.{all_or_first_error}
+use Rattle.operator_fns.specs.OuterResults.{outer_results, LeavesOrFails}
 
 -- the first results of a list stand after some numbers
 pub record RowTo (old : List ℤ) (rs : List (Result ℤ Kind)) (k : ℕ) (items : List ℤ) : Type 0 where
@@ -118,10 +86,3 @@ pub row_failed : {G : Type 0} (U : Type 0) (wanted other : Result (List ℤ) Kin
 row_failed U wanted other left fault (Ok v) same is h = absurd h.1
 row_failed U wanted other left (KindFault k) (Err e) same is h = rw h.1 (same k is)
 row_failed U wanted other left NoMemory (Err e) same is h = rw h.1 tt
-
--- as many numbers as results
-pub as_many_as : (rs : List (Result ℤ Kind)) (zs : List ℤ) → all_or_first_error rs ≡ Ok zs → length zs ≡ length rs
-as_many_as [] zs h = let e : zs ≡ [] = cc in rw e refl
-as_many_as (Err e ∷ rs) zs h = cc
-as_many_as (Ok x ∷ rs) zs h =
-    after_parts x (all_or_first_error rs) zs (length zs ≡ length (Ok x ∷ rs)) h (λ rest made is. ap length is ∙ ap suc (as_many_as rs rest made))

@@ -19,7 +19,7 @@ use Rattle.operator_fns.specs.OuterResults.{outer_results}
 use Rattle.operator_fns.proofs.OuterRows.{places_of_outer}
 use Rattle.operator_fns.specs.Laws.JoinedIndices.{parts, size-append}
 use Rattle.operator_fns.proofs.Joined.{number_there}
-use Rattle.operator_fns.proofs.Placewise.{collected_same, numbers_collected}
+use Rattle.reduce_fns.proofs.Placewise.{collected_same, numbers_collected}
 
 -- as many numbers as places
 pub as_many : (a : ArrayValue) (xs : List ℤ) → length a.items ≡ size a.shape → a.items ≡ map (λ z. Num z) xs → size a.shape ≡ length xs

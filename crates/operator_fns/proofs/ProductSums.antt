@@ -1,5 +1,5 @@
 -- The sum of products of small numbers, whose fold is that sum.
-use Rattle.std.proofs.Common.{◌≡◌, ℕ, suc, ◌+◌, ◌-◌, ◌*◌, ◌/◌, ◌%◌, inl, inr, ◌^◌, ◌<◌, ◌≤◌, List, [], ◌∷◌, ◌++◌, length, get_or, take, drop, map, refl, ap, subst, sym, ◌∙◌, arith, ℤ, pos, ◌+ℤ◌, ◌*ℤ◌, unsigned_abs, FitsSigned, Ok}
+use Rattle.std.proofs.Common.{◌≡◌, ℕ, suc, ◌+◌, ◌-◌, ◌*◌, ◌/◌, ◌%◌, inl, inr, ◌^◌, ◌<◌, ◌≤◌, List, [], ◌∷◌, ◌++◌, length, get_or, take, drop, map, refl, ap, subst, sym, ◌∙◌, arith, ℤ, pos, negsuc, ◌+ℤ◌, ◌*ℤ◌, unsigned_abs, FitsSigned, Ok}
 use Rattle.std.specs.Int.{w64}
 use Rattle.std.specs.List.{All, range_with_len}
 use Rattle.std.proofs.lemmas.Int.{ints, unsigned_abs-mul, fits_signed_from_abs}
@@ -13,12 +13,12 @@ use Rattle.arrays_core.specs.Items.{and_then}
 use Rattle.function_names.specs.declared.scalar.Scalar2.TheVariants.{Plus, Times}
 use Rattle.scalar_fns.specs.Numbers.{dyadic_on_numbers, number_or_limit}
 use Rattle.scalar_fns.specs.Folds.{folded}
-use Rattle.operator_fns.specs.Sum.{sum_of}
+use Rattle.reduce_fns.specs.Sum.{IsWithinBound, sum_of}
 use Rattle.operator_fns.specs.InnerProduct.{all_or_last_error}
 use Rattle.operator_fns.specs.RowByColumn.{all_met, folded_all}
 use Rattle.operator_fns.specs.SmallProducts.{sum_of_products, IsNoFurther, AddUp, EndsInSums, IsProduct}
 use Rattle.scalar_fns.proofs.Within.{held_within, within_of}
-use Rattle.operator_fns.proofs.Firsts.{same_rules}
+use Rattle.reduce_fns.proofs.Firsts.{same_rules}
 
 abs_add : (a b : ℤ) → unsigned_abs (a +ℤ b) ≤ unsigned_abs a + unsigned_abs b
 abs_add a b = omega (arith, ints)
@@ -204,3 +204,9 @@ module _ (xs ys : List ℤ) (columns count : ℕ) where
                   (λ k inside. get_or-take (count * columns) ys (column + k * columns) (pos 0) (in_rows column columns k count low inside) ∙ ap (λ c. get_or ys (c + k * columns) (pos 0)) (sym m));
             })
       ]
+
+-- ---- numbers within a bound
+
+pub no_further : (bound : ℕ) (z : ℤ) → IsWithinBound bound z → IsNoFurther bound z
+no_further bound (pos n) within = let high = within.high in record { near = omega (arith, ints) }
+no_further bound (negsuc n) within = let low = within.low in record { near = omega (arith, ints) }

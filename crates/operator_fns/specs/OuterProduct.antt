@@ -1,17 +1,16 @@
 -- Outer product, A∘.fB: a function of each item of one array with each item of another.
-use Rattle.std.specs.Prelude.{ℕ, List, ◌++◌, length, take, drop, Result, false}
+use Rattle.std.specs.Prelude.{ℕ, List, ◌++◌, length, take, drop, Result, true, false}
 use Rattle.arrays_core.specs.declared.item.Item.{Item}
 use Rattle.arrays_core.specs.declared.item.ItemType.TheVariants.{Nums}
 use Rattle.arrays_core.specs.declared.item.Kind.{Kind}
 use Rattle.arrays_core.specs.Arrays.{ArrayValue, item_of}
 use Rattle.index_region.specs.Checks.{Form, limited, whole}
-use Rattle.change_core.specs.RuleModels.{RuleModel, Use}
-use Rattle.change_core.specs.Growth.{growing}
+use Rattle.change_core.specs.RuleModels.{Growth, RuleModel, Use}
+use Rattle.change_core.specs.Growth.{growing, two_grow}
 use Rattle.change_core.specs.Sourced.{two_rule}
 use Rattle.change_core.specs.Ways.{front, back}
 use Rattle.function_names.specs.declared.scalar.Scalar2.{Scalar2}
 use Rattle.scalar_fns.specs.Items.{dyadic_on_items}
-use Rattle.operator_fns.specs.Growth.{outer_grows}
 
 -- the checks, and the shape and the type of the result
 abbrev pub outer_form : ArrayValue → ArrayValue → Result Form Kind
@@ -35,6 +34,10 @@ front_use shape a b = front (length a.shape) b.shape
 -- by the right argument: the axes of the left one whole, and then a changed box
 abbrev pub back_use : List ℕ → ArrayValue → ArrayValue → Use
 back_use shape a b = back a.shape
+
+-- it grows with the left argument alone
+abbrev pub outer_grows : Growth
+outer_grows = two_grow (λ a b. true) (λ a b. false) (λ a b. false)
 
 abbrev pub outer_rule : Scalar2 → RuleModel
 outer_rule f = growing (two_rule false outer_form (outer_item f) front_use back_use) outer_grows

@@ -10,10 +10,10 @@ ghost use Rattle.scalar_fns.specs.Items.{number_item};
 ghost use Rattle.operator_fns.specs.RowByColumn.{cell, IsGridOf, IsPlain};
 
 use crate::met_numbers::MetNumbers;
-use crate::number_function::{NumberFunction, collect_numbers};
 use crate::row_by_column::{NumberLines, StridedLine, fold_row};
 use crate::small_products::{add_up, small_products};
 use arrays_core::{ApplyFault, Array, Kind, Shape, size};
+use reduce_fns::{NumberFunction, collect_numbers};
 use scalar_fns::kernels::{And, Equal, Maximum, Minimum, Or, Plus, Times, TwoNumbers};
 use scalar_fns::{Scalar2, WithFunction, with_function};
 use std::alloc::Global;

@@ -17,7 +17,6 @@ ghost use Rattle.operator_fns.specs.RowByColumn.{entry, IsInside, grid_of};
 ghost use Rattle.operator_fns.specs.Laws.InnerProduct.{inner_tight};
 
 use crate::grid::{Grid, grid_products};
-use crate::right_fold::{identity_item, stride};
 use crate::row_by_column::{ItemLines, StridedLine, fold_row};
 use arrays_core::{
     ApplyFault, Array, Item, ItemType, Kind, MOST_AXES, Shape, append_axes, position, shape_of,
@@ -25,6 +24,7 @@ use arrays_core::{
 };
 use change_core::Announced;
 use index_region::{IndexBox, Intervals, Primitive, Seen, apply, limited};
+use reduce_fns::{identity_item, stride};
 use scalar_fns::Scalar2;
 use std::alloc::Global;
 

@@ -16,7 +16,7 @@ ghost use Rattle.operator_fns.specs.OuterResults.{outer_results, with_results, L
 ghost use Rattle.operator_fns.specs.OuterProduct.{outer_form, outer_item, outer_whole, front_use, back_use};
 ghost use Rattle.operator_fns.specs.Laws.OuterProduct.{outer_tight};
 ghost use Rattle.operator_fns.specs.Laws.OuterProductGrowth.{outer_growing};
-ghost use Rattle.operator_fns.specs.Growth.{outer_grows};
+ghost use Rattle.operator_fns.specs.OuterProduct.{outer_grows};
 
 use arrays_core::{
     ApplyFault, Array, Item, ItemType, Kind, MOST_AXES, Shape, append_axes, position, room_of,

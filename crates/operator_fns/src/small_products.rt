@@ -3,9 +3,8 @@
 ghost use Rattle.std.specs.Prelude.{◌≡◌, ◌<◌, ◌≤◌, ℕ, ◌+◌, ◌*◌, ◌/◌, ◌%◌, ◌^◌, ◌+ℤ◌, ◌*ℤ◌, true, pos, length, get_or, All, OnOk, IfOk, vec_len};
 ghost use Rattle.operator_fns.specs.SmallProducts.{sum_of_products, IsNoFurther, AddUp, RowFits, AreSums, EndsInSums, IsProduct};
 
-use crate::bounds::are_within;
-use crate::limits::MOST_ITEMS;
 use arrays_core::room_of;
+use reduce_fns::{MOST_ITEMS, are_within};
 use std::alloc::{AllocError, Global};
 
 /// How far the numbers of a list are from 0 at most.

@@ -24,12 +24,11 @@ use Rattle.index_region.proofs.Boxes.{fits_length}
 use Rattle.index_region.proofs.Patched.{fits_within, patched_at}
 use Rattle.index_region.proofs.Walks.{offset_below, offset_of_walk, walk_of_offset, walk_within}
 use Rattle.fold_trees.specs.ArrayLines.{TreesValue, line_through, numbers_through, with_number}
-use Rattle.operator_fns.specs.Laws.LineIndices.{inside}
-use Rattle.operator_fns.proofs.BoxTables.{remove_inserted}
-use Rattle.operator_fns.proofs.Lines.{long_with_axis, stride}
-use Rattle.operator_fns.proofs.Reduced.{start_is}
+use Rattle.reduce_fns.specs.Laws.LineIndices.{inside}
+use Rattle.reduce_fns.proofs.Lines.{long_with_axis, remove_inserted, stride}
+use Rattle.reduce_fns.proofs.Reduced.{start_is}
 use Rattle.scalar_fns.specs.RightFold.{fold_right}
-use Rattle.operator_fns.specs.Lines.{line}
+use Rattle.reduce_fns.specs.Lines.{line}
 use Rattle.sum_rules.specs.LineSums.{StandFor, array_of_shape, line_length, line_step}
 use Rattle.sum_rules.specs.Totals.{StoodFor, is_one_a_line, box_of_lines}
 use Rattle.sum_rules.proofs.OneAxis.{FitsAxis, fits_axis, size_with_one, walk_with_one, within_axis}

@@ -11,16 +11,16 @@ use Rattle.index_region.specs.Axes.{places_along}
 use Rattle.arrays_core.specs.declared.item.Item.{Item}
 use Rattle.arrays_core.specs.declared.item.Kind.{Kind}
 use Rattle.arrays_core.specs.declared.item.ItemType.{ItemType}
-use Rattle.operator_fns.specs.declared.reduce.Reduce.{Reduce}
+use Rattle.reduce_fns.specs.declared.reduce.Reduce.{Reduce}
 use Rattle.function_names.specs.Axes.{axis_at, is_axis}
 use Rattle.function_names.specs.declared.along.Along.{Along}
 use Rattle.index_region.specs.Boxes.{Interval, box_size, walk_at, met, unless_empty, join_boxes}
 use Rattle.index_region.specs.Checks.{Form, form_of}
 use Rattle.index_region.specs.Patches.{PatchValue, patched}
 use Rattle.index_region.specs.Tails.{TailValue}
-use Rattle.operator_fns.specs.Reduce.{reduce_form, reduce_item, reduce_whole}
+use Rattle.reduce_fns.specs.Reduce.{reduce_form, reduce_item, reduce_whole}
 use Rattle.fold_trees.specs.ArrayLines.{TreesValue}
-use Rattle.operator_fns.specs.Laws.ReducedShapes.{reduce_facts}
+use Rattle.reduce_fns.specs.Laws.ReducedShapes.{reduce_facts}
 use Rattle.change_core.specs.declared.reach.Reach.TheVariants.{Inside, Unmoved}
 use Rattle.change_core.specs.Parts.{items_in}
 use Rattle.change_core.specs.Reaches.{as_reach, reach_by, reach_of}
@@ -31,7 +31,7 @@ use Rattle.change_rules.specs.Nodes.{Argument, all_patched_at_most, all_same, is
 use Rattle.arrays_core.specs.Outcomes.{Outcome}
 use Rattle.change_rules.specs.Evaluation.{evaluation}
 use Rattle.change_core.specs.RuleModels.{form_size}
-use Rattle.operator_fns.specs.Growth.{is_along_a_later_axis}
+use Rattle.reduce_fns.specs.Growth.{is_along_a_later_axis}
 use Rattle.change_rules.proofs.Nodes.{delta_reached}
 use Rattle.change_core.specs.Meters.{ticked}
 use Rattle.sum_rules.specs.LineSums.{array_of_shape, length_along}

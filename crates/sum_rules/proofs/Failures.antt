@@ -23,7 +23,7 @@ use Rattle.scalar_fns.specs.Items.{dyadic_on_items, number_item}
 use Rattle.scalar_fns.specs.Numbers.{as_truth, dyadic_on_numbers, is_number, number_or_limit, on_truths}
 use Rattle.index_region.specs.Axes.{places_along}
 use Rattle.scalar_fns.specs.RightFold.{fold_right, identity_item}
-use Rattle.operator_fns.specs.Reduce.{reduce_item}
+use Rattle.reduce_fns.specs.Reduce.{reduce_item}
 use Rattle.fold_trees.specs.FoldTrees.{has_trees}
 
 -- ---- one fold has one error

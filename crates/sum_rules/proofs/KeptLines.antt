@@ -25,11 +25,11 @@ use Rattle.index_region.specs.Patches.{PatchValue, FitsPatch, patched}
 use Rattle.index_region.proofs.Boxes.{fits_length}
 use Rattle.index_region.proofs.Patched.{patched_at}
 use Rattle.fold_trees.specs.ArrayLines.{TreesValue, line_count, numbers_of_line}
-use Rattle.operator_fns.specs.Laws.LineIndices.{inside}
-use Rattle.operator_fns.proofs.Lines.{long_with_axis, stride}
-use Rattle.operator_fns.proofs.Reduced.{lines_whole, start_is}
+use Rattle.reduce_fns.specs.Laws.LineIndices.{inside}
+use Rattle.reduce_fns.proofs.Lines.{long_with_axis, stride}
+use Rattle.reduce_fns.proofs.Reduced.{lines_whole, start_is}
 use Rattle.scalar_fns.specs.RightFold.{fold_right}
-use Rattle.operator_fns.specs.Lines.{line}
+use Rattle.reduce_fns.specs.Lines.{line}
 use Rattle.sum_rules.specs.LineSums.{StandFor, line_length, line_step}
 use Rattle.sum_rules.specs.Totals.{box_of_lines, is_one_a_line}
 use Rattle.sum_rules.proofs.OneAxis.{size_with_one, walk_with_one}

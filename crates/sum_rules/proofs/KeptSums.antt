@@ -10,7 +10,7 @@ use Rattle.function_names.specs.Axes.{is_axis, axis_at}
 use Rattle.function_names.specs.declared.along.Along.{Along}
 use Rattle.sum_rules.proofs.Lines.{has_axis}
 use Rattle.index_region.specs.Patches.{PatchValue, FitsPatch, patched}
-use Rattle.operator_fns.specs.declared.reduce.Reduce.{Reduce}
+use Rattle.reduce_fns.specs.declared.reduce.Reduce.{Reduce}
 use Rattle.fold_trees.specs.ArrayLines.{TreesValue}
 use Rattle.sum_rules.specs.LineSums.{SummedValue, StandFor, keeps_sums, length_along, line_length, most_without_tree, summed}
 use Rattle.sum_rules.specs.Totals.{StoodFor}

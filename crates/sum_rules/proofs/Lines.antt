@@ -5,8 +5,8 @@ use Rattle.std.proofs.Math.Nat.{mul-mod_left}
 use Rattle.arrays_core.specs.Shapes.{size}
 use Rattle.scalar_fns.specs.Folds.{line_start}
 use Rattle.fold_trees.specs.ArrayLines.{line_through}
-use Rattle.operator_fns.proofs.Lines.{size-drop-le}
-use Rattle.operator_fns.proofs.Reduced.{sizes}
+use Rattle.reduce_fns.proofs.Lines.{size-drop-le}
+use Rattle.reduce_fns.proofs.Reduced.{sizes}
 use Rattle.sum_rules.specs.LineSums.{line_length, line_step}
 
 -- lines that have items lie along an axis that there is

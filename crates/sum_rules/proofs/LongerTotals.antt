@@ -27,13 +27,13 @@ use Rattle.scalar_fns.proofs.RightFolds.{length-strided, get_or-strided}
 use Rattle.function_names.specs.Axes.{axis_at, is_axis}
 use Rattle.index_region.specs.Checks.{form_of}
 use Rattle.index_region.specs.Tails.{TailValue}
-use Rattle.operator_fns.specs.Reduce.{reduce_form, reduce_whole}
+use Rattle.reduce_fns.specs.Reduce.{reduce_form, reduce_whole}
 use Rattle.scalar_fns.specs.RightFold.{fold_right}
 use Rattle.fold_trees.specs.ArrayLines.{TreesValue, line_count, numbers_of_line}
-use Rattle.operator_fns.specs.declared.reduce.Reduce.{Reduce}
-use Rattle.operator_fns.proofs.Placewise.{collected_same}
-use Rattle.operator_fns.specs.Laws.ReducedShapes.{reduce_facts}
-use Rattle.operator_fns.proofs.Reduced.{reduced_whole}
+use Rattle.reduce_fns.specs.declared.reduce.Reduce.{Reduce}
+use Rattle.reduce_fns.proofs.Placewise.{collected_same}
+use Rattle.reduce_fns.specs.Laws.ReducedShapes.{reduce_facts}
+use Rattle.reduce_fns.proofs.Reduced.{reduced_whole}
 use Rattle.scalar_fns.proofs.ItemFolds.{number_items_folded}
 use Rattle.sum_rules.specs.LineSums.{StandFor, length_along, line_length, line_step}
 use Rattle.sum_rules.specs.Totals.{StoodBefore, AreJoinsWithin, longer_totals}

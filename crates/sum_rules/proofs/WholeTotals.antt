@@ -18,13 +18,13 @@ use Rattle.scalar_fns.specs.Numbers.{dyadic_on_numbers}
 use Rattle.scalar_fns.proofs.RightFolds.{length-strided}
 use Rattle.function_names.specs.Axes.{axis_at}
 use Rattle.index_region.specs.Checks.{form_of}
-use Rattle.operator_fns.specs.Reduce.{reduce_form, reduce_whole}
+use Rattle.reduce_fns.specs.Reduce.{reduce_form, reduce_whole}
 use Rattle.scalar_fns.specs.RightFold.{fold_right}
 use Rattle.fold_trees.specs.ArrayLines.{TreesValue, line_count, numbers_of_line}
-use Rattle.operator_fns.specs.declared.reduce.Reduce.{Reduce}
-use Rattle.operator_fns.proofs.Placewise.{collected_same}
-use Rattle.operator_fns.specs.Laws.ReducedShapes.{reduce_facts}
-use Rattle.operator_fns.proofs.Reduced.{lines_whole, reduced_whole}
+use Rattle.reduce_fns.specs.declared.reduce.Reduce.{Reduce}
+use Rattle.reduce_fns.proofs.Placewise.{collected_same}
+use Rattle.reduce_fns.specs.Laws.ReducedShapes.{reduce_facts}
+use Rattle.reduce_fns.proofs.Reduced.{lines_whole, reduced_whole}
 use Rattle.scalar_fns.proofs.ItemFolds.{number_items_folded}
 use Rattle.sum_rules.specs.LineSums.{StandFor, SummedValue, summed}
 use Rattle.sum_rules.specs.Totals.{all_totals}

@@ -11,7 +11,7 @@ use Rattle.index_region.specs.Arguments.{is_of_numbers}
 use Rattle.function_names.specs.Axes.{is_axis, axis_at}
 use Rattle.function_names.specs.declared.along.Along.{Along}
 use Rattle.index_region.specs.Patches.{PatchValue, patched}
-use Rattle.operator_fns.specs.declared.reduce.Reduce.{Reduce}
+use Rattle.reduce_fns.specs.declared.reduce.Reduce.{Reduce}
 use Rattle.fold_trees.specs.FoldTrees.{has_trees}
 use Rattle.fold_trees.specs.ArrayLines.{TreesValue}
 

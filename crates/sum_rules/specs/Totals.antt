@@ -20,10 +20,10 @@ use Rattle.change_core.specs.RuleModels.{RuleModel}
 use Rattle.change_rules.specs.Nodes.{Argument, node_cost}
 use Rattle.arrays_core.specs.Outcomes.{Outcome}
 use Rattle.change_core.specs.Meters.{ticked}
-use Rattle.operator_fns.specs.declared.reduce.Reduce.{Reduce}
+use Rattle.reduce_fns.specs.declared.reduce.Reduce.{Reduce}
 use Rattle.scalar_fns.specs.RightFold.{fold_right}
 use Rattle.fold_trees.specs.ArrayLines.{TreesValue, line_count, numbers_of_line}
-use Rattle.operator_fns.specs.Reduce.{reduce_rule}
+use Rattle.reduce_fns.specs.Reduce.{reduce_rule}
 use Rattle.sum_rules.specs.LineSums.{StandFor, length_along}
 
 -- the totals that a reduction gives, as those of +/B

@@ -10,7 +10,7 @@ ghost use Rattle.function_names.specs.Axes.{is_axis, axis_at};
 ghost use Rattle.index_region.specs.declared.delta.Delta.TheVariants.{Whole};
 ghost use Rattle.index_region.specs.Boxes.{box_size, is_within};
 ghost use Rattle.index_region.specs.Patches.{FitsPatch, patched};
-ghost use Rattle.operator_fns.specs.Reduce.{reduce_item};
+ghost use Rattle.reduce_fns.specs.Reduce.{reduce_item};
 ghost use Rattle.scalar_fns.specs.RightFold.{fold_right};
 ghost use Rattle.fold_trees.specs.ArrayLines.{line_count, numbers_of_line};
 ghost use Rattle.change_core.specs.Meters.{ticked};
@@ -28,7 +28,7 @@ use arrays_core::{
 use change_core::{Meter, Reach, Rule};
 use fold_trees::has_trees;
 use index_region::{Delta, IndexBox, Patch, Seen};
-use operator_fns::Reduce;
+use reduce_fns::Reduce;
 use std::alloc::{AllocError, Global};
 
 /// The first place of a box on an axis, axes counted from 0; 1 where it has no such axis.

@@ -18,7 +18,7 @@ use crate::new_lines::{Growth, NewLines};
 use arrays_core::{Array, Item, ItemType, Shape, places_before, shape_of, size};
 use fold_trees::{FoldTrees, Joined, has_trees};
 use index_region::{Along, Patch, Seen};
-use operator_fns::Reduce;
+use reduce_fns::Reduce;
 use std::alloc::{AllocError, Global};
 use std::cell::Cell;
 use std::marker::Model;

@@ -19,7 +19,7 @@ use arrays_core::{ApplyFault, Array, Fault, Item, ItemType, Shape, outcome, size
 use change_core::{Meter, Rule};
 use fold_trees::FoldTrees;
 use index_region::{Delta, Seen};
-use operator_fns::Reduce;
+use reduce_fns::Reduce;
 use std::alloc::{AllocError, Global};
 
 /// The totals of all lines of these trees, as an array of this shape, or the first error among them.

@@ -13,7 +13,7 @@ use Rattle.change_core.specs.Growth.{IsGrowing}
 use Rattle.change_core.proofs.Growing.{item_kept, length-longer, longer_form, shape_grown, two_growing, growing_growing}
 use Rattle.change_core.proofs.UsedWays.{index-take}
 use Rattle.operator_fns.specs.OuterProduct.{outer_form, outer_item, outer_rule, front_use, back_use}
-use Rattle.operator_fns.specs.Growth.{outer_grows}
+use Rattle.operator_fns.specs.OuterProduct.{outer_grows}
 
 joined_longer : (s t : List ℕ) → 0 < length s → one_longer s ++ t ≡ one_longer (s ++ t)
 joined_longer [] t h = absurd (omega arith)

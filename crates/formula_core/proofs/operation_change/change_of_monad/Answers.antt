@@ -1,5 +1,5 @@
 use Rattle.std.proofs.Common.{◌≡◌, ◌∙◌, [], ◌∷◌, Some, sym, subst}
-use Rattle.operator_fns.specs.declared.reduce.Reduce.{Reduce}
+use Rattle.reduce_fns.specs.declared.reduce.Reduce.{Reduce}
 use Rattle.change_core.specs.RuleModels.{RuleModel}
 use Rattle.formula_core.specs.Inputs.{shown, delta_of, IsOperationChange}
 use Rattle.formula_core.specs.Stages.{AreTotalsJoined}

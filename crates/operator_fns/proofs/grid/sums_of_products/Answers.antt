@@ -8,8 +8,8 @@ use Rattle.function_names.specs.declared.scalar.Scalar2.TheVariants.{Plus as Sum
 use Rattle.scalar_fns.specs.Numbers.{dyadic_on_numbers}
 use Rattle.scalar_fns.specs.NumberLists.{number_items}
 use Rattle.operator_fns.specs.RowByColumn.{cell, IsGridOf}
-use Rattle.operator_fns.proofs.Placewise.{numbers_collected}
-use Rattle.operator_fns.proofs.Firsts.{all_places}
+use Rattle.reduce_fns.proofs.Placewise.{numbers_collected}
+use Rattle.reduce_fns.proofs.Firsts.{all_places}
 use Rattle.operator_fns.proofs.PlainGrids.{rows_inside, columns_inside, product_there}
 use Rattle.operator_fns.proofs.grid.sums_of_products.Goals as goal
 

@@ -5,8 +5,8 @@ use Rattle.arrays_core.specs.Shapes.{size}
 use Rattle.function_names.specs.Axes.{axis_at}
 use Rattle.index_region.specs.declared.delta.Delta.TheVariants.{Whole}
 use Rattle.index_region.specs.Checks.{form_of}
-use Rattle.operator_fns.specs.Reduce.{reduce_form}
-use Rattle.operator_fns.specs.Laws.ReducedShapes.{reduce_facts}
+use Rattle.reduce_fns.specs.Reduce.{reduce_form}
+use Rattle.reduce_fns.specs.Laws.ReducedShapes.{reduce_facts}
 use Rattle.change_core.specs.RuleModels.{form_size}
 use Rattle.change_core.specs.declared.reach.Reach.TheVariants.{Inside}
 use Rattle.change_core.specs.Reaches.{reach_of}

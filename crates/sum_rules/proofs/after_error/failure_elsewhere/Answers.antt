@@ -5,7 +5,7 @@ use Rattle.arrays_core.proofs.Order.{index_after-within, places_before-index_aft
 use Rattle.function_names.specs.Axes.{axis_at}
 use Rattle.index_region.specs.Boxes.{is_within}
 use Rattle.index_region.specs.Patches.{patched}
-use Rattle.operator_fns.specs.Reduce.{reduce_item}
+use Rattle.reduce_fns.specs.Reduce.{reduce_item}
 use Rattle.scalar_fns.specs.Items.{number_item}
 use Rattle.index_region.proofs.Patched.{patched_sound}
 use Rattle.scalar_fns.specs.RightFold.{fold_right}

@@ -6,9 +6,8 @@ use Rattle.index_region.proofs.Boxes.{fits_length}
 use Rattle.arrays_core.specs.declared.item.Item.TheVariants.{Num}
 use Rattle.scalar_fns.specs.RightFold.{fold_right}
 use Rattle.fold_trees.specs.ArrayLines.{numbers_of_line}
-use Rattle.operator_fns.specs.Reduce.{reduce_item}
-use Rattle.operator_fns.proofs.BoxTables.{remove_inserted}
-use Rattle.operator_fns.proofs.Lines.{long_with_axis}
+use Rattle.reduce_fns.specs.Reduce.{reduce_item}
+use Rattle.reduce_fns.proofs.Lines.{long_with_axis, remove_inserted}
 use Rattle.sum_rules.specs.LineSums.{array_of_shape}
 use Rattle.sum_rules.proofs.KeptLines.{kept_total, line_below, within_one}
 use Rattle.sum_rules.proofs.after_error.total_now.Goals as goal

@@ -9,7 +9,7 @@ use Rattle.arrays_core.proofs.Order.{index_after-within, places_before-index_aft
 use Rattle.function_names.specs.Axes.{axis_at}
 use Rattle.index_region.specs.Boxes.{box_size, fits, is_within, walk_at, whole_of}
 use Rattle.index_region.specs.Patches.{patched}
-use Rattle.operator_fns.specs.Reduce.{reduce_item}
+use Rattle.reduce_fns.specs.Reduce.{reduce_item}
 use Rattle.change_core.specs.Meters.{ticked}
 use Rattle.change_core.proofs.Filling.{all_filled, as_many_written, nothing_filled, one_filled, one_more_tick}
 use Rattle.change_core.proofs.Walking.{rest_err, walk-whole}

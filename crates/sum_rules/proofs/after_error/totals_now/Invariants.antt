@@ -5,7 +5,7 @@ use Rattle.arrays_core.specs.Shapes.{size}
 use Rattle.function_names.specs.Axes.{axis_at}
 use Rattle.index_region.specs.Boxes.{walk_at, whole_of}
 use Rattle.index_region.specs.Patches.{patched}
-use Rattle.operator_fns.specs.Reduce.{reduce_item}
+use Rattle.reduce_fns.specs.Reduce.{reduce_item}
 use Rattle.change_core.specs.Meters.{ticked}
 use Rattle.change_core.proofs.Collected.{collected}
 use Rattle.change_core.proofs.Walking.{prepend, rest_from}

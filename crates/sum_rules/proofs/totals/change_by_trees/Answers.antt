@@ -2,7 +2,7 @@ use Rattle.std.proofs.Common.{◌≡◌, ◌∙◌, sym, ap, subst, arith, [], �
 use Rattle.arrays_core.specs.Arrays.{ArrayValue}
 use Rattle.index_region.specs.Checks.{form_of}
 use Rattle.index_region.specs.Boxes.{box_size}
-use Rattle.operator_fns.specs.Reduce.{reduce_form}
+use Rattle.reduce_fns.specs.Reduce.{reduce_form}
 use Rattle.change_core.specs.declared.reach.Reach.TheVariants.{Inside, Unmoved}
 use Rattle.change_core.specs.Reaches.{reach_of}
 use Rattle.change_core.specs.Meters.{ticked}

@@ -5,7 +5,7 @@ use Rattle.function_names.specs.Axes.{axis_at}
 use Rattle.index_region.specs.Boxes.{Interval, box_size, is_within, walk_at}
 use Rattle.index_region.specs.Patches.{patched}
 use Rattle.index_region.proofs.Walks.{some_place, walk_within}
-use Rattle.operator_fns.specs.Reduce.{reduce_item}
+use Rattle.reduce_fns.specs.Reduce.{reduce_item}
 use Rattle.change_core.specs.Meters.{ticked}
 use Rattle.change_core.proofs.Collected.{items_are}
 use Rattle.change_core.proofs.Filling.{all_filled, as_many_written, few_places, filled_many, nothing_filled, one_filled, one_more_tick, vector_within}

@@ -3,7 +3,7 @@ use Rattle.arrays_core.specs.declared.item.ItemType.TheVariants.{Nums}
 use Rattle.function_names.specs.Axes.{axis_at}
 use Rattle.index_region.specs.Boxes.{box_size, walk_at}
 use Rattle.index_region.specs.Patches.{patched}
-use Rattle.operator_fns.specs.Reduce.{reduce_item}
+use Rattle.reduce_fns.specs.Reduce.{reduce_item}
 use Rattle.change_core.specs.Meters.{ticked}
 use Rattle.change_core.proofs.Collected.{along, collected}
 use Rattle.change_core.proofs.Walking.{prepend, rest_from}

@@ -4,7 +4,7 @@ use Rattle.arrays_core.specs.declared.item.ItemType.TheVariants.{Nums}
 use Rattle.change_rules.proofs.Items.{as_many as one_item_a_place}
 use Rattle.change_rules.specs.Nodes.{patch_delta}
 use Rattle.index_region.specs.declared.delta.Delta.TheVariants.{Whole}
-use Rattle.operator_fns.specs.Reduce.{reduce_item}
+use Rattle.reduce_fns.specs.Reduce.{reduce_item}
 use Rattle.index_region.specs.Boxes.{box_size}
 use Rattle.change_core.specs.Meters.{ticked}
 use Rattle.change_core.proofs.Filling.{few_places}

@@ -6,8 +6,8 @@ use Rattle.change_rules.specs.Currency.{BringsUpToDate, IsRight}
 use Rattle.change_rules.specs.Nodes.{views, moved}
 use Rattle.change_rules.proofs.NodeRight.{brings_up_to_date}
 use Rattle.change_rules.proofs.Right.{answered, node_is_right}
-use Rattle.operator_fns.specs.Laws.LinesGrowth.{reduce_growing}
-use Rattle.operator_fns.specs.Laws.Reduce.{reduce_tight}
+use Rattle.reduce_fns.specs.Laws.LinesGrowth.{reduce_growing}
+use Rattle.reduce_fns.specs.Laws.Reduce.{reduce_tight}
 use Rattle.sum_rules.specs.Totals.{total_rule, is_by_trees, is_narrow, is_one_a_line}
 use Rattle.function_names.specs.Axes.{is_axis, axis_at}
 use Rattle.arrays_core.specs.Arrays.{ArrayValue}

@@ -5,7 +5,7 @@ use Rattle.arrays_core.specs.Items.{all_or_first_error}
 use Rattle.function_names.specs.declared.scalar.Scalar2.{Scalar2}
 use Rattle.index_region.specs.declared.delta.Delta.TheVariants.{Whole}
 use Rattle.index_region.specs.Checks.{form_of}
-use Rattle.operator_fns.specs.Reduce.{reduce_form, reduce_whole}
+use Rattle.reduce_fns.specs.Reduce.{reduce_form, reduce_whole}
 use Rattle.arrays_core.specs.Outcomes.{given}
 use Rattle.sum_rules.specs.Totals.{all_totals}
 use Rattle.sum_rules.proofs.Outcomes.{outcome_given}

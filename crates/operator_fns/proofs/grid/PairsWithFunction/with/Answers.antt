@@ -7,7 +7,7 @@ use Rattle.arrays_core.specs.declared.item.ItemType.TheVariants.{Nums}
 use Rattle.scalar_fns.specs.Numbers.{dyadic_on_numbers}
 use Rattle.scalar_fns.specs.NumberLists.{number_items}
 use Rattle.operator_fns.specs.RowByColumn.{cell}
-use Rattle.operator_fns.proofs.Placewise.{numbers_collected}
+use Rattle.reduce_fns.proofs.Placewise.{numbers_collected}
 use Rattle.operator_fns.proofs.grid.PairsWithFunction.with.Goals as goal
 
 pub returns : goal.returns

@@ -1,9 +1,0 @@
-use Rattle.std.proofs.Common.{◌≡◌, ℕ, ◌*◌, ◌<◌, get_or, pos, Ok, vec_len}
-use Rattle.operator_fns.specs.AxisLines.{fold_at}
-use Rattle.operator_fns.proofs.columns.column_folds.Given as goal
-
-abbrev pub invariant-loop-block : goal.invariant-loop-block
-invariant-loop-block g l = record {
-  long : vec_len l.folds ≡ l.block * l.lines.stride;
-  made : (place : ℕ) → place < l.block * l.lines.stride → fold_at (g.S.TwoNumbers.gives l.step) l.lines place ≡ Ok (get_or l.folds.items place (pos 0));
-}

@@ -1,5 +1,0 @@
-use Rattle.operator_fns.proofs.Placewise.{numbers_collected}
-use Rattle.operator_fns.proofs.number_function.collect_numbers.Goals as goal
-
-pub returns : goal.returns
-returns g c = rw (numbers_collected c.args.shape.now.items (g.F.NumberFunction.number c.args.function.now)) c.array_of.ensures

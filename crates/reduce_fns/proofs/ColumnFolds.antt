@@ -1,0 +1,92 @@
+-- The folds of the lines of a list, from those of the columns of its blocks.
+use Rattle.std.proofs.Common.{◌≡◌, refl, inl, inr, ℕ, ◌+◌, ◌-◌, ◌*◌, ◌/◌, ◌%◌, ◌<◌, ◌≤◌, List, length, get_or, drop, take, ℤ, pos, Result, Ok, ap, sym, ◌∙◌, arith}
+use Rattle.std.proofs.lemmas.Bool.{cases_lt}
+use Rattle.std.proofs.lemmas.List.{ext_get_or, get_or-take, get_or-drop, get_or_append_left, get_or-append_right}
+use Rattle.std.proofs.lemmas.Nat.{div-mul-add, mod-mul-add, div-add-mod'}
+use Rattle.std.proofs.Math.Nat.{mul-le-mul_right}
+use Rattle.arrays_core.specs.declared.item.Kind.{Kind}
+use Rattle.scalar_fns.specs.Folds.{strided, folded, line_start}
+use Rattle.scalar_fns.proofs.RightFolds.{length-strided, get_or-strided}
+use Rattle.reduce_fns.specs.Columns.{EndsInFolds}
+use Rattle.reduce_fns.proofs.Folds.{place_high}
+
+-- a line within a part of a list
+pub strided_part : (xs : List ℤ) (first size column stride count : ℕ) → column < stride → size ≡ count * stride
+    → strided (pos 0) (take size (drop first xs)) column stride count ≡ strided (pos 0) xs (first + column) stride count
+strided_part xs first size column stride count below whole =
+    let part = take size (drop first xs) in
+    let n = length-strided (pos 0) part column stride count in
+    let m = length-strided (pos 0) xs (first + column) stride count in
+    ext_get_or (pos 0) (strided (pos 0) part column stride count) (strided (pos 0) xs (first + column) stride count) (n ∙ sym m) (λ k h.
+    let inside : k < count = omega arith in
+    let high : column + k * stride < size = within column stride count k size below inside whole in
+    let place : first + (column + k * stride) ≡ first + column + k * stride = omega arith in
+    get_or-strided (pos 0) part column stride count k (pos 0) inside
+    ∙ get_or-take size (drop first xs) (column + k * stride) (pos 0) high
+    ∙ get_or-drop first xs (column + k * stride) (pos 0)
+    ∙ ap (λ p. get_or xs p (pos 0)) place
+    ∙ sym (get_or-strided (pos 0) xs (first + column) stride count k (pos 0) inside))
+  where
+    within : (column stride count k size : ℕ) → column < stride → k < count → size ≡ count * stride → column + k * stride < size
+    within column stride count k size below inside whole =
+        let last = place_high 0 stride count k ((count - 1) * stride) inside (omega arith) in
+        let one : count ≡ count - 1 + 1 = omega arith in
+        let parts : count * stride ≡ (count - 1) * stride + stride = ap (λ m. m * stride) one ∙ omega arith in
+        omega arith
+
+module _ (f : ℤ → ℤ → Result ℤ Kind) (xs : List ℤ) (stride count : ℕ) where
+  -- the fold of the line of a place of the result
+  abbrev pub at_place : ℕ → Result ℤ Kind
+  at_place place = folded f (strided (pos 0) xs (line_start stride count place) stride count)
+
+  start_at : (block column : ℕ) → column < stride → line_start stride count (block * stride + column) ≡ block * (count * stride) + column
+  start_at block column inside =
+      let d : (block * stride + column) / stride ≡ block = div-mul-add block stride column inside in
+      let m : (block * stride + column) % stride ≡ column = mod-mul-add block stride column inside in
+      rw (d, m) refl
+
+  -- a block more
+  pub block_more : (block : ℕ) (before all : List ℤ) → length before ≡ block * stride
+      → EndsInFolds f (take (count * stride) (drop (block * (count * stride)) xs)) stride count before all
+      → ((place : ℕ) → place < block * stride → at_place place ≡ Ok (get_or before place (pos 0)))
+      → (place : ℕ) → place < (block + 1) * stride → at_place place ≡ Ok (get_or all place (pos 0))
+  block_more block before all long ends made place below =
+      elim (cases_lt place (block * stride)) [
+        | inl h ↦ made place h ∙ ap Ok (sym (ap (λ ys. get_or ys place (pos 0)) ends.is ∙ get_or_append_left before ends.folds (pos 0) place (omega arith)))
+        | inr h ↦
+            (let column = place - block * stride in
+            let size = count * stride in
+            let parts : place ≡ block * stride + column = omega arith in
+            let inside : column < stride = omega arith in
+            let start : line_start stride count place ≡ block * size + column = ap (line_start stride count) parts ∙ start_at block column inside in
+            let whole = ends.long in
+            ap (λ p. folded f (strided (pos 0) xs p stride count)) start
+            ∙ ap (folded f) (sym (strided_part xs (block * size) size column stride count inside refl))
+            ∙ ap (λ s. folded f (strided (pos 0) (take size (drop (block * size) xs)) column s count)) (sym whole)
+            ∙ ends.folded.each column (omega arith)
+            ∙ ap Ok (sym (ap (λ ys. get_or ys place (pos 0)) ends.is ∙ get_or-append_right before ends.folds (block * stride) place (pos 0) long h)))
+      ]
+
+-- all places have come where as many blocks have
+pub all_blocks : (block stride places : ℕ) → block ≤ places / stride → places / stride ≤ block → places % stride ≡ 0 → block * stride ≡ places
+all_blocks block stride places low high even =
+    let same : block ≡ places / stride = omega arith in
+    let parts = div-add-mod' places stride in
+    ap (λ b. b * stride) same ∙ omega (arith, parts, even)
+
+-- the blocks lie within the list
+pub block_high : (block stride count places n : ℕ) → block < places / stride → places % stride ≡ 0 → places * count ≡ n
+    → block * (count * stride) + count * stride ≤ n
+block_high block stride count places n below even whole =
+    let blocks = places / stride in
+    let parts : places ≡ blocks * stride = sym (div-add-mod' places stride) ∙ omega (arith, even) in
+    let all : n ≡ blocks * (count * stride) = sym whole ∙ ap (λ p. p * count) parts ∙ regroup blocks stride count in
+    let some : (block + 1) * (count * stride) ≤ blocks * (count * stride) = mul-le-mul_right (count * stride) (omega arith) in
+    let more : (block + 1) * (count * stride) ≡ block * (count * stride) + count * stride = one_more block (count * stride) in
+    omega arith
+  where
+    regroup : (b s c : ℕ) → b * s * c ≡ b * (c * s)
+    regroup b s c = omega arith
+
+    one_more : (b m : ℕ) → (b + 1) * m ≡ b * m + m
+    one_more b m = omega arith

@@ -1,0 +1,15 @@
+pub mod Folds
+pub mod WrittenEnds
+pub mod ColumnFolds
+pub mod Lines
+pub mod Placewise
+pub mod Reduced
+pub mod Firsts
+pub mod LineNumbers
+pub mod Endings
+pub mod SmallSums
+pub mod WithinBounds
+pub mod FoldCases
+pub mod ReductionCases
+pub mod FlaggedSums
+pub mod ListResults

@@ -1,0 +1,10 @@
+use Rattle.std.proofs.Common.{◌≡◌, ℕ, ◌+◌, ◌<◌, ◌≤◌, get_or, drop, length, pos, Ok}
+use Rattle.scalar_fns.specs.Folds.{strided, folded}
+use Rattle.reduce_fns.proofs.columns.fold_rows.Given as goal
+
+abbrev pub invariant-loop-before : goal.invariant-loop-before
+invariant-loop-before g l = record {
+  long : length l.folds ≡ l.columns;
+  folded : (column : ℕ) → column < l.columns → folded (g.S.TwoNumbers.gives l.step) (drop l.before (strided (pos 0) l.rows column l.columns l.count)) ≡ Ok (get_or l.folds column (pos 0));
+  below : l.before + 1 ≤ l.count;
+}

@@ -1,0 +1,32 @@
+use Rattle.std.proofs.Common.{rules, ◌≡◌, ◌∙◌, ◌+◌, ◌<◌, suc, ap, sym, length, drop, remove, map, arith}
+use Rattle.std.proofs.lemmas.List.{length-map}
+use Rattle.arrays_core.specs.declared.item.Item.TheVariants.{Num}
+use Rattle.arrays_core.specs.Shapes.{size}
+use Rattle.function_names.specs.Axes.{axis_at}
+use Rattle.reduce_fns.specs.Laws.ReducedShapes.{reduce_facts}
+use Rattle.reduce_fns.proofs.Reduced.{reduced_whole}
+use Rattle.reduce_fns.proofs.reduce.Reduce.of_numbers.Goals as goal
+
+pub folds-requires-clause-shaped : goal.folds-requires-clause-shaped
+folds-requires-clause-shaped c =
+    let b = c.args.array.now in
+    let axis = c.axis_at-axis.result in
+    let meant : axis ≡ axis_at (length b.shape) c.args.self.along = search rules in
+    let facts = reduce_facts c.args.self.along b c.in_ok-shape.shape.items c.in_ok-shape.field-0-1 c.in_ok-shape.ensures.0 in
+    ap size (facts.shaped ∙ ap (remove b.shape) (sym meant)) ∙ sym c.along-lines.ensures.places
+
+pub returns : goal.returns
+returns c =
+    let b = c.args.array.now in
+    let lines = c.along-lines.result in
+    let axis = c.axis_at-axis.result in
+    let there : axis < length b.shape = search rules in
+    let meant : axis ≡ axis_at (length b.shape) c.args.self.along = search rules in
+    let next : axis + 1 ≡ suc axis = omega arith in
+    let apart : lines.stride ≡ size (drop (suc axis) b.shape) = rw next at c.along-lines.ensures.stride in
+    let items : b.items ≡ map (λ z. Num z) lines.numbers.now = c.requires.numbers ∙ ap (map (λ z. Num z)) (sym c.along-lines.ensures.numbers) in
+    let long : length b.items ≡ length c.args.numbers.now = ap length c.requires.numbers ∙ length-map c.args.numbers.now (λ z. Num z) in
+    let some : 0 < size b.shape = omega (arith, long, c.shape.ensures.sound.one_item_a_place, c.requires.some) in
+    rw (reduced_whole c.args.self.function b lines.numbers.now items c.requires.typed c.args.self.along c.in_ok-shape.shape.items c.in_ok-shape.field-0-1
+    axis _ _ c.in_ok-shape.ensures.0 meant there c.along-lines.ensures.count apart some)
+    c.folds.ensures

@@ -1,0 +1,11 @@
+use Rattle.std.proofs.Common.{rules, ◌≡◌, sym, subst}
+use Rattle.arrays_core.specs.Arrays.{IsAnswerTo}
+use Rattle.function_names.specs.declared.scalar.Scalar2.TheVariants.{Plus}
+use Rattle.scalar_fns.specs.Numbers.{dyadic_on_numbers}
+use Rattle.reduce_fns.specs.AxisLines.{line_folds}
+use Rattle.reduce_fns.proofs.reduce.folds.Goals as goal
+
+pub returns-then-eq : goal.returns-then-eq
+returns-then-eq c =
+    let same : c.args.function ≡ Plus = search rules in
+    subst (λ f. IsAnswerTo (line_folds (dyadic_on_numbers f) c.args.lines.now c.args.shape.now.items) c.sums.result) (sym same) c.sums.ensures

@@ -1,0 +1,24 @@
+use Rattle.std.proofs.Common.{rules, ◌≡◌, ◌∙◌, ◌+◌, ◌-◌, ◌*◌, ◌∷◌, [], ◌++◌, pos, ap, sym, get_or, arith, SFits, w64}
+use Rattle.std.proofs.lemmas.Int.{to_z-of_z}
+use Rattle.std.proofs.lemmas.List.FromFn.{map-range_with_len_more}
+use Rattle.index_region.specs.Arguments.{numbers}
+use Rattle.reduce_fns.proofs.right_fold.numbers_apart.Goals as goal
+
+pub loop-before-preserved : goal.loop-before-preserved
+loop-before-preserved c =
+    let zs = numbers c.args.array.now in
+    let from = c.args.first - 1 in
+    let before = c.loop-before.before in
+    let s = c.args.stride in
+    let fits : SFits w64 c.number.result = search rules in
+    let same = to_z-of_z w64 c.number.result fits in
+    let place : c.args.first + before * s - 1 ≡ from + before * s = omega (arith, c.requires.low) in
+    let read : c.number.result ≡ get_or zs (from + before * s) (pos 0) = c.number.ensures ∙ ap (λ m. get_or zs m (pos 0)) place in
+    let items : c.push_reserved.new.self.items ≡ c.loop-before.numbers.items ++ c.number.result ∷ [] = rw same at c.push_reserved.ensures.items in
+    record {
+      read = items
+          ∙ ap (λ ys. ys ++ c.number.result ∷ []) c.loop-before.invariant.read
+          ∙ (rw read (sym (map-range_with_len_more (λ k. get_or zs (from + k * s) (pos 0)) 0 before before (omega arith))));
+      long = omega (arith, c.push_reserved.ensures.len, c.loop-before.invariant.long);
+      room = omega (arith, c.push_reserved.ensures.capacity, c.loop-before.invariant.room);
+    }

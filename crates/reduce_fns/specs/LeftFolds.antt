@@ -1,0 +1,15 @@
+-- Left folds of a list.
+use Rattle.std.specs.Prelude.{List, [], ◌∷◌, Result, Ok, Err}
+use Rattle.arrays_core.specs.Items.{and_then}
+use Rattle.arrays_core.specs.declared.item.Kind.{Kind}
+use Rattle.arrays_core.specs.declared.item.Kind.TheVariants.{Domain}
+
+-- the left fold of a first entry and the list after it
+abbrev pub fold_on : {A : Type 0} → (A → A → Result A Kind) → A → List A → Result A Kind
+fold_on f x [] = Ok x
+fold_on f x (y ∷ rest) = and_then (f x y) (λ z. fold_on f z rest)
+
+-- the left fold of a list that is not empty
+abbrev pub folded_left : {A : Type 0} → (A → A → Result A Kind) → List A → Result A Kind
+folded_left f [] = Err Domain
+folded_left f (x ∷ rest) = fold_on f x rest

@@ -1,0 +1,55 @@
+-- Reduction, f/B and f⌿B.
+use Rattle.std.specs.Prelude.{ℕ, nat_eq, List, length, remove, if◌then◌else◌, Result, [], ◌∷◌, map, insert, Some}
+use Rattle.std.specs.List.{range_with_len}
+use Rattle.arrays_core.specs.declared.item.Item.{Item}
+use Rattle.arrays_core.specs.declared.item.ItemType.{ItemType}
+use Rattle.arrays_core.specs.declared.item.ItemType.TheVariants.{Nums}
+use Rattle.arrays_core.specs.declared.item.Kind.{Kind}
+use Rattle.arrays_core.specs.declared.item.Kind.TheVariants.{Axis}
+use Rattle.arrays_core.specs.Arrays.{ArrayValue}
+use Rattle.function_names.specs.declared.along.Along.{Along}
+use Rattle.index_region.specs.Checks.{Form, check, limited, whole}
+use Rattle.function_names.specs.Axes.{is_axis, axis_at}
+use Rattle.index_region.specs.Axes.{places_along}
+use Rattle.index_region.specs.Arguments.{is_scalar}
+use Rattle.change_core.specs.RuleModels.{RuleModel, Use}
+use Rattle.change_core.specs.Growth.{growing}
+use Rattle.change_core.specs.Sourced.{one_rule}
+use Rattle.function_names.specs.declared.scalar.Scalar2.{Scalar2}
+use Rattle.scalar_fns.specs.RightFold.{fold_right}
+use Rattle.reduce_fns.specs.Lines.{line}
+use Rattle.reduce_fns.specs.Growth.{lines_grow}
+
+-- that of b where each line is one item
+abbrev pub reduce_type : ArrayValue → ℕ → ItemType
+reduce_type b axis = if nat_eq (places_along b.shape axis) 1 then b.item_type else Nums
+
+-- the checks, and the shape and the type of the result
+abbrev pub reduce_form : Along → ArrayValue → Result Form Kind
+reduce_form along b =
+    let axis = axis_at (length b.shape) along in
+    check (is_axis (length b.shape) along) Axis (limited (remove b.shape axis) (reduce_type b axis))
+
+-- the item at an index list: the fold of its line
+abbrev pub reduce_item : Scalar2 → Along → ArrayValue → List ℕ → Result Item Kind
+reduce_item f along b index = fold_right f (line b (axis_at (length b.shape) along) index)
+
+-- the whole result
+abbrev pub reduce_whole : Scalar2 → Along → ArrayValue → Result ArrayValue Kind
+reduce_whole f along b = whole (reduce_form along b) (reduce_item f along b)
+
+-- What a change of the argument of a reduction changes of its result.
+
+-- each item reads the line along an axis (from 0) at its index list, and a scalar is a line of its one item: a changed
+-- box goes to itself without that axis
+abbrev pub line_use : ℕ → ArrayValue → Use
+line_use axis b = record {
+  reads = λ index. if is_scalar b then [] ∷ [] else map (insert index axis) (range_with_len 1 (places_along b.shape axis));
+  box = λ region. Some (remove region axis);
+}
+
+abbrev pub reduce_use : Along → List ℕ → ArrayValue → Use
+reduce_use along shape b = line_use (axis_at (length b.shape) along) b
+
+abbrev pub reduce_rule : Scalar2 → Along → RuleModel
+reduce_rule f along = growing (one_rule (reduce_form along) (reduce_item f along) (reduce_use along)) (lines_grow along)

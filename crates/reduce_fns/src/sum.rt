@@ -1,0 +1,43 @@
+//! Sums of lists of numbers.
+
+ghost use Rattle.std.specs.Prelude.{◌≡◌, ◌<◌, ◌≤◌, All, length};
+ghost use Rattle.arrays_core.specs.Limits.{most_places};
+ghost use Rattle.function_names.specs.declared.scalar.Scalar2.TheVariants.{Plus as Sum};
+ghost use Rattle.scalar_fns.specs.Numbers.{dyadic_on_numbers};
+ghost use Rattle.scalar_fns.specs.Folds.{folded};
+ghost use Rattle.reduce_fns.specs.Sum.{IsSmall, sum_of};
+
+use crate::bounds::are_within;
+use crate::limits::MOST_ITEMS;
+use arrays_core::Kind;
+use scalar_fns::folds::fold_list;
+use scalar_fns::kernels::Plus;
+
+/// Numbers that are less than this, and no further below 0, add up within 64 bits: as many of them as an array may have.
+pub const SMALL: u64 = 8_796_093_022_208;
+
+/// The sum of small numbers, which no order of adding takes out of 64 bits.
+fn sum_of_small(numbers: &[i64]) -> i64
+    requires small { All IsSmall numbers.now }
+    requires few { length numbers.now ≤ most_places }
+    ensures { result ≡ sum_of numbers.now }
+{
+    let mut sum = 0;
+    for number in numbers {
+        sum += *number;
+    }
+    sum
+}
+
+/// The right fold of a list of numbers by their sum: in a plain loop where all of them are small, else
+/// each step held to 64 bits.
+pub(crate) fn sum_list(numbers: &[i64]) -> Result<i64, Kind>
+    requires { 0 < length numbers.now }
+    ensures { result ≡ folded (dyadic_on_numbers Sum) numbers.now }
+{
+    if numbers.len() <= MOST_ITEMS && are_within(numbers, SMALL) {
+        Ok(sum_of_small(numbers))
+    } else {
+        fold_list(&Plus, numbers)
+    }
+}

@@ -1,0 +1,125 @@
+-- The runs of lines up to each place, and folds from the left.
+use Rattle.std.proofs.Common.{◌≡◌, ℕ, zero, suc, ◌+◌, ◌-◌, ◌*◌, ◌/◌, ◌%◌, ◌<◌, ◌≤◌, List, [], ◌∷◌, ◌++◌, length, get_or, refl, ap, sym, ◌∙◌, inl, inr, arith, Result, Ok, Err}
+use Rattle.std.proofs.lemmas.List.{take_more, take_all}
+use Rattle.std.proofs.lemmas.Nat.{mod_below}
+use Rattle.std.proofs.Math.Nat.{div-eq-sub-div, mod-add-div}
+use Rattle.std.proofs.Math.Arith.{mod-mul}
+use Rattle.arrays_core.specs.declared.item.Kind.{Kind}
+use Rattle.arrays_core.specs.Items.{and_then}
+use Rattle.scalar_fns.specs.Folds.{strided}
+use Rattle.scalar_fns.proofs.Residues.{next_mod}
+use Rattle.scalar_fns.proofs.RightFolds.{length-strided, get_or-strided, take-strided}
+use Rattle.scan_fns.specs.LinearScan.{depth, run_to}
+use Rattle.reduce_fns.specs.LeftFolds.{fold_on, folded_left}
+
+-- ---- left folds
+
+pub through : {A B : Type 0} (r : Result A Kind) (g h : A → Result B Kind) → ((z : A) → g z ≡ h z) → and_then r g ≡ and_then r h
+through (Ok z) g h e = e z
+through (Err k) g h e = refl
+
+pub as_it_is : {A : Type 0} (r : Result A Kind) → and_then r (λ z. Ok z) ≡ r
+as_it_is (Ok z) = refl
+as_it_is (Err k) = refl
+
+regroup : {A B C : Type 0} (r : Result A Kind) (g : A → Result B Kind) (h : B → Result C Kind) → and_then (and_then r g) h ≡ and_then r (λ z. and_then (g z) h)
+regroup (Ok z) g h = refl
+regroup (Err k) g h = refl
+
+module _ {A : Type 0} (f : A → A → Result A Kind) where
+  pub on_more : (x : A) (rest : List A) (y : A) → fold_on f x (rest ++ y ∷ []) ≡ and_then (fold_on f x rest) (λ z. f z y)
+  on_more x [] y = as_it_is (f x y)
+  on_more x (w ∷ rest) y =
+      through (f x w) (λ z. fold_on f z (rest ++ y ∷ [])) (λ z. and_then (fold_on f z rest) (λ v. f v y)) (λ z. on_more z rest y)
+      ∙ sym (regroup (f x w) (λ z. fold_on f z rest) (λ z. f z y))
+
+  pub left_more : (xs : List A) (y : A) → 0 < length xs → folded_left f (xs ++ y ∷ []) ≡ and_then (folded_left f xs) (λ z. f z y)
+  left_more [] y h = absurd (omega arith)
+  left_more (x ∷ rest) y h = on_more x rest y
+
+-- ---- the run to a place
+
+module _ (stride count : ℕ) (apart : 0 < stride) (some : 1 ≤ count) where
+  -- how far a place lies in its block
+  pub in_block : (place : ℕ) → place % (count * stride) ≡ depth stride count place * stride + place % stride
+  in_block place = mod-mul place (omega (arith, some)) apart
+
+  pub first_row : (place : ℕ) → place % (count * stride) < stride → depth stride count place ≡ 0
+  first_row place h = decide (depth stride count place) (in_block place)
+    where
+      decide : (d : ℕ) → place % (count * stride) ≡ d * stride + place % stride → d ≡ 0
+      decide zero e = refl
+      decide (suc d) e = absurd (omega arith)
+
+  pub later_row : (place : ℕ) → stride ≤ place % (count * stride) → 0 < depth stride count place
+  later_row place h = decide (depth stride count place) (in_block place)
+    where
+      decide : (d : ℕ) → place % (count * stride) ≡ d * stride + place % stride → 0 < d
+      decide zero e = let r = mod_below place stride apart in absurd (omega arith)
+      decide (suc d) e = omega arith
+
+  pub depth_high : (place : ℕ) → depth stride count place * stride ≤ place
+  depth_high place =
+      let e = in_block place in
+      let quotient : place % (count * stride) ≤ place = le_of_mod place (count * stride) in
+      omega arith
+    where
+      le_of_mod : (n m : ℕ) → n % m ≤ n
+      le_of_mod n m = let e = mod-add-div n m in omega arith
+
+  pub past_stride : (place : ℕ) → 0 < depth stride count place → stride ≤ place
+  past_stride place h = decide (depth stride count place) h (depth_high place)
+    where
+      decide : (d : ℕ) → 0 < d → d * stride ≤ place → stride ≤ place
+      decide zero h e = absurd (omega arith)
+      decide (suc d) h e = omega arith
+
+  pub one_deeper : (place : ℕ) → 0 < depth stride count place → depth stride count place ≡ depth stride count (place - stride) + 1
+  one_deeper place h =
+      let back = div-eq-sub-div apart (past_stride place h) in
+      let q = (place - stride) / stride in
+      let next : q + 1 ≡ suc q = omega arith in
+      let e : depth stride count place ≡ suc q % count = ap (λ m. m % count) (back ∙ next) in
+      elim (next_mod q count (omega (arith, some))) [
+        | inl n ↦ absurd (omega (arith, n.0))
+        | inr n ↦ e ∙ n
+      ]
+
+  module _ {A : Type 0} (d : A) (xs : List A) where
+    pub run_first : (place : ℕ) → depth stride count place ≡ 0 → run_to d xs stride count place ≡ get_or xs place d ∷ []
+    run_first place e =
+        let at : place - 0 * stride + 0 * stride ≡ place = omega arith in
+        rw e (ap (λ k. get_or xs k d ∷ []) at)
+
+    pub run_more : (place : ℕ) → 0 < depth stride count place
+        → run_to d xs stride count place ≡ run_to d xs stride count (place - stride) ++ get_or xs place d ∷ []
+    run_more place h =
+        let b = depth stride count (place - stride) in
+        let first = place - stride - b * stride in
+        let deeper = one_deeper place h in
+        let high = depth_high place in
+        let total : depth stride count place * stride ≡ b * stride + stride = ap (λ n. n * stride) deeper ∙ (omega arith) in
+        let same : place - depth stride count place * stride ≡ first = omega arith in
+        let ys = strided d xs first stride (b + 1 + 1) in
+        let long = length-strided d xs first stride (b + 1 + 1) in
+        let last : first + (b + 1) * stride ≡ place = omega arith in
+        ap (λ m. strided d xs (place - depth stride count place * stride) stride (m + 1)) deeper
+        ∙ ap (λ m. strided d xs m stride (b + 1 + 1)) same
+        ∙ sym (take_all (b + 1 + 1) ys (omega arith))
+        ∙ take_more ys (b + 1) d (omega arith)
+        ∙ ap (λ zs. zs ++ get_or ys (b + 1) d ∷ []) (take-strided d xs first stride (b + 1 + 1) (b + 1) (omega arith))
+        ∙ ap (λ z. strided d xs first stride (b + 1) ++ z ∷ []) (get_or-strided d xs first stride (b + 1 + 1) (b + 1) d (omega arith) ∙ ap (λ k. get_or xs k d) last)
+
+    pub run_some : (place : ℕ) → 0 < length (run_to d xs stride count place)
+    run_some place = omega (arith, length-strided d xs (place - depth stride count place * stride) stride (depth stride count place + 1))
+
+    -- each fold from the left is made from the one before it on the line
+    module _ (f : A → A → Result A Kind) where
+      pub left_first : (place : ℕ) → depth stride count place ≡ 0 → folded_left f (run_to d xs stride count place) ≡ Ok (get_or xs place d)
+      left_first place e = ap (folded_left f) (run_first place e)
+
+      pub left_later : (place : ℕ) → 0 < depth stride count place
+          → folded_left f (run_to d xs stride count place) ≡ and_then (folded_left f (run_to d xs stride count (place - stride))) (λ z. f z (get_or xs place d))
+      left_later place h =
+          ap (folded_left f) (run_more place h)
+          ∙ left_more f (run_to d xs stride count (place - stride)) (get_or xs place d) (run_some (place - stride))

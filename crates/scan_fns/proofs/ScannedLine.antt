@@ -1,0 +1,102 @@
+-- The items of a scan on one line, taken from the numbers of the line.
+use Rattle.std.proofs.Common.{◌≡◌, ℕ, zero, suc, ◌+◌, ◌-◌, ◌<◌, ◌≤◌, List, [], ◌∷◌, length, get_or, map, take, set, insert, remove, ℤ, Result, Ok, Err, refl, ap, sym, ◌∙◌, arith}
+use Rattle.std.specs.List.{range_with_len}
+use Rattle.std.proofs.lemmas.Bool.{le-leb}
+use Rattle.std.proofs.lemmas.List.{length-map, length-take, take-take, take-map, get_or-set_same, get_or_default, ext_get_or}
+use Rattle.std.proofs.lemmas.List.FromFn.{length-map-range_with_len, get_or-map-range_with_len}
+use Rattle.std.proofs.Math.ListN.{get_or-map}
+use Rattle.arrays_core.specs.declared.item.Item.{Item}
+use Rattle.arrays_core.specs.declared.item.Item.TheVariants.{Num}
+use Rattle.arrays_core.specs.declared.item.ItemType.TheVariants.{Nums}
+use Rattle.arrays_core.specs.declared.item.Kind.{Kind}
+use Rattle.arrays_core.specs.declared.item.Kind.TheVariants.{Domain}
+use Rattle.arrays_core.specs.Limits.{longest_axis}
+use Rattle.arrays_core.specs.Items.{all_or_first_error, after}
+use Rattle.arrays_core.specs.Arrays.{ArrayValue, item_of, with_items, vector_of}
+use Rattle.function_names.specs.declared.scalar.Scalar2.{Scalar2}
+use Rattle.scalar_fns.specs.Numbers.{dyadic_on_numbers}
+use Rattle.scalar_fns.specs.Items.{number_item}
+use Rattle.scalar_fns.specs.NumberLists.{number_items}
+use Rattle.scalar_fns.specs.Folds.{folded}
+use Rattle.function_names.specs.declared.along.Along.{Along}
+use Rattle.function_names.specs.Axes.{axis_at}
+use Rattle.index_region.specs.Axes.{places_along}
+use Rattle.scalar_fns.specs.RightFold.{fold_right}
+use Rattle.reduce_fns.specs.Lines.{line}
+use Rattle.scan_fns.specs.LinearScan.{folds_from}
+use Rattle.scan_fns.specs.Scan.{scan_item, scan_along}
+use Rattle.scalar_fns.proofs.ItemFolds.{some_folded, folded_numbers}
+use Rattle.reduce_fns.proofs.ListResults.{as_many_as}
+
+-- ---- numbers as the items of a vector
+
+results_as_items : (rs : List (Result ℤ Kind)) → number_items (all_or_first_error rs) ≡ all_or_first_error (map number_item rs)
+results_as_items [] = refl
+results_as_items (Err k ∷ rs) = refl
+results_as_items (Ok z ∷ rs) = moved z (all_or_first_error rs) ∙ ap (after (Num z)) (results_as_items rs)
+  where
+    moved : (z : ℤ) (r : Result (List ℤ) Kind) → number_items (after z r) ≡ after (Num z) (number_items r)
+    moved z (Ok zs) = refl
+    moved z (Err k) = refl
+
+pub vector_is : (zs : List ℤ) (n : ℕ) → length zs ≡ n → n ≤ longest_axis → vector_of zs ≡ with_items Nums (n ∷ []) (Ok (map (λ z. Num z) zs))
+vector_is zs n long few = rw (long, le-leb n longest_axis few) refl
+
+-- as many folds as there are places
+pub folds_from_long : (f : ℤ → ℤ → Result ℤ Kind) (zs folds : List ℤ) (first : ℕ) → folds_from f zs first ≡ Ok folds → length folds ≡ length zs + 1 - first
+folds_from_long f zs folds first h = as_many_as _ folds h ∙ length-map-range_with_len (λ before. folded f (take (first + before) zs)) 0 (length zs + 1 - first)
+
+-- as many numbers of a line as were read
+pub as_many : (zs : List ℤ) (b : ArrayValue) (axis : ℕ) (others : List ℕ) (last : ℕ) → axis < length b.shape → map (λ z. Num z) zs ≡ take last (line b axis others) → last ≤ get_or b.shape axis 0 → length zs ≡ last
+as_many zs b axis others last there read high =
+    let items = length-map zs (λ z. Num z) in
+    let taken = length-take last (line b axis others) in
+    let places = length-map-range_with_len (λ j. item_of b (insert others axis j)) 1 (places_along b.shape axis) in
+    let counted : places_along b.shape axis ≡ get_or b.shape axis 0 = get_or_default b.shape axis 1 0 there in
+    omega (arith, items, ap length read, taken, places, counted)
+
+-- ---- index lists on a line
+
+remove_set : (axis j : ℕ) (index : List ℕ) → remove (set index axis j) axis ≡ remove index axis
+remove_set zero j [] = refl
+remove_set zero j (i ∷ index) = refl
+remove_set (suc axis) j [] = refl
+remove_set (suc axis) j (i ∷ index) = ap (λ rest. i ∷ rest) (remove_set axis j index)
+
+-- ---- the items
+
+module _ (f : Scalar2) (along : Along) (b : ArrayValue) (index : List ℕ) (last : ℕ) (zs : List ℤ) (there : axis_at (length b.shape) along < length index)
+    (read : map (λ z. Num z) zs ≡ take last (line b (axis_at (length b.shape) along) (remove index (axis_at (length b.shape) along)))) (long : length zs ≡ last) where
+  abbrev axis : ℕ
+  axis = axis_at (length b.shape) along
+
+  -- the item at a place of the line
+  item_there : (k : ℕ) → 1 ≤ k → k ≤ last → number_item (folded (dyadic_on_numbers f) (take k zs)) ≡ scan_item f along b (set index axis k)
+  item_there k low high =
+      let taken : length (take k zs) ≡ k = omega (arith, length-take k zs) in
+      let items = length-map (take k zs) (λ z. Num z) in
+      sym (folded_numbers f (take k zs))
+      ∙ sym (some_folded f (map (λ z. Num z) (take k zs)) (omega arith))
+      ∙ ap (fold_right f) (sym (take-map (λ z. Num z) k zs) ∙ ap (take k) read ∙ take-take k last _ high)
+      ∙ ap (λ m. fold_right f (take m (line b axis (remove index axis)))) (sym (get_or-set_same index axis k 1 there))
+      ∙ ap (λ others. fold_right f (take (get_or (set index axis k) axis 1) (line b axis others))) (sym (remove_set axis k index))
+
+  pub along_is : 1 ≤ get_or index axis 1 → get_or index axis 1 ≤ last
+      → with_items Nums ((length zs + 1 - get_or index axis 1) ∷ []) (number_items (folds_from (dyadic_on_numbers f) zs (get_or index axis 1))) ≡ scan_along f along b index last
+  along_is low high =
+      let first = get_or index axis 1 in
+      let n = last + 1 - first in
+      let number : ℕ → Result ℤ Kind = λ before. folded (dyadic_on_numbers f) (take (first + before) zs) in
+      let rs = map number (range_with_len 0 n) in
+      let item : ℕ → Result Item Kind = λ before. scan_item f along b (set index axis (first + before)) in
+      let many = length-map rs number_item in
+      let long_rs = length-map-range_with_len number 0 n in
+      let long_items = length-map-range_with_len item 0 n in
+      ap (λ m. with_items Nums ((m + 1 - first) ∷ []) (number_items (all_or_first_error (map number (range_with_len 0 (m + 1 - first)))))) long
+      ∙ ap (with_items Nums (n ∷ [])) (results_as_items rs)
+      ∙ ap (λ ys. with_items Nums (n ∷ []) (all_or_first_error ys)) (ext_get_or (Err Domain) (map number_item rs) (map item (range_with_len 0 n)) (many ∙ long_rs ∙ sym long_items) (λ before h.
+      let below : before < n = omega (arith, h, many, long_rs) in
+      get_or-map number_item rs before (Err Domain)
+      ∙ ap number_item (get_or-map-range_with_len number 0 n before before (Err Domain) below (omega arith))
+      ∙ item_there (first + before) (omega arith) (omega arith)
+      ∙ sym (get_or-map-range_with_len item 0 n before before (Err Domain) below (omega arith))))

@@ -1,0 +1,15 @@
+use Rattle.std.proofs.Common.{◌≡◌, ◌≤◌, length, vec_len, vec_capacity}
+use Rattle.function_names.specs.declared.scalar.Scalar2.TheVariants.{Residue as ByResidue}
+use Rattle.scalar_fns.specs.Numbers.{dyadic_on_numbers}
+use Rattle.scan_fns.specs.LinearScan.{AreResultsTo}
+use Rattle.scan_fns.specs.Prefixes.{fold_to}
+use Rattle.scan_fns.specs.ResidueScan.{AreDivisors}
+use Rattle.scan_fns.proofs.residue_scan.SidedLines.residues.Given as goal
+
+abbrev pub invariant-loop-place : goal.invariant-loop-place
+invariant-loop-place l = record {
+  so_far : AreResultsTo l.place (fold_to (dyadic_on_numbers ByResidue) l.self.numbers.now l.self.stride l.self.count) l.self.numbers.now l.results;
+  long : vec_len l.divisors ≡ l.place;
+  room : length l.self.numbers.now ≤ vec_capacity l.divisors;
+  divisors : AreDivisors l.self.numbers.now l.self.stride l.self.count l.divisors.items;
+}

@@ -1,0 +1,65 @@
+-- Scan, f\B and f⍀B.
+use Rattle.std.specs.Prelude.{ℕ, ◌+◌, ◌-◌, nat_lt, ◌||◌, List, [], ◌∷◌, length, map, get_or, set, take, remove, if◌then◌else◌, Result}
+use Rattle.std.specs.List.{range_with_len}
+use Rattle.arrays_core.specs.declared.item.Item.{Item}
+use Rattle.arrays_core.specs.declared.item.ItemType.{ItemType}
+use Rattle.arrays_core.specs.declared.item.ItemType.TheVariants.{Nums}
+use Rattle.arrays_core.specs.declared.item.Kind.{Kind}
+use Rattle.arrays_core.specs.declared.item.Kind.TheVariants.{Axis, Domain}
+use Rattle.arrays_core.specs.Items.{all_or_first_error}
+use Rattle.arrays_core.specs.Arrays.{ArrayValue, with_items}
+use Rattle.function_names.specs.declared.along.Along.{Along}
+use Rattle.index_region.specs.Checks.{Form, check, limited, whole}
+use Rattle.index_region.specs.Arguments.{counts_as_numbers}
+use Rattle.function_names.specs.Axes.{is_axis, axis_at}
+use Rattle.index_region.specs.Axes.{places_along}
+use Rattle.change_core.specs.RuleModels.{RuleModel, Use}
+use Rattle.change_core.specs.Growth.{growing}
+use Rattle.change_core.specs.Sourced.{one_rule}
+use Rattle.change_core.specs.Ways.{along as on_own_line}
+use Rattle.function_names.specs.declared.scalar.Scalar2.{Scalar2}
+use Rattle.scalar_fns.specs.RightFold.{fold_right}
+use Rattle.reduce_fns.specs.Lines.{line}
+use Rattle.reduce_fns.specs.Growth.{lines_grow}
+
+-- b itself where the axis is below 2
+abbrev pub scan_type : ArrayValue → ℕ → ItemType
+scan_type b axis = if nat_lt (places_along b.shape axis) 2 then b.item_type else Nums
+
+-- the checks, and the shape and the type of the result
+abbrev pub scan_form : Along → ArrayValue → Result Form Kind
+scan_form along b =
+    let axis = axis_at (length b.shape) along in
+    check (is_axis (length b.shape) along) Axis
+    (check (nat_lt (places_along b.shape axis) 2 || counts_as_numbers b) Domain
+    (limited b.shape (scan_type b axis)))
+
+-- the reduction of the first items of the line
+abbrev pub scan_item : Scalar2 → Along → ArrayValue → List ℕ → Result Item Kind
+scan_item f along b index =
+    let axis = axis_at (length b.shape) along in
+    fold_right f (take (get_or index axis 1) (line b axis (remove index axis)))
+
+-- the items on the line of an index list, from the place there on up to a later one
+abbrev pub scan_along : Scalar2 → Along → ArrayValue → List ℕ → ℕ → Result ArrayValue Kind
+scan_along f along b index last =
+    let axis = axis_at (length b.shape) along in
+    let first = get_or index axis 1 in
+    with_items Nums ((last + 1 - first) ∷ []) (all_or_first_error (map (λ before. scan_item f along b (set index axis (first + before))) (range_with_len 0 (last + 1 - first))))
+
+-- the whole result
+abbrev pub scan_whole : Scalar2 → Along → ArrayValue → Result ArrayValue Kind
+scan_whole f along b = whole (scan_form along b) (scan_item f along b)
+
+-- What a change of the argument of a scan changes of its result.
+
+-- each item reads its line along an axis (from 0) up to its own place: on that axis a changed interval goes to itself
+-- and all places after it
+abbrev pub run_use : ℕ → ArrayValue → Use
+run_use axis b = on_own_line axis (λ index. range_with_len 1 (get_or index axis 1)) (λ s. (s.0, places_along b.shape axis))
+
+abbrev pub scan_use : Along → List ℕ → ArrayValue → Use
+scan_use along shape b = run_use (axis_at (length b.shape) along) b
+
+abbrev pub scan_rule : Scalar2 → Along → RuleModel
+scan_rule f along = growing (one_rule (scan_form along) (scan_item f along) (scan_use along)) (lines_grow along)

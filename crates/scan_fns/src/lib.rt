@@ -1,0 +1,17 @@
+//! Scan: the folds of a line up to each of its places.
+#![tactic(auto)]
+
+mod box_lines;
+mod differences;
+mod linear_scan;
+mod number_scan;
+mod outcomes;
+mod prefix;
+mod products;
+mod recalled_scan;
+mod residue_scan;
+mod scan;
+mod small_differences;
+mod unit_products;
+
+pub use scan::Scan;

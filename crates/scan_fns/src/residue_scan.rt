@@ -1,0 +1,210 @@
+//! Scans by residue of numbers of which none is below 0, or none above.
+
+ghost use Rattle.std.specs.Prelude.{◌≡◌, ◌<◌, ◌≤◌, ◌+◌, length, Ok, IsTrue, IfSome, Some, IfOk, vec_len};
+ghost use Rattle.std.specs.List.{list_all};
+ghost use Rattle.function_names.specs.declared.scalar.Scalar2.TheVariants.{Residue as ByResidue};
+ghost use Rattle.scalar_fns.specs.Numbers.{dyadic_on_numbers};
+ghost use Rattle.scalar_fns.specs.Folds.{folded};
+ghost use Rattle.scan_fns.specs.LinearScan.{scans_of};
+ghost use Rattle.scan_fns.specs.LinearScan.{scanned};
+ghost use Rattle.scan_fns.specs.ResidueScan.{extent_of, extent_at, place_before, are_one_sided, is_low, is_high, IsBeside, AreDivisors, IsDivisor, AreTheSame, LeadsTo, from, rank};
+
+use arrays_core::room_of;
+use reduce_fns::AxisLines;
+use scalar_fns::residue;
+use std::alloc::{AllocError, Global};
+
+/// A number of a line as the divisor of what comes to its place, and the way from there back to the divisors before it.
+#[derive(Clone, Copy)]
+pub(crate) struct Divisor {
+    /// How far from 0 the number is: one that is nearer to 0 is its own residue by it. By 0 all are, so it is farther than any.
+    pub(crate) extent: u64,
+    /// The last place before this one whose extent is less.
+    pub(crate) below: Option<usize>,
+    /// A place further on that way, so that each one on it is found in few steps.
+    pub(crate) far: Option<usize>,
+    /// How many steps to a place below lead there.
+    pub(crate) steps: usize,
+}
+
+/// How far from 0 a number is as a divisor.
+fn extent_of(number: i64) -> u64
+    ensures is { result ≡ extent_of number }
+    ensures some { 0 < result }
+{
+    if number == 0 {
+        u64::MAX
+    } else {
+        number.unsigned_abs()
+    }
+}
+
+/// None of the numbers is above 0.
+fn are_low(numbers: &[i64]) -> bool
+    ensures { result ≡ list_all is_low numbers.now }
+{
+    numbers.iter().all(|number| *number <= 0)
+}
+
+/// None of the numbers is below 0.
+fn are_high(numbers: &[i64]) -> bool
+    ensures { result ≡ list_all is_high numbers.now }
+{
+    numbers.iter().all(|number| *number >= 0)
+}
+
+/// None of the numbers is above 0, or none is below.
+pub(crate) fn are_one_sided(numbers: &[i64]) -> bool
+    ensures { result ≡ are_one_sided numbers.now }
+{
+    are_high(numbers) || are_low(numbers)
+}
+
+/// Lines of `count` numbers a stride apart, none of them below 0, or none above.
+#[derive(Clone, Copy)]
+struct SidedLines<'a> {
+    numbers: &'a [i64],
+    stride: usize,
+    count: usize,
+    ghost some: { 1 ≤ count },
+    ghost apart: { 0 < stride },
+    ghost sided: { IsTrue (are_one_sided numbers.now) },
+}
+
+impl<'a> SidedLines<'a> {
+    /// The place before one on its line.
+    fn place_before(&self, place: usize) -> Option<usize>
+        ensures is { result ≡ place_before self.now.stride self.now.count place }
+        ensures before { rank result ≤ place }
+    {
+        if place / self.stride % self.count == 0 {
+            None
+        } else {
+            Some(place - self.stride)
+        }
+    }
+
+    /// The next place on the way back from one whose extent is more than this to one whose extent is not.
+    fn next_place(&self, divisors: &[Divisor], place: usize, extent: u64) -> Option<usize>
+        requires place { place < length divisors.now }
+        requires divisors { AreDivisors self.now.numbers.now self.now.stride self.now.count divisors.now }
+        requires more { extent < extent_at self.now.numbers.now place }
+        ensures same { AreTheSame self.now.numbers.now self.now.stride self.now.count (extent + 1) (Some place) result }
+        ensures before { rank result ≤ place }
+    {
+        let divisor = divisors[place];
+        match divisor.far {
+            Some(far) if divisors[far].extent > extent => Some(far),
+            _ => divisor.below,
+        }
+    }
+
+    /// The first place on the way back from one whose extent is at most this.
+    fn nearest(&self, divisors: &[Divisor], start: Option<usize>, extent: u64) -> Option<usize>
+        requires start { rank start ≤ length divisors.now }
+        requires divisors { AreDivisors self.now.numbers.now self.now.stride self.now.count divisors.now }
+        ensures same { AreTheSame self.now.numbers.now self.now.stride self.now.count (extent + 1) start result }
+        ensures before { rank result ≤ rank start }
+        ensures within { IfSome result (λ place. extent_at self.now.numbers.now place ≤ extent) }
+    {
+        let mut found = start;
+        while let Some(place) = found {
+            if divisors[place].extent <= extent {
+                return found;
+            }
+            found = self.next_place(divisors, place, extent);
+        }
+        None
+    }
+
+    /// What a number comes to by the divisors on the way back from a place.
+    fn residue_from(&self, divisors: &[Divisor], start: Option<usize>, number: i64) -> i64
+        requires start { rank start ≤ length divisors.now }
+        requires long { length divisors.now ≤ length self.now.numbers.now }
+        requires divisors { AreDivisors self.now.numbers.now self.now.stride self.now.count divisors.now }
+        requires beside { IsBeside self.now.numbers.now number }
+        ensures { from self.now.numbers.now self.now.stride self.now.count start number ≡ Ok result }
+    {
+        let mut rest = number;
+        let mut found = self.nearest(divisors, start, rest.unsigned_abs());
+        while let Some(place) = found {
+            rest = residue(self.numbers[place], rest);
+            found = self.nearest(divisors, divisors[place].below, rest.unsigned_abs());
+        }
+        rest
+    }
+
+    /// A place further on the way back than the next one, and how many steps lead there.
+    fn far_from(&self, divisors: &[Divisor], below: Option<usize>) -> (Option<usize>, usize)
+        requires start { rank below ≤ length divisors.now }
+        requires divisors { AreDivisors self.now.numbers.now self.now.stride self.now.count divisors.now }
+        ensures { LeadsTo self.now.numbers.now self.now.stride self.now.count below result.0 }
+    {
+        let Some(place) = below else {
+            return (None, 0);
+        };
+        let divisor = divisors[place];
+        let Some(far) = divisor.far else {
+            return (below, 1);
+        };
+        let further = divisors[far];
+        if further.steps == divisor.steps && further.far.is_some() {
+            (
+                further.far,
+                divisor.steps.saturating_mul(2).saturating_add(1),
+            )
+        } else {
+            (below, 1)
+        }
+    }
+
+    /// The divisor of the place behind the others.
+    fn next_divisor(&self, divisors: &[Divisor]) -> Divisor
+        requires more { length divisors.now < length self.now.numbers.now }
+        requires divisors { AreDivisors self.now.numbers.now self.now.stride self.now.count divisors.now }
+        ensures { IsDivisor self.now.numbers.now self.now.stride self.now.count (length divisors.now) result }
+    {
+        let place = divisors.len();
+        let extent = extent_of(self.numbers[place]);
+        let below = self.nearest(divisors, self.place_before(place), extent - 1);
+        let (far, steps) = self.far_from(divisors, below);
+        Divisor {
+            extent,
+            below,
+            far,
+            steps,
+        }
+    }
+
+    /// The residue that each number comes to by those before it on its line.
+    fn residues(&self, alloc: Global) -> Result<Vec<i64>, AllocError>
+        ensures is { IfOk result (λ v. scanned (folded (dyadic_on_numbers ByResidue)) self.now.numbers.now self.now.stride self.now.count ≡ Ok v.items) }
+        ensures long { IfOk result (λ v. vec_len v ≡ length self.now.numbers.now) }
+    {
+        let mut results = Vec::with_capacity(alloc, room_of(self.numbers.len()))?;
+        let mut divisors = Vec::with_capacity(alloc, self.numbers.len())?;
+        for place in 0..self.numbers.len() {
+            let start = self.place_before(place);
+            let result = self.residue_from(&divisors, start, self.numbers[place]);
+            results.push_reserved(result);
+            let divisor = self.next_divisor(&divisors);
+            divisors.push_reserved(divisor);
+        }
+        Ok(results)
+    }
+}
+
+/// The residues of the first numbers of each line, where none of them is below 0, or none above. A number that is nearer to 0
+/// than a divisor is its own residue by it, so only those divisors are looked at that make it less than half as far from 0.
+pub(crate) fn running_residues(alloc: Global, lines: &AxisLines) -> Result<Vec<i64>, AllocError>
+    requires sided { IsTrue (are_one_sided lines.now.numbers.now) }
+    ensures is { IfOk result (λ v. scans_of (dyadic_on_numbers ByResidue) lines.now ≡ Ok v.items) }
+    ensures long { IfOk result (λ v. vec_len v ≡ length lines.now.numbers.now) }
+{
+    let sided = SidedLines {
+        numbers: lines.numbers,
+        stride: lines.stride,
+        count: lines.count,
+    };
+    sided.residues(alloc)
+}

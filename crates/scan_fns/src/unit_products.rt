@@ -1,0 +1,39 @@
+//! Scans by `×` of numbers that are 0, 1 or ¯1: no product of them leaves 64 bits.
+
+ghost use Rattle.std.specs.Prelude.{◌≡◌, true, All, length, IfOk, vec_len};
+ghost use Rattle.function_names.specs.declared.scalar.Scalar2.TheVariants.{Times as Product};
+ghost use Rattle.scalar_fns.specs.Numbers.{dyadic_on_numbers};
+ghost use Rattle.scalar_fns.specs.NumberLists.{IsListAnswerTo};
+ghost use Rattle.scan_fns.specs.LinearScan.{scans_of};
+ghost use Rattle.scan_fns.specs.Prefixes.{IsUnit};
+
+use crate::linear_scan::running;
+use crate::prefix::prefix_folds;
+use crate::products::Products;
+use arrays_core::ApplyFault;
+use reduce_fns::AxisLines;
+use scalar_fns::kernels::Times;
+use std::alloc::Global;
+
+/// No number of a list is farther from 0 than 1: none has a bit but the last in its distance from 0.
+fn are_units(numbers: &[i64]) -> bool
+    ensures { result ≡ true → All IsUnit numbers.now }
+{
+    let mut bits = 0;
+    for number in numbers {
+        bits |= number.unsigned_abs();
+    }
+    bits < 2
+}
+
+/// The folds by `×` of the first numbers of each line. Of numbers that are 0, 1 or ¯1, the product from the left is that from the right.
+pub(crate) fn running_products(alloc: Global, lines: &AxisLines) -> Result<Vec<i64>, ApplyFault>
+    ensures is { IsListAnswerTo (scans_of (dyadic_on_numbers Product) lines.now) result }
+    ensures long { IfOk result (λ v. vec_len v ≡ length lines.now.numbers.now) }
+{
+    if are_units(lines.numbers) {
+        running(alloc, &Times, lines)
+    } else {
+        prefix_folds(alloc, &Products::none(), lines)
+    }
+}
