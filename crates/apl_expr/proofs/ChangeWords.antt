@@ -1,13 +1,9 @@
 -- The words of changes, and what stands after each.
-use Rattle.std.proofs.Common.{◌≡◌, ℕ, Option, Some, None, List, [], ◌∷◌, refl, sym, subst, Bool, true, false, cond}
-use Rattle.std.specs.Prelude.{◌||◌}
-use Rattle.std.specs.Str.{bytes_eq}
-use Rattle.std.proofs.lemmas.Slice.Eq.{bytes_eq-Decides}
+use Rattle.std.{proofs.Common.{◌≡◌, ℕ, Option, Some, None, List, [], ◌∷◌, refl, sym, subst, Bool, true, false, cond}, specs.Prelude.{◌||◌}}
+use Rattle.std.{specs.Str.{bytes_eq}, proofs.lemmas.Slice.Eq.{bytes_eq-Decides}}
 use Rattle.apl_tokens.specs.Lexemes.{Lexeme, Named, Sign}
-use Rattle.apl_expr.specs.Trees.{Tree, Literal}
-use Rattle.apl_expr.specs.Grammar.{IsTreeOf}
-use Rattle.apl_expr.specs.Lines.{Meaning, Data, Row, Erase, data_word, row_word, erase_word, row_change, name_change, IsLit}
-use Rattle.apl_expr.proofs.Parsed.{one_tree_of}
+use Rattle.apl_expr.{specs.Trees.{Tree, Literal}, specs.Grammar.{IsTreeOf}}
+use Rattle.apl_expr.{specs.Lines.{Meaning, Data, Row, Erase, data_word, row_word, erase_word, row_change, name_change, IsLit}, proofs.Parsed.{one_tree_of}}
 use Rattle.apl_expr.proofs.CellEdits.{literal_read}
 
 -- what comes after the word of a change, and what the line asks for

@@ -2,27 +2,17 @@
 use Rattle.std.proofs.Common.{◌≡◌, ℕ, false, ◌≤◌, Some, None, Result, Ok, Err, List, [], ◌∷◌, length, refl, sym, ap, ◌∙◌, subst, arith, inl, inr}
 use Rattle.std.specs.Prelude.{ℤ}
 use Rattle.smallvec.specs.SmallVec.{SmallVec}
-use Rattle.apl_tokens.specs.Lexemes.{Lexeme, Named, Sign}
-use Rattle.apl_tokens.specs.declared.name.Name.{Name}
-use Rattle.apl_expr.specs.Limits.{most_tokens, most_height, most_nodes}
-use Rattle.apl_expr.specs.declared.expr.Expr.{Expr}
-use Rattle.apl_expr.specs.declared.expr.Literal as code
-use Rattle.apl_expr.specs.declared.command.Change.TheVariants as changed
-use Rattle.apl_expr.specs.declared.fault.ParseFault.{ParseFault}
-use Rattle.apl_expr.specs.declared.fault.ParseFault.TheVariants.{Syntax, Limit, NoMemory}
-use Rattle.apl_expr.specs.Trees.{Tree, Literal, tree_of, literal_of, height, nodes}
-use Rattle.apl_expr.specs.Grammar.{IsTreeOf, IsTooLarge}
-use Rattle.apl_expr.specs.Parsing.{IsParsed}
-use Rattle.apl_expr.specs.Edits.{Open, Items, Write, edits, EditGives, LiteralGives}
-use Rattle.apl_expr.specs.Lines.{Meaning, Define, Data, Cell, Row, Erase, data_word, row_word, erase_word}
-use Rattle.apl_expr.specs.Lines.{IsCellPositions, IsLit, IsChange, define, keep, cell, row, erase}
-use Rattle.apl_expr.specs.Fronts.{name_before, name_first, only_name, command_word}
-use Rattle.apl_expr.specs.Changes.{IsNoChange, IsChangeOf}
-use Rattle.apl_expr.proofs.Parsed.{one_tree_of}
+use Rattle.apl_tokens.{specs.Lexemes.{Lexeme, Named, Sign}, specs.declared.name.Name.{Name}}
+use Rattle.apl_expr.{specs.Limits.{most_tokens, most_height, most_nodes}, specs.declared.expr.Expr.{Expr}, specs.declared.fault.ParseFault.{ParseFault}}
+use Rattle.apl_expr.{specs.declared.fault.ParseFault.TheVariants.{Syntax, Limit, NoMemory}, specs.Trees.{Tree, Literal, tree_of, literal_of, height, nodes}}
+use Rattle.apl_expr.{specs.Grammar.{IsTreeOf, IsTooLarge}, specs.Parsing.{IsParsed}, specs.Edits.{Open, Items, Write, edits, EditGives, LiteralGives}}
+use Rattle.apl_expr.specs.Lines.{Meaning, Define, Data, Cell, Row, Erase, data_word, row_word, erase_word, IsCellPositions, IsLit, IsChange, define, keep, cell, row, erase}
+use Rattle.apl_expr.{specs.Fronts.{name_before, name_first, only_name, command_word}, specs.Changes.{IsNoChange, IsChangeOf}, proofs.Parsed.{one_tree_of}}
 use Rattle.apl_expr.proofs.CellEdits.{edit_read, edit_correct, literal_read, literal_correct}
 use Rattle.apl_expr.proofs.Fronts.{name_before_is, name_first_is, only_name_is, no_name_before, no_name_first, no_only_name, no_command_word}
-use Rattle.apl_expr.proofs.ChangeWords.{ChangeAfter, is_change_word, change_word, data_line, row_follows, erase_follows}
-use Rattle.apl_expr.proofs.ChangeWords.{after_data, after_row, after_erase, after_no_change, one_change_after}
+use Rattle.apl_expr.proofs.ChangeWords.{ChangeAfter, is_change_word, change_word, data_line, row_follows, erase_follows, after_data, after_row, after_erase, after_no_change, one_change_after}
+use Rattle.apl_expr.specs.declared.expr.Literal as code
+use Rattle.apl_expr.specs.declared.command.Change.TheVariants as changed
 
 -- a change by what stands at its front
 pub data Changed : List Lexeme → Meaning → Type 0 where

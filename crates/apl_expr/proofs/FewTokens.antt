@@ -1,14 +1,11 @@
 -- A tree has no more nodes than tokens, and is no higher than it has nodes.
-use Rattle.std.proofs.Common.{◌≡◌, ℕ, ◌+◌, ◌≤◌, List, [], ◌∷◌, length, Option, Some, None, refl, subst, arith}
-use Rattle.std.specs.Prelude.{ℤ}
+use Rattle.std.{proofs.Common.{◌≡◌, ℕ, ◌+◌, ◌≤◌, List, [], ◌∷◌, length, Option, Some, None, refl, subst, arith}, specs.Prelude.{ℤ}}
 use Rattle.apl_tokens.specs.Lexemes.{Lexeme}
-use Rattle.apl_expr.specs.declared.functions.Function1.{Function1}
-use Rattle.apl_expr.specs.declared.functions.Function1.TheVariants as function1
-use Rattle.apl_expr.specs.declared.functions.Function2.{Function2}
-use Rattle.apl_expr.specs.declared.functions.Function2.TheVariants as function2
-use Rattle.apl_expr.specs.Limits.{most_height, most_nodes}
+use Rattle.apl_expr.{specs.declared.functions.Function1.{Function1}, specs.declared.functions.Function2.{Function2}, specs.Limits.{most_height, most_nodes}}
 use Rattle.apl_expr.specs.Trees.{Tree, Const, Name, Monad, Dyad, Index, Reduce, Scan, Outer, Inner, before_argument, between_arguments, Positions, NoPositions, Empty, Filled, positions_of, height, height_in, nodes, nodes_in}
 use Rattle.apl_expr.specs.Grammar.{IsNums, one, more, IsMonadicFunction, plain1, along1, folded, folded_along, IsDyadicFunction, plain2, along2, outer, inner, IsExpr, operand, mono, duo, IsWrittenOperand, nums, text, ref, IsRef, name, parens, index, IsPositions, last_position, more_positions, IsPosition, empty, filled, IsTreeOf}
+use Rattle.apl_expr.specs.declared.functions.Function1.TheVariants as function1
+use Rattle.apl_expr.specs.declared.functions.Function2.TheVariants as function2
 
 nums_tokens : {ts us : List Lexeme} {ns : List ℤ} → IsNums ts ns us → 1 + length us ≤ length ts
 nums_tokens one = omega arith

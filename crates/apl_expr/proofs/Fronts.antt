@@ -1,6 +1,5 @@
 -- What the tokens are where a name, a word or a number stands at their front.
-use Rattle.std.proofs.Common.{◌≡◌, ℕ, Option, Some, None, List, [], ◌∷◌, refl, ap, Bool, true, false, cond}
-use Rattle.std.specs.Prelude.{ℤ, ◌==◌}
+use Rattle.std.{proofs.Common.{◌≡◌, ℕ, Option, Some, None, List, [], ◌∷◌, refl, ap, Bool, true, false, cond}, specs.Prelude.{ℤ, ◌==◌}}
 use Rattle.std.proofs.lemmas.Bool.{eqb-true, eq-eqb}
 use Rattle.apl_tokens.specs.Lexemes.{Lexeme, Number, Characters, Named, Sign}
 use Rattle.apl_expr.specs.Fronts.{name_before, name_first, only_name, number_first, only_number, command_word}

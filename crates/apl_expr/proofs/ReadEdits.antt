@@ -1,26 +1,18 @@
 -- The edit of a cell by a number and a row of numbers, read from the bytes of a line, are lines of the grammar.
 use Rattle.std.proofs.Common.{ℕ, ◌*◌, ◌<◌, ◌≤◌, List, [], ◌∷◌, ◌++◌, length, Ok, refl, sym, ap, subst, arith, true, ◌≡◌, ◌+◌, length-append, lit<}
-use Rattle.std.specs.Prelude.{ℤ, Some}
-use Rattle.std.proofs.lemmas.List.{length-map}
+use Rattle.std.{specs.Prelude.{ℤ, Some}, proofs.lemmas.List.{length-map}}
 use Rattle.smallvec.specs.SmallVec.{SmallVec}
-use Rattle.apl_tokens.specs.declared.name.Name.{Name}
-use Rattle.apl_tokens.specs.Lexemes.{Lexeme, Number, Sign}
-use Rattle.apl_tokens.specs.Signs.{right_bracket, left_arrow}
+use Rattle.apl_tokens.{specs.declared.name.Name.{Name}, specs.Lexemes.{Lexeme, Number, Sign}, specs.Signs.{right_bracket, left_arrow}}
 use Rattle.apl_tokens.specs.NumberEdits.{position_lexemes, edit_lexemes, row_numbers_of, AreSeveral, row_lexemes, Says}
-use Rattle.apl_tokens.specs.declared.row_edit.RowNumbers.{RowNumbers}
-use Rattle.apl_tokens.specs.declared.row_edit.RowNumbers.TheVariants.{One, Several}
+use Rattle.apl_tokens.{specs.declared.row_edit.RowNumbers.{RowNumbers}, specs.declared.row_edit.RowNumbers.TheVariants.{One, Several}}
+use Rattle.apl_expr.{specs.declared.expr.Literal.{Literal}, specs.declared.expr.Literal.TheVariants.{Num}, specs.Limits.{most_tokens}}
+use Rattle.apl_expr.{specs.Trees.{Numbers, literal_of, is_plain}, specs.Grammar.{one}}
+use Rattle.apl_expr.{specs.Lines.{IsCellPositions, last, further, nums_lit, cell, row, change, IsCommand}, specs.Answers.{TokensAnswer}}
+use Rattle.apl_expr.proofs.Pairs.{numbers_read}
 use Rattle.apl_expr.specs.declared.command.Change.TheVariants as changed
 use Rattle.apl_expr.specs.declared.command.Command.TheVariants as command
-use Rattle.apl_expr.specs.declared.expr.Literal.{Literal}
-use Rattle.apl_expr.specs.declared.expr.Literal.TheVariants.{Num}
-use Rattle.apl_expr.specs.Limits.{most_tokens}
-use Rattle.apl_expr.specs.Trees.{Numbers, literal_of, is_plain}
 use Rattle.apl_expr.specs.Trees as trees
 use Rattle.apl_expr.specs.Lines as lines
-use Rattle.apl_expr.specs.Grammar.{one}
-use Rattle.apl_expr.specs.Lines.{IsCellPositions, last, further, nums_lit, cell, row, change, IsCommand}
-use Rattle.apl_expr.specs.Answers.{TokensAnswer}
-use Rattle.apl_expr.proofs.Pairs.{numbers_read}
 
 positions_are : (ps : List ℤ) (ts : List Lexeme) → 0 < length ps → IsCellPositions (position_lexemes ps ++ ts) ps ts
 positions_are [] ts some = absurd (omega (arith, some))

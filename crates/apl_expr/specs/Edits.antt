@@ -2,14 +2,12 @@
 -- as what comes after `←`.
 use Rattle.std.specs.Prelude.{◌≡◌, IsTrue, ℕ, ℤ, Option, Some, None, Result, Ok, Err, List, [], ◌∷◌, ◌++◌, if◌then◌else◌, ◌==◌}
 use Rattle.smallvec.specs.SmallVec.{SmallVec}
+use Rattle.apl_expr.{specs.Trees.{Literal, Numbers, Text, literal_of, is_plain}, specs.declared.fault.ParseFault.{ParseFault}}
+use Rattle.apl_expr.specs.declared.fault.ParseFault.TheVariants.{Syntax, Limit, NoMemory}
+use Rattle.apl_tokens.{specs.Lexemes.{Lexeme, Number, Characters, Named, Sign}, specs.Signs.{left_arrow, right_bracket, semicolon}}
 use Rattle.apl_expr.specs.declared.expr.Literal as literal
-use Rattle.apl_expr.specs.Trees.{Literal, Numbers, Text, literal_of, is_plain}
-use Rattle.apl_tokens.specs.Lexemes.{Lexeme, Number, Characters, Named, Sign}
-use Rattle.apl_tokens.specs.Signs.{left_arrow, right_bracket, semicolon}
 use Rattle.apl_expr.specs.declared.edit.Edit as code
 use Rattle.apl_expr.specs.declared.edit.Edit.TheVariants as edit
-use Rattle.apl_expr.specs.declared.fault.ParseFault.{ParseFault}
-use Rattle.apl_expr.specs.declared.fault.ParseFault.TheVariants.{Syntax, Limit, NoMemory}
 
 -- what was read last, with the positions so far: `[` or `;`, a position, `]`, `←` and the numbers so far, or a text
 pub data Edit : Type 0 where

@@ -1,7 +1,6 @@
 -- The first tokens of a line, which say what it asks for.
 use Rattle.std.specs.Prelude.{ℕ, ℤ, Option, Some, None, List, [], ◌∷◌, if◌then◌else◌, ◌==◌}
-use Rattle.apl_tokens.specs.Lexemes.{Lexeme, Number, Named, Sign}
-use Rattle.apl_tokens.specs.Signs.{right_parenthesis}
+use Rattle.apl_tokens.{specs.Lexemes.{Lexeme, Number, Named, Sign}, specs.Signs.{right_parenthesis}}
 
 -- the name and what comes after the sign, where the two lexemes are a name and the sign c
 abbrev pub name_and_sign : ℕ → Lexeme → Lexeme → List Lexeme → Option (List ℕ × List Lexeme)

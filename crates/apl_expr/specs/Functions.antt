@@ -1,10 +1,8 @@
 -- A function at the front of the tokens, whatever signs it is written with: the longest that there is, since no expression
 -- begins with a sign that goes on with a function.
 use Rattle.std.specs.Prelude.{ℕ, ℤ, Option, Some, None, is_some, option_and_then, List, [], ◌∷◌, ◌&&◌, ◌||◌, ◌==◌, if◌then◌else◌}
-use Rattle.apl_tokens.specs.Lexemes.{Lexeme, Number, Characters, Named, Sign}
-use Rattle.apl_tokens.specs.Signs.{jot, dot, left_bracket, right_bracket}
-use Rattle.apl_expr.specs.declared.functions.Function.{Function}
-use Rattle.apl_expr.specs.declared.functions.Function1.{Function1}
+use Rattle.apl_tokens.{specs.Lexemes.{Lexeme, Number, Characters, Named, Sign}, specs.Signs.{jot, dot, left_bracket, right_bracket}}
+use Rattle.apl_expr.{specs.declared.functions.Function.{Function}, specs.declared.functions.Function1.{Function1}}
 use Rattle.apl_expr.specs.declared.functions.Function2.{Function2}
 use Rattle.apl_expr.specs.Symbols.{monadic_of, monadic_along_of, folded_of, folded_along_of, dyadic_of, dyadic_along_of, outer_of, inner_of, stands_alone}
 

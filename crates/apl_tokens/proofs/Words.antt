@@ -1,15 +1,9 @@
 -- A byte behind the end of a name is zero, as its room has it; names of the same words are the same.
 use Rattle.std.proofs.Common.{◌≡◌, ℕ, zero, suc, ◌+◌, ◌-◌, ◌/◌, ◌<◌, ◌≤◌, List, [], ◌∷◌, length, take, drop, refl, ap, ◌∙◌, sym, get_or, arith}
-use Rattle.std.specs.Prelude.{replicate}
-use Rattle.std.proofs.lemmas.Grind.{same_number_lists}
-use Rattle.std.specs.Prelude.{true, false, ◌^◌}
-use Rattle.std.specs.Bool.{one_answer}
-use Rattle.std.specs.Int.{w64, to_le_bytes, from_le_bytes}
-use Rattle.std.specs.Str.{bytes_eq}
-use Rattle.std.proofs.lemmas.Nat.{from_le_bytes-to_le_bytes_8}
+use Rattle.std.{specs.Prelude.{replicate, true, false, ◌^◌}, proofs.lemmas.Grind.{same_number_lists}, specs.Bool.{one_answer}}
+use Rattle.std.{specs.Int.{w64, to_le_bytes, from_le_bytes}, specs.Str.{bytes_eq}, proofs.lemmas.Nat.{from_le_bytes-to_le_bytes_8}}
 use Rattle.std.proofs.lemmas.Slice.Eq.{bytes_eq-Decides}
-use Rattle.apl_tokens.specs.Limits.{longest_name}
-use Rattle.apl_tokens.specs.Words.{eight_bytes, word_at, word_start, count_of_words}
+use Rattle.apl_tokens.{specs.Limits.{longest_name}, specs.Words.{eight_bytes, word_at, word_start, count_of_words}}
 
 zeros : (m k : ℕ) → ◌≡◌ {A = ℕ} (get_or (replicate m 0) k 0) 0
 zeros zero k = refl

@@ -1,11 +1,6 @@
 -- How the bytes of an edit are read from the front: what stands there says some lexemes, whatever comes after it.
-use Rattle.std.specs.Prelude.{ℕ, ℤ, Bool, true, false, List, [], ◌∷◌, ◌++◌}
-use Rattle.std.specs.Char.{is_ascii_digit}
-use Rattle.std.specs.Str.{chars}
-use Rattle.apl_tokens.specs.Lexemes.{Lexeme}
-use Rattle.apl_tokens.specs.Characters.{is_name_part, joins_number}
-use Rattle.apl_tokens.specs.Scans.{Ends}
-use Rattle.apl_tokens.specs.NumberEdits.{Says, number_lexemes}
+use Rattle.std.{specs.Prelude.{ℕ, ℤ, Bool, true, false, List, [], ◌∷◌, ◌++◌}, specs.Char.{is_ascii_digit}, specs.Str.{chars}}
+use Rattle.apl_tokens.{specs.Lexemes.{Lexeme}, specs.Characters.{is_name_part, joins_number}, specs.Scans.{Ends}, specs.NumberEdits.{Says, number_lexemes}}
 
 -- where the characters of the bytes us meet C, those of the bytes bs say these lexemes and then what those of us say
 pub record ReadsBefore (C : List ℕ → Type 0) (bs us : List ℕ) (ls : List Lexeme) : Type 0 where

@@ -1,6 +1,5 @@
 -- A name as words of eight bytes, by which names are compared and hashed.
-use Rattle.std.specs.Prelude.{ℕ, min, zero, suc, ◌+◌, ◌-◌, ◌*◌, List, [], ◌∷◌, ◌++◌, length, slice_index_or}
-use Rattle.std.specs.Int.{div_ceil}
+use Rattle.std.{specs.Prelude.{ℕ, min, zero, suc, ◌+◌, ◌-◌, ◌*◌, List, [], ◌∷◌, ◌++◌, length, slice_index_or}, specs.Int.{div_ceil}}
 use Rattle.apl_tokens.specs.Limits.{longest_name}
 
 -- the bytes of a word

@@ -1,9 +1,6 @@
 -- A few digits spell less than a power of ten.
-use Rattle.std.proofs.Common.{◌≡◌, ℕ, ◌^◌, ◌<◌, ◌≤◌, nat_lt, Bool, true, false, List, [], length, drop, take, Some, refl, arith}
-use Rattle.std.specs.List.{prefix_len}
-use Rattle.std.specs.Char.{is_ascii_digit}
-use Rattle.std.proofs.Math.Nat.{pow-le-pow_right}
-use Rattle.std.proofs.lemmas.Bool.Decides.{nat_tests}
+use Rattle.std.{proofs.Common.{◌≡◌, ℕ, ◌^◌, ◌<◌, ◌≤◌, nat_lt, Bool, true, false, List, [], length, drop, take, Some, refl, arith}, specs.List.{prefix_len}}
+use Rattle.std.{specs.Char.{is_ascii_digit}, proofs.Math.Nat.{pow-le-pow_right}, proofs.lemmas.Bool.Decides.{nat_tests}}
 use Rattle.std.proofs.lemmas.List.{drop_all, take_all}
 use Rattle.apl_tokens.specs.Characters.{decimal_from, fits_number, signed}
 use Rattle.array_text.specs.Tables.{digits_number, unsigned_number}

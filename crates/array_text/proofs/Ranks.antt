@@ -1,10 +1,7 @@
 -- The text of an array by its rank.
-use Rattle.std.proofs.Common.{◌≡◌, ℕ, ◌-◌, ◌*◌, ◌<◌, List, [], ◌∷◌, length, get_or, map, refl, ap, ◌∙◌, arith, ℤ}
-use Rattle.std.proofs.NetLemmas.Arrays.{four_items}
+use Rattle.std.{proofs.Common.{◌≡◌, ℕ, ◌-◌, ◌*◌, ◌<◌, List, [], ◌∷◌, length, get_or, map, refl, ap, ◌∙◌, arith, ℤ}, proofs.NetLemmas.Arrays.{four_items}}
 use Rattle.std.proofs.lemmas.Slice.Eq.{text_from_reads}
-use Rattle.arrays_core.specs.Arrays.{ArrayValue}
-use Rattle.arrays_core.specs.Shapes.{size}
-use Rattle.arrays_core.specs.declared.item.Item.TheVariants.{Num, Char}
+use Rattle.arrays_core.{specs.Arrays.{ArrayValue}, specs.Shapes.{size}, specs.declared.item.Item.TheVariants.{Num, Char}}
 use Rattle.arrays_core.specs.declared.item.ItemType.TheVariants.{Nums, Chars}
 use Rattle.array_text.specs.Text.{text_by_rank, planes, numbers_text, characters_text, items_text, array_text, item_number, item_character}
 

@@ -1,14 +1,9 @@
 -- Worked cases of tables, computed: what files read as, the first faults of files, and the files of tables.
-use Rattle.std.proofs.Common.{◌≡◌, ℕ, ℤ, pos, negsuc, Bool, true, false, List, [], ◌∷◌, ◌++◌, map, Option, Some, None, refl}
-use Rattle.std.specs.Prelude.{codes}
+use Rattle.std.{proofs.Common.{◌≡◌, ℕ, ℤ, pos, negsuc, Bool, true, false, List, [], ◌∷◌, ◌++◌, map, Option, Some, None, refl}, specs.Prelude.{codes}}
 use Rattle.std.specs.Fmt.{digits}
-use Rattle.csv.specs.Machine.{next_record}
-use Rattle.csv.specs.Reading.{records_from, strip_bom}
-use Rattle.arrays_core.specs.Arrays.{ArrayValue}
-use Rattle.arrays_core.specs.declared.item.Item.TheVariants.{Num}
-use Rattle.arrays_core.specs.declared.item.ItemType.TheVariants.{Nums}
-use Rattle.array_text.specs.Text.{text_by_rank}
-use Rattle.array_text.specs.declared.table_fault.TableFault.{TableFault}
+use Rattle.csv.{specs.Machine.{next_record}, specs.Reading.{records_from, strip_bom}}
+use Rattle.arrays_core.{specs.Arrays.{ArrayValue}, specs.declared.item.Item.TheVariants.{Num}, specs.declared.item.ItemType.TheVariants.{Nums}}
+use Rattle.array_text.{specs.Text.{text_by_rank}, specs.declared.table_fault.TableFault.{TableFault}}
 use Rattle.array_text.specs.declared.table_fault.TableFault.TheVariants.{Field as FieldFault, Length as LengthFault}
 use Rattle.array_text.specs.Tables.{columns_of, digits_number, field_number, first_fault, record_fault, record_text, records_of, records_text, sign_and_rest, table_of, table_text, unsigned_number}
 

@@ -1,16 +1,12 @@
 -- Tables that are read record by record.
 use Rattle.std.proofs.Common.{◌≡◌, ℕ, zero, suc, ℤ, ◌+◌, ◌-◌, ◌*◌, ◌<◌, ◌≤◌, Bool, true, false, not, cond, eqb, List, [], ◌∷◌, ◌++◌, length, drop, get_or, map, Option, Some, None, is_some, refl, sym, ap, ◌∙◌, subst, arith, rules, append_assoc}
-use Rattle.std.proofs.lemmas.Bool.{eqb-true, false_from_ne_true}
-use Rattle.std.proofs.lemmas.Option.{none-some}
+use Rattle.std.{proofs.lemmas.Bool.{eqb-true, false_from_ne_true}, proofs.lemmas.Option.{none-some}}
 use Rattle.std.proofs.lemmas.List.{append-nil, drop_more, length-append, length-map}
 use Rattle.csv.specs.Records.{field_at}
-use Rattle.arrays_core.specs.Arrays.{ArrayValue}
-use Rattle.arrays_core.specs.declared.item.Item.TheVariants.{Num}
-use Rattle.arrays_core.specs.declared.item.ItemType.TheVariants.{Nums}
-use Rattle.array_text.specs.declared.table_fault.TableFault.{TableFault}
-use Rattle.array_text.specs.declared.table_fault.TableFault.TheVariants as fault
-use Rattle.array_text.specs.Reading.{AreRead}
+use Rattle.arrays_core.{specs.Arrays.{ArrayValue}, specs.declared.item.Item.TheVariants.{Num}, specs.declared.item.ItemType.TheVariants.{Nums}}
+use Rattle.array_text.{specs.declared.table_fault.TableFault.{TableFault}, specs.Reading.{AreRead}}
 use Rattle.array_text.specs.Tables.{AnswersFault, Field, Fields, bad_field_fault, columns_of, field_number, fields_read, first_bad, first_fault, is_matrix_within, number_or_zero, numbers_from, numbers_of, or_else, record_fault, rows_of, table_of}
+use Rattle.array_text.specs.declared.table_fault.TableFault.TheVariants as fault
 
 -- the fields of a record
 

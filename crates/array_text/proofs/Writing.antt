@@ -1,11 +1,8 @@
 -- Texts that are made piece by piece.
 use Rattle.std.proofs.Common.{◌≡◌, ℕ, zero, suc, ◌+◌, ◌-◌, ◌*◌, ◌<◌, false, cond, eqb, List, [], ◌∷◌, ◌++◌, length, get_or, take, refl, sym, ap, ◌∙◌, arith, add-one, append_assoc, Result, Ok, Err, OnOk, is_ok}
-use Rattle.std.specs.Prelude.{encode_utf8, encode_utf8_all}
-use Rattle.std.specs.List.{flat_map, range_with_len, join_by}
-use Rattle.std.proofs.lemmas.Bool.{false_from_ne_true, eqb-true, eq-eqb}
-use Rattle.std.proofs.lemmas.Grind.{flat_map-append}
-use Rattle.std.proofs.lemmas.List.{append-nil, length-take-le, take_more}
-use Rattle.std.proofs.lemmas.List.FromFn.{length-range_with_len}
+use Rattle.std.{specs.Prelude.{encode_utf8, encode_utf8_all}, specs.List.{flat_map, range_with_len, join_by}}
+use Rattle.std.{proofs.lemmas.Bool.{false_from_ne_true, eqb-true, eq-eqb}, proofs.lemmas.Grind.{flat_map-append}}
+use Rattle.std.{proofs.lemmas.List.{append-nil, length-take-le, take_more}, proofs.lemmas.List.FromFn.{length-range_with_len}}
 use Rattle.array_text.specs.Text.{gap, planes, part_of, line_end}
 
 -- what is written goes on

@@ -1,14 +1,9 @@
 -- The text of a table by its rank.
 use Rattle.std.proofs.Common.{◌≡◌, ℕ, ℤ, ◌<◌, Bool, true, false, eqb, List, [], ◌∷◌, length, get_or, map, refl, sym, ap, ◌∙◌, arith, All}
-use Rattle.std.proofs.lemmas.Bool.{eq-eqb, false≢true}
-use Rattle.std.proofs.lemmas.List.Elements.{recursion_from_All}
-use Rattle.arrays_core.specs.Items.{type_of}
-use Rattle.arrays_core.specs.declared.item.Item.{Item}
-use Rattle.arrays_core.specs.declared.item.Item.TheVariants.{Num}
-use Rattle.arrays_core.specs.declared.item.ItemType.{ItemType}
-use Rattle.arrays_core.specs.declared.item.ItemType.TheVariants.{Nums, Chars}
-use Rattle.array_text.specs.Text.{item_number, text_by_rank}
-use Rattle.array_text.specs.Tables.{record_text, records_text, table_text}
+use Rattle.std.{proofs.lemmas.Bool.{eq-eqb, false≢true}, proofs.lemmas.List.Elements.{recursion_from_All}}
+use Rattle.arrays_core.{specs.Items.{type_of}, specs.declared.item.Item.{Item}, specs.declared.item.Item.TheVariants.{Num}}
+use Rattle.arrays_core.{specs.declared.item.ItemType.{ItemType}, specs.declared.item.ItemType.TheVariants.{Nums, Chars}}
+use Rattle.array_text.{specs.Text.{item_number, text_by_rank}, specs.Tables.{record_text, records_text, table_text}}
 use Rattle.array_text.proofs.Ranks.{numbers_again, of_rank_below_two}
 
 pub table_none : (shape : List ℕ) (zs : List ℤ) → length zs ≡ 0 → table_text shape zs ≡ []

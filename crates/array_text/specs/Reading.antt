@@ -3,8 +3,8 @@ use Rattle.std.specs.Prelude.{◌≡◌, ◌<◌, ◌*◌, ℕ, ℤ, Bool, true,
 use Rattle.csv.specs.Machine.{ends_at_end}
 use Rattle.csv.specs.Reading.{Ready, default_config, is_flexible, reader_config, reader_state, reader_trim, records_from, source_of}
 use Rattle.csv.specs.declared.reader.Reader.{Reader}
-use Rattle.csv.specs.declared.reader.Trim.TheVariants as trim
 use Rattle.array_text.specs.Tables.{Fields, columns_of, is_matrix_within, numbers_from, rows_of}
+use Rattle.csv.specs.declared.reader.Trim.TheVariants as trim
 
 -- a reader stands between two records, and these records are left
 pub record AreLeft {R : Type 0} (known : R → Option (List ℕ)) (reader : Reader R) (rest : List Fields) : Type 0 where

@@ -1,12 +1,9 @@
 -- Items that are put behind others.
 use Rattle.std.proofs.Common.{◌≡◌, ℕ, zero, suc, ◌+◌, ◌*◌, ◌/◌, ◌%◌, ◌<◌, ◌≤◌, List, [], ◌∷◌, ◌++◌, length, map, get_or, take, drop, replicate, refl, ap, sym, ◌∙◌, arith, append_assoc, length-drop, Result, Ok, Err}
-use Rattle.std.specs.List.{range_with_len}
-use Rattle.std.specs.Result.{is_ok}
-use Rattle.std.specs.Prelude.{OnOk, if◌then◌else◌}
+use Rattle.std.{specs.List.{range_with_len}, specs.Result.{is_ok}, specs.Prelude.{OnOk, if◌then◌else◌}}
 use Rattle.std.proofs.lemmas.List.{get_or-take, get_or-drop, length-take, length-map, map-append}
 use Rattle.std.proofs.lemmas.List.FromFn.{fill_by_all, map-range_with_len_more, take-map-range_with_len}
-use Rattle.std.proofs.Math.Nat.{div-add-mod, add-mul-mod_self_left, mod-eq_of_lt}
-use Rattle.std.proofs.Math.ListN.{get_or-map}
+use Rattle.std.{proofs.Math.Nat.{div-add-mod, add-mul-mod_self_left, mod-eq_of_lt}, proofs.Math.ListN.{get_or-map}}
 use Rattle.arrays_core.specs.Building.{listed}
 
 listed_same_from : {A : Type 0} (x : A) (a n : ℕ) → replicate n x ≡ map (λ (k : ℕ). x) (range_with_len a n)

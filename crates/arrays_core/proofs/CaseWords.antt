@@ -1,10 +1,7 @@
 -- Words for worked cases.
-use Rattle.std.proofs.Common.{ℕ, ℤ, pos, negsuc, List, [], ◌∷◌, map, Result, Ok, Err}
-use Rattle.std.specs.Prelude.{◌-◌, ◌^◌}
-use Rattle.arrays_core.specs.declared.item.Item.TheVariants.{Num, Char}
-use Rattle.arrays_core.specs.declared.item.ItemType.TheVariants.{Nums, Chars}
-use Rattle.arrays_core.specs.declared.item.Kind.{Kind}
-use Rattle.arrays_core.specs.Arrays.{ArrayValue}
+use Rattle.std.{proofs.Common.{ℕ, ℤ, pos, negsuc, List, [], ◌∷◌, map, Result, Ok, Err}, specs.Prelude.{◌-◌, ◌^◌}}
+use Rattle.arrays_core.{specs.declared.item.Item.TheVariants.{Num, Char}, specs.declared.item.ItemType.TheVariants.{Nums, Chars}}
+use Rattle.arrays_core.{specs.declared.item.Kind.{Kind}, specs.Arrays.{ArrayValue}}
 
 -- an array of numbers from 0 up, and one of any numbers
 abbrev pub nums : List ℕ → List ℕ → ArrayValue

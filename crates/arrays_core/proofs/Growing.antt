@@ -2,12 +2,8 @@
 use Rattle.std.proofs.Common.{◌≡◌, ◌≤◌, ◌<◌, ◌+◌, ◌-◌, ℕ, List, [], ◌∷◌, ◌++◌, length, drop, get_or, All, nat_lt, inl, inr, refl, sym, ap, subst, ◌∙◌, arith}
 use Rattle.std.proofs.lemmas.Bool.{cases_Bool, ltb-true, ltb-false}
 use Rattle.std.proofs.lemmas.List.{append-nil, get_or_append_left, get_or-append-add, get_or-append_right, length-append}
-use Rattle.arrays_core.specs.declared.item.Item.{Item}
-use Rattle.arrays_core.specs.declared.item.ItemType.{ItemType}
-use Rattle.arrays_core.specs.Arrays.{ArrayValue, IsArray}
-use Rattle.arrays_core.specs.Items.{type_of}
-use Rattle.arrays_core.specs.Shapes.{size, IsWithinLimits}
-use Rattle.arrays_core.specs.Growth.{FitsGrowth, grown_by, one_longer}
+use Rattle.arrays_core.{specs.declared.item.Item.{Item}, specs.declared.item.ItemType.{ItemType}, specs.Arrays.{ArrayValue, IsArray}, specs.Items.{type_of}}
+use Rattle.arrays_core.{specs.Shapes.{size, IsWithinLimits}, specs.Growth.{FitsGrowth, grown_by, one_longer}}
 
 -- items of two types are none
 pub none_left : (t u : ItemType) (xs : List Item) → All (λ x. type_of x ≡ t) xs → All (λ x. type_of x ≡ u) xs → (t ≡ u → ⊥) → xs ≡ []

@@ -1,10 +1,6 @@
 -- Pieces of memory for the next power of two.
-use Rattle.std.proofs.Common.{◌≡◌, ◌≤◌, ◌<◌, ◌+◌, ◌/◌, ◌^◌, ℕ, max, zero, suc, inl, inr, arith}
-use Rattle.std.proofs.lemmas.Bool.{cases_lt}
-use Rattle.std.proofs.lemmas.Nat.{pow_pos}
-use Rattle.std.proofs.Math.Nat.{two-pow-succ}
-use Rattle.std.proofs.Math.Pow.{pow_mono}
-use Rattle.std.specs.Int.{IsPowerOfTwo, IsNextPowerOfTwo}
+use Rattle.std.{proofs.Common.{◌≡◌, ◌≤◌, ◌<◌, ◌+◌, ◌/◌, ◌^◌, ℕ, max, zero, suc, inl, inr, arith}, proofs.lemmas.Bool.{cases_lt}, proofs.lemmas.Nat.{pow_pos}}
+use Rattle.std.{proofs.Math.Nat.{two-pow-succ}, proofs.Math.Pow.{pow_mono}, specs.Int.{IsPowerOfTwo, IsNextPowerOfTwo}}
 use Rattle.arrays_core.specs.Growth.{IsRoomy, IsSameRoom, HasRoom}
 
 -- the next power of two is the least that is not less

@@ -1,15 +1,10 @@
 -- The rows of a shape: what stands along its last axis.
 use Rattle.std.proofs.Common.{◌≡◌, ℕ, zero, suc, ◌+◌, ◌-◌, ◌*◌, ◌<◌, ◌≤◌, true, List, [], ◌∷◌, ◌++◌, length, get_or, take, map, refl, ap, sym, ◌∙◌, arith, append_assoc, Result, Ok, Err}
-use Rattle.std.specs.List.{range_with_len}
-use Rattle.std.specs.Prelude.{OnOk}
-use Rattle.std.proofs.lemmas.Result.{on_ok_weaker}
-use Rattle.std.proofs.lemmas.Bool.{and_from, le-leb}
+use Rattle.std.{specs.List.{range_with_len}, specs.Prelude.{OnOk}, proofs.lemmas.Result.{on_ok_weaker}, proofs.lemmas.Bool.{and_from, le-leb}}
 use Rattle.std.proofs.lemmas.List.{take_more, map-append, append-nil, length-map, length_push, get_or_append_left}
 use Rattle.std.proofs.lemmas.List.FromFn.{map-range_with_len_more}
-use Rattle.arrays_core.specs.Items.{after, all_or_first_error}
-use Rattle.arrays_core.specs.Shapes.{size, indices, is_index_of, places_before, IsWithinLimits}
-use Rattle.arrays_core.specs.Building.{listed, with_row, IsRowOf}
-use Rattle.arrays_core.proofs.Shapes.{as_long, head_of, places_below, factor_le}
+use Rattle.arrays_core.{specs.Items.{after, all_or_first_error}, specs.Shapes.{size, indices, is_index_of, places_before, IsWithinLimits}}
+use Rattle.arrays_core.{specs.Building.{listed, with_row, IsRowOf}, proofs.Shapes.{as_long, head_of, places_below, factor_le}}
 use Rattle.arrays_core.proofs.Order.{length-indices, at_place, ok_more, all_given, given, CollectedTo}
 
 -- ---- one more axis at the end

@@ -1,20 +1,14 @@
 -- All that changes of a result is reached, where the law of its rule holds.
 use Rattle.std.proofs.Common.{◌≡◌, ℕ, List, [], ◌∷◌, length, map, replicate, refl, ap, ◌∙◌, sym, subst, arith, true, false, Bool, Option, Some, None, Result, Ok, Err, inl, inr}
 use Rattle.std.proofs.lemmas.Bool.{true≢false, cases_Bool, cond-true, cond-false, both_ways}
-use Rattle.arrays_core.specs.declared.item.Item.{Item}
-use Rattle.arrays_core.specs.declared.item.Kind.{Kind}
-use Rattle.arrays_core.specs.Arrays.{ArrayValue, IsArray, item_if_there}
-use Rattle.arrays_core.specs.Shapes.{is_index_of}
-use Rattle.arrays_core.specs.Items.{fill}
-use Rattle.change_core.specs.declared.reach.Reach.{Reach}
-use Rattle.change_core.specs.declared.reach.Reach.TheVariants.{Anew}
+use Rattle.arrays_core.{specs.declared.item.Item.{Item}, specs.declared.item.Kind.{Kind}, specs.Arrays.{ArrayValue, IsArray, item_if_there}}
+use Rattle.arrays_core.{specs.Shapes.{is_index_of}, specs.Items.{fill}}
+use Rattle.change_core.{specs.declared.reach.Reach.{Reach}, specs.declared.reach.Reach.TheVariants.{Anew}}
 use Rattle.change_core.proofs.Regions.{HasFit, bounded-fits, bounded-within, join_fits, join_unmoved}
-use Rattle.index_region.specs.Answers.{IsPlaceOf}
 use Rattle.change_core.specs.Tightness.{Agrees, AllAgree, AllCovered, ArgumentChange, Covered, Each, IsTight, ReachCovers, ReachLies, blank, frames, items_read, moves, news, olds}
 use Rattle.change_core.specs.Reaches.{Fits, LiesInResult, as_reach, bounded, changed, changed_by, is_anew, is_moved, is_reached, reach_by}
 use Rattle.change_core.specs.RuleModels.{RuleModel, Use}
-use Rattle.index_region.specs.Boxes.{Interval, fits, is_within}
-use Rattle.index_region.specs.Checks.{Form}
+use Rattle.index_region.{specs.Answers.{IsPlaceOf}, specs.Boxes.{Interval, fits, is_within}, specs.Checks.{Form}}
 
 pub changed_by-fits : (shape : List ℕ) (u : Use) (m : Option (List Interval)) → HasFit shape (changed_by shape u m)
 changed_by-fits shape u None = tt

@@ -1,22 +1,12 @@
 -- What stays of an array that grows.
 use Rattle.std.proofs.Common.{◌≡◌, ℕ, zero, suc, ◌+◌, ◌<◌, ◌≤◌, List, [], ◌∷◌, ◌++◌, length, get_or, refl, ap, ◌∙◌, sym, subst, arith, true, false, Bool, Ok, Result, remove, map}
-use Rattle.std.specs.List.{range_with_len}
-use Rattle.std.proofs.lemmas.Bool.{and_parts, and_from, leb-true, le-leb, false≢true}
-use Rattle.std.proofs.lemmas.List.{get_or_append_left}
-use Rattle.arrays_core.specs.declared.item.Item.{Item}
-use Rattle.arrays_core.specs.declared.item.Kind.{Kind}
-use Rattle.arrays_core.specs.declared.item.ItemType.{ItemType}
-use Rattle.arrays_core.specs.Arrays.{ArrayValue, IsArray, item_of}
-use Rattle.arrays_core.specs.Items.{fill}
-use Rattle.arrays_core.specs.Shapes.{is_index_of, places_before}
-use Rattle.arrays_core.proofs.Shapes.{places_below}
-use Rattle.index_region.specs.Checks.{Form, form_of}
-use Rattle.index_region.specs.Axes.{places_along}
-use Rattle.arrays_core.specs.Growth.{one_longer, grown_by, FitsGrowth}
-use Rattle.change_core.specs.Growth.{IsGrown, AllGrew, Extends, IsGrowing, one_grows, two_grow, never, growing}
-use Rattle.change_core.specs.Tightness.{IsTight}
-use Rattle.change_core.specs.RuleModels.{Growth, RuleModel, Use}
-use Rattle.change_core.specs.Sourced.{one_rule, two_rule}
+use Rattle.std.{specs.List.{range_with_len}, proofs.lemmas.Bool.{and_parts, and_from, leb-true, le-leb, false≢true}, proofs.lemmas.List.{get_or_append_left}}
+use Rattle.arrays_core.{specs.declared.item.Item.{Item}, specs.declared.item.Kind.{Kind}, specs.declared.item.ItemType.{ItemType}}
+use Rattle.arrays_core.{specs.Arrays.{ArrayValue, IsArray, item_of}, specs.Items.{fill}, specs.Shapes.{is_index_of, places_before}}
+use Rattle.arrays_core.{proofs.Shapes.{places_below}, specs.Growth.{one_longer, grown_by, FitsGrowth}}
+use Rattle.index_region.{specs.Checks.{Form, form_of}, specs.Axes.{places_along}}
+use Rattle.change_core.{specs.Growth.{IsGrown, AllGrew, Extends, IsGrowing, one_grows, two_grow, never, growing}, specs.Tightness.{IsTight}}
+use Rattle.change_core.{specs.RuleModels.{Growth, RuleModel, Use}, specs.Sourced.{one_rule, two_rule}}
 
 pub length-longer : (shape : List ℕ) → length (one_longer shape) ≡ length shape
 length-longer [] = refl

@@ -2,12 +2,9 @@
 use Rattle.std.proofs.Common.{◌≡◌, ℕ, suc, zero, ◌<◌, List, [], ◌∷◌, length, drop, get_or, refl, ap, ◌∙◌, sym, subst, arith, Bool, true, false, ◌||◌, Option, Some, None}
 use Rattle.std.proofs.lemmas.List.{drop_all}
 use Rattle.arrays_core.specs.Arrays.{ArrayValue}
-use Rattle.change_core.proofs.Covers.{changed-fits}
-use Rattle.change_core.proofs.Regions.{HasFit, bounded-fits}
-use Rattle.index_region.proofs.Boxes.{fits_length}
-use Rattle.change_core.specs.Reaches.{AllFit, Fits, bounded, changed, is_anew}
+use Rattle.change_core.{proofs.Covers.{changed-fits}, proofs.Regions.{HasFit, bounded-fits}, specs.Reaches.{AllFit, Fits, bounded, changed, is_anew}}
 use Rattle.change_core.specs.RuleModels.{FitsAt, Use, box_at}
-use Rattle.index_region.specs.Boxes.{Interval, join_boxes}
+use Rattle.index_region.{proofs.Boxes.{fits_length}, specs.Boxes.{Interval, join_boxes}}
 
 abbrev pub anew_by : Bool → Option (List Interval) → Bool → Bool
 anew_by selects None rest = rest

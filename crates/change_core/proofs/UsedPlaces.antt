@@ -1,16 +1,10 @@
 -- Uses by place are covered.
 use Rattle.std.proofs.Common.{◌≡◌, ℕ, ◌-◌, ◌*◌, ◌%◌, ◌≤◌, ◌<◌, List, [], ◌∷◌, ap, ◌∙◌, subst, arith, true, Option, inl, inr, nat_lt, min}
-use Rattle.std.proofs.lemmas.Bool.{and_parts, leb-true, ltb-false, false≢true, cases_Bool, cond-true, cond-false, lt-ltb}
-use Rattle.std.proofs.lemmas.Nat.{mul-le}
+use Rattle.std.{proofs.lemmas.Bool.{and_parts, leb-true, ltb-false, false≢true, cases_Bool, cond-true, cond-false, lt-ltb}, proofs.lemmas.Nat.{mul-le}}
 use Rattle.std.proofs.Math.Nat.{mod-eq_of_lt}
-use Rattle.arrays_core.specs.Shapes.{is_index_of, size, places_before, index_after}
-use Rattle.arrays_core.proofs.Shapes.{places_below}
-use Rattle.arrays_core.proofs.Order.{places_before-index_after}
-use Rattle.index_region.proofs.Least.{within-whole, cover-within}
-use Rattle.change_core.specs.Tightness.{Covered}
-use Rattle.change_core.specs.Places.{by_place, cover_in, first_of_box, last_of_box}
-use Rattle.change_core.specs.Reaches.{is_moved}
-use Rattle.index_region.specs.Boxes.{Interval, is_within}
+use Rattle.arrays_core.{specs.Shapes.{is_index_of, size, places_before, index_after}, proofs.Shapes.{places_below}, proofs.Order.{places_before-index_after}}
+use Rattle.index_region.{proofs.Least.{within-whole, cover-within}, specs.Boxes.{Interval, is_within}}
+use Rattle.change_core.{specs.Tightness.{Covered}, specs.Places.{by_place, cover_in, first_of_box, last_of_box}, specs.Reaches.{is_moved}}
 
 -- an index list in the box lies between the box's first and last in the ravel
 pub offset_between : (axes : List ℕ) (region : List Interval) (index : List ℕ) → is_within region index ≡ true → (places_before axes (first_of_box region) ≤ places_before axes index) × (places_before axes index ≤ places_before axes (last_of_box region))

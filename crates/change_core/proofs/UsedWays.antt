@@ -3,9 +3,7 @@ use Rattle.std.proofs.Common.{◌≡◌, ℕ, suc, zero, ◌+◌, ◌≤◌, ◌
 use Rattle.std.specs.List.{range_with_len}
 use Rattle.std.proofs.lemmas.Bool.{and_parts, leb-true, ltb-true, ltb-false, eqb-true, false≢true, cases_Bool, cond-true, cond-false, and_from, le-leb}
 use Rattle.arrays_core.specs.Shapes.{is_index_of}
-use Rattle.change_core.specs.Tightness.{Covered, Each}
-use Rattle.change_core.specs.Reaches.{is_moved}
-use Rattle.change_core.specs.RuleModels.{Use}
+use Rattle.change_core.{specs.Tightness.{Covered, Each}, specs.Reaches.{is_moved}, specs.RuleModels.{Use}}
 use Rattle.change_core.specs.Ways.{Axis, IsSoundAxis, alike, along, back, everywhere, front, images, lengths, lines, meet_at, meets, sources, unread}
 use Rattle.index_region.specs.Boxes.{Interval, fits, is_within, whole_of}
 pub use Rattle.index_region.proofs.Least.{within-whole}

@@ -1,12 +1,7 @@
 -- The items of a box of a result.
-use Rattle.std.specs.Prelude.{◌≡◌, ℕ, List, map, Result, Ok, Err}
-use Rattle.std.specs.List.{range_with_len}
-use Rattle.arrays_core.specs.declared.fault.ApplyFault.{ApplyFault}
-use Rattle.arrays_core.specs.declared.fault.ApplyFault.TheVariants.{Kind as KindFault, NoMemory}
-use Rattle.arrays_core.specs.declared.item.Item.{Item}
-use Rattle.arrays_core.specs.declared.item.ItemType.{ItemType}
-use Rattle.arrays_core.specs.declared.item.Kind.{Kind}
-use Rattle.arrays_core.specs.Arrays.{ArrayValue}
+use Rattle.std.{specs.Prelude.{◌≡◌, ℕ, List, map, Result, Ok, Err}, specs.List.{range_with_len}}
+use Rattle.arrays_core.{specs.declared.fault.ApplyFault.{ApplyFault}, specs.declared.fault.ApplyFault.TheVariants.{Kind as KindFault, NoMemory}}
+use Rattle.arrays_core.{specs.declared.item.Item.{Item}, specs.declared.item.ItemType.{ItemType}, specs.declared.item.Kind.{Kind}, specs.Arrays.{ArrayValue}}
 use Rattle.arrays_core.specs.Items.{all_or_first_error}
 use Rattle.index_region.specs.Boxes.{Interval, box_size, walk_at}
 

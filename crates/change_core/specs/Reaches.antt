@@ -1,12 +1,8 @@
 -- What may change of a result where boxes of the arguments changed.
 use Rattle.std.specs.Prelude.{ℕ, zero, suc, List, [], ◌∷◌, replicate, Bool, true, false, Option, Some, None, Result, Ok, Err, IsTrue, if◌then◌else◌}
-use Rattle.arrays_core.specs.declared.item.Kind.{Kind}
-use Rattle.arrays_core.specs.Arrays.{ArrayValue}
-use Rattle.index_region.specs.Boxes.{Interval, is_within, fits, met, unless_empty, join_boxes}
-use Rattle.index_region.specs.Checks.{Form}
-use Rattle.change_core.specs.declared.reach.Reach.{Reach}
-use Rattle.change_core.specs.declared.reach.Reach.TheVariants.{Unmoved, Inside, Anew}
-use Rattle.change_core.specs.RuleModels.{Use, RuleModel}
+use Rattle.arrays_core.{specs.declared.item.Kind.{Kind}, specs.Arrays.{ArrayValue}}
+use Rattle.index_region.{specs.Boxes.{Interval, is_within, fits, met, unless_empty, join_boxes}, specs.Checks.{Form}}
+use Rattle.change_core.{specs.declared.reach.Reach.{Reach}, specs.declared.reach.Reach.TheVariants.{Unmoved, Inside, Anew}, specs.RuleModels.{Use, RuleModel}}
 
 -- each changed box lies in its argument
 abbrev pub Fits : ArrayValue → Option (List Interval) → Type 0

@@ -1,34 +1,17 @@
 -- A node that grows: its new places make of the old whole evaluation the new one.
 use Rattle.std.proofs.Common.{◌≡◌, ℕ, zero, suc, ◌+◌, ◌*◌, ◌/◌, ◌%◌, ◌<◌, ◌≤◌, List, [], ◌∷◌, ◌++◌, length, map, max, min, refl, ap, ◌∙◌, sym, subst, arith, true, Bool, nat_lt, Some, Result, Ok, Err, is_ok, IfOk, inl, inr, add-zero}
-use Rattle.std.specs.List.{range_with_len, flat_map, list_all}
-use Rattle.std.proofs.lemmas.Bool.{cases_Bool, cond-true, cond-false, false≢true, ltb-true}
-use Rattle.std.proofs.lemmas.List.{append-nil, append_assoc, map-append}
-use Rattle.std.proofs.lemmas.Nat.{div-mul-add, mod-mul-add}
-use Rattle.arrays_core.specs.declared.item.Item.{Item}
-use Rattle.arrays_core.specs.declared.item.ItemType.{ItemType}
-use Rattle.arrays_core.specs.declared.item.Kind.{Kind}
-use Rattle.arrays_core.specs.Arrays.{ArrayValue, IsArray, with_items}
-use Rattle.arrays_core.specs.Items.{after, all_or_first_error}
-use Rattle.arrays_core.proofs.Growing.{fits_growth}
-use Rattle.arrays_core.specs.Shapes.{indices, is_index_of}
-use Rattle.index_region.specs.declared.delta.Delta.{Delta}
-use Rattle.index_region.specs.declared.delta.Delta.TheVariants.{Same, Patch, Grown, Whole}
+use Rattle.std.{specs.List.{range_with_len, flat_map, list_all}, proofs.lemmas.Bool.{cases_Bool, cond-true, cond-false, false≢true, ltb-true}}
+use Rattle.std.{proofs.lemmas.List.{append-nil, append_assoc, map-append}, proofs.lemmas.Nat.{div-mul-add, mod-mul-add}}
+use Rattle.arrays_core.{specs.declared.item.Item.{Item}, specs.declared.item.ItemType.{ItemType}, specs.declared.item.Kind.{Kind}}
+use Rattle.arrays_core.{specs.Arrays.{ArrayValue, IsArray, with_items}, specs.Items.{after, all_or_first_error}, proofs.Growing.{fits_growth}}
+use Rattle.arrays_core.{specs.Shapes.{indices, is_index_of}, specs.Growth.{grown_by, one_longer}, specs.Outcomes.{Outcome, fault, given}}
+use Rattle.index_region.{specs.declared.delta.Delta.{Delta}, specs.declared.delta.Delta.TheVariants.{Same, Patch, Grown, Whole}}
 use Rattle.index_region.specs.Boxes.{Interval, box_size, fits, interval_length, is_empty, met, unless_empty, walk_at, whole_of}
-use Rattle.index_region.specs.Checks.{Form, form_of, whole}
-use Rattle.arrays_core.specs.Growth.{grown_by, one_longer}
-use Rattle.index_region.specs.Tails.{TailValue}
-use Rattle.change_core.specs.Growth.{AllGrew, IsGrowing, last_interval, last_place}
-use Rattle.change_core.specs.Tightness.{Each}
-use Rattle.change_core.specs.Parts.{items_in}
-use Rattle.change_core.specs.RuleModels.{RuleModel}
-use Rattle.change_core.proofs.Regions.{HasFit, bounded-fits}
-use Rattle.change_core.proofs.Walking.{walk_is}
-use Rattle.change_rules.specs.Currency.{applied}
-use Rattle.change_rules.specs.Nodes.{grown_in, items_at, tail_delta, is_grown, is_grown_at_most}
-use Rattle.arrays_core.specs.Outcomes.{Outcome, fault, given}
-use Rattle.change_rules.specs.Evaluation.{evaluation}
-use Rattle.change_rules.proofs.Walked.{walked_is}
-use Rattle.change_rules.proofs.Refreshed.{ShowsAll, same_whole}
+use Rattle.index_region.{specs.Checks.{Form, form_of, whole}, specs.Tails.{TailValue}}
+use Rattle.change_core.{specs.Growth.{AllGrew, IsGrowing, last_interval, last_place}, specs.Tightness.{Each}, specs.Parts.{items_in}}
+use Rattle.change_core.{specs.RuleModels.{RuleModel}, proofs.Regions.{HasFit, bounded-fits}, proofs.Walking.{walk_is}}
+use Rattle.change_rules.{specs.Currency.{applied}, specs.Nodes.{grown_in, items_at, tail_delta, is_grown, is_grown_at_most}, specs.Evaluation.{evaluation}}
+use Rattle.change_rules.{proofs.Walked.{walked_is}, proofs.Refreshed.{ShowsAll, same_whole}}
 
 -- ---- the places of a shape that is one longer
 

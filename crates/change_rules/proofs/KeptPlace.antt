@@ -1,20 +1,10 @@
 -- The change of a node whose result has the places of an argument, of which one place alone changed.
 use Rattle.std.proofs.Common.{◌≡◌, ℕ, ◌<◌, ◌≤◌, List, length, refl, ap, ◌∙◌, sym, subst, arith, true, Result, Ok, Err, IsTrue}
-use Rattle.std.proofs.lemmas.List.{length-map}
-use Rattle.std.proofs.lemmas.Bool.{false≢true}
-use Rattle.std.specs.Prelude.{false, is_ok, is_err}
-use Rattle.arrays_core.specs.declared.item.Kind.{Kind}
-use Rattle.arrays_core.specs.Arrays.{ArrayValue, IsArray}
-use Rattle.arrays_core.specs.Outcomes.{Outcome}
-use Rattle.index_region.specs.declared.delta.Delta.{Delta}
-use Rattle.index_region.specs.Boxes.{Interval, box_size, fits}
-use Rattle.index_region.specs.Checks.{Form, form_of}
-use Rattle.change_core.specs.Tightness.{Each}
-use Rattle.change_core.specs.declared.reach.Reach.TheVariants.{Inside}
-use Rattle.change_core.specs.Parts.{items_in}
-use Rattle.change_core.specs.Reaches.{AllFit, only_at, reach_of}
-use Rattle.change_core.specs.RuleModels.{RuleModel, KeepsPlaces, shape_at}
-use Rattle.change_core.proofs.Filling.{few_places}
+use Rattle.std.{proofs.lemmas.List.{length-map}, proofs.lemmas.Bool.{false≢true}, specs.Prelude.{false, is_ok, is_err}}
+use Rattle.arrays_core.{specs.declared.item.Kind.{Kind}, specs.Arrays.{ArrayValue, IsArray}, specs.Outcomes.{Outcome}}
+use Rattle.index_region.{specs.declared.delta.Delta.{Delta}, specs.Boxes.{Interval, box_size, fits}, specs.Checks.{Form, form_of}}
+use Rattle.change_core.{specs.Tightness.{Each}, specs.declared.reach.Reach.TheVariants.{Inside}, specs.Parts.{items_in}}
+use Rattle.change_core.{specs.Reaches.{AllFit, only_at, reach_of}, specs.RuleModels.{RuleModel, KeepsPlaces, shape_at}, proofs.Filling.{few_places}}
 use Rattle.change_core.proofs.KeptPlaces.{fits_there, within_there, kept_reach}
 use Rattle.change_rules.specs.Nodes.{Argument, views, moved, all_same, all_patched_at_most, delta_in, size_in, node_delta, node_cost, patch_delta}
 use Rattle.change_rules.proofs.Nodes.{delta_reached, cost_reached}

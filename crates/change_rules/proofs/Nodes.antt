@@ -1,9 +1,7 @@
 -- The change of a node by cases of what changed of its arguments.
-use Rattle.std.proofs.Common.{◌≡◌, List, [], ◌∷◌, Bool, true, false, ◌&&◌, ◌||◌, not, is_ok, refl, ap, sym, ◌∙◌}
-use Rattle.std.specs.List.{list_all, list_any}
+use Rattle.std.{proofs.Common.{◌≡◌, List, [], ◌∷◌, Bool, true, false, ◌&&◌, ◌||◌, not, is_ok, refl, ap, sym, ◌∙◌}, specs.List.{list_all, list_any}}
 use Rattle.std.proofs.lemmas.Bool.{cond-true, cond-false, false≢true, or_parts}
-use Rattle.index_region.specs.declared.delta.Delta.{Delta}
-use Rattle.index_region.specs.declared.delta.Delta.TheVariants.{Same, Patch, Grown, Whole}
+use Rattle.index_region.{specs.declared.delta.Delta.{Delta}, specs.declared.delta.Delta.TheVariants.{Same, Patch, Grown, Whole}}
 use Rattle.change_core.specs.RuleModels.{RuleModel}
 use Rattle.arrays_core.specs.Outcomes.{Outcome}
 use Rattle.change_rules.specs.Nodes.{Argument, views, all_same, any_grown, all_patched_at_most, is_grown, is_whole, is_patched_at_most, grown_delta, grown_cost, starts_anew, node_delta, node_cost, moved, reached_delta, reached_cost}

@@ -1,24 +1,15 @@
 -- A patch of the announced box makes the whole evaluation.
-use Rattle.index_region.proofs.Walks.{walk_within, offset_below, walk_of_offset, offset_of_walk}
-use Rattle.std.proofs.Common.{◌≡◌, ℕ, suc, zero, ◌+◌, ◌-◌, ◌*◌, ◌<◌, ◌≤◌, List, [], ◌∷◌, map, get_or, refl, ap, ◌∙◌, sym, subst, arith, IsTrue, true, false, Result, Ok, Err, ◌⊎◌, inl, inr, add-zero}
-use Rattle.std.specs.List.{range_with_len}
-use Rattle.std.proofs.lemmas.Bool.{and_parts, leb-true, false≢true, cases_Bool, cond-true, cond-false, cases_order}
-use Rattle.std.proofs.lemmas.Nat.{mul-le}
-use Rattle.arrays_core.specs.declared.item.Item.{Item}
-use Rattle.arrays_core.specs.declared.item.Kind.{Kind}
-use Rattle.arrays_core.specs.Arrays.{ArrayValue}
-use Rattle.arrays_core.specs.Shapes.{is_index_of, size, index_after, places_before}
-use Rattle.arrays_core.specs.Items.{fill}
-use Rattle.arrays_core.proofs.Shapes.{places_below}
-use Rattle.arrays_core.proofs.Order.{index_after-places_before, places_before-index_after}
-use Rattle.change_core.proofs.Collected.{along, collected, put_first}
-use Rattle.change_core.proofs.UsedWays.{within-whole}
-use Rattle.change_core.proofs.Walking.{walk-whole, box_size-whole}
-use Rattle.change_rules.proofs.Walked.{array_of, failing, walked}
-use Rattle.index_region.proofs.Patched.{fits_within}
-use Rattle.index_region.specs.Boxes.{Interval, box_offset, box_size, fits, is_within, walk_at, whole_of}
-use Rattle.index_region.specs.Checks.{Form}
+use Rattle.index_region.{proofs.Walks.{walk_within, offset_below, walk_of_offset, offset_of_walk}, proofs.Patched.{fits_within}}
+use Rattle.index_region.{specs.Boxes.{Interval, box_offset, box_size, fits, is_within, walk_at, whole_of}, specs.Checks.{Form}}
 use Rattle.index_region.specs.Patches.{PatchValue, patched, patched_item}
+use Rattle.std.proofs.Common.{◌≡◌, ℕ, suc, zero, ◌+◌, ◌-◌, ◌*◌, ◌<◌, ◌≤◌, List, [], ◌∷◌, map, get_or, refl, ap, ◌∙◌, sym, subst, arith, IsTrue, true, false, Result, Ok, Err, ◌⊎◌, inl, inr, add-zero}
+use Rattle.std.{specs.List.{range_with_len}, proofs.lemmas.Bool.{and_parts, leb-true, false≢true, cases_Bool, cond-true, cond-false, cases_order}}
+use Rattle.std.proofs.lemmas.Nat.{mul-le}
+use Rattle.arrays_core.{specs.declared.item.Item.{Item}, specs.declared.item.Kind.{Kind}, specs.Arrays.{ArrayValue}}
+use Rattle.arrays_core.{specs.Shapes.{is_index_of, size, index_after, places_before}, specs.Items.{fill}, proofs.Shapes.{places_below}}
+use Rattle.arrays_core.proofs.Order.{index_after-places_before, places_before-index_after}
+use Rattle.change_core.{proofs.Collected.{along, collected, put_first}, proofs.UsedWays.{within-whole}, proofs.Walking.{walk-whole, box_size-whole}}
+use Rattle.change_rules.proofs.Walked.{array_of, failing, walked}
 
 put_parts : (r : Result Item Kind) (rest : Result (List Item) Kind) (ys : List Item) → put_first r rest ≡ Ok ys → (x : Item) × (xs : List Item) × (r ≡ Ok x) × (rest ≡ Ok xs) × (ys ≡ x ∷ xs)
 put_parts (Ok x) (Ok xs) ys e = let s : x ∷ xs ≡ ys = cc in (x, xs, refl, refl, sym s)

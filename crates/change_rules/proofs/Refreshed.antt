@@ -1,35 +1,19 @@
 -- Where arguments changed in boxes, the change of a node makes the whole evaluation of the new ones.
-use Rattle.index_region.proofs.Walks.{walk_within}
-use Rattle.std.proofs.Common.{◌≡◌, ◌≢◌, ℕ, zero, suc, ◌+◌, ◌<◌, List, [], ◌∷◌, length, map, refl, ap, ◌∙◌, sym, subst, arith, IsTrue, true, false, Bool, ◌&&◌, ◌||◌, Option, Some, None, Result, Ok, Err, is_ok, IsOk, IfOk}
-use Rattle.std.proofs.lemmas.List.{length-map}
-use Rattle.std.proofs.lemmas.List.FromFn.{length-map-range_with_len}
-use Rattle.arrays_core.specs.Shapes.{index_after}
-use Rattle.std.specs.List.{range_with_len, list_all, list_any}
-use Rattle.std.proofs.lemmas.Bool.{false≢true, true≢false, cond-false}
-use Rattle.arrays_core.specs.declared.item.Item.{Item}
-use Rattle.arrays_core.specs.declared.item.Kind.{Kind}
-use Rattle.index_region.specs.declared.delta.Delta.{Delta}
-use Rattle.index_region.specs.declared.delta.Delta.TheVariants.{Same, Patch, Grown, Whole}
-use Rattle.arrays_core.specs.Arrays.{ArrayValue, IsArray, item_of}
-use Rattle.arrays_core.specs.Shapes.{is_index_of, size}
-use Rattle.change_core.specs.declared.reach.Reach.{Reach}
-use Rattle.change_core.specs.declared.reach.Reach.TheVariants.{Unmoved, Inside, Anew}
-use Rattle.change_core.proofs.Collected.{along, collected}
-use Rattle.change_core.proofs.UsedWays.{within-whole}
-use Rattle.index_region.specs.Answers.{IsPlaceOf}
-use Rattle.change_core.specs.Tightness.{Each, ReachCovers, AllAgree, ArgumentChange, Covers, moves, news, olds}
-use Rattle.change_core.specs.Reaches.{AllFit, LiesInResult, reach_of, is_moved, is_reached}
-use Rattle.change_rules.proofs.PatchRight.{error_right, patch_right}
-use Rattle.change_rules.proofs.Walked.{array_of, walked, walked_is, walked_delta, walked_delta_is}
-use Rattle.change_rules.specs.Currency.{IsEvaluation, Shows, applied}
-use Rattle.change_core.specs.RuleModels.{RuleModel}
-use Rattle.change_rules.specs.Nodes.{Argument, all_same, is_same, is_whole, moved, moved_by, patch_delta, delta_in, is_grown, views}
-use Rattle.arrays_core.specs.Outcomes.{Outcome}
-use Rattle.change_rules.specs.Evaluation.{evaluation}
-use Rattle.index_region.proofs.Patched.{patched_at}
-use Rattle.index_region.specs.Boxes.{Interval, box_size, walk_at, whole_of}
-use Rattle.index_region.specs.Checks.{Form}
+use Rattle.index_region.{proofs.Walks.{walk_within}, specs.declared.delta.Delta.{Delta}, specs.declared.delta.Delta.TheVariants.{Same, Patch, Grown, Whole}}
+use Rattle.index_region.{specs.Answers.{IsPlaceOf}, proofs.Patched.{patched_at}, specs.Boxes.{Interval, box_size, walk_at, whole_of}, specs.Checks.{Form}}
 use Rattle.index_region.specs.Patches.{PatchValue, patched, patched_item}
+use Rattle.std.proofs.Common.{◌≡◌, ◌≢◌, ℕ, zero, suc, ◌+◌, ◌<◌, List, [], ◌∷◌, length, map, refl, ap, ◌∙◌, sym, subst, arith, IsTrue, true, false, Bool, ◌&&◌, ◌||◌, Option, Some, None, Result, Ok, Err, is_ok, IsOk, IfOk}
+use Rattle.std.{proofs.lemmas.List.{length-map}, proofs.lemmas.List.FromFn.{length-map-range_with_len}, specs.List.{range_with_len, list_all, list_any}}
+use Rattle.std.proofs.lemmas.Bool.{false≢true, true≢false, cond-false}
+use Rattle.arrays_core.{specs.Shapes.{index_after, is_index_of, size}, specs.declared.item.Item.{Item}, specs.declared.item.Kind.{Kind}}
+use Rattle.arrays_core.{specs.Arrays.{ArrayValue, IsArray, item_of}, specs.Outcomes.{Outcome}}
+use Rattle.change_core.{specs.declared.reach.Reach.{Reach}, specs.declared.reach.Reach.TheVariants.{Unmoved, Inside, Anew}, proofs.Collected.{along, collected}}
+use Rattle.change_core.{proofs.UsedWays.{within-whole}, specs.Tightness.{Each, ReachCovers, AllAgree, ArgumentChange, Covers, moves, news, olds}}
+use Rattle.change_core.{specs.Reaches.{AllFit, LiesInResult, reach_of, is_moved, is_reached}, specs.RuleModels.{RuleModel}}
+use Rattle.change_rules.{proofs.PatchRight.{error_right, patch_right}, proofs.Walked.{array_of, walked, walked_is, walked_delta, walked_delta_is}}
+use Rattle.change_rules.specs.Currency.{IsEvaluation, Shows, applied}
+use Rattle.change_rules.specs.Nodes.{Argument, all_same, is_same, is_whole, moved, moved_by, patch_delta, delta_in, is_grown, views}
+use Rattle.change_rules.specs.Evaluation.{evaluation}
 
 -- an argument is what its change makes of what it was
 pub record BecameThis (o : Outcome) (d : Delta) (n : ArrayValue) : Type 0 where

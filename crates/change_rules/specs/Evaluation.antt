@@ -1,7 +1,6 @@
 -- The whole evaluation of a node.
 use Rattle.std.specs.Prelude.{List}
-use Rattle.arrays_core.specs.Arrays.{ArrayValue}
-use Rattle.arrays_core.specs.Outcomes.{Outcome, given}
+use Rattle.arrays_core.{specs.Arrays.{ArrayValue}, specs.Outcomes.{Outcome, given}}
 use Rattle.index_region.specs.Checks.{whole}
 use Rattle.change_core.specs.RuleModels.{RuleModel}
 

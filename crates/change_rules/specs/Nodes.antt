@@ -1,26 +1,13 @@
 -- The change of a node, from the changes of its arguments.
 use Rattle.std.specs.Prelude.{ℕ, List, [], ◌∷◌, ◌&&◌, Bool, true, false, ◌||◌, not, Option, Some, None, Result, Ok, Err, if◌then◌else◌, map, is_ok}
-use Rattle.std.specs.Borrow.{Bor}
-use Rattle.std.specs.List.{list_all, list_any}
-use Rattle.arrays_core.specs.declared.item.Item.{Item}
-use Rattle.arrays_core.specs.declared.item.ItemType.{ItemType}
-use Rattle.arrays_core.specs.declared.item.Kind.{Kind}
-use Rattle.arrays_core.specs.Arrays.{ArrayValue}
-use Rattle.arrays_core.specs.Items.{type_of}
-use Rattle.arrays_core.specs.Shapes.{size}
-use Rattle.index_region.specs.declared.delta.Delta.{Delta}
-use Rattle.index_region.specs.declared.delta.Delta.TheVariants.{Same, Patch, Grown, Whole}
-use Rattle.index_region.specs.Boxes.{Interval, box_size}
-use Rattle.index_region.specs.Checks.{Form, whole}
-use Rattle.change_core.specs.declared.reach.Reach.{Reach}
-use Rattle.change_core.specs.declared.reach.Reach.TheVariants.{Unmoved, Inside, Anew}
-use Rattle.change_core.specs.Parts.{items_in}
-use Rattle.change_core.specs.Growth.{last_place}
-use Rattle.change_core.specs.Reaches.{reach_of}
-use Rattle.change_core.specs.RuleModels.{RuleModel, form_size}
-use Rattle.arrays_core.specs.Outcomes.{Outcome, fault, given}
-use Rattle.change_rules.specs.declared.one_place.OnePlace.{OnePlace}
-use Rattle.change_rules.specs.Evaluation.{evaluation}
+use Rattle.std.{specs.Borrow.{Bor}, specs.List.{list_all, list_any}}
+use Rattle.arrays_core.{specs.declared.item.Item.{Item}, specs.declared.item.ItemType.{ItemType}, specs.declared.item.Kind.{Kind}, specs.Arrays.{ArrayValue}}
+use Rattle.arrays_core.{specs.Items.{type_of}, specs.Shapes.{size}, specs.Outcomes.{Outcome, fault, given}}
+use Rattle.index_region.{specs.declared.delta.Delta.{Delta}, specs.declared.delta.Delta.TheVariants.{Same, Patch, Grown, Whole}}
+use Rattle.index_region.{specs.Boxes.{Interval, box_size}, specs.Checks.{Form, whole}}
+use Rattle.change_core.{specs.declared.reach.Reach.{Reach}, specs.declared.reach.Reach.TheVariants.{Unmoved, Inside, Anew}, specs.Parts.{items_in}}
+use Rattle.change_core.{specs.Growth.{last_place}, specs.Reaches.{reach_of}, specs.RuleModels.{RuleModel, form_size}}
+use Rattle.change_rules.{specs.declared.one_place.OnePlace.{OnePlace}, specs.Evaluation.{evaluation}}
 
 -- an argument as it is handed in: the array that it is now, and what changed of it
 abbrev pub Argument : Type 0

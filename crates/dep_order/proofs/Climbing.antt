@@ -1,9 +1,7 @@
 -- Going up from a node to those that refer to it.
-use Rattle.std.proofs.Common.{◌≡◌, ℕ, ◌-◌, ◌<◌, ◌⊎◌, inl, inr, Bool, List, [], ◌∷◌, ◌++◌, sym, subst, arith}
-use Rattle.std.proofs.lemmas.List.{length-append}
+use Rattle.std.{proofs.Common.{◌≡◌, ℕ, ◌-◌, ◌<◌, ◌⊎◌, inl, inr, Bool, List, [], ◌∷◌, ◌++◌, sym, subst, arith}, proofs.lemmas.List.{length-append}}
 use Rattle.std.specs.Prelude.{Vec}
-use Rattle.dep_order.specs.Reachability.{Chain, Reaches}
-use Rattle.dep_order.specs.Users.{Uses, IsWithin}
+use Rattle.dep_order.{specs.Reachability.{Chain, Reaches}, specs.Users.{Uses, IsWithin}}
 
 pub chain_join : {A : Type 0} (Refers : A → A → Type 0) (a : A) (xs : List A) (b : A) (ys : List A) (c : A) → Chain Refers a xs b → Chain Refers b ys c → Chain Refers a (xs ++ b ∷ ys) c
 chain_join Refers a [] b ys c p q = (p, q)

@@ -1,14 +1,9 @@
 -- One more node among those that are found.
 use Rattle.std.proofs.Common.{◌≡◌, ◌⊎◌, inl, inr, Bool, true, false, cond, Option, Some, None, is_some, List, [], ◌∷◌, ◌++◌, refl, sym, ap, ◌∙◌, ⊎_elim}
-use Rattle.std.specs.List.{Contains, list_any}
-use Rattle.std.specs.Map.{keys_of, lookup}
-use Rattle.std.proofs.lemmas.Map.Views.{Contains-from_any}
+use Rattle.std.{specs.List.{Contains, list_any}, specs.Map.{keys_of, lookup}, proofs.lemmas.Map.Views.{Contains-from_any}}
 use Rattle.std.proofs.lemmas.List.Elements.{Contains-append_left, Contains-append_right, Contains-append_cases}
-use Rattle.indexmap.specs.IndexMap.{insert_entry}
-use Rattle.indexmap.specs.IndexSet.{insert_key}
-use Rattle.dep_order.specs.Follows.{Follows}
-use Rattle.dep_order.specs.Users.{IsExact, HasNothing}
-use Rattle.dep_order.proofs.Following.{contains_here, contains_one, follows_last}
+use Rattle.indexmap.{specs.IndexMap.{insert_entry}, specs.IndexSet.{insert_key}}
+use Rattle.dep_order.{specs.Follows.{Follows}, specs.Users.{IsExact, HasNothing}, proofs.Following.{contains_here, contains_one, follows_last}}
 
 module _ {N : Type 0} (eq : N → N → Bool) (exact : IsExact eq) (found : List N) (node : N) where
   cases_inserted : (P : List N → Type 0) → (Contains found node → P found) → P (found ++ node ∷ []) → P (insert_key eq found node)

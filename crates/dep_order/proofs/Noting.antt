@@ -1,12 +1,7 @@
 -- One list of the table is written.
 use Rattle.std.proofs.Common.{◌≡◌, ◌≢◌, ℕ, ◌+◌, ◌<◌, ◌⊎◌, ◌↔◌, inl, inr, Bool, true, false, cond, List, [], ◌∷◌, ◌++◌, take, length, get_or, Option, Some, IsSome, refl, sym, ap, ◌∙◌, subst, ⊎_elim}
-use Rattle.std.specs.Prelude.{Vec, filter, not}
-use Rattle.std.specs.Cmp.{IsEquivalence}
-use Rattle.std.specs.Map.{lookup}
-use Rattle.std.specs.List.{Contains}
-use Rattle.std.specs.Option.{unwrap_or, option_map}
-use Rattle.std.proofs.lemmas.Bool.{false≢true}
-use Rattle.std.proofs.lemmas.List.{take_more}
+use Rattle.std.{specs.Prelude.{Vec, filter, not}, specs.Cmp.{IsEquivalence}, specs.Map.{lookup}, specs.List.{Contains}, specs.Option.{unwrap_or, option_map}}
+use Rattle.std.{proofs.lemmas.Bool.{false≢true}, proofs.lemmas.List.{take_more}}
 use Rattle.std.proofs.lemmas.List.Elements.{Contains-append_left, Contains-append_right, Contains-append_cases}
 use Rattle.dep_order.specs.Users.{Uses, users_of, IsExact, HasRoomFor, IsReady, IsReadyFor, EndsWith, HasNoEmptyBut, TakesOneMore}
 use Rattle.dep_order.proofs.Following.{contains_here, contains_there, contains_one, contains_cases, contains_none}

@@ -1,15 +1,8 @@
 -- The lists that a table lacks are given to it one by one.
 use Rattle.std.proofs.Common.{◌≡◌, ◌≢◌, ◌<◌, ◌⊎◌, inl, inr, ⊎_elim, Bool, true, false, cond, List, [], ◌∷◌, ◌++◌, Option, Some, None, IsSome, is_some, refl, sym, ap, ◌∙◌, subst, length, arith}
-use Rattle.std.specs.Cmp.{IsEquivalence}
-use Rattle.std.specs.Map.{lookup}
-use Rattle.std.specs.List.{Contains}
-use Rattle.std.specs.Option.{unwrap_or, option_map}
-use Rattle.std.proofs.lemmas.Bool.{false≢true}
-use Rattle.std.proofs.lemmas.List.Elements.{Contains-append_left, Contains-append_right, Contains-append_cases}
-use Rattle.std.specs.Prelude.{Vec}
-use Rattle.dep_order.specs.Users.{users_of, IsExact, HasRoomFor}
-use Rattle.dep_order.specs.Room.{HasRoomAt, IsLarger, AreListsFor}
-use Rattle.dep_order.proofs.Noting.{cases_node, same_eq}
+use Rattle.std.{specs.Cmp.{IsEquivalence}, specs.Map.{lookup}, specs.List.{Contains}, specs.Option.{unwrap_or, option_map}, proofs.lemmas.Bool.{false≢true}}
+use Rattle.std.{proofs.lemmas.List.Elements.{Contains-append_left, Contains-append_right, Contains-append_cases}, specs.Prelude.{Vec}}
+use Rattle.dep_order.{specs.Users.{users_of, IsExact, HasRoomFor}, specs.Room.{HasRoomAt, IsLarger, AreListsFor}, proofs.Noting.{cases_node, same_eq}}
 use Rattle.dep_order.proofs.Following.{contains_here, contains_one}
 
 -- the last entry is found by its key, where no other has it

@@ -1,6 +1,5 @@
 -- Lists in which each entry comes after all that it needs.
-use Rattle.std.specs.Prelude.{◌≡◌, ◌⊎◌, List, [], ◌∷◌}
-use Rattle.std.specs.List.{Contains}
+use Rattle.std.{specs.Prelude.{◌≡◌, ◌⊎◌, List, [], ◌∷◌}, specs.List.{Contains}}
 
 -- each entry comes after all that it needs, but for what is done already
 abbrev pub Follows : {A : Type 0} → (A → A → Type 0) → (A → Type 0) → List A → Type 0

@@ -1,12 +1,9 @@
 -- The blocks of lines among all lines.
 use Rattle.std.proofs.Common.{◌≡◌, ◌∙◌, ℕ, ◌+◌, ◌-◌, ◌*◌, ◌/◌, ◌%◌, ◌^◌, ◌<◌, ◌≤◌, ◌⊎◌, List, get_or, ap, sym, subst, arith, inl, inr, ℤ, refl}
-use Rattle.std.proofs.lemmas.Nat.{div-mul-add, mod-mul-add, div_below, mod_below, mul-le}
-use Rattle.std.proofs.lemmas.Bool.{cases_lt}
+use Rattle.std.{proofs.lemmas.Nat.{div-mul-add, mod-mul-add, div_below, mod_below, mul-le}, proofs.lemmas.Bool.{cases_lt}}
 use Rattle.fold_trees.specs.LineTrees.{nth_node, slot_of, node_of, ArePartsKept, nodes_in_line}
-use Rattle.fold_trees.specs.LineBlocks.{line_of, HaveSlots, nodes_end, block_at, line_at, HaveNodes}
-use Rattle.fold_trees.specs.PartTrees.{AreLines}
-use Rattle.fold_trees.proofs.LineSpots.{blocks, slots_are, lines_are, nodes_are, fewer_nodes}
-use Rattle.fold_trees.proofs.LineNodes.{kept_alike}
+use Rattle.fold_trees.{specs.LineBlocks.{line_of, HaveSlots, nodes_end, block_at, line_at, HaveNodes}, specs.PartTrees.{AreLines}}
+use Rattle.fold_trees.{proofs.LineSpots.{blocks, slots_are, lines_are, nodes_are, fewer_nodes}, proofs.LineNodes.{kept_alike}}
 
 -- ---- a line and its block
 

@@ -1,9 +1,7 @@
 -- What is kept of the parts of each line of a block, from the last parts to the first.
 use Rattle.std.proofs.Common.{◌≡◌, ◌≢◌, ◌∙◌, ℕ, zero, suc, ◌+◌, ◌-◌, ◌*◌, ◌/◌, ◌%◌, ◌^◌, ◌<◌, ◌≤◌, ◌⊎◌, min, List, get_or, ap, sym, subst, arith, inl, inr, ℤ}
-use Rattle.std.proofs.lemmas.Nat.{pow_pos, mod-mul-add}
-use Rattle.std.proofs.lemmas.Bool.{cases_lt}
-use Rattle.fold_trees.specs.declared.line.Line.{Line}
-use Rattle.fold_trees.specs.LineTrees.{nth_node, slot_of, node_of, segment, IsKept, ArePartsKeptIn}
+use Rattle.std.{proofs.lemmas.Nat.{pow_pos, mod-mul-add}, proofs.lemmas.Bool.{cases_lt}}
+use Rattle.fold_trees.{specs.declared.line.Line.{Line}, specs.LineTrees.{nth_node, slot_of, node_of, segment, IsKept, ArePartsKeptIn}}
 use Rattle.fold_trees.specs.LineBlocks.{line_of, nodes_end, ArePartsKeptBehind, ArePartsKeptFrom}
 use Rattle.fold_trees.proofs.Halves.{half_up, half_grows, half_doubled, half_or_same, half_times, meetings_apart, meeting_some}
 use Rattle.fold_trees.proofs.BlockRows.{row_away, nodes_within}

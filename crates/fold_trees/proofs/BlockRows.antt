@@ -1,10 +1,7 @@
 -- The slots and the nodes of a block of lines, row by row.
 use Rattle.std.proofs.Common.{◌≡◌, ◌≢◌, ◌∙◌, ℕ, ◌+◌, ◌-◌, ◌*◌, ◌<◌, ◌≤◌, ◌⊎◌, List, length, get_or, set, ap, sym, subst, arith, inl, inr}
-use Rattle.std.proofs.lemmas.Nat.{mul-le}
-use Rattle.std.proofs.lemmas.Bool.{cases_lt, cases_eq}
-use Rattle.std.proofs.lemmas.List.{get_or-set_same, get_or-set_other, get_or_read}
-use Rattle.fold_trees.specs.declared.line.Line.{Line}
-use Rattle.fold_trees.specs.LineTrees.{slot_at, nth_node, node_of, IsIn}
+use Rattle.std.{proofs.lemmas.Nat.{mul-le}, proofs.lemmas.Bool.{cases_lt, cases_eq}, proofs.lemmas.List.{get_or-set_same, get_or-set_other, get_or_read}}
+use Rattle.fold_trees.{specs.declared.line.Line.{Line}, specs.LineTrees.{slot_at, nth_node, node_of, IsIn}}
 use Rattle.fold_trees.specs.LineBlocks.{line_of, slots_end, HaveSlots, nodes_end, HaveNodes}
 
 -- ---- where they lie

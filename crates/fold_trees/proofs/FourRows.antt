@@ -1,11 +1,7 @@
 -- The nodes of four numbers of a line of a block are set.
 use Rattle.std.proofs.Common.{◌≡◌, ◌≢◌, ◌∙◌, ℕ, ℤ, List, ◌+◌, ◌-◌, ◌*◌, ◌<◌, ◌≤◌, ◌⊎◌, length, get_or, set, ap, sym, subst, arith, inl, inr}
-use Rattle.std.proofs.lemmas.Bool.{cases_eq}
-use Rattle.std.proofs.lemmas.List.{length-set, get_or-set_same, get_or-set_other}
-use Rattle.std.proofs.lemmas.Nat.{same_from_place}
-use Rattle.fold_trees.specs.declared.line.Line.{Line}
-use Rattle.fold_trees.specs.LineTrees.{nth_node, slot_of, segment, node_of, AreFourKept}
-use Rattle.fold_trees.specs.LineBlocks.{line_of}
+use Rattle.std.{proofs.lemmas.Bool.{cases_eq}, proofs.lemmas.List.{length-set, get_or-set_same, get_or-set_other}, proofs.lemmas.Nat.{same_from_place}}
+use Rattle.fold_trees.{specs.declared.line.Line.{Line}, specs.LineTrees.{nth_node, slot_of, segment, node_of, AreFourKept}, specs.LineBlocks.{line_of}}
 use Rattle.fold_trees.proofs.BlockRows.{line_node}
 
 module _ (first : Line) (from : ℕ) where

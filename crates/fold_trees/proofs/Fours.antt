@@ -1,11 +1,8 @@
 -- The parts of the next four numbers of a line.
 use Rattle.std.proofs.Common.{◌≡◌, ◌∙◌, ℕ, ℤ, List, zero, suc, ◌+◌, ◌-◌, ◌*◌, ◌/◌, ◌%◌, ◌^◌, ◌<◌, ◌≤◌, ◌⊎◌, min, get_or, ap, sym, subst, arith, inl, inr}
-use Rattle.std.proofs.lemmas.Bool.{cases_lt, cases_eq}
-use Rattle.std.proofs.lemmas.Nat.{pow_pos, mul-le}
-use Rattle.fold_trees.specs.declared.line.Line.{Line}
-use Rattle.fold_trees.specs.LineTrees.{nth_node, slot_of, segment, node_of, ArePartsKeptIn, ArePartsKeptUpTo, AreFourKept}
-use Rattle.fold_trees.specs.LineBlocks.{line_of, ArePartsKeptBehind, ArePartsKeptFrom}
-use Rattle.fold_trees.proofs.BlockRows.{line_node}
+use Rattle.std.{proofs.lemmas.Bool.{cases_lt, cases_eq}, proofs.lemmas.Nat.{pow_pos, mul-le}}
+use Rattle.fold_trees.{specs.declared.line.Line.{Line}, specs.LineTrees.{nth_node, slot_of, segment, node_of, ArePartsKeptIn, ArePartsKeptUpTo, AreFourKept}}
+use Rattle.fold_trees.{specs.LineBlocks.{line_of, ArePartsKeptBehind, ArePartsKeptFrom}, proofs.BlockRows.{line_node}}
 
 module _ {P : Type 0} (tells : P → List ℤ → Type 0) (from count : ℕ) (x : ℕ → ℤ) (n : ℕ → P) (four : from % 4 ≡ 0) (full : from + 4 ≤ count) (told : AreFourKept tells x n from) where
   -- a part at one of the three meetings

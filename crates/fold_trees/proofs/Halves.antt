@@ -1,8 +1,6 @@
 -- How wide the halves of parts are, and where they meet.
-use Rattle.std.proofs.Common.{◌≡◌, ◌∙◌, ℕ, suc, ◌+◌, ◌-◌, ◌*◌, ◌^◌, ◌<◌, ◌≤◌, ◌⊎◌, ap, sym, arith, inl, inr}
-use Rattle.std.proofs.lemmas.Nat.{pow_pos, pow-add}
-use Rattle.std.proofs.Math.Nat.{pow-le-pow_right}
-use Rattle.std.proofs.lemmas.Bool.{cases_lt}
+use Rattle.std.{proofs.Common.{◌≡◌, ◌∙◌, ℕ, suc, ◌+◌, ◌-◌, ◌*◌, ◌^◌, ◌<◌, ◌≤◌, ◌⊎◌, ap, sym, arith, inl, inr}, proofs.lemmas.Nat.{pow_pos, pow-add}}
+use Rattle.std.{proofs.Math.Nat.{pow-le-pow_right}, proofs.lemmas.Bool.{cases_lt}}
 
 -- steps of a line that are apart
 pub steps_apart : (a b step : ℕ) → 0 < step → a * step ≡ b * step → a ≡ b

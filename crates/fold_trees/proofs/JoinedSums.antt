@@ -1,6 +1,5 @@
 -- The sums of endings join as their lists do, and so does what is kept of them.
-use Rattle.std.proofs.Common.{◌≡◌, ap, sym, subst, ◌∙◌, arith, inl, inr, List, [], ◌∷◌, ◌++◌, ℤ}
-use Rattle.std.proofs.lemmas.Int.{ints, clamps}
+use Rattle.std.{proofs.Common.{◌≡◌, ap, sym, subst, ◌∙◌, arith, inl, inr, List, [], ◌∷◌, ◌++◌, ℤ}, proofs.lemmas.Int.{ints, clamps}}
 use Rattle.fold_trees.specs.declared.summary.Summary.{Summary}
 use Rattle.fold_trees.specs.Sums.{Sums, sums_of_none, sums_of, single, join, IsOrdered, told_sums, IsFar, IsSummaryOf}
 

@@ -1,15 +1,9 @@
 -- The fold of a list of truth values and of a later one after it.
 use Rattle.std.proofs.Common.{◌≡◌, ◌<◌, List, [], ◌∷◌, ◌++◌, length, refl, ap, sym, ◌∙◌, arith, inl, inr, ℤ, pos, Bool, Result, Ok, Err, ◌⊎◌}
-use Rattle.std.specs.Prelude.{IfOk, IfErr}
-use Rattle.std.proofs.lemmas.List.{length-append}
-use Rattle.arrays_core.specs.declared.item.Kind.{Kind}
-use Rattle.arrays_core.specs.declared.item.Kind.TheVariants.{Domain}
-use Rattle.arrays_core.specs.Items.{and_then}
-use Rattle.scalar_fns.specs.Numbers.{as_truth, truth, on_truths, logical}
-use Rattle.scalar_fns.specs.Folds.{folded, IsAssociative}
-use Rattle.scalar_fns.proofs.Associative.{is_truth, domain_truth}
-use Rattle.fold_trees.specs.Parts.{truth_value}
-use Rattle.fold_trees.proofs.JoinedFolds.{both, joined}
+use Rattle.std.{specs.Prelude.{IfOk, IfErr}, proofs.lemmas.List.{length-append}}
+use Rattle.arrays_core.{specs.declared.item.Kind.{Kind}, specs.declared.item.Kind.TheVariants.{Domain}, specs.Items.{and_then}}
+use Rattle.scalar_fns.{specs.Numbers.{as_truth, truth, on_truths, logical}, specs.Folds.{folded, IsAssociative}, proofs.Associative.{is_truth, domain_truth}}
+use Rattle.fold_trees.{specs.Parts.{truth_value}, proofs.JoinedFolds.{both, joined}}
 
 -- the fold of a list is this number, or the truth value that it is
 abbrev pub IsSo : Result ℤ Kind → ℤ → Type 0

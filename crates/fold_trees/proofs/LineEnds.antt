@@ -1,11 +1,9 @@
 -- What is kept of the parts of a line, from the first parts to the last.
 use Rattle.std.proofs.Common.{◌≡◌, ◌≢◌, ◌∙◌, ℕ, zero, suc, ◌+◌, ◌-◌, ◌*◌, ◌/◌, ◌%◌, ◌^◌, ◌<◌, ◌≤◌, ◌⊎◌, ◌++◌, min, List, length, set, ap, sym, subst, arith, inl, inr, ℤ}
-use Rattle.std.proofs.lemmas.Nat.{pow_pos, mod-mul-add, div-add-mod'}
-use Rattle.std.proofs.lemmas.Bool.{cases_lt}
+use Rattle.std.{proofs.lemmas.Nat.{pow_pos, mod-mul-add, div-add-mod'}, proofs.lemmas.Bool.{cases_lt}}
 use Rattle.fold_trees.specs.declared.line.Line.{Line}
 use Rattle.fold_trees.specs.LineTrees.{slot_at, nth_node, node_of, segment, IsKept, ArePartsKeptIn, ArePartsKeptBeside, ArePartsKeptUpTo}
-use Rattle.fold_trees.proofs.Segments.{segment_split}
-use Rattle.fold_trees.proofs.Halves.{half_up, half_grows, half_or_same, half_times, meetings_apart, meeting_some}
+use Rattle.fold_trees.{proofs.Segments.{segment_split}, proofs.Halves.{half_up, half_grows, half_or_same, half_times, meetings_apart, meeting_some}}
 use Rattle.fold_trees.proofs.LineNodes.{node_here, node_other}
 
 -- ---- where the slots and the nodes of a line lie whose numbers are neighbours

@@ -1,10 +1,8 @@
 -- The parts that are joined for a place of a line, one for each width.
 use Rattle.std.proofs.Common.{◌≡◌, ℕ, suc, ◌+◌, ◌*◌, ◌/◌, ◌%◌, ◌^◌, ◌<◌, ◌≤◌, ◌++◌, ◌∷◌, [], ℤ, List, length, get_or, sym, subst, arith, inl, inr}
-use Rattle.std.proofs.Math.Nat.{pow-le-pow_right}
-use Rattle.std.proofs.lemmas.Bool.{cases_lt, cases_eq}
+use Rattle.std.{proofs.Math.Nat.{pow-le-pow_right}, proofs.lemmas.Bool.{cases_lt, cases_eq}}
 use Rattle.std.proofs.lemmas.List.{length-append, get_or_append_left, get_or_push}
-use Rattle.fold_trees.specs.LineTrees.{numbers_of_block, block_up}
-use Rattle.fold_trees.proofs.LineParts.{IsClimb, odd_block, even_block}
+use Rattle.fold_trees.{specs.LineTrees.{numbers_of_block, block_up}, proofs.LineParts.{IsClimb, odd_block, even_block}}
 
 -- each part tells the numbers of its block
 abbrev pub AreTold : {P : Type 0} → (P → List ℤ → Type 0) → (count : ℕ) → (ℕ → ℤ) → (place : ℕ) → List P → Type 0

@@ -1,12 +1,9 @@
 -- What is kept of the parts of a line, while it is joined anew.
 use Rattle.std.proofs.Common.{◌≡◌, ◌≢◌, ◌∙◌, ℕ, ◌+◌, ◌-◌, ◌*◌, ◌/◌, ◌%◌, ◌^◌, ◌<◌, ◌≤◌, ◌⊎◌, min, List, length, get_or, set, ap, sym, subst, arith, inl, inr, ℤ}
-use Rattle.std.proofs.lemmas.Nat.{pow_pos}
-use Rattle.std.proofs.lemmas.Bool.{cases_lt, cases_eq}
-use Rattle.std.proofs.lemmas.List.{get_or-set_same, get_or-set_other}
+use Rattle.std.{proofs.lemmas.Nat.{pow_pos}, proofs.lemmas.Bool.{cases_lt, cases_eq}, proofs.lemmas.List.{get_or-set_same, get_or-set_other}}
 use Rattle.fold_trees.specs.declared.line.Line.{Line}
 use Rattle.fold_trees.specs.LineTrees.{nth_node, node_of, segment, numbers_of_block, IsKept, ArePartsKept, ArePartsKeptIn, ArePartsKeptBeside, other_half}
-use Rattle.fold_trees.proofs.LineParts.{IsClimb, climb_up, odd_block, even_block}
-use Rattle.fold_trees.proofs.Segments.{segment_same}
+use Rattle.fold_trees.{proofs.LineParts.{IsClimb, climb_up, odd_block, even_block}, proofs.Segments.{segment_same}}
 use Rattle.fold_trees.proofs.Halves.{steps_apart, half_grows, half_doubled, half_below, meetings_apart, meeting_some}
 
 -- for the parts that a place is not in, and for those that are not wider than this

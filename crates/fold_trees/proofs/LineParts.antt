@@ -1,11 +1,8 @@
 -- Parts of a line of numbers: where they begin, and the way up from a place.
 use Rattle.std.proofs.Common.{◌≡◌, ◌≢◌, ◌∙◌, ℕ, ℤ, zero, suc, ◌+◌, ◌-◌, ◌*◌, ◌/◌, ◌%◌, ◌^◌, ◌<◌, ◌≤◌, ◌++◌, min, refl, ap, sym, arith, inl, inr}
-use Rattle.std.specs.Int.{IsNextPowerOfTwo}
-use Rattle.std.proofs.lemmas.Nat.{pow_pos, pow-add}
-use Rattle.std.proofs.Math.Nat.{pow-le-pow_right}
+use Rattle.std.{specs.Int.{IsNextPowerOfTwo}, proofs.lemmas.Nat.{pow_pos, pow-add}, proofs.Math.Nat.{pow-le-pow_right}}
 use Rattle.std.proofs.lemmas.Bool.{cases_lt, cases_eq, eq-eqb, ne_eqb, cond-true, cond-false}
-use Rattle.fold_trees.specs.LineTrees.{IsPart, other_half, AreSameIn, replaced, segment, numbers_of_block}
-use Rattle.fold_trees.proofs.Segments.{segment_split}
+use Rattle.fold_trees.{specs.LineTrees.{IsPart, other_half, AreSameIn, replaced, segment, numbers_of_block}, proofs.Segments.{segment_split}}
 
 -- ---- where a part begins
 

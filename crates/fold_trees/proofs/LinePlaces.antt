@@ -1,9 +1,7 @@
 -- Which line a place of all numbers is on, and where on it.
 use Rattle.std.proofs.Common.{◌≡◌, ◌∙◌, ℕ, ◌+◌, ◌*◌, ◌/◌, ◌%◌, ◌<◌, ◌≤◌, sym, ap, arith}
 use Rattle.std.proofs.lemmas.Nat.{div-add-mod', div-mul-add, mod-mul-add, mul-add-lt, div_below, mod_below, mul-le}
-use Rattle.fold_trees.specs.PartTrees.{AreLines}
-use Rattle.fold_trees.specs.ArrayLines.{line_through}
-use Rattle.fold_trees.proofs.LineSpots.{spot, spot_is, blocks, slots_are, lines_are}
+use Rattle.fold_trees.{specs.PartTrees.{AreLines}, specs.ArrayLines.{line_through}, proofs.LineSpots.{spot, spot_is, blocks, slots_are, lines_are}}
 
 -- a block of lines has some places
 pub some_places : (count step : ℕ) → 0 < count → 0 < step → 0 < count * step

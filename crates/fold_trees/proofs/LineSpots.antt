@@ -1,9 +1,7 @@
 -- Where the slots and the nodes of different lines lie.
 use Rattle.std.proofs.Common.{◌≡◌, ◌≢◌, ◌∙◌, ℕ, ◌+◌, ◌-◌, ◌*◌, ◌/◌, ◌%◌, ◌^◌, ◌<◌, ◌≤◌, sym, ap, arith}
 use Rattle.std.proofs.lemmas.Nat.{div-add-mod', div-mul-add, same_from_place, mul-add-lt, div_below, mod_below, mul-le}
-use Rattle.fold_trees.specs.LineTrees.{nth_node, HasSlots, IsIn, nodes_in_line}
-use Rattle.fold_trees.specs.PartTrees.{AreLines}
-use Rattle.fold_trees.specs.LineBlocks.{line_at}
+use Rattle.fold_trees.{specs.LineTrees.{nth_node, HasSlots, IsIn, nodes_in_line}, specs.PartTrees.{AreLines}, specs.LineBlocks.{line_at}}
 
 -- the spot of a place of a line among lines that have so many each
 abbrev pub spot : (unit step line place : ℕ) → ℕ

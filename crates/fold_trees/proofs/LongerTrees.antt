@@ -1,12 +1,8 @@
 -- All lines lie between one another, and each takes one more number.
 use Rattle.std.proofs.Common.{◌≡◌, ◌∙◌, ℕ, ◌+◌, ◌-◌, ◌*◌, ◌/◌, ◌%◌, ◌^◌, ◌<◌, ◌≤◌, ℤ, pos, List, ◌++◌, length, get_or, sym, ap, subst, arith}
-use Rattle.std.proofs.lemmas.List.{length-append, get_or_append_left}
-use Rattle.std.proofs.lemmas.Nat.{div_below, div-mul-add, mod-mul-add}
-use Rattle.fold_trees.specs.LineTrees.{slot_at, nth_node, slot_of, shorter, IsIn, node_of, ArePartsKept, nodes_in_line}
-use Rattle.fold_trees.specs.LineBlocks.{line_at}
-use Rattle.fold_trees.specs.PartTrees.{AreLines, AreLineTrees}
-use Rattle.fold_trees.proofs.LinePlaces.{some_places}
-use Rattle.fold_trees.proofs.LineSpots.{spot, slot_within, node_within, in_both}
+use Rattle.std.{proofs.lemmas.List.{length-append, get_or_append_left}, proofs.lemmas.Nat.{div_below, div-mul-add, mod-mul-add}}
+use Rattle.fold_trees.{specs.LineTrees.{slot_at, nth_node, slot_of, shorter, IsIn, node_of, ArePartsKept, nodes_in_line}, specs.LineBlocks.{line_at}}
+use Rattle.fold_trees.{specs.PartTrees.{AreLines, AreLineTrees}, proofs.LinePlaces.{some_places}, proofs.LineSpots.{spot, slot_within, node_within, in_both}}
 use Rattle.fold_trees.proofs.LineNodes.{kept_alike}
 
 -- ---- where the lines lie

@@ -1,9 +1,7 @@
 -- Lines behind others.
 use Rattle.std.proofs.Common.{◌≡◌, ◌∙◌, ℕ, ◌+◌, ◌*◌, ◌/◌, ◌%◌, ◌^◌, ◌<◌, ◌≤◌, sym, ap, arith}
 use Rattle.std.proofs.lemmas.Nat.{div-add-mod', div-mul-add, mod-mul-add, mod_below, mul-le}
-use Rattle.fold_trees.specs.PartTrees.{AreLines}
-use Rattle.fold_trees.proofs.LinePlaces.{some_places}
-use Rattle.fold_trees.proofs.LineSpots.{spot, blocks, slots_are, lines_are, all_slots}
+use Rattle.fold_trees.{specs.PartTrees.{AreLines}, proofs.LinePlaces.{some_places}, proofs.LineSpots.{spot, blocks, slots_are, lines_are, all_slots}}
 
 -- the spots of a line behind whole blocks
 pub spot_behind : (unit step blocks line place : ℕ) → 0 < step → spot unit step (blocks * step + line) place ≡ blocks * (unit * step) + spot unit step line place

@@ -1,12 +1,8 @@
 -- The trees of lines behind others.
 use Rattle.std.proofs.Common.{◌≡◌, ◌∙◌, ℕ, ◌+◌, ◌-◌, ◌*◌, ◌/◌, ◌%◌, ◌<◌, ℤ, pos, List, ◌++◌, length, get_or, sym, ap, subst, arith, inl, inr}
-use Rattle.std.proofs.lemmas.Bool.{cases_lt}
-use Rattle.std.proofs.lemmas.List.{length-append, get_or_append_left, get_or-append-add}
-use Rattle.fold_trees.specs.LineTrees.{slot_at, nth_node, slot_of, node_of, ArePartsKept, nodes_in_line}
-use Rattle.fold_trees.specs.LineBlocks.{line_at}
-use Rattle.fold_trees.specs.PartTrees.{AreLines, AreLineTrees}
-use Rattle.fold_trees.proofs.LineNodes.{kept_alike}
-use Rattle.fold_trees.proofs.LineSpots.{spot, all_slots, slot_within, node_within}
+use Rattle.std.{proofs.lemmas.Bool.{cases_lt}, proofs.lemmas.List.{length-append, get_or_append_left, get_or-append-add}}
+use Rattle.fold_trees.{specs.LineTrees.{slot_at, nth_node, slot_of, node_of, ArePartsKept, nodes_in_line}, specs.LineBlocks.{line_at}}
+use Rattle.fold_trees.{specs.PartTrees.{AreLines, AreLineTrees}, proofs.LineNodes.{kept_alike}, proofs.LineSpots.{spot, all_slots, slot_within, node_within}}
 use Rattle.fold_trees.proofs.MoreLines.{spot_after, whole_behind, lines_behind}
 
 module _ {P : Type 0} (blank : P) (tells : P → List ℤ → Type 0) (count step : ℕ)

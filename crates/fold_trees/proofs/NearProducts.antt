@@ -1,10 +1,7 @@
 -- What is kept of products is near 0, so that 128 bits hold what two of them are together.
-use Rattle.std.proofs.Common.{◌^◌, ◌≤◌, arith, ℤ, pos, neg_ℤ, ◌*ℤ◌, ◌≤ℤ◌, SFits, unsigned_abs}
-use Rattle.std.specs.Int.{w64, w128}
-use Rattle.std.proofs.Math.Nat.{mul-le-mul}
+use Rattle.std.{proofs.Common.{◌^◌, ◌≤◌, arith, ℤ, pos, neg_ℤ, ◌*ℤ◌, ◌≤ℤ◌, SFits, unsigned_abs}, specs.Int.{w64, w128}, proofs.Math.Nat.{mul-le-mul}}
 use Rattle.std.proofs.lemmas.Int.{ints, clamps, unsigned_abs-mul, fits_signed_from_abs}
-use Rattle.fold_trees.specs.declared.product.Product.{Product}
-use Rattle.fold_trees.specs.Products.{Products, joined_products, kept_products, TellsProducts}
+use Rattle.fold_trees.{specs.declared.product.Product.{Product}, specs.Products.{Products, joined_products, kept_products, TellsProducts}}
 
 pub record AreNear (s : Products) : Type 0 where
   pub total : unsigned_abs s.total ≤ 2 ^ 63

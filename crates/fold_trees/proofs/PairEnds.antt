@@ -1,9 +1,6 @@
 -- Where the nodes of a part lie that ends at a place, and of its halves, on a line whose numbers are neighbours.
-use Rattle.std.proofs.Common.{◌≡◌, ℕ, ◌+◌, ◌-◌, ◌*◌, ◌/◌, ◌^◌, arith}
-use Rattle.std.proofs.lemmas.Nat.{pow_pos}
-use Rattle.fold_trees.specs.declared.line.Line.{Line}
-use Rattle.fold_trees.specs.LineTrees.{nth_node}
-use Rattle.fold_trees.proofs.LineEnds.{near_node}
+use Rattle.std.{proofs.Common.{◌≡◌, ℕ, ◌+◌, ◌-◌, ◌*◌, ◌/◌, ◌^◌, arith}, proofs.lemmas.Nat.{pow_pos}}
+use Rattle.fold_trees.{specs.declared.line.Line.{Line}, specs.LineTrees.{nth_node}, proofs.LineEnds.{near_node}}
 
 module _ (l : Line) (end half low part : ℕ) (half_is : half ≡ 2 * 2 ^ low) (end_is : end ≡ part * (2 * half) + 2 * half) (near : l.step ≡ 1) where
   pub node_is : nth_node l (end - half) ≡ l.node + (end - half) - 1

@@ -1,18 +1,11 @@
 -- The products of the endings of a list tell its product from the right.
 use Rattle.std.proofs.Common.{◌≡◌, ◌^◌, ◌<◌, length, List, [], ◌∷◌, refl, ap, sym, ◌∙◌, arith, inl, inr, Bool, true, false, ◌&&◌, if◌then◌else◌, ℤ, pos, neg_ℤ, ◌-ℤ◌, ◌*ℤ◌, ◌≤ℤ◌, Ok, Err}
-use Rattle.std.specs.Int.{int_max}
-use Rattle.std.specs.List.{All}
-use Rattle.std.proofs.lemmas.Int.{ints, clamps}
-use Rattle.std.proofs.lemmas.List.Elements.{All-head, All-tail}
+use Rattle.std.{specs.Int.{int_max}, specs.List.{All}, proofs.lemmas.Int.{ints, clamps}, proofs.lemmas.List.Elements.{All-head, All-tail}}
 use Rattle.std.proofs.lemmas.Bool.{and_from, and_parts, cases_Bool, cond-true, cond-false}
-use Rattle.arrays_core.specs.declared.item.Kind.TheVariants.{Limit}
-use Rattle.arrays_core.specs.Items.{and_then}
+use Rattle.arrays_core.{specs.declared.item.Kind.TheVariants.{Limit}, specs.Items.{and_then}}
 use Rattle.function_names.specs.declared.scalar.Scalar2.TheVariants.{Times}
-use Rattle.scalar_fns.specs.Numbers.{dyadic_on_numbers, number_or_limit, is_number}
-use Rattle.scalar_fns.specs.Folds.{folded}
-use Rattle.scalar_fns.proofs.Within.{Within, in_64_bits, is_in_64_bits}
-use Rattle.fold_trees.specs.Products.{Products, products_of_none, before, products_of, product_told}
-use Rattle.fold_trees.proofs.JoinedProducts.{ordered_of}
+use Rattle.scalar_fns.{specs.Numbers.{dyadic_on_numbers, number_or_limit, is_number}, specs.Folds.{folded}, proofs.Within.{Within, in_64_bits, is_in_64_bits}}
+use Rattle.fold_trees.{specs.Products.{Products, products_of_none, before, products_of, product_told}, proofs.JoinedProducts.{ordered_of}}
 use Rattle.fold_trees.proofs.Bounds.{one_more}
 
 -- ---- what is told

@@ -1,6 +1,5 @@
 -- So many numbers from a place on.
-use Rattle.std.proofs.Common.{◌≡◌, ◌∙◌, ℕ, zero, suc, ◌+◌, ◌<◌, ◌≤◌, ℤ, List, ◌∷◌, ◌++◌, map, length, refl, sym, ap, arith}
-use Rattle.std.specs.List.{range_with_len}
+use Rattle.std.{proofs.Common.{◌≡◌, ◌∙◌, ℕ, zero, suc, ◌+◌, ◌<◌, ◌≤◌, ℤ, List, ◌∷◌, ◌++◌, map, length, refl, sym, ap, arith}, specs.List.{range_with_len}}
 use Rattle.fold_trees.specs.LineTrees.{segment}
 
 -- those of two pieces

@@ -1,19 +1,11 @@
 -- The sums of the endings of a list tell its sum from the right.
 use Rattle.std.proofs.Common.{◌≡◌, ◌<◌, length, List, [], ◌∷◌, refl, ap, sym, ◌∙◌, arith, Bool, true, false, ◌&&◌, if◌then◌else◌, ℤ, ◌+ℤ◌, Ok, Err}
-use Rattle.std.specs.Int.{int_max, int_min}
-use Rattle.std.specs.List.{All}
-use Rattle.std.proofs.lemmas.Int.{ints, clamps}
-use Rattle.std.proofs.lemmas.List.Elements.{All-head, All-tail}
+use Rattle.std.{specs.Int.{int_max, int_min}, specs.List.{All}, proofs.lemmas.Int.{ints, clamps}, proofs.lemmas.List.Elements.{All-head, All-tail}}
 use Rattle.std.proofs.lemmas.Bool.{and_from, cond-true}
-use Rattle.arrays_core.specs.declared.item.Kind.TheVariants.{Limit}
-use Rattle.arrays_core.specs.Items.{and_then}
+use Rattle.arrays_core.{specs.declared.item.Kind.TheVariants.{Limit}, specs.Items.{and_then}}
 use Rattle.function_names.specs.declared.scalar.Scalar2.TheVariants.{Plus}
-use Rattle.scalar_fns.specs.Numbers.{dyadic_on_numbers, number_or_limit, is_number}
-use Rattle.scalar_fns.specs.Folds.{folded}
-use Rattle.scalar_fns.proofs.Within.{in_64_bits, is_in_64_bits}
-use Rattle.fold_trees.specs.Sums.{sums_of, sum_told}
-use Rattle.fold_trees.proofs.Bounds.{one_more}
-use Rattle.fold_trees.proofs.JoinedSums.{ordered_of}
+use Rattle.scalar_fns.{specs.Numbers.{dyadic_on_numbers, number_or_limit, is_number}, specs.Folds.{folded}, proofs.Within.{in_64_bits, is_in_64_bits}}
+use Rattle.fold_trees.{specs.Sums.{sums_of, sum_told}, proofs.Bounds.{one_more}, proofs.JoinedSums.{ordered_of}}
 
 then_plus : (p : Bool) (z t : ℤ) → and_then (if p then Ok t else Err Limit) (λ v. number_or_limit (z +ℤ v))
     ≡ (if (p && is_number (z +ℤ t)) then Ok (z +ℤ t) else Err Limit)

@@ -1,11 +1,7 @@
 -- Lines that lie between one another take one more number each, one line after another.
-use Rattle.std.proofs.Common.{◌≡◌, ◌≢◌, ◌∙◌, ℕ, ◌+◌, ◌-◌, ◌<◌, ◌≤◌, ℤ, List, length, get_or, refl, sym, subst, arith, inl, inr}
-use Rattle.std.proofs.lemmas.Bool.{cases_eq}
-use Rattle.fold_trees.specs.declared.line.Line.{Line}
-use Rattle.fold_trees.specs.LineTrees.{slot_of, shorter, nth_node, node_of, ArePartsKept}
-use Rattle.fold_trees.proofs.LineSpots.{nodes_apart}
-use Rattle.fold_trees.proofs.LineNodes.{kept_alike}
-use Rattle.fold_trees.specs.LineBlocks.{line_at}
+use Rattle.std.{proofs.Common.{◌≡◌, ◌≢◌, ◌∙◌, ℕ, ◌+◌, ◌-◌, ◌<◌, ◌≤◌, ℤ, List, length, get_or, refl, sym, subst, arith, inl, inr}, proofs.lemmas.Bool.{cases_eq}}
+use Rattle.fold_trees.{specs.declared.line.Line.{Line}, specs.LineTrees.{slot_of, shorter, nth_node, node_of, ArePartsKept}, proofs.LineSpots.{nodes_apart}}
+use Rattle.fold_trees.{proofs.LineNodes.{kept_alike}, specs.LineBlocks.{line_at}}
 
 -- one line has taken its last number; nodes of no place of it stay
 pub record IsTaken {P : Type 0} (blank : P) (tells : P → List ℤ → Type 0) (l : Line) (numbers : List ℤ) (nodes after : List P) : Type 0 where

@@ -2,14 +2,11 @@
 use Rattle.std.proofs.Common.{◌≡◌, ◌≢◌, ℕ, ◌<◌, ◌≤◌, List, [], ◌∷◌, ◌++◌, None, Err, length, set, get_or, refl, sym, ap, ◌∙◌, subst, arith}
 use Rattle.std.proofs.lemmas.List.{length-append, length-set, get_or-set_other, get_or_append_left, get_or_default, get_or-map}
 use Rattle.std.proofs.Math.Seq.{get_or-append_seam}
-use Rattle.arrays_core.specs.declared.item.Kind.TheVariants.{Value}
-use Rattle.formula_core.specs.declared.kept.Kept.{Kept}
-use Rattle.formula_core.specs.declared.kept.NodeChange.{NodeChange}
-use Rattle.formula_core.specs.declared.table.Node.{Node}
-use Rattle.formula_core.specs.declared.table.Node.TheVariants as node
+use Rattle.arrays_core.{specs.declared.item.Kind.TheVariants.{Value}, specs.Outcomes.{fault}}
+use Rattle.formula_core.{specs.declared.kept.Kept.{Kept}, specs.declared.kept.NodeChange.{NodeChange}, specs.declared.table.Node.{Node}}
 use Rattle.formula_core.specs.Changes.{each_with}
 use Rattle.formula_core.specs.Holdings.{Holding, holding, holdings_of, nodes_of, not_worked_out, no_change, taking, node_taking, adopted, IsFit, AllChangesFit}
-use Rattle.arrays_core.specs.Outcomes.{fault}
+use Rattle.formula_core.specs.declared.table.Node.TheVariants as node
 
 -- changes of elements, what they make of these, that they fit, and what is said where there is none
 module _ (C A : Type 0) (f : C → A → A) (Fits : C → A → Type 0) (no_change : C) (none : A) where

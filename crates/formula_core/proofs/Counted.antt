@@ -1,37 +1,21 @@
 -- What is counted where an expression is worked out once is what its functions cost.
 use Rattle.std.proofs.Common.{◌≡◌, ◌∙◌, ◌+◌, ◌<◌, ◌≤◌, ℕ, zero, suc, List, [], ◌∷◌, ◌++◌, length, map, drop, get_or, true, is_ok, Option, Some, None, Result, Ok, Err, IsOk, refl, sym, ap, subst, arith, IfOk}
-use Rattle.std.specs.Prelude.{OnErr}
-use Rattle.std.specs.declared.alloc.AllocError.{AllocError}
-use Rattle.std.specs.List.{sum_by}
-use Rattle.std.proofs.lemmas.Bool.{false≢true}
-use Rattle.std.proofs.lemmas.List.{drop_more}
-use Rattle.std.proofs.lemmas.List.Sums.{sum_by-append, sum_by_push}
-use Rattle.apl_expr.specs.declared.expr.Expr.{Expr}
-use Rattle.apl_expr.specs.declared.functions.Function1.{Function1}
-use Rattle.apl_expr.specs.declared.functions.Function2.{Function2}
+use Rattle.std.{specs.Prelude.{OnErr}, specs.declared.alloc.AllocError.{AllocError}, specs.List.{sum_by}, proofs.lemmas.Bool.{false≢true}}
+use Rattle.std.{proofs.lemmas.List.{drop_more}, proofs.lemmas.List.Sums.{sum_by-append, sum_by_push}}
+use Rattle.apl_expr.{specs.declared.expr.Expr.{Expr}, specs.declared.functions.Function1.{Function1}, specs.declared.functions.Function2.{Function2}}
 use Rattle.apl_expr.specs.Trees.{Tree, Const, Name, Monad, Dyad, Index, Reduce, Scan, Outer, Inner, before_argument, between_arguments, Literal, Positions, tree_of, position_of, positions_of}
-use Rattle.arrays_core.specs.Arrays.{ArrayValue, with_items}
-use Rattle.arrays_core.specs.Items.{and_then, all_or_first_error}
-use Rattle.arrays_core.specs.Shapes.{size, indices}
-use Rattle.arrays_core.specs.declared.fault.Fault.{Fault}
-use Rattle.arrays_core.specs.declared.item.Item.{Item}
-use Rattle.arrays_core.specs.declared.item.Kind.{Kind}
+use Rattle.arrays_core.{specs.Arrays.{ArrayValue, with_items}, specs.Items.{and_then, all_or_first_error}, specs.Shapes.{size, indices}}
+use Rattle.arrays_core.{specs.declared.fault.Fault.{Fault}, specs.declared.item.Item.{Item}, specs.declared.item.Kind.{Kind}, specs.Outcomes.{given, Outcome}}
 use Rattle.index_region.specs.Checks.{Form, whole}
-use Rattle.change_core.specs.Meters.{ticked}
-use Rattle.change_core.specs.RuleModels.{RuleModel, form_size}
-use Rattle.arrays_core.specs.Outcomes.{given, Outcome}
+use Rattle.change_core.{specs.Meters.{ticked}, specs.RuleModels.{RuleModel, form_size}}
 use Rattle.selection_fns.specs.Index.{Position, index_rule}
 use Rattle.formula_core.specs.declared.evaluation.Evaluated.{Evaluated}
 use Rattle.formula_core.specs.Changes.{at_rest, arguments, operation_size, result_of, tree_size, values_of, written}
 use Rattle.formula_core.specs.Counts.{cost_in, cost_in_positions, AreItemsCounted, ArePositionsCounted, IsCounted, IsTreeCounted}
-use Rattle.formula_core.specs.Meaning.{applied1, applied2, eval, eval_positions, in_front, of_right, of_both}
-use Rattle.formula_core.specs.Evaluated.{array_in, outcome_of}
-use Rattle.formula_core.specs.Plans.{tree_cost}
-use Rattle.formula_core.specs.Rules.{right_rule, both_rule}
-use Rattle.formula_core.specs.Tables.{inside, inside_positions}
+use Rattle.formula_core.{specs.Meaning.{applied1, applied2, eval, eval_positions, in_front, of_right, of_both}, specs.Evaluated.{array_in, outcome_of}}
+use Rattle.formula_core.{specs.Plans.{tree_cost}, specs.Rules.{right_rule, both_rule}, specs.Tables.{inside, inside_positions}}
 use Rattle.formula_core.proofs.Applied.{eval_before, eval_between, inside_before, inside_between, size_before, size_between}
-use Rattle.formula_core.proofs.Changed.{monad_meant, dyad_meant, indexing_meant}
-use Rattle.formula_core.proofs.Indexing.{error_stands, value_written}
+use Rattle.formula_core.{proofs.Changed.{monad_meant, dyad_meant, indexing_meant}, proofs.Indexing.{error_stands, value_written}}
 
 -- what two steps give, the first gives, and the second
 first_given : {A B E : Type 0} (r : Result A E) (next : A → Result B E) → is_ok (and_then r next) ≡ true → is_ok r ≡ true

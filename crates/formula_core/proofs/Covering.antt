@@ -1,46 +1,24 @@
 -- The laws of the rule of each function of an expression.
-use Rattle.apl_expr.specs.declared.functions.Function1.{Function1}
-use Rattle.apl_expr.specs.declared.expr.Monadic.TheVariants as monadic
-use Rattle.apl_expr.specs.declared.functions.Function1.TheVariants as function1
-use Rattle.apl_expr.specs.declared.functions.Function2.{Function2}
-use Rattle.apl_expr.specs.declared.expr.Dyadic.TheVariants as dyadic
-use Rattle.apl_expr.specs.declared.functions.Function2.TheVariants as function2
-use Rattle.change_core.specs.Growth.{IsGrowing}
-use Rattle.change_core.specs.Tightness.{IsTight, ReachCovers}
-use Rattle.change_core.proofs.Covers.{covers}
-use Rattle.change_core.proofs.Growing.{never_grows}
-use Rattle.scalar_fns.specs.Laws.EachMonadic.{each_monadic_tight}
-use Rattle.scalar_fns.specs.Laws.EachMonadicGrowth.{each_monadic_growing}
-use Rattle.scalar_fns.specs.Laws.EachDyadic.{each_dyadic_tight}
-use Rattle.scalar_fns.specs.Laws.EachDyadicGrowth.{each_dyadic_growing}
-use Rattle.structural_fns.specs.Laws.Reshape.{reshape_tight}
-use Rattle.structural_fns.specs.Laws.Ravel.{ravel_tight}
-use Rattle.structural_fns.specs.Laws.Catenate.{catenate_tight}
-use Rattle.structural_fns.specs.Laws.Take.{take_tight}
-use Rattle.structural_fns.specs.Laws.Drop.{drop_tight}
-use Rattle.structural_fns.specs.Laws.Reverse.{reverse_tight}
-use Rattle.structural_fns.specs.Laws.Rotate.{rotate_tight}
-use Rattle.structural_fns.specs.Laws.Transpose.{transpose_tight}
-use Rattle.structural_fns.specs.Laws.DyadicTranspose.{transpose_by_tight}
-use Rattle.selection_fns.specs.Laws.Shape.{shape_tight}
-use Rattle.selection_fns.specs.Laws.IndexGenerator.{generator_tight}
-use Rattle.selection_fns.specs.Laws.Replicate.{replicate_tight}
-use Rattle.selection_fns.specs.Index.{index_rule}
-use Rattle.selection_fns.specs.Laws.Index.{index_tight}
-use Rattle.selection_fns.specs.Laws.IndexGrowth.{index_growing}
-use Rattle.search_fns.specs.Laws.IndexOf.{index_of_tight}
-use Rattle.search_fns.specs.Laws.Member.{member_tight}
-use Rattle.search_fns.specs.Laws.Encode.{encode_tight}
+use Rattle.apl_expr.{specs.declared.functions.Function1.{Function1}, specs.declared.functions.Function2.{Function2}}
+use Rattle.change_core.{specs.Growth.{IsGrowing}, specs.Tightness.{IsTight, ReachCovers}, proofs.Covers.{covers}, proofs.Growing.{never_grows}}
+use Rattle.scalar_fns.{specs.Laws.EachMonadic.{each_monadic_tight}, specs.Laws.EachMonadicGrowth.{each_monadic_growing}}
+use Rattle.scalar_fns.{specs.Laws.EachDyadic.{each_dyadic_tight}, specs.Laws.EachDyadicGrowth.{each_dyadic_growing}}
+use Rattle.structural_fns.{specs.Laws.Reshape.{reshape_tight}, specs.Laws.Ravel.{ravel_tight}, specs.Laws.Catenate.{catenate_tight}}
+use Rattle.structural_fns.{specs.Laws.Take.{take_tight}, specs.Laws.Drop.{drop_tight}, specs.Laws.Reverse.{reverse_tight}, specs.Laws.Rotate.{rotate_tight}}
+use Rattle.structural_fns.{specs.Laws.Transpose.{transpose_tight}, specs.Laws.DyadicTranspose.{transpose_by_tight}}
+use Rattle.selection_fns.{specs.Laws.Shape.{shape_tight}, specs.Laws.IndexGenerator.{generator_tight}, specs.Laws.Replicate.{replicate_tight}}
+use Rattle.selection_fns.{specs.Index.{index_rule}, specs.Laws.Index.{index_tight}, specs.Laws.IndexGrowth.{index_growing}}
+use Rattle.search_fns.{specs.Laws.IndexOf.{index_of_tight}, specs.Laws.Member.{member_tight}, specs.Laws.Encode.{encode_tight}}
 use Rattle.search_fns.specs.Laws.Decode.{decode_tight}
-use Rattle.reduce_fns.specs.Laws.Reduce.{reduce_tight}
-use Rattle.scan_fns.specs.Laws.Scan.{scan_tight}
-use Rattle.reduce_fns.specs.Laws.LinesGrowth.{reduce_growing}
-use Rattle.scan_fns.specs.Laws.ScanGrowth.{scan_growing}
-use Rattle.operator_fns.specs.Laws.OuterProduct.{outer_tight}
-use Rattle.operator_fns.specs.Laws.OuterProductGrowth.{outer_growing}
-use Rattle.operator_fns.specs.Laws.InnerProduct.{inner_tight}
+use Rattle.reduce_fns.{specs.Laws.Reduce.{reduce_tight}, specs.Laws.LinesGrowth.{reduce_growing}}
+use Rattle.scan_fns.{specs.Laws.Scan.{scan_tight}, specs.Laws.ScanGrowth.{scan_growing}}
+use Rattle.operator_fns.{specs.Laws.OuterProduct.{outer_tight}, specs.Laws.OuterProductGrowth.{outer_growing}, specs.Laws.InnerProduct.{inner_tight}}
 use Rattle.formula_core.specs.Rules.{right_rule, both_rule}
 use Rattle.std.specs.Prelude.{List, Bool}
+use Rattle.apl_expr.specs.declared.expr.Monadic.TheVariants as monadic
+use Rattle.apl_expr.specs.declared.functions.Function1.TheVariants as function1
+use Rattle.apl_expr.specs.declared.expr.Dyadic.TheVariants as dyadic
+use Rattle.apl_expr.specs.declared.functions.Function2.TheVariants as function2
 
 -- the law of each rule: where arguments agree outside their changed boxes, results agree outside what is reached
 pub record RulesCover : Type 0 where

@@ -1,15 +1,8 @@
 -- What fits in what was held fits what is there now.
-use Rattle.std.proofs.Common.{◌≡◌, ◌∙◌, ◌<◌, ℕ, List, [], ◌∷◌, length, drop, true, Ok, Err, refl, ap, sym, arith}
-use Rattle.std.proofs.lemmas.Bool.{false≢true}
-use Rattle.arrays_core.specs.Arrays.{ArrayValue}
-use Rattle.arrays_core.specs.Growth.{one_longer}
-use Rattle.arrays_core.proofs.Growing.{rank_longer}
-use Rattle.arrays_core.specs.Shapes.{size}
-use Rattle.index_region.specs.declared.delta.Delta.{Delta}
-use Rattle.index_region.specs.declared.delta.Delta.TheVariants.{Same, Patch, Grown, Whole}
-use Rattle.change_rules.specs.Currency.{applied}
-use Rattle.change_rules.specs.Nodes.{is_grown}
-use Rattle.arrays_core.specs.Outcomes.{Outcome}
+use Rattle.std.{proofs.Common.{◌≡◌, ◌∙◌, ◌<◌, ℕ, List, [], ◌∷◌, length, drop, true, Ok, Err, refl, ap, sym, arith}, proofs.lemmas.Bool.{false≢true}}
+use Rattle.arrays_core.{specs.Arrays.{ArrayValue}, specs.Growth.{one_longer}, proofs.Growing.{rank_longer}, specs.Shapes.{size}, specs.Outcomes.{Outcome}}
+use Rattle.index_region.{specs.declared.delta.Delta.{Delta}, specs.declared.delta.Delta.TheVariants.{Same, Patch, Grown, Whole}}
+use Rattle.change_rules.{specs.Currency.{applied}, specs.Nodes.{is_grown}}
 use Rattle.formula_core.specs.Changes.{FitsIn, FitsNow}
 
 -- each place of the first axis stays as large

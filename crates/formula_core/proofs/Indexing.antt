@@ -1,13 +1,10 @@
 -- The positions of an index, one after another.
 use Rattle.std.proofs.Common.{◌≡◌, ℕ, zero, suc, ◌+◌, ◌<◌, List, [], ◌∷◌, ◌++◌, length, map, drop, get_or, Option, Some, None, is_some, Err, refl, ap, sym, arith}
 use Rattle.std.proofs.lemmas.List.{drop_more}
-use Rattle.apl_expr.specs.declared.expr.Expr.{Expr}
-use Rattle.apl_expr.specs.Trees.{tree_of, position_of, positions_of}
-use Rattle.arrays_core.specs.declared.fault.Fault.{Fault}
+use Rattle.apl_expr.{specs.declared.expr.Expr.{Expr}, specs.Trees.{tree_of, position_of, positions_of}}
+use Rattle.arrays_core.{specs.declared.fault.Fault.{Fault}, specs.Outcomes.{Outcome}}
 use Rattle.selection_fns.specs.Index.{Position, count_written, written_positions}
-use Rattle.formula_core.specs.declared.evaluation.Evaluated.{Evaluated}
-use Rattle.formula_core.specs.Evaluated.{array_in, position_in, written_arrays}
-use Rattle.arrays_core.specs.Outcomes.{Outcome}
+use Rattle.formula_core.{specs.declared.evaluation.Evaluated.{Evaluated}, specs.Evaluated.{array_in, position_in, written_arrays}}
 use Rattle.formula_core.specs.Meaning.{eval, eval_positions, in_front, empty_in_front, names_in, names_in_positions}
 
 -- the names in one more position, which is written or not

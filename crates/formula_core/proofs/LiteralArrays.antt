@@ -1,22 +1,14 @@
 -- What a literal gives, and which literal gives an array.
 use Rattle.std.proofs.Common.{◌≡◌, ℕ, ℤ, ◌≤◌, List, [], ◌∷◌, length, map, All, Bool, true, false, Result, Ok, Err, IfOk, refl, sym, ap, ◌∙◌, arith, if◌then◌else◌}
-use Rattle.std.specs.Prelude.{nat_le}
-use Rattle.std.proofs.lemmas.List.{length-map}
-use Rattle.std.proofs.lemmas.List.Elements.{All-nil, All-cons, All-map}
+use Rattle.std.{specs.Prelude.{nat_le}, proofs.lemmas.List.{length-map}, proofs.lemmas.List.Elements.{All-nil, All-cons, All-map}}
 use Rattle.std.proofs.lemmas.Bool.Decides.{nat_tests}
 use Rattle.apl_expr.specs.Trees.{Literal, Numbers, Text}
-use Rattle.arrays_core.specs.declared.item.Item.{Item}
-use Rattle.arrays_core.specs.declared.item.Item.TheVariants.{Num, Char}
-use Rattle.arrays_core.specs.declared.item.ItemType.TheVariants.{Nums, Chars}
-use Rattle.arrays_core.specs.declared.item.Kind.{Kind}
-use Rattle.arrays_core.specs.declared.item.Kind.TheVariants.{Limit}
-use Rattle.arrays_core.specs.Arrays.{ArrayValue, IsArray, scalar_of, vector_of, character_scalar_of, text_of}
-use Rattle.arrays_core.specs.Items.{type_of}
-use Rattle.arrays_core.specs.Limits.{longest_axis}
-use Rattle.arrays_core.specs.Outcomes.{given}
+use Rattle.arrays_core.{specs.declared.item.Item.{Item}, specs.declared.item.Item.TheVariants.{Num, Char}}
+use Rattle.arrays_core.{specs.declared.item.ItemType.TheVariants.{Nums, Chars}, specs.declared.item.Kind.{Kind}, specs.declared.item.Kind.TheVariants.{Limit}}
+use Rattle.arrays_core.{specs.Arrays.{ArrayValue, IsArray, scalar_of, vector_of, character_scalar_of, text_of}, specs.Items.{type_of}}
+use Rattle.arrays_core.{specs.Limits.{longest_axis}, specs.Outcomes.{given}}
 use Rattle.index_region.specs.Arguments.{number_of}
-use Rattle.formula_core.specs.Constants.{character_of, literal_of_items}
-use Rattle.formula_core.specs.Meaning.{array_of}
+use Rattle.formula_core.{specs.Constants.{character_of, literal_of_items}, specs.Meaning.{array_of}}
 
 numbers_back : (ns : List ℤ) → map number_of (map (λ z. Num z) ns) ≡ ns
 numbers_back [] = refl

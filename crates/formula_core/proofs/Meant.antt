@@ -1,22 +1,17 @@
 -- The whole evaluation of a function's rule is what the function gives.
 use Rattle.std.proofs.Common.{◌≡◌, ℕ, List, [], ◌∷◌, Result, Ok, Err, refl}
-use Rattle.apl_expr.specs.declared.functions.Function1.{Function1}
-use Rattle.apl_expr.specs.declared.expr.Monadic.TheVariants as monadic
-use Rattle.apl_expr.specs.declared.functions.Function1.TheVariants as function1
-use Rattle.apl_expr.specs.declared.functions.Function2.{Function2}
-use Rattle.apl_expr.specs.declared.expr.Dyadic.TheVariants as dyadic
-use Rattle.apl_expr.specs.declared.functions.Function2.TheVariants as function2
-use Rattle.arrays_core.specs.Arrays.{ArrayValue, collect}
-use Rattle.arrays_core.specs.declared.item.Item.{Item}
-use Rattle.arrays_core.specs.declared.item.ItemType.TheVariants.{Nums}
-use Rattle.arrays_core.specs.declared.item.Kind.{Kind}
+use Rattle.apl_expr.{specs.declared.functions.Function1.{Function1}, specs.declared.functions.Function2.{Function2}}
+use Rattle.arrays_core.{specs.Arrays.{ArrayValue, collect}, specs.declared.item.Item.{Item}, specs.declared.item.ItemType.TheVariants.{Nums}}
+use Rattle.arrays_core.{specs.declared.item.Kind.{Kind}, specs.Outcomes.{given}}
 use Rattle.scalar_fns.specs.ScalarExtension.{common, for_shape}
 use Rattle.index_region.specs.Checks.{form_of, whole}
 use Rattle.selection_fns.specs.Index.{index_whole, written_positions, index_rule}
 use Rattle.change_rules.specs.Evaluation.{evaluation}
-use Rattle.arrays_core.specs.Outcomes.{given}
-use Rattle.formula_core.specs.Meaning.{of_right, of_both}
-use Rattle.formula_core.specs.Rules.{right_rule, both_rule}
+use Rattle.formula_core.{specs.Meaning.{of_right, of_both}, specs.Rules.{right_rule, both_rule}}
+use Rattle.apl_expr.specs.declared.expr.Monadic.TheVariants as monadic
+use Rattle.apl_expr.specs.declared.functions.Function1.TheVariants as function1
+use Rattle.apl_expr.specs.declared.expr.Dyadic.TheVariants as dyadic
+use Rattle.apl_expr.specs.declared.functions.Function2.TheVariants as function2
 
 pub right_meant : (f : Function1) (b : ArrayValue) → evaluation (right_rule f) (b ∷ []) ≡ given (of_right f b)
 right_meant (function1.Monad (monadic.Scalar f)) b = refl

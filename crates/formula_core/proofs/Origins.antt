@@ -1,10 +1,7 @@
 -- The origin of an error that is lent.
-use Rattle.std.proofs.Common.{◌≡◌, ℕ, List, true, false, Option, Some, None, refl, sym, ap, ◌∙◌}
-use Rattle.std.specs.Prelude.{is_some}
-use Rattle.std.specs.Borrow.{Bor}
+use Rattle.std.{proofs.Common.{◌≡◌, ℕ, List, true, false, Option, Some, None, refl, sym, ap, ◌∙◌}, specs.Prelude.{is_some}, specs.Borrow.{Bor}}
 use Rattle.std.proofs.lemmas.Bool.{false≢true}
-use Rattle.arrays_core.specs.declared.fault.Fault.{Fault}
-use Rattle.arrays_core.specs.declared.item.Kind.{Kind}
+use Rattle.arrays_core.{specs.declared.fault.Fault.{Fault}, specs.declared.item.Kind.{Kind}}
 use Rattle.formula_core.specs.Outcomes.{arisen_in, held_fault, lent_fault}
 
 origin_stays : (name other : List ℕ) (kind : Kind) (origin : Option (List ℕ)) → arisen_in name (arisen_in other (record { kind = kind; origin = origin })) ≡ arisen_in other (record { kind = kind; origin = origin })

@@ -1,38 +1,22 @@
 -- How the change of a node is worked out from what stands before it.
 use Rattle.std.proofs.Common.{◌≡◌, ℕ, zero, suc, ◌+◌, ◌<◌, List, [], ◌∷◌, ◌++◌, length, map, take, get_or, Bool, true, false, Option, Some, None, Result, Ok, Err, refl, sym, ap, ◌∙◌, subst, arith, IfOk, OnOk}
-use Rattle.std.specs.List.{Contains}
-use Rattle.std.specs.Option.{option_map}
-use Rattle.std.proofs.lemmas.Bool.{false≢true}
-use Rattle.std.proofs.lemmas.List.{get_or-map, get_or_default, map_more}
-use Rattle.apl_expr.specs.Trees.{Tree, Const, Name, Monad, Dyad, Index, Reduce, Scan, Outer, Inner, Numbers, positions_of}
+use Rattle.std.{specs.List.{Contains}, specs.Option.{option_map}, proofs.lemmas.Bool.{false≢true}, proofs.lemmas.List.{get_or-map, get_or_default, map_more}}
 use Rattle.std.specs.declared.alloc.AllocError.{AllocError}
-use Rattle.arrays_core.specs.Arrays.{IsArray}
-use Rattle.arrays_core.specs.declared.item.Kind.TheVariants.{Value}
-use Rattle.index_region.specs.declared.delta.Delta.{Delta}
-use Rattle.index_region.specs.declared.delta.Delta.TheVariants.{Same, Patch, Grown, Whole}
-use Rattle.change_rules.specs.Currency.{applied}
-use Rattle.change_rules.specs.Nodes.{is_same}
-use Rattle.formula_core.specs.declared.input.Input.{Input}
-use Rattle.formula_core.specs.declared.input.Input.TheVariants.{Good, Bad}
-use Rattle.formula_core.specs.declared.stage.Stage.{Stage}
-use Rattle.formula_core.specs.declared.table.Operand.{Operand}
-use Rattle.formula_core.specs.declared.table.Operand.TheVariants as operand
-use Rattle.formula_core.specs.declared.table.Node.{Node}
-use Rattle.formula_core.specs.declared.table.Node.TheVariants as node
-use Rattle.formula_core.specs.Meaning.{eval}
-use Rattle.arrays_core.specs.Outcomes.{Outcome, fault}
+use Rattle.apl_expr.specs.Trees.{Tree, Const, Name, Monad, Dyad, Index, Reduce, Scan, Outer, Inner, Numbers, positions_of}
+use Rattle.arrays_core.{specs.Arrays.{IsArray}, specs.declared.item.Kind.TheVariants.{Value}, specs.Outcomes.{Outcome, fault}}
+use Rattle.index_region.{specs.declared.delta.Delta.{Delta}, specs.declared.delta.Delta.TheVariants.{Same, Patch, Grown, Whole}}
+use Rattle.change_rules.{specs.Currency.{applied}, specs.Nodes.{is_same}}
+use Rattle.formula_core.{specs.declared.input.Input.{Input}, specs.declared.input.Input.TheVariants.{Good, Bad}, specs.declared.stage.Stage.{Stage}}
+use Rattle.formula_core.{specs.declared.table.Operand.{Operand}, specs.declared.table.Node.{Node}, specs.Meaning.{eval}}
 use Rattle.formula_core.specs.Tables.{tree_at, tree_of_operand, tree_of_node, IsOperand, AreOperands, IsNode}
 use Rattle.formula_core.specs.Changes.{NamesChange, change, changes, values_of, FitsIn, FitsNow, IsNameChanged}
-use Rattle.formula_core.specs.Inputs.{shown, HasFit, IsAllOrNothing, IsInput}
-use Rattle.formula_core.specs.Holdings.{Holding, holding_at, holdings_of, not_worked_out, no_change}
-use Rattle.formula_core.specs.Plans.{node_change, AreInputs}
-use Rattle.formula_core.specs.Rules.{with_change}
-use Rattle.formula_core.specs.Stages.{IsStaged, IsTaken, IsLiteralChange, GiveTheirTrees, IsStep}
-use Rattle.formula_core.specs.Formulas.{is_operation}
-use Rattle.formula_core.proofs.Fitting.{fit_now}
+use Rattle.formula_core.{specs.Inputs.{shown, HasFit, IsAllOrNothing, IsInput}, specs.Holdings.{Holding, holding_at, holdings_of, not_worked_out, no_change}}
+use Rattle.formula_core.{specs.Plans.{node_change, AreInputs}, specs.Rules.{with_change}}
+use Rattle.formula_core.{specs.Stages.{IsStaged, IsTaken, IsLiteralChange, GiveTheirTrees, IsStep}, specs.Formulas.{is_operation}, proofs.Fitting.{fit_now}}
 use Rattle.formula_core.proofs.LiteralArrays.{literal_is_array}
-use Rattle.formula_core.proofs.Changed.{AllChanged, monad_changed, dyad_changed, index_changed, IsChanged, IsTreeChanged}
-use Rattle.formula_core.proofs.Stepping.{ready_more}
+use Rattle.formula_core.{proofs.Changed.{AllChanged, monad_changed, dyad_changed, index_changed, IsChanged, IsTreeChanged}, proofs.Stepping.{ready_more}}
+use Rattle.formula_core.specs.declared.table.Operand.TheVariants as operand
+use Rattle.formula_core.specs.declared.table.Node.TheVariants as node
 
 -- an input that says what changed fits
 pub input_fits : (now : Outcome) (d : Delta) (i : Input) → IsInput now d i → FitsNow d now → HasFit i

@@ -1,17 +1,10 @@
 -- How far a meter rises where an expression is worked out once.
-use Rattle.std.specs.Prelude.{◌≡◌, ℕ, ◌+◌, ◌≤◌, List, Result, OnOk, IsOk, MatchResult}
-use Rattle.std.specs.List.{sum_by}
-use Rattle.std.specs.declared.alloc.AllocError.{AllocError}
+use Rattle.std.{specs.Prelude.{◌≡◌, ℕ, ◌+◌, ◌≤◌, List, Result, OnOk, IsOk, MatchResult}, specs.List.{sum_by}, specs.declared.alloc.AllocError.{AllocError}}
 use Rattle.apl_expr.specs.Trees.{Tree, Positions}
-use Rattle.arrays_core.specs.Shapes.{size}
-use Rattle.arrays_core.specs.declared.fault.Fault.{Fault}
+use Rattle.arrays_core.{specs.Shapes.{size}, specs.declared.fault.Fault.{Fault}, specs.Outcomes.{Outcome}}
 use Rattle.change_core.specs.Meters.{ticked}
-use Rattle.formula_core.specs.declared.evaluation.Evaluated.{Evaluated}
-use Rattle.formula_core.specs.Changes.{tree_size}
-use Rattle.formula_core.specs.Meaning.{eval, eval_positions}
-use Rattle.formula_core.specs.Evaluated.{array_in}
-use Rattle.arrays_core.specs.Outcomes.{Outcome}
-use Rattle.formula_core.specs.Tables.{inside, inside_positions}
+use Rattle.formula_core.{specs.declared.evaluation.Evaluated.{Evaluated}, specs.Changes.{tree_size}, specs.Meaning.{eval, eval_positions}}
+use Rattle.formula_core.{specs.Evaluated.{array_in}, specs.Tables.{inside, inside_positions}}
 
 -- what the functions in a tree cost, where the names show these: for each the size of its result
 abbrev pub cost_in : (List ℕ → Outcome) → Tree → ℕ

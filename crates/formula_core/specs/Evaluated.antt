@@ -1,12 +1,8 @@
 -- What an operand stands for.
-use Rattle.std.specs.Prelude.{List, [], ◌∷◌, map, Option, Some, None, Result, Ok, Err}
-use Rattle.std.specs.Global.{Vec}
+use Rattle.std.{specs.Prelude.{List, [], ◌∷◌, map, Option, Some, None, Result, Ok, Err}, specs.Global.{Vec}}
 use Rattle.selection_fns.specs.Index.{Position}
-use Rattle.arrays_core.specs.Arrays.{ArrayValue}
-use Rattle.arrays_core.specs.declared.fault.Fault.{Fault}
-use Rattle.formula_core.specs.declared.evaluation.Evaluated.{Evaluated}
-use Rattle.formula_core.specs.declared.evaluation.Evaluated.TheVariants.{Lent, Made}
-use Rattle.arrays_core.specs.Outcomes.{Outcome}
+use Rattle.arrays_core.{specs.Arrays.{ArrayValue}, specs.declared.fault.Fault.{Fault}, specs.Outcomes.{Outcome}}
+use Rattle.formula_core.{specs.declared.evaluation.Evaluated.{Evaluated}, specs.declared.evaluation.Evaluated.TheVariants.{Lent, Made}}
 
 -- the array of an operand
 abbrev pub array_in : Evaluated → ArrayValue

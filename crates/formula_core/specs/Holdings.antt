@@ -1,22 +1,14 @@
 -- What the nodes of a formula keep, and what changes of it.
 use Rattle.std.specs.Prelude.{◌≡◌, ℕ, ◌<◌, All, Bool, true, false, ◌&&◌, List, Option, None, Err, length, get_or, map}
-use Rattle.arrays_core.specs.declared.item.Kind.TheVariants.{Value}
-use Rattle.index_region.specs.declared.delta.Delta.{Delta}
-use Rattle.index_region.specs.declared.delta.Delta.TheVariants.{Same, Patch, Grown, Whole}
-use Rattle.change_rules.specs.Currency.{applied}
-use Rattle.change_rules.specs.declared.one_place.OnePlace.{OnePlace}
-use Rattle.change_rules.specs.Nodes.{delta_of_place}
+use Rattle.arrays_core.{specs.declared.item.Kind.TheVariants.{Value}, specs.Outcomes.{Outcome, fault}}
+use Rattle.index_region.{specs.declared.delta.Delta.{Delta}, specs.declared.delta.Delta.TheVariants.{Same, Patch, Grown, Whole}}
+use Rattle.change_rules.{specs.Currency.{applied}, specs.declared.one_place.OnePlace.{OnePlace}, specs.Nodes.{delta_of_place}}
 use Rattle.sum_rules.specs.LineSums.{SummedValue}
 use Rattle.apl_expr.specs.Trees.{Tree}
-use Rattle.formula_core.specs.declared.kept.Kept.{Kept}
-use Rattle.formula_core.specs.declared.kept.NodeChange.{NodeChange}
-use Rattle.formula_core.specs.declared.sums.SumsDelta.{SumsDelta}
-use Rattle.formula_core.specs.declared.sums.SumsDelta.TheVariants as sums
-use Rattle.formula_core.specs.declared.table.Node.{Node}
-use Rattle.formula_core.specs.Changes.{FitsIn, each_with}
-use Rattle.formula_core.specs.Meaning.{eval}
-use Rattle.arrays_core.specs.Outcomes.{Outcome, fault}
+use Rattle.formula_core.{specs.declared.kept.Kept.{Kept}, specs.declared.kept.NodeChange.{NodeChange}, specs.declared.sums.SumsDelta.{SumsDelta}}
+use Rattle.formula_core.{specs.declared.table.Node.{Node}, specs.Changes.{FitsIn, each_with}, specs.Meaning.{eval}}
 use Rattle.formula_core.specs.Sums.{summed_at, resummed, FitsInSums}
+use Rattle.formula_core.specs.declared.sums.SumsDelta.TheVariants as sums
 
 -- what a node holds: its result, and the array whose lines it keeps as trees, with their fold, if it does
 pub record Holding : Type 0 where

@@ -1,24 +1,16 @@
 -- How many sums of parts a change of the names joins, to sum up lines of numbers.
 use Rattle.std.specs.Prelude.{ℕ, ◌-◌, ◌*◌, ◌^◌, min, nat_le, nat_lt, Bool, ◌&&◌, ◌||◌, is_ok, Ok, Err, length, if◌then◌else◌}
-use Rattle.std.specs.List.{count_by, range_with_len, sum_by}
-use Rattle.std.specs.Option.{option_map_or}
+use Rattle.std.{specs.List.{count_by, range_with_len, sum_by}, specs.Option.{option_map_or}}
 use Rattle.apl_expr.specs.Trees.{Tree, Const, Name, Monad, Dyad, Index, Scan, Outer, Inner}
-use Rattle.apl_expr.specs.Trees as tree
-use Rattle.apl_expr.specs.declared.functions.Function1.TheVariants as function1
-use Rattle.arrays_core.specs.Arrays.{ArrayValue}
-use Rattle.index_region.specs.Arguments.{is_of_numbers}
+use Rattle.arrays_core.{specs.Arrays.{ArrayValue}, specs.Outcomes.{Outcome}}
+use Rattle.index_region.{specs.Arguments.{is_of_numbers}, specs.declared.delta.Delta.{Delta}, specs.declared.delta.Delta.TheVariants.{Grown}}
 use Rattle.function_names.specs.Axes.{axis_at}
 use Rattle.reduce_fns.specs.declared.reduce.Reduce.{Reduce}
-use Rattle.index_region.specs.declared.delta.Delta.{Delta}
-use Rattle.index_region.specs.declared.delta.Delta.TheVariants.{Grown}
-use Rattle.sum_rules.specs.LineSums.{length_along, most_without_tree}
-use Rattle.sum_rules.specs.Totals.{new_items, is_narrow}
-use Rattle.formula_core.specs.Changes.{NamesChange}
-use Rattle.formula_core.specs.Meaning.{eval}
-use Rattle.arrays_core.specs.Outcomes.{Outcome}
-use Rattle.formula_core.specs.Plans.{node_change, node_cost_at}
-use Rattle.formula_core.specs.Sums.{total_of}
+use Rattle.sum_rules.{specs.LineSums.{length_along, most_without_tree}, specs.Totals.{new_items, is_narrow}}
+use Rattle.formula_core.{specs.Changes.{NamesChange}, specs.Meaning.{eval}, specs.Plans.{node_change, node_cost_at}, specs.Sums.{total_of}}
 use Rattle.formula_core.specs.Tables.{subtrees}
+use Rattle.apl_expr.specs.Trees as tree
+use Rattle.apl_expr.specs.declared.functions.Function1.TheVariants as function1
 
 -- how many binary digits a number has: how many of the powers 1, 2, 4 and so on are at most the number; 0 has none
 abbrev pub binary_digits : ℕ → ℕ

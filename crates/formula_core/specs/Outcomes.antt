@@ -1,9 +1,6 @@
 -- What a name shows: an array, or an error with the name in whose formula it arose.
-use Rattle.std.specs.Prelude.{ℕ, List, Option, Some, None, is_some, Result, Ok, Err, if◌then◌else◌}
-use Rattle.std.specs.Borrow.{Bor}
-use Rattle.arrays_core.specs.Arrays.{ArrayValue}
-use Rattle.arrays_core.specs.Outcomes.{Outcome, fault}
-use Rattle.arrays_core.specs.declared.fault.Fault.{Fault}
+use Rattle.std.{specs.Prelude.{ℕ, List, Option, Some, None, is_some, Result, Ok, Err, if◌then◌else◌}, specs.Borrow.{Bor}}
+use Rattle.arrays_core.{specs.Arrays.{ArrayValue}, specs.Outcomes.{Outcome, fault}, specs.declared.fault.Fault.{Fault}}
 use Rattle.arrays_core.specs.declared.item.Kind.TheVariants.{Value}
 
 -- what a lent array or an error says

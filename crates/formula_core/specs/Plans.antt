@@ -1,20 +1,13 @@
 -- What a formula's next results are, planned while its old ones stand.
-use Rattle.std.specs.Prelude.{◌≡◌, ◌-◌, ◌<◌, ℕ, List, [], ◌∷◌, Bool, true, false, IfOk, length, get_or, map, if◌then◌else◌}
-use Rattle.std.specs.List.{Contains, sum_by}
+use Rattle.std.{specs.Prelude.{◌≡◌, ◌-◌, ◌<◌, ℕ, List, [], ◌∷◌, Bool, true, false, IfOk, length, get_or, map, if◌then◌else◌}, specs.List.{Contains, sum_by}}
 use Rattle.apl_expr.specs.Trees.{Tree}
 use Rattle.arrays_core.specs.Arrays.{IsArray}
-use Rattle.index_region.specs.declared.delta.Delta.{Delta}
-use Rattle.index_region.specs.declared.delta.Delta.TheVariants.{Whole}
+use Rattle.index_region.{specs.declared.delta.Delta.{Delta}, specs.declared.delta.Delta.TheVariants.{Whole}}
 use Rattle.change_core.specs.Meters.{ticked}
 use Rattle.change_rules.specs.Nodes.{is_error}
-use Rattle.formula_core.specs.declared.input.Input.{Input}
-use Rattle.formula_core.specs.Meaning.{eval, names_in}
-use Rattle.formula_core.specs.Tables.{subtrees, tree_at}
-use Rattle.formula_core.specs.Formulas.{FormulaValue}
-use Rattle.formula_core.specs.Changes.{NamesChange, change, cost_at, tree_size, IsNameChanged}
-use Rattle.formula_core.specs.Inputs.{IsInput}
-use Rattle.formula_core.specs.Holdings.{holding_at, no_change, adopted, AllChangesFit}
-use Rattle.formula_core.specs.declared.kept.NodeChange.{NodeChange}
+use Rattle.formula_core.{specs.declared.input.Input.{Input}, specs.Meaning.{eval, names_in}, specs.Tables.{subtrees, tree_at}, specs.Formulas.{FormulaValue}}
+use Rattle.formula_core.{specs.Changes.{NamesChange, change, cost_at, tree_size, IsNameChanged}, specs.Inputs.{IsInput}}
+use Rattle.formula_core.{specs.Holdings.{holding_at, no_change, adopted, AllChangesFit}, specs.declared.kept.NodeChange.{NodeChange}}
 
 -- the changes of nodes, from the first on, and what they cost; of all nodes once the plan is whole
 pub record PlanValue : Type 0 where

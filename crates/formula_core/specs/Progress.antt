@@ -1,12 +1,7 @@
 -- How far a plan has come.
-use Rattle.std.specs.Prelude.{◌≡◌, ◌<◌, ℕ, List, true, length, take}
-use Rattle.std.specs.List.{count_by}
-use Rattle.formula_core.specs.declared.kept.NodeChange.{NodeChange}
-use Rattle.formula_core.specs.Changes.{NamesChange}
-use Rattle.formula_core.specs.Formulas.{FormulaValue, is_operation}
-use Rattle.formula_core.specs.Plans.{PlanValue}
-use Rattle.formula_core.specs.Stages.{IsBegun}
-use Rattle.formula_core.specs.Tables.{subtrees, tree_at}
+use Rattle.std.{specs.Prelude.{◌≡◌, ◌<◌, ℕ, List, true, length, take}, specs.List.{count_by}}
+use Rattle.formula_core.{specs.declared.kept.NodeChange.{NodeChange}, specs.Changes.{NamesChange}, specs.Formulas.{FormulaValue, is_operation}}
+use Rattle.formula_core.{specs.Plans.{PlanValue}, specs.Stages.{IsBegun}, specs.Tables.{subtrees, tree_at}}
 
 -- how many operations are among the nodes that have a change
 abbrev pub operations_among : FormulaValue → List NodeChange → ℕ

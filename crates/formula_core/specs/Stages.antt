@@ -1,37 +1,22 @@
 -- What the next change of a formula is worked out from, and the change of its node.
 use Rattle.std.specs.Prelude.{◌≡◌, ◌+◌, ◌≤◌, ◌<◌, ℕ, List, [], ◌∷◌, ◌++◌, Bool, true, false, Option, Some, None, Result, IfOk, length, map, take, get_or}
-use Rattle.std.specs.declared.alloc.AllocError.{AllocError}
-use Rattle.std.specs.List.{Contains, sum_by}
+use Rattle.std.{specs.declared.alloc.AllocError.{AllocError}, specs.List.{Contains, sum_by}}
 use Rattle.apl_expr.specs.Trees.{Tree}
-use Rattle.arrays_core.specs.Arrays.{IsArray}
-use Rattle.arrays_core.specs.declared.item.Kind.TheVariants.{Value}
+use Rattle.arrays_core.{specs.Arrays.{IsArray}, specs.declared.item.Kind.TheVariants.{Value}, specs.Outcomes.{Outcome, fault, given}}
 use Rattle.reduce_fns.specs.declared.reduce.Reduce.{Reduce}
-use Rattle.index_region.specs.declared.delta.Delta.{Delta}
-use Rattle.index_region.specs.declared.delta.Delta.TheVariants.{Same}
+use Rattle.index_region.{specs.declared.delta.Delta.{Delta}, specs.declared.delta.Delta.TheVariants.{Same}}
 use Rattle.change_core.specs.Meters.{ticked, MeterValue}
-use Rattle.change_rules.specs.Currency.{applied}
-use Rattle.change_rules.specs.Nodes.{is_whole, is_error}
-use Rattle.sum_rules.specs.LineSums.{SummedValue}
-use Rattle.sum_rules.specs.Totals.{total_rule}
-use Rattle.formula_core.specs.declared.input.Input.{Input}
-use Rattle.formula_core.specs.declared.input.Input.TheVariants.{Bad}
-use Rattle.formula_core.specs.declared.stage.Stage.{Stage}
-use Rattle.formula_core.specs.declared.table.Operand.{Operand}
-use Rattle.formula_core.specs.declared.table.Operand.TheVariants as operand
-use Rattle.formula_core.specs.Meaning.{array_of, eval}
-use Rattle.arrays_core.specs.Outcomes.{Outcome, fault, given}
+use Rattle.change_rules.{specs.Currency.{applied}, specs.Nodes.{is_whole, is_error}}
+use Rattle.sum_rules.{specs.LineSums.{SummedValue}, specs.Totals.{total_rule}}
+use Rattle.formula_core.{specs.declared.input.Input.{Input}, specs.declared.input.Input.TheVariants.{Bad}, specs.declared.stage.Stage.{Stage}}
+use Rattle.formula_core.{specs.declared.table.Operand.{Operand}, specs.Meaning.{array_of, eval}}
 use Rattle.formula_core.specs.Tables.{tree_at, tree_of_node, trees_after, subtrees, IsTable}
-use Rattle.formula_core.specs.Holdings.{Holding, holding_at, holdings_of, nodes_of, not_worked_out, no_change, taking, IsFit}
-use Rattle.formula_core.specs.Formulas.{FormulaValue}
-use Rattle.formula_core.specs.Changes.{NamesChange, change, arguments, operation_cost, IsNameChanged}
-use Rattle.formula_core.specs.Inputs.{shown, delta_of, IsInput}
-use Rattle.formula_core.specs.Joins.{most_joins_of, least_joins_of, most_joins, least_joins}
-use Rattle.formula_core.specs.Plans.{node_change, node_cost_at, AreInputs, IsNameSound}
-use Rattle.formula_core.specs.Sums.{summed_at, resummed, FitsInSums}
-use Rattle.formula_core.specs.declared.sums.SumsDelta.{SumsDelta}
-use Rattle.formula_core.specs.declared.sums.SumsDelta.TheVariants.{Whole}
-use Rattle.formula_core.specs.declared.table.Node.{Node}
-use Rattle.formula_core.specs.declared.kept.NodeChange.{NodeChange}
+use Rattle.formula_core.{specs.Holdings.{Holding, holding_at, holdings_of, nodes_of, not_worked_out, no_change, taking, IsFit}, specs.Formulas.{FormulaValue}}
+use Rattle.formula_core.{specs.Changes.{NamesChange, change, arguments, operation_cost, IsNameChanged}, specs.Inputs.{shown, delta_of, IsInput}}
+use Rattle.formula_core.{specs.Joins.{most_joins_of, least_joins_of, most_joins, least_joins}, specs.Plans.{node_change, node_cost_at, AreInputs, IsNameSound}}
+use Rattle.formula_core.{specs.Sums.{summed_at, resummed, FitsInSums}, specs.declared.sums.SumsDelta.{SumsDelta}}
+use Rattle.formula_core.{specs.declared.sums.SumsDelta.TheVariants.{Whole}, specs.declared.table.Node.{Node}, specs.declared.kept.NodeChange.{NodeChange}}
+use Rattle.formula_core.specs.declared.table.Operand.TheVariants as operand
 
 -- what the node of a tree held, with its change, is what the tree gives now; the results are arrays or errors
 pub record IsDone (is_new : Bool) (c : NamesChange) (t : Tree) (held : Holding) (d : NodeChange) : Type 0 where

@@ -1,31 +1,19 @@
 -- The trees of lines that the totals of a formula keep.
-use Rattle.std.specs.Prelude.{◌≡◌, ℕ, List, true, false, Option, Some, None, is_some, Ok, Err, if◌then◌else◌}
-use Rattle.std.specs.Option.{option_map, option_map_or}
-use Rattle.apl_expr.specs.Trees.{Tree, Const, Name, Monad, Dyad, Index, Scan, Outer, Inner}
-use Rattle.apl_expr.specs.Trees as tree
-use Rattle.apl_expr.specs.declared.functions.Function1.{Function1}
-use Rattle.apl_expr.specs.declared.functions.Function1.TheVariants as function1
-use Rattle.arrays_core.specs.Arrays.{ArrayValue}
-use Rattle.arrays_core.specs.Growth.{grown_by}
+use Rattle.std.{specs.Prelude.{◌≡◌, ℕ, List, true, false, Option, Some, None, is_some, Ok, Err, if◌then◌else◌}, specs.Option.{option_map, option_map_or}}
+use Rattle.apl_expr.{specs.Trees.{Tree, Const, Name, Monad, Dyad, Index, Scan, Outer, Inner}, specs.declared.functions.Function1.{Function1}}
+use Rattle.arrays_core.{specs.Arrays.{ArrayValue}, specs.Growth.{grown_by}, specs.Outcomes.{Outcome}}
 use Rattle.reduce_fns.specs.declared.reduce.Reduce.{Reduce}
-use Rattle.index_region.specs.declared.delta.Delta.{Delta}
-use Rattle.index_region.specs.declared.delta.Delta.TheVariants.{Patch as PatchDelta, Grown as GrownDelta}
-use Rattle.index_region.specs.Patches.{PatchValue, FitsPatch, patched}
-use Rattle.index_region.specs.Tails.{TailValue, FitsTail}
-use Rattle.change_rules.specs.Currency.{applied}
-use Rattle.change_rules.specs.Nodes.{is_whole}
-use Rattle.sum_rules.specs.LineSums.{SummedValue, keeps_sums, summed, patched_sums, grown_sums}
-use Rattle.sum_rules.specs.JoinedPatches.{IsJoinedWith}
+use Rattle.index_region.{specs.declared.delta.Delta.{Delta}, specs.declared.delta.Delta.TheVariants.{Patch as PatchDelta, Grown as GrownDelta}}
+use Rattle.index_region.{specs.Patches.{PatchValue, FitsPatch, patched}, specs.Tails.{TailValue, FitsTail}}
+use Rattle.change_rules.{specs.Currency.{applied}, specs.Nodes.{is_whole}}
+use Rattle.sum_rules.{specs.LineSums.{SummedValue, keeps_sums, summed, patched_sums, grown_sums}, specs.JoinedPatches.{IsJoinedWith}}
 use Rattle.sum_rules.specs.NewLines.{FitsSums as FitBehind}
-use Rattle.formula_core.specs.declared.sums.SumsDelta.{SumsDelta}
-use Rattle.formula_core.specs.declared.sums.SumsDelta.TheVariants.{Same, Patch, Grown, Whole}
-use Rattle.formula_core.specs.Changes.{FitsIn}
-use Rattle.formula_core.specs.declared.table.Node.{Node}
-use Rattle.formula_core.specs.declared.table.Node.TheVariants as node
-use Rattle.formula_core.specs.declared.table.Operand.{Operand}
+use Rattle.formula_core.{specs.declared.sums.SumsDelta.{SumsDelta}, specs.declared.sums.SumsDelta.TheVariants.{Same, Patch, Grown, Whole}}
+use Rattle.formula_core.{specs.Changes.{FitsIn}, specs.declared.table.Node.{Node}, specs.declared.table.Operand.{Operand}, specs.Meaning.{eval}}
 use Rattle.fold_trees.specs.FoldTrees.{has_trees}
-use Rattle.formula_core.specs.Meaning.{eval}
-use Rattle.arrays_core.specs.Outcomes.{Outcome}
+use Rattle.apl_expr.specs.Trees as tree
+use Rattle.apl_expr.specs.declared.functions.Function1.TheVariants as function1
+use Rattle.formula_core.specs.declared.table.Node.TheVariants as node
 
 -- the fold that a function is whose parts are kept as trees, if it is one, as +/ and ⌈⌿ are
 abbrev pub total_of : Function1 → Option Reduce

@@ -2,11 +2,9 @@
 use Rattle.std.specs.Prelude.{◌≡◌, ◌<◌, ◌≤◌, ℕ, suc, List, [], ◌∷◌, ◌++◌, Bool, true, false, Option, Some, None, length, map, get_or}
 use Rattle.std.specs.Option.{option_map}
 use Rattle.apl_expr.specs.Trees.{Tree, Const, Name, Monad, Dyad, Index, Reduce, Scan, Outer, Inner, before_argument, between_arguments, Positions, NoPositions, Empty, Filled, Numbers, positions_of}
-use Rattle.formula_core.specs.declared.table.Operand.{Operand}
+use Rattle.formula_core.{specs.declared.table.Operand.{Operand}, specs.declared.table.Node.{Node}, specs.Meaning.{names_in, names_in_positions}}
 use Rattle.formula_core.specs.declared.table.Operand.TheVariants as operand
-use Rattle.formula_core.specs.declared.table.Node.{Node}
 use Rattle.formula_core.specs.declared.table.Node.TheVariants as node
-use Rattle.formula_core.specs.Meaning.{names_in, names_in_positions}
 
 abbrev mutual
   -- the trees of the operations in a tree, each after those in it; what a literal gives and a name shows is lent, and has no node

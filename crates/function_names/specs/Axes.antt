@@ -1,7 +1,6 @@
 -- The axis along which a function works, counted from 0.
 use Rattle.std.specs.Prelude.{ℕ, ◌-◌, pos, int_le, unsigned_abs, Bool, true, ◌&&◌}
-use Rattle.function_names.specs.declared.along.Along.{Along}
-use Rattle.function_names.specs.declared.along.Along.TheVariants.{First, Last, Axis}
+use Rattle.function_names.{specs.declared.along.Along.{Along}, specs.declared.along.Along.TheVariants.{First, Last, Axis}}
 
 -- there is such an axis among as many as the rank says
 abbrev pub is_axis : ℕ → Along → Bool

@@ -2,9 +2,7 @@
 use Rattle.std.proofs.Common.{◌≡◌, ℕ, ◌+◌, ◌*◌, ◌/◌, ◌%◌, ◌<◌, ◌≤◌, List, [], ◌∷◌, arith, true, false, Bool, sym, ap, ◌∙◌, refl, inl, inr}
 use Rattle.std.proofs.lemmas.Bool.{cond-true, cond-false, lt-ltb, le-ltb, cases_order}
 use Rattle.std.proofs.lemmas.Nat.{div-add-mod', div-mul-add, mod-mul-add, mod_below, div_below, mul-le}
-use Rattle.index_region.specs.Boxes.{Interval, interval_length, box_size, walk_at}
-use Rattle.index_region.proofs.Walks.{rest_positive}
-use Rattle.index_region.specs.Advancing.{stepped, next_in}
+use Rattle.index_region.{specs.Boxes.{Interval, interval_length, box_size, walk_at}, proofs.Walks.{rest_positive}, specs.Advancing.{stepped, next_in}}
 
 -- what is there after a step
 pub record Next (region : List Interval) (before : ℕ) : Type 0 where

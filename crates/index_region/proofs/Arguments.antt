@@ -1,10 +1,7 @@
 -- Functions of one argument or two, given the list of their arguments.
 use Rattle.std.proofs.Common.{◌≡◌, ℕ, List, [], ◌∷◌, length, Result, refl, arith}
-use Rattle.arrays_core.specs.declared.item.Item.{Item}
-use Rattle.arrays_core.specs.declared.item.Kind.{Kind}
-use Rattle.arrays_core.specs.Arrays.{ArrayValue}
-use Rattle.index_region.specs.Checks.{Form, whole}
-use Rattle.index_region.specs.ArgumentLists.{of_one_argument, of_two_arguments}
+use Rattle.arrays_core.{specs.declared.item.Item.{Item}, specs.declared.item.Kind.{Kind}, specs.Arrays.{ArrayValue}}
+use Rattle.index_region.{specs.Checks.{Form, whole}, specs.ArgumentLists.{of_one_argument, of_two_arguments}}
 
 pub whole_of_one : (form : ArrayValue → Result Form Kind) (item : ArrayValue → List ℕ → Result Item Kind) (args : List ArrayValue)
     → length args ≡ 1 → whole (of_one_argument form args) (λ index. of_one_argument (λ b. item b index) args) ≡ of_one_argument (λ b. whole (form b) (item b)) args

@@ -1,12 +1,8 @@
 -- Arrays with a tail behind them.
 use Rattle.std.proofs.Common.{◌≡◌, ℕ, ◌+◌, ◌-◌, ◌<◌, ◌≤◌, List, ◌++◌, length, get_or, All, Option, Box, refl, ap, ◌∙◌, sym, subst, arith}
 use Rattle.std.proofs.lemmas.List.{get_or_append_left, get_or-append_right, get_or_default, length-append}
-use Rattle.arrays_core.specs.declared.item.Item.{Item}
-use Rattle.arrays_core.specs.Arrays.{ArrayValue, IsArray}
-use Rattle.arrays_core.specs.declared.item.ItemType.{ItemType}
-use Rattle.arrays_core.specs.Growth.{grown_by, FitsGrowth, HasRoom, IsRoomFor, RoomValue}
-use Rattle.arrays_core.specs.Items.{fill, type_of}
-use Rattle.arrays_core.specs.Shapes.{size, IsWithinLimits}
+use Rattle.arrays_core.{specs.declared.item.Item.{Item}, specs.Arrays.{ArrayValue, IsArray}, specs.declared.item.ItemType.{ItemType}}
+use Rattle.arrays_core.{specs.Growth.{grown_by, FitsGrowth, HasRoom, IsRoomFor, RoomValue}, specs.Items.{fill, type_of}, specs.Shapes.{size, IsWithinLimits}}
 use Rattle.arrays_core.proofs.Growing.{fits_growth, grown_sound, size_longer}
 use Rattle.index_region.specs.Tails.{FitsTail, IsRoomBehind, IsTail, TailValue}
 

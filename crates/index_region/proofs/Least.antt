@@ -3,11 +3,9 @@ use Rattle.std.proofs.Common.{◌≡◌, ℕ, suc, zero, ◌+◌, ◌-◌, ◌*�
 use Rattle.std.specs.List.{list_all}
 use Rattle.std.proofs.lemmas.Bool.{and_parts, and_from, leb-true, le-leb, eqb-true, eqb-false, false≢true, cases_Bool, cond-true, cond-false, cases_order}
 use Rattle.std.proofs.lemmas.Nat.{div-mul-add, mod-mul-add, mod_below, div-add-mod', mul-le}
-use Rattle.arrays_core.specs.Shapes.{size, is_index_of, places_before, index_after}
-use Rattle.arrays_core.proofs.Shapes.{places_below}
+use Rattle.arrays_core.{specs.Shapes.{size, is_index_of, places_before, index_after}, proofs.Shapes.{places_below}}
 use Rattle.arrays_core.proofs.Order.{index_after-within, places_before-index_after}
-use Rattle.index_region.specs.Boxes.{Interval, is_within, hull_of, whole_of, cover}
-use Rattle.index_region.specs.BoxLaws.{LiesIn, HoldsPlaces}
+use Rattle.index_region.{specs.Boxes.{Interval, is_within, hull_of, whole_of, cover}, specs.BoxLaws.{LiesIn, HoldsPlaces}}
 
 -- ---- the hull
 

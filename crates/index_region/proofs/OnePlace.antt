@@ -1,11 +1,8 @@
 -- Boxes of one place.
-use Rattle.std.proofs.Common.{◌≡◌, ℕ, ◌+◌, ◌-◌, ◌≤◌, List, [], ◌∷◌, suc, length, map, true, refl, ap, arith}
-use Rattle.std.proofs.Math.Nat.{zero-div, zero-mod}
+use Rattle.std.{proofs.Common.{◌≡◌, ℕ, ◌+◌, ◌-◌, ◌≤◌, List, [], ◌∷◌, suc, length, map, true, refl, ap, arith}, proofs.Math.Nat.{zero-div, zero-mod}}
 use Rattle.std.proofs.lemmas.Bool.{and_parts, and_from, le-leb, false≢true}
-use Rattle.arrays_core.specs.Limits.{most_axes}
-use Rattle.arrays_core.specs.Shapes.{is_index_of}
-use Rattle.index_region.specs.Boxes.{Interval, box_size, walk_at, fits, is_box}
-use Rattle.index_region.proofs.Boxes.{fits_box}
+use Rattle.arrays_core.{specs.Limits.{most_axes}, specs.Shapes.{is_index_of}}
+use Rattle.index_region.{specs.Boxes.{Interval, box_size, walk_at, fits, is_box}, proofs.Boxes.{fits_box}}
 
 -- the box of one place
 abbrev pub one_place : List ℕ → List Interval

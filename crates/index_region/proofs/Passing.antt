@@ -1,19 +1,11 @@
 -- What is known where checks have passed.
 use Rattle.std.proofs.Common.{◌≡◌, ◌≤◌, ℕ, Bool, true, false, List, [], ◌∷◌, ◌++◌, length, get_or, Result, Ok, Err, refl, sym, ap, arith}
-use Rattle.std.specs.Prelude.{nat_le}
-use Rattle.std.proofs.lemmas.Bool.{and_parts, and_from, leb-true, le-leb}
+use Rattle.std.{specs.Prelude.{nat_le}, proofs.lemmas.Bool.{and_parts, and_from, leb-true, le-leb}}
 use Rattle.std.proofs.lemmas.List.Sums.{list_all-from_AllPass, AllPass-from_list_all}
-use Rattle.arrays_core.specs.Limits.{most_axes, longest_axis, most_places}
-use Rattle.arrays_core.specs.declared.item.Item.{Item}
-use Rattle.arrays_core.specs.declared.item.ItemType.{ItemType}
-use Rattle.arrays_core.specs.declared.item.Kind.{Kind}
-use Rattle.arrays_core.specs.declared.item.Kind.TheVariants.{Limit}
-use Rattle.arrays_core.specs.Arrays.{ArrayValue}
-use Rattle.arrays_core.specs.Items.{type_of}
-use Rattle.arrays_core.specs.Shapes.{is_index_of, size, IsWithinLimits}
-use Rattle.arrays_core.specs.Building.{IsRowOf}
-use Rattle.index_region.specs.Checks.{form_of, check, Form, limited, is_within_limits}
-use Rattle.index_region.specs.Answers.{IsPlaceOf, IsRowIn, HasTypeOf}
+use Rattle.arrays_core.{specs.Limits.{most_axes, longest_axis, most_places}, specs.declared.item.Item.{Item}, specs.declared.item.ItemType.{ItemType}}
+use Rattle.arrays_core.{specs.declared.item.Kind.{Kind}, specs.declared.item.Kind.TheVariants.{Limit}, specs.Arrays.{ArrayValue}, specs.Items.{type_of}}
+use Rattle.arrays_core.{specs.Shapes.{is_index_of, size, IsWithinLimits}, specs.Building.{IsRowOf}}
+use Rattle.index_region.{specs.Checks.{form_of, check, Form, limited, is_within_limits}, specs.Answers.{IsPlaceOf, IsRowIn, HasTypeOf}}
 
 -- a check that has passed, and a place of what follows
 pub record Passed (holds : Bool) (rest : Result Form Kind) (index : List ℕ) : Type 0 where

@@ -1,9 +1,6 @@
 -- Items that come from places.
-use Rattle.std.proofs.Common.{◌≡◌, ℕ, true, cond, List, get_or, Some, None, Ok, ap}
-use Rattle.std.specs.Prelude.{unwrap_or}
-use Rattle.arrays_core.specs.Arrays.{ArrayValue}
-use Rattle.arrays_core.specs.Items.{fill}
-use Rattle.arrays_core.specs.Shapes.{is_index_of, places_before}
+use Rattle.std.{proofs.Common.{◌≡◌, ℕ, true, cond, List, get_or, Some, None, Ok, ap}, specs.Prelude.{unwrap_or}}
+use Rattle.arrays_core.{specs.Arrays.{ArrayValue}, specs.Items.{fill}, specs.Shapes.{is_index_of, places_before}}
 use Rattle.index_region.specs.Sources.{Place, item_from}
 
 -- the item of a place of the left argument, or of the right one

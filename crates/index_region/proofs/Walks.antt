@@ -2,8 +2,7 @@
 use Rattle.std.proofs.Common.{◌≡◌, ℕ, ◌+◌, ◌-◌, ◌*◌, ◌/◌, ◌%◌, ◌<◌, ◌≤◌, List, [], ◌∷◌, refl, arith, true, IsTrue}
 use Rattle.std.proofs.lemmas.Bool.{and_parts, and_from, leb-true, le-leb, false≢true}
 use Rattle.std.proofs.lemmas.Nat.{div_below, mod_below, div-add-mod', div-mul-add, mod-mul-add, mul-le}
-use Rattle.index_region.specs.Boxes.{Interval, box_size, box_offset, interval_length, is_within, walk_at, fits}
-use Rattle.index_region.proofs.Patched.{row_below}
+use Rattle.index_region.{specs.Boxes.{Interval, box_size, box_offset, interval_length, is_within, walk_at, fits}, proofs.Patched.{row_below}}
 
 -- a box with a place has one on each of its later axes
 pub rest_positive : (p n w : ℕ) → p < n * w → 0 < w

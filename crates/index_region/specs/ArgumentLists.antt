@@ -1,8 +1,6 @@
 -- Functions of one argument or two, given the list of their arguments.
 use Rattle.std.specs.Prelude.{List, [], ◌∷◌, Result, Err}
-use Rattle.arrays_core.specs.declared.item.Kind.{Kind}
-use Rattle.arrays_core.specs.declared.item.Kind.TheVariants.{Length}
-use Rattle.arrays_core.specs.Arrays.{ArrayValue}
+use Rattle.arrays_core.{specs.declared.item.Kind.{Kind}, specs.declared.item.Kind.TheVariants.{Length}, specs.Arrays.{ArrayValue}}
 
 -- a function of one argument, given the list of its arguments. Each call has as many arguments as its function takes, so the
 -- last case, LENGTH, is never met

@@ -1,9 +1,7 @@
 -- Boxes of places: an interval on each axis.
 use Rattle.std.specs.Prelude.{ℕ, ◌+◌, ◌-◌, ◌*◌, ◌/◌, ◌%◌, List, [], ◌∷◌, Bool, ◌&&◌, nat_le, nat_lt, nat_eq, length, map, min, max, Option, Some, None, if◌then◌else◌}
-use Rattle.std.specs.List.{list_all, list_any}
-use Rattle.std.specs.Cmp.Lexicographic.{pointwise}
-use Rattle.arrays_core.specs.Limits.{most_axes}
-use Rattle.arrays_core.specs.Shapes.{index_after}
+use Rattle.std.{specs.List.{list_all, list_any}, specs.Cmp.Lexicographic.{pointwise}}
+use Rattle.arrays_core.{specs.Limits.{most_axes}, specs.Shapes.{index_after}}
 
 -- the first and the last place of an axis, counted from 1
 abbrev pub Interval : Type 0

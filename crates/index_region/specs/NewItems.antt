@@ -1,10 +1,7 @@
 -- New items: one by itself, or those of an array.
 use Rattle.std.specs.Prelude.{List, [], ◌∷◌}
-use Rattle.arrays_core.specs.declared.item.Item.{Item}
-use Rattle.arrays_core.specs.declared.item.ItemType.{ItemType}
-use Rattle.arrays_core.specs.Items.{type_of}
-use Rattle.index_region.specs.declared.new_items.NewItems.{NewItems}
-use Rattle.index_region.specs.declared.new_items.NewItems.TheVariants.{One, Many}
+use Rattle.arrays_core.{specs.declared.item.Item.{Item}, specs.declared.item.ItemType.{ItemType}, specs.Items.{type_of}}
+use Rattle.index_region.{specs.declared.new_items.NewItems.{NewItems}, specs.declared.new_items.NewItems.TheVariants.{One, Many}}
 
 -- the items, in row-major order
 abbrev pub items_of : NewItems → List Item

@@ -1,17 +1,13 @@
 -- Worked cases of boxes, computed.
 use Rattle.std.proofs.Common.{◌≡◌, refl, pos, ℕ, List, [], ◌∷◌, replicate, Option, Some, None}
-use Rattle.arrays_core.specs.Arrays.{ArrayValue}
-use Rattle.arrays_core.specs.Shapes.{size}
-use Rattle.arrays_core.proofs.CaseWords.{nums}
+use Rattle.arrays_core.{specs.Arrays.{ArrayValue}, specs.Shapes.{size}, proofs.CaseWords.{nums}}
 use Rattle.function_names.specs.declared.along.Along.TheVariants.{First, Last, Axis}
 use Rattle.index_region.specs.Boxes.{Interval}
-use Rattle.function_names.specs.declared.scalar.Scalar2.TheVariants as two
-use Rattle.change_core.specs.declared.reach.Reach.TheVariants.{Unmoved, Inside, Anew}
-use Rattle.change_core.specs.Reaches.{reach_of}
+use Rattle.change_core.{specs.declared.reach.Reach.TheVariants.{Unmoved, Inside, Anew}, specs.Reaches.{reach_of}}
 use Rattle.reduce_fns.specs.Reduce.{reduce_rule}
 use Rattle.scan_fns.specs.Scan.{scan_rule}
-use Rattle.operator_fns.specs.OuterProduct.{outer_rule}
-use Rattle.operator_fns.specs.InnerProduct.{inner_rule}
+use Rattle.operator_fns.{specs.OuterProduct.{outer_rule}, specs.InnerProduct.{inner_rule}}
+use Rattle.function_names.specs.declared.scalar.Scalar2.TheVariants as two
 
 -- an array of this shape, all of noughts
 abbrev array : List ℕ → ArrayValue

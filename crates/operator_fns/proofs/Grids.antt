@@ -1,37 +1,20 @@
 -- Inner products of numbers, by the numbers as they lie.
 use Rattle.std.proofs.Common.{◌≡◌, ◌≢◌, ℕ, zero, suc, ◌+◌, ◌-◌, ◌*◌, ◌/◌, ◌%◌, ◌<◌, ◌≤◌, Bool, true, false, cond, eqb, ◌||◌, List, [], ◌∷◌, ◌++◌, length, get_or, map, take, drop, ℤ, pos, Result, Ok, Err, refl, ap, sym, subst, ◌∙◌, arith, inl, inr}
-use Rattle.std.specs.List.{range_with_len}
-use Rattle.std.proofs.lemmas.Bool.Decides.{eqb_tells}
-use Rattle.arrays_core.specs.declared.item.Item.TheVariants.{Num}
-use Rattle.arrays_core.specs.declared.item.ItemType.TheVariants.{Nums}
-use Rattle.arrays_core.specs.declared.item.Kind.{Kind}
-use Rattle.arrays_core.specs.declared.item.Kind.TheVariants.{Length}
-use Rattle.arrays_core.specs.Items.{fill, and_then}
-use Rattle.arrays_core.specs.Shapes.{size, is_index_of, index_after, places_before}
-use Rattle.arrays_core.specs.Arrays.{ArrayValue, collect}
-use Rattle.arrays_core.proofs.Shapes.{places_below, factor_le}
-use Rattle.arrays_core.proofs.Order.{places_before-index_after, index_after-within}
+use Rattle.std.{specs.List.{range_with_len}, proofs.lemmas.Bool.Decides.{eqb_tells}}
+use Rattle.arrays_core.{specs.declared.item.Item.TheVariants.{Num}, specs.declared.item.ItemType.TheVariants.{Nums}, specs.declared.item.Kind.{Kind}}
+use Rattle.arrays_core.{specs.declared.item.Kind.TheVariants.{Length}, specs.Items.{fill, and_then}}
+use Rattle.arrays_core.{specs.Shapes.{size, is_index_of, index_after, places_before}, specs.Arrays.{ArrayValue, collect}}
+use Rattle.arrays_core.{proofs.Shapes.{places_below, factor_le}, proofs.Order.{places_before-index_after, index_after-within}}
 use Rattle.function_names.specs.declared.scalar.Scalar2.{Scalar2}
-use Rattle.scalar_fns.specs.Numbers.{dyadic_on_numbers}
-use Rattle.scalar_fns.specs.Items.{dyadic_on_items, number_item}
-use Rattle.scalar_fns.specs.NumberLists.{number_items}
-use Rattle.scalar_fns.specs.ScalarExtension.{extended}
-use Rattle.scalar_fns.specs.Folds.{folded}
-use Rattle.scalar_fns.proofs.ItemFolds.{folded_numbers}
-use Rattle.index_region.specs.Checks.{form_of, Form, whole, limited}
-use Rattle.index_region.specs.Arguments.{has_one_item}
-use Rattle.index_region.proofs.Passing.{gives, limited_gives}
-use Rattle.scalar_fns.specs.RightFold.{fold_right}
+use Rattle.scalar_fns.{specs.Numbers.{dyadic_on_numbers}, specs.Items.{dyadic_on_items, number_item}, specs.NumberLists.{number_items}}
+use Rattle.scalar_fns.{specs.ScalarExtension.{extended}, specs.Folds.{folded}, proofs.ItemFolds.{folded_numbers}, specs.RightFold.{fold_right}}
+use Rattle.index_region.{specs.Checks.{form_of, Form, whole, limited}, specs.Arguments.{has_one_item}, proofs.Passing.{gives, limited_gives}}
 use Rattle.operator_fns.specs.InnerProduct.{row_rank, row_length, column_length, inner_length, inner_form, inner_item, inner_whole, all_or_last_error}
 use Rattle.operator_fns.specs.RowByColumn.{entry, all_met, folded_all, row_at, column_at, cell, IsGridOf, grid_of}
-use Rattle.operator_fns.specs.Laws.JoinedIndices.{parts, size-append}
-use Rattle.operator_fns.proofs.Joined.{number_there}
-use Rattle.reduce_fns.proofs.Lines.{size-drop-le}
-use Rattle.operator_fns.proofs.Meetings.{length-met}
+use Rattle.operator_fns.{specs.Laws.JoinedIndices.{parts, size-append}, proofs.Joined.{number_there}, proofs.Meetings.{length-met}}
 use Rattle.operator_fns.specs.Laws.InnerPlaces.{extended_one, extended_many, row_place, column_place, last_axis, rank_of_rows, lengths_of}
-use Rattle.operator_fns.proofs.Inners.{products_met, fold_of_some}
-use Rattle.operator_fns.proofs.Outers.{as_many}
-use Rattle.reduce_fns.proofs.Placewise.{collected_same}
+use Rattle.operator_fns.{proofs.Inners.{products_met, fold_of_some}, proofs.Outers.{as_many}}
+use Rattle.reduce_fns.{proofs.Lines.{size-drop-le}, proofs.Placewise.{collected_same}}
 
 -- ---- folds of numbers are folds of items
 

@@ -1,9 +1,8 @@
 -- Worked cases of the inner product, computed.
 use Rattle.std.proofs.Common.{◌≡◌, refl, pos, [], ◌∷◌}
-use Rattle.arrays_core.specs.declared.item.Kind.TheVariants.{Length, Domain, Limit}
-use Rattle.function_names.specs.declared.scalar.Scalar2.TheVariants as two
+use Rattle.arrays_core.{specs.declared.item.Kind.TheVariants.{Length, Domain, Limit}, proofs.CaseWords.{nums, ints, chars, is, fails, minus, greatest, least}}
 use Rattle.operator_fns.specs.InnerProduct.{inner_whole}
-use Rattle.arrays_core.proofs.CaseWords.{nums, ints, chars, is, fails, minus, greatest, least}
+use Rattle.function_names.specs.declared.scalar.Scalar2.TheVariants as two
 
 -- 1 2 3+.×4 5 6, and matrices
 vectors : inner_whole two.Plus two.Times (nums (3 ∷ []) (1 ∷ 2 ∷ 3 ∷ [])) (nums (3 ∷ []) (4 ∷ 5 ∷ 6 ∷ [])) ≡ is (nums [] (32 ∷ []))

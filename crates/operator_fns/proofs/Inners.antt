@@ -1,20 +1,11 @@
 -- Rows and columns of arrays, and inner products.
 use Rattle.std.proofs.Common.{◌≡◌, ℕ, ◌+◌, ◌<◌, List, [], ◌∷◌, ◌++◌, length, map, take, drop, Result, Ok, Err, refl, ap, sym, ◌∙◌, arith}
-use Rattle.std.specs.List.{range_with_len}
-use Rattle.std.proofs.lemmas.List.{ext_get_or}
-use Rattle.std.proofs.lemmas.List.FromFn.{length-map-range_with_len, get_or-map-range_with_len}
-use Rattle.arrays_core.specs.declared.item.Item.{Item}
-use Rattle.arrays_core.specs.declared.item.Kind.{Kind}
-use Rattle.arrays_core.specs.Items.{and_then}
-use Rattle.arrays_core.specs.Arrays.{ArrayValue}
+use Rattle.std.{specs.List.{range_with_len}, proofs.lemmas.List.{ext_get_or}, proofs.lemmas.List.FromFn.{length-map-range_with_len, get_or-map-range_with_len}}
+use Rattle.arrays_core.{specs.declared.item.Item.{Item}, specs.declared.item.Kind.{Kind}, specs.Items.{and_then}, specs.Arrays.{ArrayValue}}
 use Rattle.function_names.specs.declared.scalar.Scalar2.{Scalar2}
-use Rattle.scalar_fns.specs.Items.{dyadic_on_items}
-use Rattle.scalar_fns.specs.ScalarExtension.{extended}
-use Rattle.scalar_fns.specs.Folds.{folded}
-use Rattle.scalar_fns.specs.RightFold.{fold_right}
-use Rattle.operator_fns.specs.InnerProduct.{row_rank, inner_length, inner_item, all_or_last_error, products}
-use Rattle.operator_fns.specs.RowByColumn.{all_met, folded_all}
+use Rattle.scalar_fns.{specs.Items.{dyadic_on_items}, specs.ScalarExtension.{extended}, specs.Folds.{folded}, specs.RightFold.{fold_right}}
 use Rattle.scalar_fns.proofs.ItemFolds.{some_folded}
+use Rattle.operator_fns.{specs.InnerProduct.{row_rank, inner_length, inner_item, all_or_last_error, products}, specs.RowByColumn.{all_met, folded_all}}
 use Rattle.operator_fns.proofs.Meetings.{length-met, met_at}
 
 -- ---- the fold of a row and a column

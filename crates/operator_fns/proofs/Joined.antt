@@ -1,10 +1,6 @@
 -- Index lists of two shapes, one after the other.
-use Rattle.std.proofs.Common.{◌≡◌, ℕ, ◌<◌, ◌≤◌, true, List, ◌++◌, length, get_or, map, ℤ, pos, ap, ◌∙◌, arith}
-use Rattle.std.proofs.lemmas.List.{length-append, get_or-map}
-use Rattle.arrays_core.specs.declared.item.Item.{Item}
-use Rattle.arrays_core.specs.declared.item.Item.TheVariants.{Num}
-use Rattle.arrays_core.specs.Shapes.{is_index_of}
-use Rattle.arrays_core.proofs.Shapes.{as_long}
+use Rattle.std.{proofs.Common.{◌≡◌, ℕ, ◌<◌, ◌≤◌, true, List, ◌++◌, length, get_or, map, ℤ, pos, ap, ◌∙◌, arith}, proofs.lemmas.List.{length-append, get_or-map}}
+use Rattle.arrays_core.{specs.declared.item.Item.{Item}, specs.declared.item.Item.TheVariants.{Num}, specs.Shapes.{is_index_of}, proofs.Shapes.{as_long}}
 
 pub long_enough : (s t index : List ℕ) → is_index_of (s ++ t) index ≡ true → length s ≤ length index
 long_enough s t index h = omega (arith, as_long (s ++ t) index h, length-append s t)

@@ -2,8 +2,7 @@
 use Rattle.std.proofs.Common.{◌≡◌, ℕ, ◌+◌, ◌<◌, List, ◌∷◌, length, get_or, drop, set, refl, ap, ◌∙◌, sym, ℤ, Result, Ok, Err}
 use Rattle.std.proofs.lemmas.List.{drop_more, drop-set}
 use Rattle.arrays_core.specs.declared.item.Kind.{Kind}
-use Rattle.operator_fns.specs.InnerProduct.{all_or_last_error}
-use Rattle.operator_fns.proofs.Meetings.{later_error}
+use Rattle.operator_fns.{specs.InnerProduct.{all_or_last_error}, proofs.Meetings.{later_error}}
 
 -- one more that is fine
 pub one_written : (rs : List (Result ℤ Kind)) (zs : List ℤ) (k : ℕ) (z : ℤ) → k < length rs → k < length zs → get_or rs k (Ok z) ≡ Ok z

@@ -1,9 +1,8 @@
 -- Worked cases of the outer product, computed.
 use Rattle.std.proofs.Common.{◌≡◌, refl, pos, [], ◌∷◌}
-use Rattle.arrays_core.specs.declared.item.Kind.TheVariants.{Domain, Limit}
-use Rattle.function_names.specs.declared.scalar.Scalar2.TheVariants as two
+use Rattle.arrays_core.{specs.declared.item.Kind.TheVariants.{Domain, Limit}, proofs.CaseWords.{nums, ints, chars, is, fails, minus, least}}
 use Rattle.operator_fns.specs.OuterProduct.{outer_whole}
-use Rattle.arrays_core.proofs.CaseWords.{nums, ints, chars, is, fails, minus, least}
+use Rattle.function_names.specs.declared.scalar.Scalar2.TheVariants as two
 
 -- 1 2∘.×1 2 3, and by other functions
 matrix : outer_whole two.Times (nums (2 ∷ []) (1 ∷ 2 ∷ [])) (nums (3 ∷ []) (1 ∷ 2 ∷ 3 ∷ [])) ≡ is (nums (2 ∷ 3 ∷ []) (1 ∷ 2 ∷ 3 ∷ 2 ∷ 4 ∷ 6 ∷ []))

@@ -1,24 +1,16 @@
 -- The sum of products of small numbers, whose fold is that sum.
 use Rattle.std.proofs.Common.{◌≡◌, ℕ, suc, ◌+◌, ◌-◌, ◌*◌, ◌/◌, ◌%◌, inl, inr, ◌^◌, ◌<◌, ◌≤◌, List, [], ◌∷◌, ◌++◌, length, get_or, take, drop, map, refl, ap, subst, sym, ◌∙◌, arith, ℤ, pos, negsuc, ◌+ℤ◌, ◌*ℤ◌, unsigned_abs, FitsSigned, Ok}
-use Rattle.std.specs.Int.{w64}
-use Rattle.std.specs.List.{All, range_with_len}
-use Rattle.std.proofs.lemmas.Int.{ints, unsigned_abs-mul, fits_signed_from_abs}
+use Rattle.std.{specs.Int.{w64}, specs.List.{All, range_with_len}, proofs.lemmas.Int.{ints, unsigned_abs-mul, fits_signed_from_abs}}
 use Rattle.std.proofs.lemmas.List.FromFn.{length-map-range_with_len, get_or-map-range_with_len, map-range_with_len_more}
 use Rattle.std.proofs.Math.Nat.{mul-le-mul, mul-le-mul_left, mul-le-mul_right}
 use Rattle.std.proofs.lemmas.List.{get_or-take, get_or-drop, get_or_append_left, get_or-append_right, length-take, length-drop}
-use Rattle.std.proofs.lemmas.List.Elements.{All-take, All-drop}
-use Rattle.std.proofs.lemmas.Bool.{cases_lt}
-use Rattle.std.proofs.lemmas.Nat.{div-mul-add, mod-mul-add}
+use Rattle.std.{proofs.lemmas.List.Elements.{All-take, All-drop}, proofs.lemmas.Bool.{cases_lt}, proofs.lemmas.Nat.{div-mul-add, mod-mul-add}}
 use Rattle.arrays_core.specs.Items.{and_then}
 use Rattle.function_names.specs.declared.scalar.Scalar2.TheVariants.{Plus, Times}
-use Rattle.scalar_fns.specs.Numbers.{dyadic_on_numbers, number_or_limit}
-use Rattle.scalar_fns.specs.Folds.{folded}
-use Rattle.reduce_fns.specs.Sum.{IsWithinBound, sum_of}
-use Rattle.operator_fns.specs.InnerProduct.{all_or_last_error}
-use Rattle.operator_fns.specs.RowByColumn.{all_met, folded_all}
+use Rattle.scalar_fns.{specs.Numbers.{dyadic_on_numbers, number_or_limit}, specs.Folds.{folded}, proofs.Within.{held_within, within_of}}
+use Rattle.reduce_fns.{specs.Sum.{IsWithinBound, sum_of}, proofs.Firsts.{same_rules}}
+use Rattle.operator_fns.{specs.InnerProduct.{all_or_last_error}, specs.RowByColumn.{all_met, folded_all}}
 use Rattle.operator_fns.specs.SmallProducts.{sum_of_products, IsNoFurther, AddUp, EndsInSums, IsProduct}
-use Rattle.scalar_fns.proofs.Within.{held_within, within_of}
-use Rattle.reduce_fns.proofs.Firsts.{same_rules}
 
 abs_add : (a b : ℤ) → unsigned_abs (a +ℤ b) ≤ unsigned_abs a + unsigned_abs b
 abs_add a b = omega (arith, ints)

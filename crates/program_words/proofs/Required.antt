@@ -1,26 +1,16 @@
 -- Where no step of a parse fails, what the subcommand that is entered requires has a value, and its flag is true or false.
 use Rattle.std.proofs.Common.{◌≡◌, ◌∙◌, ◌<◌, ◌&&◌, ◌||◌, inl, inr, ⊎_elim, not, Bool, true, false, refl, sym, ap, arith, codes, List, [], ◌∷◌, length, Option, Some, None, is_some, option_map, true≢false}
-use Rattle.std.specs.Prelude.{option_and_then, slice_get}
-use Rattle.std.specs.List.{find, list_all, list_any}
-use Rattle.std.specs.Option.{option_map_or}
-use Rattle.std.specs.Str.{bytes_eq}
-use Rattle.std.proofs.lemmas.Bool.{and_parts, both_ways, not-false, not-true, or_cases, or_parts}
-use Rattle.std.proofs.lemmas.Slice.Eq.{bytes_eq-Decides}
-use Rattle.clap.specs.Facts.{explicit_source}
-use Rattle.clap.specs.Values.{read_as}
+use Rattle.std.{specs.Prelude.{option_and_then, slice_get}, specs.List.{find, list_all, list_any}, specs.Option.{option_map_or}, specs.Str.{bytes_eq}}
+use Rattle.std.{proofs.lemmas.Bool.{and_parts, both_ways, not-false, not-true, or_cases, or_parts}, proofs.lemmas.Slice.Eq.{bytes_eq-Decides}}
+use Rattle.clap.{specs.Facts.{explicit_source}, specs.Values.{read_as}}
 use Rattle.clap.specs.Walk.{Row, Rule, Text, answers_to, finished, first_of, nothing_held, one_of, row_text, rows_after, settled, walk, walk_from}
-use Rattle.clap.specs.Simple.{App, Shape, argument_words, built, entered, label_of, names_of, rows_at, subcommand_of}
-use Rattle.clap.specs.Takes.{is_given}
-use Rattle.clap.specs.Kinds.{check_kinds}
-use Rattle.clap.specs.Faults.{check_fault, defaults_fault, entered_fault, fault_of, level_fault, settle_fault, walk_fault}
-use Rattle.clap.specs.declared.builder.value_parser.Reading.{Reading}
-use Rattle.clap.specs.declared.builder.value_parser.Reading.TheVariants as reading
-use Rattle.clap.proofs.OnLiterals.{clap_on_literals}
-use Rattle.program_words.specs.Asked.{is_table}
-use Rattle.program_words.specs.Matched.{IsTruth, HasTableWords, IsWholeTable}
-use Rattle.program_words.specs.Program.{aplsheet, run_command, table_command}
+use Rattle.clap.{specs.Simple.{App, Shape, argument_words, built, entered, label_of, names_of, rows_at, subcommand_of}, specs.Takes.{is_given}}
+use Rattle.clap.{specs.Kinds.{check_kinds}, specs.Faults.{check_fault, defaults_fault, entered_fault, fault_of, level_fault, settle_fault, walk_fault}}
+use Rattle.clap.{specs.declared.builder.value_parser.Reading.{Reading}, proofs.OnLiterals.{clap_on_literals}}
+use Rattle.program_words.{specs.Asked.{is_table}, specs.Matched.{IsTruth, HasTableWords, IsWholeTable}, specs.Program.{aplsheet, run_command, table_command}}
 use Rattle.program_words.proofs.Rows.{Fitting, flag, found_fits, found_passes, is_fit, is_truth, none_of_both}
 use Rattle.program_words.proofs.Walks.{defaults-fitting, settled-fitting, walk-fitting}
+use Rattle.clap.specs.declared.builder.value_parser.Reading.TheVariants as reading
 
 -- an argument of this id is required
 abbrev pub requires_id : Text → List Rule → Bool

@@ -1,7 +1,6 @@
 -- The command of the program, as `clap` reads it.
 use Rattle.std.specs.Prelude.{Some, true, codes}
-use Rattle.clap.specs.Words.{App, Rule, Text, new_app, new_rule, with_rule, with_subcommand}
-use Rattle.clap.specs.declared.builder.action.ArgAction.TheVariants.{SetTrue}
+use Rattle.clap.{specs.Words.{App, Rule, Text, new_app, new_rule, with_rule, with_subcommand}, specs.declared.builder.action.ArgAction.TheVariants.{SetTrue}}
 
 -- a word that has to be there, and a flag of its name
 abbrev pub required_rule : Text → Rule

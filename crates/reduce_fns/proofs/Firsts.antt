@@ -1,7 +1,6 @@
 -- Results that a rule gives for n places: all of them, or the first error.
 use Rattle.std.proofs.Common.{◌≡◌, ℕ, zero, suc, ◌+◌, ◌<◌, ◌≤◌, List, [], ◌∷◌, length, get_or, map, refl, ap, sym, ◌∙◌, arith, Result, Ok, Err}
-use Rattle.std.specs.List.{range_with_len}
-use Rattle.std.proofs.lemmas.List.FromFn.{length-map-range_with_len, get_or-map-range_with_len}
+use Rattle.std.{specs.List.{range_with_len}, proofs.lemmas.List.FromFn.{length-map-range_with_len, get_or-map-range_with_len}}
 use Rattle.arrays_core.specs.Items.{after, all_or_first_error}
 
 module _ {A E : Type 0} where

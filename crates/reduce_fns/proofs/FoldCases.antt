@@ -1,10 +1,9 @@
 -- Worked cases of reduction: each function of no items, of one, of two and of five, computed.
 use Rattle.std.proofs.Common.{◌≡◌, refl, pos, [], ◌∷◌}
-use Rattle.arrays_core.specs.declared.item.Kind.TheVariants.{Domain}
+use Rattle.arrays_core.{specs.declared.item.Kind.TheVariants.{Domain}, proofs.CaseWords.{nums, ints, is, fails, minus, greatest, least}}
 use Rattle.function_names.specs.declared.along.Along.TheVariants.{Last}
-use Rattle.function_names.specs.declared.scalar.Scalar2.TheVariants as two
 use Rattle.reduce_fns.specs.Reduce.{reduce_whole}
-use Rattle.arrays_core.proofs.CaseWords.{nums, ints, is, fails, minus, greatest, least}
+use Rattle.function_names.specs.declared.scalar.Scalar2.TheVariants as two
 
 -- ---- plus
 

@@ -1,6 +1,5 @@
 -- The places of entries a stride apart.
-use Rattle.std.proofs.Common.{ℕ, ◌+◌, ◌-◌, ◌*◌, ◌<◌, ◌≤◌, arith}
-use Rattle.std.proofs.Math.Nat.{mul-le-mul_right}
+use Rattle.std.{proofs.Common.{ℕ, ◌+◌, ◌-◌, ◌*◌, ◌<◌, ◌≤◌, arith}, proofs.Math.Nat.{mul-le-mul_right}}
 
 -- the place of each entry lies before the last
 pub place_high : (first stride count j most : ℕ) → j < count → first + (count - 1) * stride ≤ most → first + j * stride ≤ most

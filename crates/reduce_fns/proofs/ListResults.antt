@@ -1,7 +1,6 @@
 -- The numbers of a list of results, or its first error.
 use Rattle.std.proofs.Common.{◌≡◌, suc, List, [], ◌∷◌, ◌++◌, length, ℤ, Result, Ok, Err, refl, ap, sym, ◌∙◌}
-use Rattle.arrays_core.specs.declared.item.Kind.{Kind}
-use Rattle.arrays_core.specs.Items.{all_or_first_error, after, and_then}
+use Rattle.arrays_core.{specs.declared.item.Kind.{Kind}, specs.Items.{all_or_first_error, after, and_then}}
 
 -- ---- results after others
 

@@ -1,20 +1,12 @@
 -- Arrays of numbers that are given place by place.
-use Rattle.std.proofs.Common.{◌≡◌, ℕ, ◌<◌, true, List, [], map, ℤ, pos, Result, Ok, ap, sym, ◌∙◌, arith}
-use Rattle.std.specs.List.{range_with_len}
-use Rattle.std.proofs.lemmas.List.{length-map, ext_get_or, get_or_default}
-use Rattle.std.proofs.lemmas.List.FromFn.{length-map-range_with_len, get_or-map-range_with_len}
+use Rattle.std.{proofs.Common.{◌≡◌, ℕ, ◌<◌, true, List, [], map, ℤ, pos, Result, Ok, ap, sym, ◌∙◌, arith}, specs.List.{range_with_len}}
+use Rattle.std.{proofs.lemmas.List.{length-map, ext_get_or, get_or_default}, proofs.lemmas.List.FromFn.{length-map-range_with_len, get_or-map-range_with_len}}
 use Rattle.std.proofs.Math.ListN.{get_or-map}
-use Rattle.arrays_core.specs.declared.item.Item.{Item}
-use Rattle.arrays_core.specs.declared.item.ItemType.{ItemType}
-use Rattle.arrays_core.specs.declared.item.ItemType.TheVariants.{Nums}
-use Rattle.arrays_core.specs.declared.item.Kind.{Kind}
-use Rattle.arrays_core.specs.Items.{all_or_first_error}
-use Rattle.arrays_core.specs.Shapes.{size, indices, index_after, is_index_of, places_before}
-use Rattle.arrays_core.specs.Arrays.{collect, with_items}
+use Rattle.arrays_core.{specs.declared.item.Item.{Item}, specs.declared.item.ItemType.{ItemType}, specs.declared.item.ItemType.TheVariants.{Nums}}
+use Rattle.arrays_core.{specs.declared.item.Kind.{Kind}, specs.Items.{all_or_first_error}}
+use Rattle.arrays_core.{specs.Shapes.{size, indices, index_after, is_index_of, places_before}, specs.Arrays.{collect, with_items}}
 use Rattle.arrays_core.proofs.Order.{length-indices, get_or-indices, places_before-index_after, index_after-within}
-use Rattle.scalar_fns.specs.Items.{number_item}
-use Rattle.scalar_fns.specs.NumberLists.{number_items}
-use Rattle.scalar_fns.proofs.Joint.{collected}
+use Rattle.scalar_fns.{specs.Items.{number_item}, specs.NumberLists.{number_items}, proofs.Joint.{collected}}
 
 -- the numbers of a rule are those of the array that it gives
 pub numbers_collected : (shape : List ℕ) (number : ℕ → Result ℤ Kind)

@@ -1,34 +1,18 @@
 -- The reduction of an array of numbers, taken from the numbers as they lie.
 use Rattle.std.proofs.Common.{◌≡◌, ℕ, zero, suc, ◌+◌, ◌-◌, ◌*◌, ◌/◌, ◌%◌, ◌<◌, ◌≤◌, Bool, true, false, cond, ℤ, pos, List, [], ◌∷◌, length, get_or, drop, take, map, refl, ap, sym, ◌∙◌, arith, insert, remove, Ok}
-use Rattle.std.proofs.lemmas.List.{length-map, ext_get_or, get_or_default, take_all}
-use Rattle.std.proofs.lemmas.List.FromFn.{length-map-range_with_len}
+use Rattle.std.{proofs.lemmas.List.{length-map, ext_get_or, get_or_default, take_all}, proofs.lemmas.List.FromFn.{length-map-range_with_len}}
 use Rattle.std.proofs.Math.ListN.{get_or-map}
 use Rattle.std.proofs.Math.Nat.{mul-le-mul_right, div-eq_of_lt, mul-add-div_right, mul-add-mod_self_right, mod-eq_of_lt, div-lt_iff_lt-mul, mul-mod_left}
 use Rattle.std.proofs.lemmas.Nat.{div-add-mod', mod_below}
-use Rattle.arrays_core.specs.declared.item.Item.{Item}
-use Rattle.arrays_core.specs.declared.item.Item.TheVariants.{Num}
-use Rattle.arrays_core.specs.declared.item.ItemType.{ItemType}
-use Rattle.arrays_core.specs.declared.item.ItemType.TheVariants.{Nums}
-use Rattle.arrays_core.specs.Items.{fill, and_then}
-use Rattle.arrays_core.specs.Shapes.{size, is_index_of, places_before}
-use Rattle.arrays_core.specs.Arrays.{ArrayValue, item_of, collect}
-use Rattle.arrays_core.proofs.Shapes.{head_of, places_below}
-use Rattle.function_names.specs.declared.scalar.Scalar2.{Scalar2}
-use Rattle.scalar_fns.specs.Numbers.{dyadic_on_numbers}
-use Rattle.scalar_fns.specs.Items.{number_item}
-use Rattle.scalar_fns.specs.Folds.{strided, folded, line_start}
-use Rattle.scalar_fns.proofs.RightFolds.{length-strided, get_or-strided}
-use Rattle.function_names.specs.declared.along.Along.{Along}
-use Rattle.index_region.specs.Checks.{form_of}
-use Rattle.function_names.specs.Axes.{axis_at}
-use Rattle.index_region.specs.Axes.{places_along}
-use Rattle.reduce_fns.specs.Reduce.{reduce_form, reduce_item, reduce_whole}
-use Rattle.reduce_fns.proofs.Placewise.{collected_same}
-use Rattle.scalar_fns.specs.RightFold.{fold_right}
-use Rattle.reduce_fns.specs.Lines.{line}
-use Rattle.scalar_fns.proofs.ItemFolds.{number_items_folded}
-use Rattle.reduce_fns.proofs.Lines.{line-strided, size-drop-le}
-use Rattle.reduce_fns.specs.Laws.ReducedShapes.{reduce_facts}
+use Rattle.arrays_core.{specs.declared.item.Item.{Item}, specs.declared.item.Item.TheVariants.{Num}, specs.declared.item.ItemType.{ItemType}}
+use Rattle.arrays_core.{specs.declared.item.ItemType.TheVariants.{Nums}, specs.Items.{fill, and_then}, specs.Shapes.{size, is_index_of, places_before}}
+use Rattle.arrays_core.{specs.Arrays.{ArrayValue, item_of, collect}, proofs.Shapes.{head_of, places_below}}
+use Rattle.function_names.{specs.declared.scalar.Scalar2.{Scalar2}, specs.declared.along.Along.{Along}, specs.Axes.{axis_at}}
+use Rattle.scalar_fns.{specs.Numbers.{dyadic_on_numbers}, specs.Items.{number_item}, specs.Folds.{strided, folded, line_start}}
+use Rattle.scalar_fns.{proofs.RightFolds.{length-strided, get_or-strided}, specs.RightFold.{fold_right}, proofs.ItemFolds.{number_items_folded}}
+use Rattle.index_region.{specs.Checks.{form_of}, specs.Axes.{places_along}}
+use Rattle.reduce_fns.{specs.Reduce.{reduce_form, reduce_item, reduce_whole}, proofs.Placewise.{collected_same}, specs.Lines.{line}}
+use Rattle.reduce_fns.{proofs.Lines.{line-strided, size-drop-le}, specs.Laws.ReducedShapes.{reduce_facts}}
 
 -- ---- numbers and their items
 pub strided_numbers : (xs : List ℤ) (first stride count : ℕ)

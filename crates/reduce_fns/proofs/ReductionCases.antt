@@ -1,10 +1,10 @@
 -- Worked cases of reduction, computed.
 use Rattle.std.proofs.Common.{◌≡◌, refl, pos, [], ◌∷◌}
 use Rattle.arrays_core.specs.declared.item.Kind.TheVariants.{Axis as AxisError, Domain, Limit}
-use Rattle.function_names.specs.declared.along.Along.TheVariants.{First, Last, Axis}
-use Rattle.function_names.specs.declared.scalar.Scalar2.TheVariants as two
-use Rattle.reduce_fns.specs.Reduce.{reduce_whole}
 use Rattle.arrays_core.proofs.CaseWords.{nums, ints, chars, is, fails, minus, greatest, least}
+use Rattle.function_names.specs.declared.along.Along.TheVariants.{First, Last, Axis}
+use Rattle.reduce_fns.specs.Reduce.{reduce_whole}
+use Rattle.function_names.specs.declared.scalar.Scalar2.TheVariants as two
 
 -- -/2 3⍴⍳6 and -⌿2 3⍴⍳6, and with the axis written
 rows : reduce_whole two.Minus Last (nums (2 ∷ 3 ∷ []) (1 ∷ 2 ∷ 3 ∷ 4 ∷ 5 ∷ 6 ∷ [])) ≡ is (nums (2 ∷ []) (2 ∷ 5 ∷ []))

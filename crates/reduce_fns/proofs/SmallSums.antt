@@ -1,15 +1,10 @@
 -- Small numbers stay within 64 bits, in whatever order they are added.
 use Rattle.std.proofs.Common.{◌≡◌, ℕ, sym, suc, ◌+◌, ◌*◌, ◌<◌, ◌≤◌, ℤ, pos, negsuc, neg_ℤ, ◌+ℤ◌, ◌≤ℤ◌, List, [], ◌∷◌, length, ap, ◌∙◌, Ok, arith, w64, SFits}
-use Rattle.std.specs.List.{All}
-use Rattle.std.proofs.lemmas.Int.{ints, clamps}
+use Rattle.std.{specs.List.{All}, proofs.lemmas.Int.{ints, clamps}}
 use Rattle.arrays_core.specs.Items.{and_then}
 use Rattle.function_names.specs.declared.scalar.Scalar2.TheVariants.{Plus}
-use Rattle.scalar_fns.specs.Numbers.{dyadic_on_numbers}
-use Rattle.scalar_fns.specs.Folds.{folded}
-use Rattle.reduce_fns.specs.LeftFolds.{fold_on, folded_left}
-use Rattle.reduce_fns.specs.Sum.{IsSmall, sum_of}
-use Rattle.reduce_fns.proofs.Endings.{total, most, fewest, folded_sum}
-use Rattle.scalar_fns.proofs.Within.{held_within}
+use Rattle.scalar_fns.{specs.Numbers.{dyadic_on_numbers}, specs.Folds.{folded}, proofs.Within.{held_within}}
+use Rattle.reduce_fns.{specs.LeftFolds.{fold_on, folded_left}, specs.Sum.{IsSmall, sum_of}, proofs.Endings.{total, most, fewest, folded_sum}}
 
 pub sum_total : (x : ℤ) (rest : List ℤ) → total x rest ≡ sum_of (x ∷ rest)
 sum_total x [] = omega (arith, ints)

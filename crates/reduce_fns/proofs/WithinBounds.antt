@@ -1,6 +1,5 @@
 -- Numbers within a bound, and the bits of those that are moved up by it.
-use Rattle.std.proofs.Common.{ℕ, ◌+◌, ◌%◌, ◌/◌, ◌<◌, ℤ, pos, negsuc, arith, of_z, w64, SFits}
-use Rattle.std.proofs.lemmas.Int.{ints}
+use Rattle.std.{proofs.Common.{ℕ, ◌+◌, ◌%◌, ◌/◌, ◌<◌, ℤ, pos, negsuc, arith, of_z, w64, SFits}, proofs.lemmas.Int.{ints}}
 use Rattle.reduce_fns.specs.Sum.{IsWithinBound}
 
 pub within_bits : (bound : ℕ) (z : ℤ) → bound < 18446744073709551616 → SFits w64 z → (of_z w64 z + bound) % 18446744073709551616 / 2 < bound → IsWithinBound bound z

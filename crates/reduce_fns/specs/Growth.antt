@@ -1,10 +1,8 @@
 -- When reductions and scans grow with their argument.
 use Rattle.std.specs.Prelude.{◌==◌, ◌&&◌, not, Bool, length}
-use Rattle.function_names.specs.declared.along.Along.{Along}
-use Rattle.function_names.specs.Axes.{axis_at, is_axis}
+use Rattle.function_names.{specs.declared.along.Along.{Along}, specs.Axes.{axis_at, is_axis}}
 use Rattle.arrays_core.specs.Arrays.{ArrayValue}
-use Rattle.change_core.specs.Growth.{one_grows}
-use Rattle.change_core.specs.RuleModels.{Growth}
+use Rattle.change_core.{specs.Growth.{one_grows}, specs.RuleModels.{Growth}}
 
 -- the lines of an array lie along an axis that it has, and not the first
 abbrev pub is_along_a_later_axis : Along → ArrayValue → Bool

@@ -1,8 +1,6 @@
 -- Left folds of a list.
 use Rattle.std.specs.Prelude.{List, [], ◌∷◌, Result, Ok, Err}
-use Rattle.arrays_core.specs.Items.{and_then}
-use Rattle.arrays_core.specs.declared.item.Kind.{Kind}
-use Rattle.arrays_core.specs.declared.item.Kind.TheVariants.{Domain}
+use Rattle.arrays_core.{specs.Items.{and_then}, specs.declared.item.Kind.{Kind}, specs.declared.item.Kind.TheVariants.{Domain}}
 
 -- the left fold of a first entry and the list after it
 abbrev pub fold_on : {A : Type 0} → (A → A → Result A Kind) → A → List A → Result A Kind

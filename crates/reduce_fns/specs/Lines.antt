@@ -1,8 +1,6 @@
 -- The lines of an array along an axis.
-use Rattle.std.specs.Prelude.{ℕ, List, map, insert}
-use Rattle.std.specs.List.{range_with_len}
-use Rattle.arrays_core.specs.declared.item.Item.{Item}
-use Rattle.arrays_core.specs.Arrays.{ArrayValue, item_of}
+use Rattle.std.{specs.Prelude.{ℕ, List, map, insert}, specs.List.{range_with_len}}
+use Rattle.arrays_core.{specs.declared.item.Item.{Item}, specs.Arrays.{ArrayValue, item_of}}
 use Rattle.index_region.specs.Axes.{places_along}
 
 -- the items along an axis at an index list of the other axes; a scalar is a line of its one item

@@ -1,24 +1,12 @@
 -- Reduction, f/B and f⌿B.
-use Rattle.std.specs.Prelude.{ℕ, nat_eq, List, length, remove, if◌then◌else◌, Result, [], ◌∷◌, map, insert, Some}
-use Rattle.std.specs.List.{range_with_len}
-use Rattle.arrays_core.specs.declared.item.Item.{Item}
-use Rattle.arrays_core.specs.declared.item.ItemType.{ItemType}
-use Rattle.arrays_core.specs.declared.item.ItemType.TheVariants.{Nums}
-use Rattle.arrays_core.specs.declared.item.Kind.{Kind}
-use Rattle.arrays_core.specs.declared.item.Kind.TheVariants.{Axis}
-use Rattle.arrays_core.specs.Arrays.{ArrayValue}
-use Rattle.function_names.specs.declared.along.Along.{Along}
-use Rattle.index_region.specs.Checks.{Form, check, limited, whole}
-use Rattle.function_names.specs.Axes.{is_axis, axis_at}
-use Rattle.index_region.specs.Axes.{places_along}
-use Rattle.index_region.specs.Arguments.{is_scalar}
-use Rattle.change_core.specs.RuleModels.{RuleModel, Use}
-use Rattle.change_core.specs.Growth.{growing}
-use Rattle.change_core.specs.Sourced.{one_rule}
-use Rattle.function_names.specs.declared.scalar.Scalar2.{Scalar2}
+use Rattle.std.{specs.Prelude.{ℕ, nat_eq, List, length, remove, if◌then◌else◌, Result, [], ◌∷◌, map, insert, Some}, specs.List.{range_with_len}}
+use Rattle.arrays_core.{specs.declared.item.Item.{Item}, specs.declared.item.ItemType.{ItemType}, specs.declared.item.ItemType.TheVariants.{Nums}}
+use Rattle.arrays_core.{specs.declared.item.Kind.{Kind}, specs.declared.item.Kind.TheVariants.{Axis}, specs.Arrays.{ArrayValue}}
+use Rattle.function_names.{specs.declared.along.Along.{Along}, specs.Axes.{is_axis, axis_at}, specs.declared.scalar.Scalar2.{Scalar2}}
+use Rattle.index_region.{specs.Checks.{Form, check, limited, whole}, specs.Axes.{places_along}, specs.Arguments.{is_scalar}}
+use Rattle.change_core.{specs.RuleModels.{RuleModel, Use}, specs.Growth.{growing}, specs.Sourced.{one_rule}}
 use Rattle.scalar_fns.specs.RightFold.{fold_right}
-use Rattle.reduce_fns.specs.Lines.{line}
-use Rattle.reduce_fns.specs.Growth.{lines_grow}
+use Rattle.reduce_fns.{specs.Lines.{line}, specs.Growth.{lines_grow}}
 
 -- that of b where each line is one item
 abbrev pub reduce_type : ArrayValue → ℕ → ItemType

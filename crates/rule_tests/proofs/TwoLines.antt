@@ -1,13 +1,9 @@
 -- Two lines of five numbers, with a tree for each.
-use Rattle.std.proofs.Common.{◌≡◌, ℕ, zero, suc, ◌<◌, true, ℤ, List, [], ◌∷◌, length, refl, sym, ap, subst, arith}
-use Rattle.std.specs.List.{flat_map}
-use Rattle.arrays_core.specs.Arrays.{ArrayValue, IsArray}
-use Rattle.arrays_core.specs.Shapes.{size}
-use Rattle.function_names.specs.Axes.{is_axis, axis_at}
-use Rattle.function_names.specs.declared.along.Along.TheVariants.{Last}
+use Rattle.std.{proofs.Common.{◌≡◌, ℕ, zero, suc, ◌<◌, true, ℤ, List, [], ◌∷◌, length, refl, sym, ap, subst, arith}, specs.List.{flat_map}}
+use Rattle.arrays_core.{specs.Arrays.{ArrayValue, IsArray}, specs.Shapes.{size}}
+use Rattle.function_names.{specs.Axes.{is_axis, axis_at}, specs.declared.along.Along.TheVariants.{Last}}
 use Rattle.index_region.specs.Patches.{PatchValue, FitsPatch, patched}
-use Rattle.sum_rules.specs.LineSums.{StandFor, length_along, line_length, line_step, array_of_shape}
-use Rattle.sum_rules.specs.Totals.{AreAllAsLong, all_trees, StoodFor}
+use Rattle.sum_rules.{specs.LineSums.{StandFor, length_along, line_length, line_step, array_of_shape}, specs.Totals.{AreAllAsLong, all_trees, StoodFor}}
 
 -- the shape of two lines of five numbers
 abbrev pub two_by_five : List ℕ

@@ -1,8 +1,6 @@
 -- The error that a `?` passes on.
-use Rattle.std.proofs.Common.{◌≡◌, ap, Ok, Err, Result, ℤ, List, Vec}
-use Rattle.std.specs.Result.{IsErr, IsErrAnd}
-use Rattle.arrays_core.specs.declared.item.Kind.{Kind}
-use Rattle.arrays_core.specs.declared.fault.ApplyFault.{ApplyFault}
+use Rattle.std.{proofs.Common.{◌≡◌, ap, Ok, Err, Result, ℤ, List, Vec}, specs.Result.{IsErr, IsErrAnd}}
+use Rattle.arrays_core.{specs.declared.item.Kind.{Kind}, specs.declared.fault.ApplyFault.{ApplyFault}}
 use Rattle.arrays_core.specs.declared.fault.ApplyFault.TheVariants.{Kind as KindFault}
 use Rattle.scalar_fns.specs.NumberLists.{IsListAnswerTo}
 

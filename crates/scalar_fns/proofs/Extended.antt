@@ -1,12 +1,8 @@
 -- Items of arrays that are extended to a common shape.
-use Rattle.std.proofs.Common.{◌≡◌, ◌∙◌, ℕ, List, Some, true, length, get_or, nat_eq, inl, inr, ap, sym, refl, arith}
-use Rattle.std.specs.Prelude.{◌≢◌, IsTrue}
+use Rattle.std.{proofs.Common.{◌≡◌, ◌∙◌, ℕ, List, Some, true, length, get_or, nat_eq, inl, inr, ap, sym, refl, arith}, specs.Prelude.{◌≢◌, IsTrue}}
 use Rattle.std.proofs.lemmas.Bool.{cases_Bool, eqb-true, false≢true}
-use Rattle.arrays_core.specs.Arrays.{ArrayValue, item_of, item_if_there}
-use Rattle.arrays_core.specs.declared.item.Item.{Item}
-use Rattle.arrays_core.specs.Items.{fill}
-use Rattle.arrays_core.specs.Shapes.{size, is_index_of, places_before}
-use Rattle.arrays_core.proofs.Shapes.{as_long, places_below}
+use Rattle.arrays_core.{specs.Arrays.{ArrayValue, item_of, item_if_there}, specs.declared.item.Item.{Item}, specs.Items.{fill}}
+use Rattle.arrays_core.{specs.Shapes.{size, is_index_of, places_before}, proofs.Shapes.{as_long, places_below}}
 use Rattle.scalar_fns.specs.ScalarExtension.{extended}
 
 -- at an index list of its own an array has its item there, also where it has one alone

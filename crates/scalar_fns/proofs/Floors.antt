@@ -1,16 +1,12 @@
 -- Quotients that are rounded down, against those toward zero.
 use Rattle.std.proofs.Common.{◌≡◌, ℕ, zero, suc, ◌+◌, ◌*◌, ◌/◌, ◌%◌, ◌^◌, min, refl, ap, ◌∙◌, inl, inr, arith, ℤ, pos, negsuc, neg_ℤ, ◌-ℤ◌, Bool, true, false, cond, Result, Ok, Err, ltb, int_lt, int_div}
-use Rattle.std.specs.Prelude.{nat_lt}
-use mathlib.Core.Bool.{beq}
-use Rattle.std.specs.Ordering.{int_eq}
-use Rattle.std.proofs.lemmas.Bool.Decides.{Decides-int_eq, nat_tests}
-use Rattle.std.proofs.lemmas.Bool.{cases_lt, le-ltb, true≢false, false_from_ne_true}
-use Rattle.std.proofs.lemmas.Int.{ints}
+use Rattle.std.{specs.Prelude.{nat_lt}, specs.Ordering.{int_eq}, proofs.lemmas.Bool.Decides.{Decides-int_eq, nat_tests}}
+use Rattle.std.{proofs.lemmas.Bool.{cases_lt, le-ltb, true≢false, false_from_ne_true}, proofs.lemmas.Int.{ints}}
 use Rattle.std.proofs.lemmas.Nat.{mod_below, div-mul-add, div-add-mod'}
-use Rattle.arrays_core.specs.declared.item.Kind.{Kind}
-use Rattle.arrays_core.specs.declared.item.Kind.TheVariants.{Limit}
+use Rattle.arrays_core.{specs.declared.item.Kind.{Kind}, specs.declared.item.Kind.TheVariants.{Limit}}
 use Rattle.scalar_fns.specs.Numbers.{residue, floor_div, number_or_limit, is_number}
 use Rattle.scalar_fns.proofs.Residues.{next_mod, negative_divisor_whole, negative_dividend_whole}
+use mathlib.Core.Bool.{beq}
 
 pub not_zero : (b : ℤ) → (b ≡ pos 0 → ⊥) → int_eq b (pos 0) ≡ false
 not_zero b h = false_from_ne_true _ (λ t. h ((Decides-int_eq b (pos 0)).0 t))

@@ -1,7 +1,6 @@
 -- Which scalar functions grow, by examples.
 use Rattle.std.proofs.Common.{◌≡◌, ℕ, List, [], ◌∷◌, true, false, refl}
-use Rattle.arrays_core.specs.declared.item.ItemType.TheVariants.{Nums}
-use Rattle.arrays_core.specs.Arrays.{ArrayValue}
+use Rattle.arrays_core.{specs.declared.item.ItemType.TheVariants.{Nums}, specs.Arrays.{ArrayValue}}
 use Rattle.scalar_fns.specs.Growth.{each_dyadic_grows, each_monadic_grows}
 
 abbrev of_shape : List ℕ → ArrayValue

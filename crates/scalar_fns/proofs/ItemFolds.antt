@@ -1,15 +1,8 @@
 -- Right folds of items that are numbers.
-use Rattle.std.proofs.Common.{◌≡◌, ◌<◌, List, [], ◌∷◌, length, map, refl, ap, ◌∙◌, arith, ℤ, Result, Ok, Err}
-use Rattle.std.proofs.lemmas.List.{length-map}
-use Rattle.arrays_core.specs.declared.item.Item.{Item}
-use Rattle.arrays_core.specs.declared.item.Item.TheVariants.{Num}
-use Rattle.arrays_core.specs.declared.item.Kind.{Kind}
-use Rattle.arrays_core.specs.Items.{and_then}
+use Rattle.std.{proofs.Common.{◌≡◌, ◌<◌, List, [], ◌∷◌, length, map, refl, ap, ◌∙◌, arith, ℤ, Result, Ok, Err}, proofs.lemmas.List.{length-map}}
+use Rattle.arrays_core.{specs.declared.item.Item.{Item}, specs.declared.item.Item.TheVariants.{Num}, specs.declared.item.Kind.{Kind}, specs.Items.{and_then}}
 use Rattle.function_names.specs.declared.scalar.Scalar2.{Scalar2}
-use Rattle.scalar_fns.specs.Numbers.{dyadic_on_numbers}
-use Rattle.scalar_fns.specs.Items.{dyadic_on_items, number_item}
-use Rattle.scalar_fns.specs.Folds.{folded}
-use Rattle.scalar_fns.specs.RightFold.{fold_right}
+use Rattle.scalar_fns.{specs.Numbers.{dyadic_on_numbers}, specs.Items.{dyadic_on_items, number_item}, specs.Folds.{folded}, specs.RightFold.{fold_right}}
 
 pub some_folded : (f : Scalar2) (xs : List Item) → 0 < length xs → fold_right f xs ≡ folded (dyadic_on_items f) xs
 some_folded f [] h = absurd (omega arith)

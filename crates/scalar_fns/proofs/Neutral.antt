@@ -1,13 +1,8 @@
 -- Where the identity of a function leaves a number, or a truth value, as it is.
 use Rattle.std.proofs.Common.{◌≡◌, ℕ, suc, ◌*◌, ◌/◌, ◌^◌, refl, ap, ◌∙◌, arith, Bool, true, false, ltb, Ok, ℤ, pos, negsuc, neg_ℤ, ◌+ℤ◌, ◌-ℤ◌, ◌*ℤ◌, SFits, w64}
-use Rattle.std.proofs.Math.Nat.{div-one, pow-zero}
-use Rattle.std.proofs.lemmas.Grind.{pow_more}
-use Rattle.std.proofs.lemmas.Int.{ints, clamps}
-use Rattle.std.proofs.lemmas.Bool.{lt-ltb}
+use Rattle.std.{proofs.Math.Nat.{div-one, pow-zero}, proofs.lemmas.Grind.{pow_more}, proofs.lemmas.Int.{ints, clamps}, proofs.lemmas.Bool.{lt-ltb}}
 use Rattle.function_names.specs.declared.scalar.Scalar2.TheVariants.{Plus, Minus, Times, Divide, Power, Residue, Maximum, Minimum, Less, LessOrEqual, Equal, GreaterOrEqual, Greater, NotEqual, And, Or}
-use Rattle.scalar_fns.specs.Numbers.{number_or_limit, dyadic_on_numbers, truth}
-use Rattle.scalar_fns.specs.Identities.{least, greatest}
-use Rattle.scalar_fns.proofs.Residues.{quotient_whole}
+use Rattle.scalar_fns.{specs.Numbers.{number_or_limit, dyadic_on_numbers, truth}, specs.Identities.{least, greatest}, proofs.Residues.{quotient_whole}}
 
 held_fits : (z : ℤ) → SFits w64 z → number_or_limit z ≡ Ok z
 held_fits (pos n) f = let inside : ltb n (2 ^ 63) ≡ true = lt-ltb n (2 ^ 63) (let h = f.sfits in omega arith) in rw inside refl

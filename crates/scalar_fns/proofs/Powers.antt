@@ -1,12 +1,9 @@
 -- Powers of 0, 1 and -1, and powers that are too great.
 use Rattle.std.proofs.Common.{◌≡◌, ℕ, zero, suc, ◌+◌, ◌*◌, ◌%◌, ◌^◌, ◌<◌, ◌≤◌, ◌==◌, refl, ap, sym, ◌∙◌, inl, inr, arith, true, false, Ok, Err, ℤ, pos, negsuc, neg_ℤ, unsigned_abs, int_lt, int_rem, of_z, w64}
-use Rattle.std.specs.Int.{int_pow, FitsUnsignedBits}
-use Rattle.std.proofs.Math.Nat.{pow-le-pow_left, pow-le-pow_right}
-use Rattle.std.proofs.Math.Dec.{eqb-suc-zero}
-use Rattle.std.proofs.lemmas.Bool.{le-ltb, cases_Bool, eq-eqb, eqb-true, cases_lt, false_from_ne_true, true≢false}
+use Rattle.std.{specs.Int.{int_pow, FitsUnsignedBits}, proofs.Math.Nat.{pow-le-pow_left, pow-le-pow_right}, proofs.Math.Dec.{eqb-suc-zero}}
+use Rattle.std.{proofs.lemmas.Bool.{le-ltb, cases_Bool, eq-eqb, eqb-true, cases_lt, false_from_ne_true, true≢false}, proofs.lemmas.Grind.{pow_more}}
 use Rattle.arrays_core.specs.declared.item.Kind.TheVariants.{Limit}
 use Rattle.scalar_fns.specs.Numbers.{number_or_limit, power, truth}
-use Rattle.std.proofs.lemmas.Grind.{pow_more}
 
 one_more : (b n : ℕ) → b ^ suc n ≡ b ^ n * b
 one_more b n = let e : suc n ≡ n + 1 = omega arith in ap (λ k. b ^ k) e ∙ pow_more b n

@@ -1,12 +1,8 @@
 -- A residue is what is left of one number after a whole number of times another.
 use Rattle.std.proofs.Common.{◌≡◌, ℕ, zero, suc, ◌%◌, ◌<◌, sym, subst, inl, inr, arith, false, ℤ, pos, negsuc, neg_ℤ, ◌+ℤ◌, ◌-ℤ◌, ◌*ℤ◌}
-use Rattle.std.specs.Ordering.{int_eq}
-use Rattle.std.proofs.lemmas.Int.{ints}
-use Rattle.std.proofs.lemmas.Bool.{cases_lt, true≢false, false_from_ne_true}
-use Rattle.std.proofs.lemmas.Bool.Decides.{Decides-int_eq}
-use Rattle.std.proofs.lemmas.Nat.{mod_below}
-use Rattle.scalar_fns.specs.Numbers.{residue, floor_div}
-use Rattle.scalar_fns.specs.Residue.{IsFromZeroBelow, IsRest}
+use Rattle.std.{specs.Ordering.{int_eq}, proofs.lemmas.Int.{ints}, proofs.lemmas.Bool.{cases_lt, true≢false, false_from_ne_true}}
+use Rattle.std.{proofs.lemmas.Bool.Decides.{Decides-int_eq}, proofs.lemmas.Nat.{mod_below}}
+use Rattle.scalar_fns.{specs.Numbers.{residue, floor_div}, specs.Residue.{IsFromZeroBelow, IsRest}}
 use Rattle.scalar_fns.proofs.Residues.{next_mod, both_positive, both_negative, negative_dividend, negative_dividend_whole, negative_divisor, negative_divisor_whole}
 
 parts_of : (b p : ℤ) → b ≡ p +ℤ (b -ℤ p)

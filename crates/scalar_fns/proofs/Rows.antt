@@ -1,12 +1,9 @@
 -- Worked rows of the definitions, computed.
 use Rattle.std.proofs.Common.{◌≡◌, refl, Ok, Err, pos, negsuc}
-use Rattle.arrays_core.specs.declared.item.Item.TheVariants.{Num, Char}
-use Rattle.arrays_core.specs.declared.item.Kind.TheVariants.{Domain, Limit}
+use Rattle.arrays_core.{specs.declared.item.Item.TheVariants.{Num, Char}, specs.declared.item.Kind.TheVariants.{Domain, Limit}}
 use Rattle.function_names.specs.declared.scalar.Scalar1.TheVariants.{Negative, Reciprocal, Magnitude, Not}
 use Rattle.function_names.specs.declared.scalar.Scalar2.TheVariants.{Divide, Power, Residue, Equal, NotEqual, Less, And, Or}
-use Rattle.scalar_fns.specs.Numbers.{monadic_on_number, dyadic_on_numbers}
-use Rattle.scalar_fns.specs.Items.{dyadic_on_items}
-use Rattle.scalar_fns.specs.Identities.{least}
+use Rattle.scalar_fns.{specs.Numbers.{monadic_on_number, dyadic_on_numbers}, specs.Items.{dyadic_on_items}, specs.Identities.{least}}
 
 -- ¯3|7 ¯7 0 is ¯2 ¯1 0
 residue_of_7 : dyadic_on_numbers Residue (negsuc 2) (pos 7) ≡ Ok (negsuc 1)

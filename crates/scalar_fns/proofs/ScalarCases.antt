@@ -1,15 +1,10 @@
 -- What may change of the scalar functions in worked cases.
 use Rattle.std.proofs.Common.{◌≡◌, ℕ, List, [], ◌∷◌, Some, None, replicate, pos, refl}
-use Rattle.arrays_core.specs.declared.item.Item.TheVariants.{Num}
-use Rattle.arrays_core.specs.declared.item.ItemType.TheVariants.{Nums}
-use Rattle.arrays_core.specs.Arrays.{ArrayValue}
+use Rattle.arrays_core.{specs.declared.item.Item.TheVariants.{Num}, specs.declared.item.ItemType.TheVariants.{Nums}, specs.Arrays.{ArrayValue}}
 use Rattle.arrays_core.specs.Shapes.{size}
-use Rattle.function_names.specs.declared.scalar.Scalar1.TheVariants.{Negative}
-use Rattle.function_names.specs.declared.scalar.Scalar2.TheVariants.{Plus}
-use Rattle.change_core.specs.declared.reach.Reach.TheVariants.{Unmoved, Inside, Anew}
-use Rattle.change_core.specs.Reaches.{reach_of}
-use Rattle.scalar_fns.specs.EachMonadic.{each_monadic_rule}
-use Rattle.scalar_fns.specs.EachDyadic.{each_dyadic_rule}
+use Rattle.function_names.{specs.declared.scalar.Scalar1.TheVariants.{Negative}, specs.declared.scalar.Scalar2.TheVariants.{Plus}}
+use Rattle.change_core.{specs.declared.reach.Reach.TheVariants.{Unmoved, Inside, Anew}, specs.Reaches.{reach_of}}
+use Rattle.scalar_fns.{specs.EachMonadic.{each_monadic_rule}, specs.EachDyadic.{each_dyadic_rule}}
 
 -- an array of zeros
 abbrev zeros : List ℕ → ArrayValue

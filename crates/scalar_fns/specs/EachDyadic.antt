@@ -1,19 +1,11 @@
 -- What may change of a scalar function of two arrays: the places that changed, or all by an array that is extended.
 use Rattle.std.specs.Prelude.{ℕ, ◌==◌, if◌then◌else◌, List, [], ◌∷◌, map, false, Some, Result, Ok, bytes_eq}
-use Rattle.arrays_core.specs.declared.item.Item.{Item}
-use Rattle.arrays_core.specs.declared.item.ItemType.TheVariants.{Nums}
-use Rattle.arrays_core.specs.declared.item.Kind.{Kind}
-use Rattle.arrays_core.specs.Arrays.{ArrayValue}
-use Rattle.arrays_core.specs.Shapes.{size}
+use Rattle.arrays_core.{specs.declared.item.Item.{Item}, specs.declared.item.ItemType.TheVariants.{Nums}, specs.declared.item.Kind.{Kind}}
+use Rattle.arrays_core.{specs.Arrays.{ArrayValue}, specs.Shapes.{size}}
 use Rattle.function_names.specs.declared.scalar.Scalar2.{Scalar2}
-use Rattle.scalar_fns.specs.Items.{dyadic_on_items}
-use Rattle.scalar_fns.specs.ScalarExtension.{common, extended, for_shape}
-use Rattle.index_region.specs.Boxes.{whole_of}
-use Rattle.index_region.specs.Checks.{Form, form_of}
-use Rattle.change_core.specs.RuleModels.{RuleModel, Use}
-use Rattle.change_core.specs.Growth.{growing}
-use Rattle.change_core.specs.Sourced.{Spread, two_rule}
-use Rattle.scalar_fns.specs.Growth.{each_dyadic_grows}
+use Rattle.scalar_fns.{specs.Items.{dyadic_on_items}, specs.ScalarExtension.{common, extended, for_shape}, specs.Growth.{each_dyadic_grows}}
+use Rattle.index_region.{specs.Boxes.{whole_of}, specs.Checks.{Form, form_of}}
+use Rattle.change_core.{specs.RuleModels.{RuleModel, Use}, specs.Growth.{growing}, specs.Sourced.{Spread, two_rule}}
 
 -- numbers in the common shape, where there is one
 abbrev pub each_dyadic_form : ArrayValue → ArrayValue → Result Form Kind

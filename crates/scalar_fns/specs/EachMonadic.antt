@@ -1,17 +1,11 @@
 -- What may change of a scalar function of one array: the places that changed.
 use Rattle.std.specs.Prelude.{ℕ, List, Result, Ok}
-use Rattle.arrays_core.specs.declared.item.Item.{Item}
-use Rattle.arrays_core.specs.declared.item.ItemType.TheVariants.{Nums}
-use Rattle.arrays_core.specs.declared.item.Kind.{Kind}
+use Rattle.arrays_core.{specs.declared.item.Item.{Item}, specs.declared.item.ItemType.TheVariants.{Nums}, specs.declared.item.Kind.{Kind}}
 use Rattle.arrays_core.specs.Arrays.{ArrayValue, item_of}
 use Rattle.function_names.specs.declared.scalar.Scalar1.{Scalar1}
-use Rattle.scalar_fns.specs.Items.{monadic_on_item}
+use Rattle.scalar_fns.{specs.Items.{monadic_on_item}, specs.Growth.{each_monadic_grows}}
 use Rattle.index_region.specs.Checks.{Form, form_of}
-use Rattle.change_core.specs.RuleModels.{RuleModel}
-use Rattle.change_core.specs.Sourced.{one_rule}
-use Rattle.change_core.specs.Growth.{growing}
-use Rattle.change_core.specs.Ways.{alike}
-use Rattle.scalar_fns.specs.Growth.{each_monadic_grows}
+use Rattle.change_core.{specs.RuleModels.{RuleModel}, specs.Sourced.{one_rule}, specs.Growth.{growing}, specs.Ways.{alike}}
 
 -- no check: numbers in the shape of the argument
 abbrev pub each_monadic_form : ArrayValue → Result Form Kind

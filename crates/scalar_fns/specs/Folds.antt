@@ -1,9 +1,6 @@
 -- Entries of a list a stride apart, and the right fold of a list.
-use Rattle.std.specs.Prelude.{◌≡◌, ℕ, ◌+◌, ◌*◌, ◌/◌, ◌%◌, ℤ, List, [], ◌∷◌, map, get_or, Result, Ok, Err}
-use Rattle.std.specs.List.{range_with_len}
-use Rattle.arrays_core.specs.declared.item.Kind.{Kind}
-use Rattle.arrays_core.specs.declared.item.Kind.TheVariants.{Domain}
-use Rattle.arrays_core.specs.Items.{and_then}
+use Rattle.std.{specs.Prelude.{◌≡◌, ℕ, ◌+◌, ◌*◌, ◌/◌, ◌%◌, ℤ, List, [], ◌∷◌, map, get_or, Result, Ok, Err}, specs.List.{range_with_len}}
+use Rattle.arrays_core.{specs.declared.item.Kind.{Kind}, specs.declared.item.Kind.TheVariants.{Domain}, specs.Items.{and_then}}
 
 -- `count` entries of a list: the first stands after `first` others, each of the rest a stride after the one before
 abbrev pub strided : {A : Type 0} → A → List A → (first stride count : ℕ) → List A

@@ -1,9 +1,7 @@
 -- When scalar functions grow with their arguments.
 use Rattle.std.specs.Prelude.{◌==◌, nat_le, ◌&&◌, Bool, true, length, bytes_eq}
-use Rattle.arrays_core.specs.Arrays.{ArrayValue}
-use Rattle.arrays_core.specs.Shapes.{size}
-use Rattle.change_core.specs.Growth.{one_grows, two_grow}
-use Rattle.change_core.specs.RuleModels.{Growth}
+use Rattle.arrays_core.{specs.Arrays.{ArrayValue}, specs.Shapes.{size}}
+use Rattle.change_core.{specs.Growth.{one_grows, two_grow}, specs.RuleModels.{Growth}}
 
 -- of one array: always
 abbrev pub each_monadic_grows : Growth

@@ -1,13 +1,8 @@
 -- Scalar functions of plain lists of numbers.
-use Rattle.std.specs.Prelude.{◌≡◌, ℕ, ◌==◌, ℤ, pos, List, length, map, get_or, if◌then◌else◌, Result, Ok, Err, Vec}
-use Rattle.std.specs.List.{range_with_len}
-use Rattle.arrays_core.specs.declared.item.Item.{Item}
-use Rattle.arrays_core.specs.declared.item.Item.TheVariants.{Num}
-use Rattle.arrays_core.specs.declared.item.Kind.{Kind}
-use Rattle.arrays_core.specs.declared.fault.ApplyFault.{ApplyFault}
-use Rattle.arrays_core.specs.declared.fault.ApplyFault.TheVariants.{Kind as KindFault, NoMemory}
-use Rattle.function_names.specs.declared.scalar.Scalar1.{Scalar1}
-use Rattle.function_names.specs.declared.scalar.Scalar2.{Scalar2}
+use Rattle.std.{specs.Prelude.{◌≡◌, ℕ, ◌==◌, ℤ, pos, List, length, map, get_or, if◌then◌else◌, Result, Ok, Err, Vec}, specs.List.{range_with_len}}
+use Rattle.arrays_core.{specs.declared.item.Item.{Item}, specs.declared.item.Item.TheVariants.{Num}, specs.declared.item.Kind.{Kind}}
+use Rattle.arrays_core.{specs.declared.fault.ApplyFault.{ApplyFault}, specs.declared.fault.ApplyFault.TheVariants.{Kind as KindFault, NoMemory}}
+use Rattle.function_names.{specs.declared.scalar.Scalar1.{Scalar1}, specs.declared.scalar.Scalar2.{Scalar2}}
 use Rattle.scalar_fns.specs.Numbers.{monadic_on_number, dyadic_on_numbers}
 
 -- the results at each place of a list

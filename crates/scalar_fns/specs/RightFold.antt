@@ -1,13 +1,9 @@
 -- The right fold of a list of items.
 use Rattle.std.specs.Prelude.{ℤ, List, [], ◌∷◌, Option, Some, None, Result, Ok, Err}
-use Rattle.arrays_core.specs.declared.item.Item.{Item}
-use Rattle.arrays_core.specs.declared.item.Item.TheVariants.{Num}
-use Rattle.arrays_core.specs.declared.item.Kind.{Kind}
-use Rattle.arrays_core.specs.declared.item.Kind.TheVariants.{Domain}
-use Rattle.arrays_core.specs.Items.{and_then}
+use Rattle.arrays_core.{specs.declared.item.Item.{Item}, specs.declared.item.Item.TheVariants.{Num}, specs.declared.item.Kind.{Kind}}
+use Rattle.arrays_core.{specs.declared.item.Kind.TheVariants.{Domain}, specs.Items.{and_then}}
 use Rattle.function_names.specs.declared.scalar.Scalar2.{Scalar2}
-use Rattle.scalar_fns.specs.Identities.{identity_of}
-use Rattle.scalar_fns.specs.Items.{dyadic_on_items}
+use Rattle.scalar_fns.{specs.Identities.{identity_of}, specs.Items.{dyadic_on_items}}
 
 -- what a fold of no items gives
 abbrev pub identity_item : Option ℤ → Result Item Kind

@@ -1,15 +1,10 @@
 -- Scalar functions of arrays: of one array item by item; of two arrays of equal shapes, or of an array
 -- of one item beside any other.
 use Rattle.std.specs.Prelude.{ℕ, ◌==◌, nat_lt, Bool, List, length, get_or, if◌then◌else◌, Result, Ok, Err, bytes_eq}
-use Rattle.arrays_core.specs.declared.item.Item.{Item}
-use Rattle.arrays_core.specs.declared.item.ItemType.TheVariants.{Nums}
-use Rattle.arrays_core.specs.declared.item.Kind.{Kind}
-use Rattle.arrays_core.specs.declared.item.Kind.TheVariants.{Rank, Length}
-use Rattle.arrays_core.specs.Items.{fill}
-use Rattle.arrays_core.specs.Shapes.{size, places_before}
+use Rattle.arrays_core.{specs.declared.item.Item.{Item}, specs.declared.item.ItemType.TheVariants.{Nums}, specs.declared.item.Kind.{Kind}}
+use Rattle.arrays_core.{specs.declared.item.Kind.TheVariants.{Rank, Length}, specs.Items.{fill}, specs.Shapes.{size, places_before}}
 use Rattle.arrays_core.specs.Arrays.{ArrayValue, item_of, collect}
-use Rattle.function_names.specs.declared.scalar.Scalar1.{Scalar1}
-use Rattle.function_names.specs.declared.scalar.Scalar2.{Scalar2}
+use Rattle.function_names.{specs.declared.scalar.Scalar1.{Scalar1}, specs.declared.scalar.Scalar2.{Scalar2}}
 use Rattle.scalar_fns.specs.Items.{monadic_on_item, dyadic_on_items}
 
 abbrev pub same_shape : List ℕ → List ℕ → Bool

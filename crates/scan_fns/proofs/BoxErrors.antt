@@ -1,27 +1,16 @@
 -- The first error of a box, from those of its lines.
 use Rattle.std.proofs.Common.{◌≡◌, ℕ, zero, suc, ◌+◌, ◌-◌, ◌*◌, ◌<◌, ◌≤◌, true, ◌⊎◌, inl, inr, List, [], ◌∷◌, length, get_or, map, set, insert, remove, Option, Some, None, Result, Ok, Err, refl, ap, sym, ◌∙◌, arith, pos}
-use Rattle.std.specs.List.{range_with_len}
-use Rattle.std.proofs.lemmas.Bool.{and_parts, false≢true}
-use Rattle.std.proofs.lemmas.Nat.{mul-le}
+use Rattle.std.{specs.List.{range_with_len}, proofs.lemmas.Bool.{and_parts, false≢true}, proofs.lemmas.Nat.{mul-le}}
 use Rattle.std.proofs.lemmas.List.FromFn.{length-map-range_with_len, get_or-map-range_with_len}
-use Rattle.arrays_core.specs.declared.item.Item.{Item}
-use Rattle.arrays_core.specs.declared.item.Item.TheVariants.{Num}
-use Rattle.arrays_core.specs.declared.item.Kind.{Kind}
-use Rattle.arrays_core.specs.declared.item.Kind.TheVariants.{Domain}
-use Rattle.arrays_core.specs.Items.{all_or_first_error, after}
-use Rattle.arrays_core.specs.declared.item.ItemType.TheVariants.{Nums}
+use Rattle.arrays_core.{specs.declared.item.Item.{Item}, specs.declared.item.Item.TheVariants.{Num}, specs.declared.item.Kind.{Kind}}
+use Rattle.arrays_core.{specs.declared.item.Kind.TheVariants.{Domain}, specs.Items.{all_or_first_error, after}, specs.declared.item.ItemType.TheVariants.{Nums}}
 use Rattle.arrays_core.specs.Arrays.{ArrayValue, with_items}
-use Rattle.function_names.specs.declared.scalar.Scalar2.{Scalar2}
-use Rattle.function_names.specs.declared.along.Along.{Along}
-use Rattle.function_names.specs.Axes.{axis_at}
+use Rattle.function_names.{specs.declared.scalar.Scalar2.{Scalar2}, specs.declared.along.Along.{Along}, specs.Axes.{axis_at}}
 use Rattle.index_region.specs.Boxes.{Interval, interval_length, box_size, box_offset, is_within, walk_at}
 use Rattle.index_region.proofs.Walks.{walk_within, offset_of_walk, walk_of_offset, offset_below}
 use Rattle.change_core.specs.Parts.{items_in}
-use Rattle.scan_fns.specs.Scan.{scan_item, scan_along}
-use Rattle.scan_fns.proofs.Scanned.{restored}
-use Rattle.scan_fns.specs.Laws.Scan.{put_again}
-use Rattle.scan_fns.specs.BoxLines.{Holds, IsOnLine, IsOneError, LineIsIn, line_items}
-use Rattle.scan_fns.proofs.BoxTables.{each_result, as_long_as, within_line, between}
+use Rattle.scan_fns.{specs.Scan.{scan_item, scan_along}, proofs.Scanned.{restored}, specs.Laws.Scan.{put_again}}
+use Rattle.scan_fns.{specs.BoxLines.{Holds, IsOnLine, IsOneError, LineIsIn, line_items}, proofs.BoxTables.{each_result, as_long_as, within_line, between}}
 
 -- a place is written, or its line has this error
 abbrev pub IsDone : (List ℕ → Result Item Kind) → List Interval → ℕ → ArrayValue → Option Kind → ℕ → Type 0

@@ -1,25 +1,15 @@
 -- Tables of the items of a box, filled line by line.
 use Rattle.std.proofs.Common.{◌≡◌, ℕ, zero, suc, ◌+◌, ◌-◌, ◌<◌, ◌≤◌, true, nat_eq, inl, inr, List, [], ◌∷◌, length, get_or, map, set, insert, remove, Result, Ok, Err, refl, ap, sym, ◌∙◌, arith, pos}
-use Rattle.std.specs.List.{range_with_len}
-use Rattle.std.proofs.lemmas.Bool.{and_parts, and_from, leb-true, le-leb, false≢true, cases_Bool, eqb-true, eqb-false}
+use Rattle.std.{specs.List.{range_with_len}, proofs.lemmas.Bool.{and_parts, and_from, leb-true, le-leb, false≢true, cases_Bool, eqb-true, eqb-false}}
 use Rattle.std.proofs.lemmas.List.{get_or-set_same, get_or-set_other, length-set}
 use Rattle.std.proofs.lemmas.List.FromFn.{length-map-range_with_len, get_or-map-range_with_len}
-use Rattle.arrays_core.specs.declared.item.Item.{Item}
-use Rattle.arrays_core.specs.declared.item.Item.TheVariants.{Num}
-use Rattle.arrays_core.specs.declared.item.ItemType.TheVariants.{Nums}
-use Rattle.arrays_core.specs.declared.item.Kind.{Kind}
-use Rattle.arrays_core.specs.declared.item.Kind.TheVariants.{Domain}
-use Rattle.arrays_core.specs.Items.{all_or_first_error, after, fill}
+use Rattle.arrays_core.{specs.declared.item.Item.{Item}, specs.declared.item.Item.TheVariants.{Num}, specs.declared.item.ItemType.TheVariants.{Nums}}
+use Rattle.arrays_core.{specs.declared.item.Kind.{Kind}, specs.declared.item.Kind.TheVariants.{Domain}, specs.Items.{all_or_first_error, after, fill}}
 use Rattle.arrays_core.specs.Arrays.{ArrayValue, with_items}
-use Rattle.function_names.specs.declared.scalar.Scalar2.{Scalar2}
-use Rattle.function_names.specs.declared.along.Along.{Along}
-use Rattle.function_names.specs.Axes.{axis_at}
-use Rattle.index_region.specs.Boxes.{Interval, box_size, box_offset, is_within, walk_at}
-use Rattle.index_region.proofs.Walks.{walk_within, walk_of_offset, offset_below}
+use Rattle.function_names.{specs.declared.scalar.Scalar2.{Scalar2}, specs.declared.along.Along.{Along}, specs.Axes.{axis_at}}
+use Rattle.index_region.{specs.Boxes.{Interval, box_size, box_offset, is_within, walk_at}, proofs.Walks.{walk_within, walk_of_offset, offset_below}}
 use Rattle.change_core.specs.Parts.{items_in}
-use Rattle.scan_fns.specs.Scan.{scan_item, scan_along}
-use Rattle.scan_fns.specs.BoxLines.{Holds, IsOnLine, FillsBox}
-use Rattle.scan_fns.specs.Laws.Scan.{put_again}
+use Rattle.scan_fns.{specs.Scan.{scan_item, scan_along}, specs.BoxLines.{Holds, IsOnLine, FillsBox}, specs.Laws.Scan.{put_again}}
 use Rattle.reduce_fns.proofs.Lines.{remove_inserted}
 
 -- ---- lists of results

@@ -1,21 +1,12 @@
 -- The folds of the first numbers of a list, from a place on.
 use Rattle.std.proofs.Common.{◌≡◌, ℕ, zero, suc, ◌+◌, ◌-◌, ◌*◌, ◌/◌, ◌%◌, ◌<◌, ◌≤◌, List, [], ◌∷◌, ◌++◌, length, map, take, drop, ℤ, pos, Result, Ok, Err, refl, ap, sym, ◌∙◌, arith}
-use Rattle.std.specs.List.{range_with_len}
-use Rattle.std.proofs.lemmas.List.{length-drop, length-take, get_or-drop, ext_get_or, take-take, take-append-drop}
-use Rattle.std.proofs.lemmas.List.FromFn.{length-map-range_with_len, get_or-map-range_with_len, take-map-range_with_len}
-use Rattle.std.proofs.Math.Nat.{mod-eq_of_lt}
-use Rattle.arrays_core.specs.declared.item.Kind.{Kind}
-use Rattle.arrays_core.specs.declared.item.Kind.TheVariants.{Domain}
-use Rattle.arrays_core.specs.declared.fault.ApplyFault.{ApplyFault}
-use Rattle.arrays_core.specs.declared.fault.ApplyFault.TheVariants.{Kind as KindFault, NoMemory}
-use Rattle.arrays_core.specs.Items.{all_or_first_error, and_then}
-use Rattle.scalar_fns.specs.NumberLists.{IsListAnswerTo}
-use Rattle.scalar_fns.specs.Folds.{strided, folded}
-use Rattle.scalar_fns.proofs.RightFolds.{strided_run}
-use Rattle.reduce_fns.specs.declared.axis_lines.AxisLines.{AxisLines}
-use Rattle.scan_fns.specs.LinearScan.{scans_of}
-use Rattle.scan_fns.specs.LinearScan.{run_to, scanned, folds_from}
-use Rattle.reduce_fns.proofs.ListResults.{after_parts, all_then, as_many_as}
+use Rattle.std.{specs.List.{range_with_len}, proofs.lemmas.List.{length-drop, length-take, get_or-drop, ext_get_or, take-take, take-append-drop}}
+use Rattle.std.{proofs.lemmas.List.FromFn.{length-map-range_with_len, get_or-map-range_with_len, take-map-range_with_len}, proofs.Math.Nat.{mod-eq_of_lt}}
+use Rattle.arrays_core.{specs.declared.item.Kind.{Kind}, specs.declared.item.Kind.TheVariants.{Domain}, specs.declared.fault.ApplyFault.{ApplyFault}}
+use Rattle.arrays_core.{specs.declared.fault.ApplyFault.TheVariants.{Kind as KindFault, NoMemory}, specs.Items.{all_or_first_error, and_then}}
+use Rattle.scalar_fns.{specs.NumberLists.{IsListAnswerTo}, specs.Folds.{strided, folded}, proofs.RightFolds.{strided_run}}
+use Rattle.reduce_fns.{specs.declared.axis_lines.AxisLines.{AxisLines}, proofs.ListResults.{after_parts, all_then, as_many_as}}
+use Rattle.scan_fns.specs.LinearScan.{scans_of, run_to, scanned, folds_from}
 
 -- a list as one line
 pub one_line : (f : ℤ → ℤ → Result ℤ Kind) (lines : AxisLines) (zs : List ℤ) → lines.numbers.now ≡ zs → lines.stride ≡ 1 → lines.count ≡ length zs

@@ -1,17 +1,11 @@
 -- A scan from the left, result by result.
 use Rattle.std.proofs.Common.{◌≡◌, eq-eqb, ℕ, nat_eq, ◌+◌, ◌-◌, ◌*◌, ◌%◌, ◌<◌, ◌≤◌, nat_lt, true, false, List, length, get_or, map, take, ap, sym, subst, ◌∙◌, inl, inr, arith, pos, ℤ, FitsSigned, Result, Ok, Err, Vec, ◌++◌, ◌∷◌, [], vec_len, vec_capacity}
-use Rattle.std.specs.Int.{w64}
-use Rattle.std.specs.List.{All, range_with_len}
-use Rattle.std.specs.Result.{IsErr, IsErrAnd}
+use Rattle.std.{specs.Int.{w64}, specs.List.{All, range_with_len}, specs.Result.{IsErr, IsErrAnd}}
 use Rattle.std.proofs.lemmas.List.{get_or_default, length-take, get_or-take, take_all}
-use Rattle.arrays_core.specs.declared.fault.ApplyFault.{ApplyFault}
-use Rattle.arrays_core.specs.declared.fault.ApplyFault.TheVariants.{Kind as KindFault}
-use Rattle.std.proofs.lemmas.Bool.{cases_lt, lt-ltb, le-ltb, ltb-true, ltb-false, ne_eqb}
-use Rattle.std.proofs.Math.Nat.{mod-eq_of_lt, mod-add-mod}
+use Rattle.std.{proofs.lemmas.Bool.{cases_lt, lt-ltb, le-ltb, ltb-true, ltb-false, ne_eqb}, proofs.Math.Nat.{mod-eq_of_lt, mod-add-mod}}
 use Rattle.std.proofs.lemmas.List.FromFn.{length-map-range_with_len, get_or-map-range_with_len}
-use Rattle.arrays_core.specs.declared.item.Kind.{Kind}
-use Rattle.arrays_core.specs.Items.{all_or_first_error, and_then}
-use Rattle.arrays_core.proofs.Order.{front_more, front_error}
+use Rattle.arrays_core.{specs.declared.fault.ApplyFault.{ApplyFault}, specs.declared.fault.ApplyFault.TheVariants.{Kind as KindFault}}
+use Rattle.arrays_core.{specs.declared.item.Kind.{Kind}, specs.Items.{all_or_first_error, and_then}, proofs.Order.{front_more, front_error}}
 use Rattle.scan_fns.specs.LinearScan.{run_to, left_rule, AreResultsTo, FailsAt, HasRead}
 use Rattle.scan_fns.proofs.Runs.{first_row, later_row, past_stride, left_first, left_later}
 use Rattle.reduce_fns.proofs.Firsts.{entry_of}

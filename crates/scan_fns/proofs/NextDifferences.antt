@@ -1,17 +1,10 @@
 -- A difference of the next number, where one more number comes before it.
 use Rattle.std.proofs.Common.{◌≡◌, suc, zero, refl, ap, ◌∙◌, arith, Bool, true, false, not, ◌&&◌, if◌then◌else◌, ℤ, pos, negsuc, ◌+ℤ◌, ◌-ℤ◌, ◌≤ℤ◌, SFits, w64, Err}
-use Rattle.std.specs.Prelude.{int_le}
-use Rattle.std.specs.Int.{saturate_signed}
-use Rattle.std.specs.Bool.{Decides}
-use Rattle.std.proofs.lemmas.Int.{ints}
-use Rattle.std.proofs.lemmas.Bool.{and_parts}
-use Rattle.std.proofs.lemmas.Bool.Decides.{same_from_decides}
-use Rattle.std.proofs.Math.Bool.{and_comm}
-use Rattle.arrays_core.specs.declared.item.Kind.TheVariants.{Limit}
-use Rattle.arrays_core.specs.Items.{and_then}
-use Rattle.scalar_fns.specs.Numbers.{is_number, number_or_limit}
+use Rattle.std.{specs.Prelude.{int_le}, specs.Int.{saturate_signed}, specs.Bool.{Decides}, proofs.lemmas.Int.{ints}, proofs.lemmas.Bool.{and_parts}}
+use Rattle.std.{proofs.lemmas.Bool.Decides.{same_from_decides}, proofs.Math.Bool.{and_comm}}
+use Rattle.arrays_core.{specs.declared.item.Kind.TheVariants.{Limit}, specs.Items.{and_then}}
+use Rattle.scalar_fns.{specs.Numbers.{is_number, number_or_limit}, proofs.Within.{Within, within_of, held_within}}
 use Rattle.scan_fns.specs.Prefixes.{difference}
-use Rattle.scalar_fns.proofs.Within.{Within, within_of, held_within}
 
 at_most : (a b : ℤ) → Decides (int_le a b) (a ≤ℤ b)
 at_most a b = (λ e. grind (arith, ints), λ h. grind (arith, ints))

@@ -1,21 +1,11 @@
 -- Boxes of one line, and the items there.
 use Rattle.std.proofs.Common.{◌≡◌, ℕ, zero, suc, ◌+◌, ◌-◌, ◌*◌, ◌/◌, ◌%◌, ◌<◌, ◌≤◌, IsTrue, IfSome, List, [], ◌∷◌, length, get_or, map, set, Option, Some, None, Result, Ok, Err, refl, ap, sym, ◌∙◌, arith}
-use Rattle.std.specs.List.{range_with_len}
-use Rattle.std.proofs.lemmas.Bool.{and_parts, leb-true, false≢true}
-use Rattle.std.proofs.Math.Nat.{div-eq_of_lt, mod-eq_of_lt}
-use Rattle.arrays_core.specs.declared.item.Item.{Item}
-use Rattle.arrays_core.specs.declared.item.ItemType.TheVariants.{Nums}
-use Rattle.arrays_core.specs.declared.item.Kind.{Kind}
-use Rattle.arrays_core.specs.declared.fault.ApplyFault.{ApplyFault}
-use Rattle.arrays_core.specs.declared.fault.ApplyFault.TheVariants.{Kind as KindFault, NoMemory}
-use Rattle.arrays_core.specs.Items.{all_or_first_error}
-use Rattle.arrays_core.specs.Arrays.{ArrayValue, IsAnswerTo, with_items}
-use Rattle.function_names.specs.declared.scalar.Scalar2.{Scalar2}
-use Rattle.function_names.specs.declared.along.Along.{Along}
-use Rattle.index_region.specs.ArgumentLists.{of_one_argument}
-use Rattle.function_names.specs.Axes.{axis_at}
-use Rattle.index_region.specs.Boxes.{Interval, interval_length, box_size, walk_at, fits}
-use Rattle.index_region.proofs.Walks.{some_place}
+use Rattle.std.{specs.List.{range_with_len}, proofs.lemmas.Bool.{and_parts, leb-true, false≢true}, proofs.Math.Nat.{div-eq_of_lt, mod-eq_of_lt}}
+use Rattle.arrays_core.{specs.declared.item.Item.{Item}, specs.declared.item.ItemType.TheVariants.{Nums}, specs.declared.item.Kind.{Kind}}
+use Rattle.arrays_core.{specs.declared.fault.ApplyFault.{ApplyFault}, specs.declared.fault.ApplyFault.TheVariants.{Kind as KindFault, NoMemory}}
+use Rattle.arrays_core.{specs.Items.{all_or_first_error}, specs.Arrays.{ArrayValue, IsAnswerTo, with_items}}
+use Rattle.function_names.{specs.declared.scalar.Scalar2.{Scalar2}, specs.declared.along.Along.{Along}, specs.Axes.{axis_at}}
+use Rattle.index_region.{specs.ArgumentLists.{of_one_argument}, specs.Boxes.{Interval, interval_length, box_size, walk_at, fits}, proofs.Walks.{some_place}}
 use Rattle.change_core.specs.Parts.{HoldsItems, items_in}
 use Rattle.scan_fns.specs.Scan.{scan_item, scan_along}
 

@@ -1,17 +1,10 @@
 -- Folds of the numbers up to each place, from the numbers before it as a function of the next one.
 use Rattle.std.proofs.Common.{◌≡◌, ℕ, zero, suc, ◌+◌, ◌-◌, ◌*◌, ◌/◌, ◌%◌, true, false, nat_lt, ◌≢◌, inl, inr, ◌<◌, ◌≤◌, List, [], ◌∷◌, ◌++◌, length, get_or, refl, ap, sym, subst, ◌∙◌, arith, pos, ℤ, FitsSigned, Result, Ok, Err, append_assoc, length-append}
-use Rattle.std.specs.Int.{w64}
-use Rattle.std.proofs.Math.ListN.{set}
-use Rattle.std.proofs.lemmas.Bool.{cases_lt, lt-ltb, le-ltb}
-use Rattle.std.proofs.lemmas.List.{get_or-set_same, get_or-set_other}
-use Rattle.std.proofs.Math.Nat.{mod-add-div, mod-add-mod, mod-eq_of_lt, add-mod_right, mul-le-mul_left}
-use Rattle.std.proofs.lemmas.Nat.{mod_below}
-use Rattle.arrays_core.specs.declared.item.Kind.{Kind}
-use Rattle.arrays_core.specs.Items.{and_then}
-use Rattle.scalar_fns.specs.Folds.{folded}
-use Rattle.scalar_fns.proofs.RightFolds.{fold_more}
-use Rattle.scan_fns.specs.LinearScan.{depth, run_to}
-use Rattle.scan_fns.specs.Prefixes.{fold_to, IsFresh, Continues, IsClosed}
+use Rattle.std.{specs.Int.{w64}, proofs.Math.ListN.{set}, proofs.lemmas.Bool.{cases_lt, lt-ltb, le-ltb}, proofs.lemmas.List.{get_or-set_same, get_or-set_other}}
+use Rattle.std.{proofs.Math.Nat.{mod-add-div, mod-add-mod, mod-eq_of_lt, add-mod_right, mul-le-mul_left}, proofs.lemmas.Nat.{mod_below}}
+use Rattle.arrays_core.{specs.declared.item.Kind.{Kind}, specs.Items.{and_then}}
+use Rattle.scalar_fns.{specs.Folds.{folded}, proofs.RightFolds.{fold_more}}
+use Rattle.scan_fns.{specs.LinearScan.{depth, run_to}, specs.Prefixes.{fold_to, IsFresh, Continues, IsClosed}}
 use Rattle.scan_fns.proofs.Runs.{through, as_it_is, run_first, run_more, first_row, later_row}
 
 -- what a list of numbers and one more of 64 bits fold to

@@ -2,19 +2,13 @@
 use Rattle.std.proofs.Common.{◌≡◌, ℕ, ◌+◌, ◌-◌, ◌*◌, ◌<◌, ◌≤◌, List, [], ◌∷◌, ◌++◌, length, get_or, set, map, take, Vec, refl, inl, inr, ap, sym, ◌∙◌, arith, pos, ℤ, Result, Ok, Err}
 use Rattle.std.proofs.lemmas.Bool.{cases_eq, cases_lt}
 use Rattle.std.proofs.lemmas.List.{take_more, take_all, length-take, get_or-take, length-set, get_or-set_same, get_or-set_other, get_or_append_left, length-append}
-use Rattle.std.proofs.Math.Seq.{get_or-append_right}
-use Rattle.std.specs.List.{range_with_len}
+use Rattle.std.{proofs.Math.Seq.{get_or-append_right}, specs.List.{range_with_len}}
 use Rattle.std.proofs.lemmas.List.FromFn.{length-map-range_with_len, get_or-map-range_with_len}
-use Rattle.arrays_core.specs.declared.item.Kind.{Kind}
-use Rattle.arrays_core.specs.Items.{and_then}
-use Rattle.scalar_fns.specs.Folds.{strided, folded}
-use Rattle.scalar_fns.proofs.RightFolds.{length-strided, get_or-strided, take-strided}
-use Rattle.scan_fns.specs.LinearScan.{depth, run_to, AreResultsTo}
-use Rattle.scan_fns.specs.declared.recalled_scan.Recalled.{Recalled}
-use Rattle.scan_fns.specs.Prefixes.{fold_to}
-use Rattle.scan_fns.specs.RecalledScan.{run_before, given_at, nothing, IsRecalled, AreRecalled}
+use Rattle.arrays_core.{specs.declared.item.Kind.{Kind}, specs.Items.{and_then}}
+use Rattle.scalar_fns.{specs.Folds.{strided, folded}, proofs.RightFolds.{length-strided, get_or-strided, take-strided}}
+use Rattle.scan_fns.{specs.LinearScan.{depth, run_to, AreResultsTo}, specs.declared.recalled_scan.Recalled.{Recalled}, specs.Prefixes.{fold_to}}
+use Rattle.scan_fns.{specs.RecalledScan.{run_before, given_at, nothing, IsRecalled, AreRecalled}, proofs.Runs.{as_it_is, one_deeper, depth_high}}
 use Rattle.reduce_fns.proofs.Firsts.{entry_of}
-use Rattle.scan_fns.proofs.Runs.{as_it_is, one_deeper, depth_high}
 
 regroup : {A B C : Type 0} (r : Result A Kind) (g : A → Result B Kind) (h : B → Result C Kind) → and_then (and_then r g) h ≡ and_then r (λ z. and_then (g z) h)
 regroup (Ok z) g h = refl

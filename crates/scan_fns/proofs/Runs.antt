@@ -1,14 +1,9 @@
 -- The runs of lines up to each place, and folds from the left.
 use Rattle.std.proofs.Common.{◌≡◌, ℕ, zero, suc, ◌+◌, ◌-◌, ◌*◌, ◌/◌, ◌%◌, ◌<◌, ◌≤◌, List, [], ◌∷◌, ◌++◌, length, get_or, refl, ap, sym, ◌∙◌, inl, inr, arith, Result, Ok, Err}
-use Rattle.std.proofs.lemmas.List.{take_more, take_all}
-use Rattle.std.proofs.lemmas.Nat.{mod_below}
-use Rattle.std.proofs.Math.Nat.{div-eq-sub-div, mod-add-div}
+use Rattle.std.{proofs.lemmas.List.{take_more, take_all}, proofs.lemmas.Nat.{mod_below}, proofs.Math.Nat.{div-eq-sub-div, mod-add-div}}
 use Rattle.std.proofs.Math.Arith.{mod-mul}
-use Rattle.arrays_core.specs.declared.item.Kind.{Kind}
-use Rattle.arrays_core.specs.Items.{and_then}
-use Rattle.scalar_fns.specs.Folds.{strided}
-use Rattle.scalar_fns.proofs.Residues.{next_mod}
-use Rattle.scalar_fns.proofs.RightFolds.{length-strided, get_or-strided, take-strided}
+use Rattle.arrays_core.{specs.declared.item.Kind.{Kind}, specs.Items.{and_then}}
+use Rattle.scalar_fns.{specs.Folds.{strided}, proofs.Residues.{next_mod}, proofs.RightFolds.{length-strided, get_or-strided, take-strided}}
 use Rattle.scan_fns.specs.LinearScan.{depth, run_to}
 use Rattle.reduce_fns.specs.LeftFolds.{fold_on, folded_left}
 

@@ -1,10 +1,10 @@
 -- Worked cases of scan, computed.
 use Rattle.std.proofs.Common.{◌≡◌, refl, pos, [], ◌∷◌}
 use Rattle.arrays_core.specs.declared.item.Kind.TheVariants.{Axis as AxisError, Domain, Limit}
-use Rattle.function_names.specs.declared.along.Along.TheVariants.{First, Last, Axis}
-use Rattle.function_names.specs.declared.scalar.Scalar2.TheVariants as two
-use Rattle.scan_fns.specs.Scan.{scan_whole}
 use Rattle.arrays_core.proofs.CaseWords.{nums, ints, chars, is, fails, minus, greatest, least}
+use Rattle.function_names.specs.declared.along.Along.TheVariants.{First, Last, Axis}
+use Rattle.scan_fns.specs.Scan.{scan_whole}
+use Rattle.function_names.specs.declared.scalar.Scalar2.TheVariants as two
 
 -- -\4 3 2 1, and other functions along a vector
 alternating : scan_whole two.Minus Last (nums (4 ∷ []) (4 ∷ 3 ∷ 2 ∷ 1 ∷ [])) ≡ is (nums (4 ∷ []) (4 ∷ 1 ∷ 3 ∷ 2 ∷ []))

@@ -1,39 +1,20 @@
 -- The scan of an array of numbers, taken from the numbers as they lie.
 use Rattle.std.proofs.Common.{◌≡◌, ℕ, zero, suc, ◌+◌, ◌-◌, ◌*◌, ◌/◌, ◌%◌, ◌<◌, ◌≤◌, Bool, true, false, ◌||◌, not, nat_eq, nat_lt, inl, inr, IfOk, ℤ, pos, List, [], ◌∷◌, length, get_or, drop, take, map, refl, ap, sym, ◌∙◌, arith, insert, remove, if◌then◌else◌, Result, Ok, Err}
-use Rattle.std.proofs.lemmas.Bool.{eqb-true, ltb-true, le-ltb, cases_lt}
-use Rattle.std.proofs.lemmas.List.{get_or_default}
-use Rattle.std.proofs.lemmas.Nat.{div-mul-add, mod-mul-add, mod_below}
-use Rattle.arrays_core.specs.declared.item.Item.{Item}
-use Rattle.arrays_core.specs.declared.item.Item.TheVariants.{Num}
-use Rattle.arrays_core.specs.declared.item.Kind.{Kind}
-use Rattle.arrays_core.specs.declared.item.Kind.TheVariants.{Axis as AxisKind, Domain}
-use Rattle.arrays_core.specs.declared.item.ItemType.{ItemType}
-use Rattle.arrays_core.specs.declared.item.ItemType.TheVariants.{Nums, Chars}
-use Rattle.std.specs.List.{range_with_len}
-use Rattle.arrays_core.specs.Items.{fill, type_of, all_or_first_error, and_then}
-use Rattle.arrays_core.specs.Shapes.{size, is_index_of, places_before}
-use Rattle.arrays_core.specs.Arrays.{ArrayValue, IsArray, collect, with_items}
+use Rattle.std.{proofs.lemmas.Bool.{eqb-true, ltb-true, le-ltb, cases_lt}, proofs.lemmas.List.{get_or_default}}
+use Rattle.std.{proofs.lemmas.Nat.{div-mul-add, mod-mul-add, mod_below}, specs.List.{range_with_len}}
+use Rattle.arrays_core.{specs.declared.item.Item.{Item}, specs.declared.item.Item.TheVariants.{Num}, specs.declared.item.Kind.{Kind}}
+use Rattle.arrays_core.{specs.declared.item.Kind.TheVariants.{Axis as AxisKind, Domain}, specs.declared.item.ItemType.{ItemType}}
+use Rattle.arrays_core.{specs.declared.item.ItemType.TheVariants.{Nums, Chars}, specs.Items.{fill, type_of, all_or_first_error, and_then}}
+use Rattle.arrays_core.{specs.Shapes.{size, is_index_of, places_before}, specs.Arrays.{ArrayValue, IsArray, collect, with_items}}
 use Rattle.arrays_core.proofs.Shapes.{as_long, places_below}
-use Rattle.function_names.specs.declared.scalar.Scalar2.{Scalar2}
-use Rattle.scalar_fns.specs.Numbers.{dyadic_on_numbers}
-use Rattle.scalar_fns.specs.Items.{number_item}
-use Rattle.scalar_fns.specs.NumberLists.{number_items}
-use Rattle.scalar_fns.specs.Folds.{strided, folded, line_start}
-use Rattle.scalar_fns.proofs.RightFolds.{take-strided}
-use Rattle.function_names.specs.declared.along.Along.{Along}
-use Rattle.index_region.specs.Checks.{form_of, limited}
-use Rattle.index_region.specs.Arguments.{counts_as_numbers, is_of_numbers}
-use Rattle.function_names.specs.Axes.{is_axis, axis_at}
-use Rattle.index_region.specs.Axes.{places_along}
-use Rattle.index_region.specs.Answers.{IsPlaceOf, HasTypeOf}
-use Rattle.index_region.proofs.Passing.{passed, place_inside, typed_check, typed_limited}
-use Rattle.scalar_fns.specs.RightFold.{fold_right}
-use Rattle.reduce_fns.specs.Lines.{line}
-use Rattle.scan_fns.specs.LinearScan.{depth, run_to, scanned}
-use Rattle.scan_fns.specs.Scan.{scan_type, scan_form, scan_item, scan_whole}
-use Rattle.reduce_fns.proofs.Lines.{stride, line-strided, size-drop-le}
-use Rattle.reduce_fns.proofs.Placewise.{collected_same, numbers_collected}
+use Rattle.function_names.{specs.declared.scalar.Scalar2.{Scalar2}, specs.declared.along.Along.{Along}, specs.Axes.{is_axis, axis_at}}
+use Rattle.scalar_fns.{specs.Numbers.{dyadic_on_numbers}, specs.Items.{number_item}, specs.NumberLists.{number_items}}
+use Rattle.scalar_fns.{specs.Folds.{strided, folded, line_start}, proofs.RightFolds.{take-strided}, specs.RightFold.{fold_right}}
+use Rattle.index_region.{specs.Checks.{form_of, limited}, specs.Arguments.{counts_as_numbers, is_of_numbers}, specs.Axes.{places_along}}
+use Rattle.index_region.{specs.Answers.{IsPlaceOf, HasTypeOf}, proofs.Passing.{passed, place_inside, typed_check, typed_limited}}
+use Rattle.reduce_fns.{specs.Lines.{line}, proofs.Lines.{stride, line-strided, size-drop-le}, proofs.Placewise.{collected_same, numbers_collected}}
 use Rattle.reduce_fns.proofs.Reduced.{numbers_folded, start_is}
+use Rattle.scan_fns.{specs.LinearScan.{depth, run_to, scanned}, specs.Scan.{scan_type, scan_form, scan_item, scan_whole}}
 use Rattle.scan_fns.specs.Laws.ScannedPlaces.{at_axis, scan_facts}
 
 -- ---- an index list and its place

@@ -1,32 +1,17 @@
 -- The items of a scan on one line, taken from the numbers of the line.
 use Rattle.std.proofs.Common.{◌≡◌, ℕ, zero, suc, ◌+◌, ◌-◌, ◌<◌, ◌≤◌, List, [], ◌∷◌, length, get_or, map, take, set, insert, remove, ℤ, Result, Ok, Err, refl, ap, sym, ◌∙◌, arith}
-use Rattle.std.specs.List.{range_with_len}
-use Rattle.std.proofs.lemmas.Bool.{le-leb}
+use Rattle.std.{specs.List.{range_with_len}, proofs.lemmas.Bool.{le-leb}}
 use Rattle.std.proofs.lemmas.List.{length-map, length-take, take-take, take-map, get_or-set_same, get_or_default, ext_get_or}
-use Rattle.std.proofs.lemmas.List.FromFn.{length-map-range_with_len, get_or-map-range_with_len}
-use Rattle.std.proofs.Math.ListN.{get_or-map}
-use Rattle.arrays_core.specs.declared.item.Item.{Item}
-use Rattle.arrays_core.specs.declared.item.Item.TheVariants.{Num}
-use Rattle.arrays_core.specs.declared.item.ItemType.TheVariants.{Nums}
-use Rattle.arrays_core.specs.declared.item.Kind.{Kind}
-use Rattle.arrays_core.specs.declared.item.Kind.TheVariants.{Domain}
-use Rattle.arrays_core.specs.Limits.{longest_axis}
-use Rattle.arrays_core.specs.Items.{all_or_first_error, after}
-use Rattle.arrays_core.specs.Arrays.{ArrayValue, item_of, with_items, vector_of}
-use Rattle.function_names.specs.declared.scalar.Scalar2.{Scalar2}
-use Rattle.scalar_fns.specs.Numbers.{dyadic_on_numbers}
-use Rattle.scalar_fns.specs.Items.{number_item}
-use Rattle.scalar_fns.specs.NumberLists.{number_items}
-use Rattle.scalar_fns.specs.Folds.{folded}
-use Rattle.function_names.specs.declared.along.Along.{Along}
-use Rattle.function_names.specs.Axes.{axis_at}
+use Rattle.std.{proofs.lemmas.List.FromFn.{length-map-range_with_len, get_or-map-range_with_len}, proofs.Math.ListN.{get_or-map}}
+use Rattle.arrays_core.{specs.declared.item.Item.{Item}, specs.declared.item.Item.TheVariants.{Num}, specs.declared.item.ItemType.TheVariants.{Nums}}
+use Rattle.arrays_core.{specs.declared.item.Kind.{Kind}, specs.declared.item.Kind.TheVariants.{Domain}, specs.Limits.{longest_axis}}
+use Rattle.arrays_core.{specs.Items.{all_or_first_error, after}, specs.Arrays.{ArrayValue, item_of, with_items, vector_of}}
+use Rattle.function_names.{specs.declared.scalar.Scalar2.{Scalar2}, specs.declared.along.Along.{Along}, specs.Axes.{axis_at}}
+use Rattle.scalar_fns.{specs.Numbers.{dyadic_on_numbers}, specs.Items.{number_item}, specs.NumberLists.{number_items}, specs.Folds.{folded}}
+use Rattle.scalar_fns.{specs.RightFold.{fold_right}, proofs.ItemFolds.{some_folded, folded_numbers}}
 use Rattle.index_region.specs.Axes.{places_along}
-use Rattle.scalar_fns.specs.RightFold.{fold_right}
-use Rattle.reduce_fns.specs.Lines.{line}
-use Rattle.scan_fns.specs.LinearScan.{folds_from}
-use Rattle.scan_fns.specs.Scan.{scan_item, scan_along}
-use Rattle.scalar_fns.proofs.ItemFolds.{some_folded, folded_numbers}
-use Rattle.reduce_fns.proofs.ListResults.{as_many_as}
+use Rattle.reduce_fns.{specs.Lines.{line}, proofs.ListResults.{as_many_as}}
+use Rattle.scan_fns.{specs.LinearScan.{folds_from}, specs.Scan.{scan_item, scan_along}}
 
 -- ---- numbers as the items of a vector
 

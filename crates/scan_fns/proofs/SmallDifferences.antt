@@ -1,25 +1,14 @@
 -- Small numbers stay within 64 bits where they are added and taken off in turn.
 use Rattle.std.proofs.Common.{◌≡◌, ℕ, zero, suc, ◌+◌, ◌-◌, ◌*◌, ◌/◌, ◌%◌, ◌<◌, ◌≤◌, nat_eq, true, false, Bool, if◌then◌else◌, List, [], ◌∷◌, ◌++◌, length, get_or, map, take, refl, ap, sym, ◌∙◌, arith, pos, ℤ, neg_ℤ, ◌+ℤ◌, ◌-ℤ◌, ◌≤ℤ◌, ◌<ℤ◌, SFits, w64, Ok}
-use Rattle.std.specs.List.{All, range_with_len}
-use Rattle.std.proofs.lemmas.Int.{ints}
-use Rattle.std.proofs.Math.Nat.{mul-le-mul_left, mod-add-div, mod-add-mod, add-mul-div_left}
-use Rattle.std.proofs.lemmas.Nat.{div-mul-add}
-use Rattle.std.proofs.lemmas.List.{length-take, get_or-take}
+use Rattle.std.{specs.List.{All, range_with_len}, proofs.lemmas.Int.{ints}, proofs.Math.Nat.{mul-le-mul_left, mod-add-div, mod-add-mod, add-mul-div_left}}
+use Rattle.std.{proofs.lemmas.Nat.{div-mul-add}, proofs.lemmas.List.{length-take, get_or-take}}
 use Rattle.std.proofs.lemmas.List.FromFn.{length-map-range_with_len, get_or-map-range_with_len}
 use Rattle.arrays_core.specs.Items.{all_or_first_error, and_then}
 use Rattle.function_names.specs.declared.scalar.Scalar2.TheVariants.{Minus}
-use Rattle.scalar_fns.specs.Numbers.{dyadic_on_numbers}
-use Rattle.scalar_fns.specs.Folds.{folded}
-use Rattle.scalar_fns.proofs.RightFolds.{length-strided}
-use Rattle.scan_fns.specs.LinearScan.{depth, run_to}
-use Rattle.scan_fns.specs.Prefixes.{fold_to}
-use Rattle.reduce_fns.specs.Sum.{IsSmall}
-use Rattle.scalar_fns.proofs.Within.{held_within}
-use Rattle.reduce_fns.proofs.SmallSums.{fits_between}
-use Rattle.scan_fns.proofs.RunningSums.{run_each}
-use Rattle.reduce_fns.proofs.Firsts.{entry_of}
-use Rattle.scan_fns.proofs.Prefixes.{beside_depth}
+use Rattle.scalar_fns.{specs.Numbers.{dyadic_on_numbers}, specs.Folds.{folded}, proofs.RightFolds.{length-strided}, proofs.Within.{held_within}}
+use Rattle.scan_fns.{specs.LinearScan.{depth, run_to}, specs.Prefixes.{fold_to}, proofs.RunningSums.{run_each}, proofs.Prefixes.{beside_depth}}
 use Rattle.scan_fns.proofs.Runs.{one_deeper, depth_high, run_first, run_more, run_some}
+use Rattle.reduce_fns.{specs.Sum.{IsSmall}, proofs.SmallSums.{fits_between}, proofs.Firsts.{entry_of}}
 
 -- x1 - (x2 - (.. xk))
 abbrev pub signed_sum : List ℤ → ℤ

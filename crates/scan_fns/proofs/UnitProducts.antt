@@ -1,16 +1,10 @@
 -- The products of numbers that are 0, 1 or ¯1, from the left and from the right.
-use Rattle.std.proofs.Common.{◌≡◌, ℕ, zero, suc, ◌<◌, ◌≤◌, List, [], ◌∷◌, length, refl, ap, sym, ◌∙◌, arith, pos, negsuc, ℤ, ◌*ℤ◌, Ok}
-use Rattle.std.specs.List.{All}
+use Rattle.std.{proofs.Common.{◌≡◌, ℕ, zero, suc, ◌<◌, ◌≤◌, List, [], ◌∷◌, length, refl, ap, sym, ◌∙◌, arith, pos, negsuc, ℤ, ◌*ℤ◌, Ok}, specs.List.{All}}
 use Rattle.arrays_core.specs.Items.{all_or_first_error, and_then}
 use Rattle.function_names.specs.declared.scalar.Scalar2.TheVariants.{Times}
-use Rattle.scalar_fns.specs.Numbers.{dyadic_on_numbers}
-use Rattle.scalar_fns.specs.Folds.{folded}
-use Rattle.scalar_fns.proofs.Products.{times_assoc}
-use Rattle.scan_fns.specs.LinearScan.{scanned}
-use Rattle.reduce_fns.specs.LeftFolds.{fold_on, folded_left}
-use Rattle.scan_fns.specs.Prefixes.{IsUnit}
-use Rattle.reduce_fns.proofs.Firsts.{same_rules}
-use Rattle.scan_fns.proofs.RunningSums.{run_each}
+use Rattle.scalar_fns.{specs.Numbers.{dyadic_on_numbers}, specs.Folds.{folded}, proofs.Products.{times_assoc}}
+use Rattle.scan_fns.{specs.LinearScan.{scanned}, specs.Prefixes.{IsUnit}, proofs.RunningSums.{run_each}}
+use Rattle.reduce_fns.{specs.LeftFolds.{fold_on, folded_left}, proofs.Firsts.{same_rules}}
 
 unit_case : (P : ℤ → Type 0) → P (pos 0) → P (pos 1) → P (negsuc 0) → (z : ℤ) → IsUnit z → P z
 unit_case P a b c (pos zero) u = a

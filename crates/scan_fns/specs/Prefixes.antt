@@ -1,12 +1,8 @@
 -- The numbers of a line so far, as a function of the number that comes next.
 use Rattle.std.specs.Prelude.{◌≡◌, ◌≤◌, ℕ, unsigned_abs, nat_le, nat_lt, ℤ, pos, negsuc, ◌+ℤ◌, ◌-ℤ◌, ◌*ℤ◌, int_le, ◌&&◌, FitsSigned, List, Bool, true, ◌||◌, if◌then◌else◌, Option, Some, None, Result, Ok, Err}
-use Rattle.std.specs.Int.{w64}
-use Rattle.std.specs.Ordering.{int_eq}
-use Rattle.arrays_core.specs.Items.{and_then}
-use Rattle.arrays_core.specs.declared.item.Kind.{Kind}
-use Rattle.arrays_core.specs.declared.item.Kind.TheVariants.{Limit}
-use Rattle.scalar_fns.specs.Numbers.{number_or_limit}
-use Rattle.scalar_fns.specs.Folds.{folded}
+use Rattle.std.{specs.Int.{w64}, specs.Ordering.{int_eq}}
+use Rattle.arrays_core.{specs.Items.{and_then}, specs.declared.item.Kind.{Kind}, specs.declared.item.Kind.TheVariants.{Limit}}
+use Rattle.scalar_fns.{specs.Numbers.{number_or_limit}, specs.Folds.{folded}}
 use Rattle.scan_fns.specs.LinearScan.{run_to}
 
 -- the fold of the numbers up to each place

@@ -2,9 +2,7 @@
 use Rattle.std.specs.Prelude.{◌≡◌, ℕ, ◌-◌, ◌*◌, ◌<◌, ℤ, pos, List, [], ◌∷◌, ◌++◌, length, get_or, Result}
 use Rattle.arrays_core.specs.declared.item.Kind.{Kind}
 use Rattle.scalar_fns.specs.Folds.{strided, folded}
-use Rattle.scan_fns.specs.declared.recalled_scan.Recalled.{Recalled}
-use Rattle.scan_fns.specs.LinearScan.{depth}
-use Rattle.scan_fns.specs.Prefixes.{fold_to}
+use Rattle.scan_fns.{specs.declared.recalled_scan.Recalled.{Recalled}, specs.LinearScan.{depth}, specs.Prefixes.{fold_to}}
 
 -- the entries of the line of a place before the one there
 abbrev pub run_before : List ℤ → (stride count place : ℕ) → List ℤ

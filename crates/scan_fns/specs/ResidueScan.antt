@@ -1,13 +1,10 @@
 -- Scans by residue of numbers of which none is below 0, or none above.
 use Rattle.std.specs.Prelude.{◌≡◌, ℕ, suc, ◌-◌, ◌^◌, ◌<◌, ◌≤◌, nat_eq, ℤ, pos, int_le, IsTrue, Bool, ◌||◌, unsigned_abs, List, length, get_or, IfSome, Option, Some, None, ◌⊎◌, if◌then◌else◌, Result, Ok}
-use Rattle.std.specs.List.{list_all}
-use Rattle.std.specs.Ordering.{int_eq}
+use Rattle.std.{specs.List.{list_all}, specs.Ordering.{int_eq}}
 use Rattle.arrays_core.specs.declared.item.Kind.{Kind}
 use Rattle.function_names.specs.declared.scalar.Scalar2.TheVariants.{Residue as ByResidue}
 use Rattle.scalar_fns.specs.Numbers.{residue, dyadic_on_numbers}
-use Rattle.scan_fns.specs.declared.residue_scan.Divisor.{Divisor}
-use Rattle.scan_fns.specs.LinearScan.{depth}
-use Rattle.scan_fns.specs.RecalledScan.{given_at}
+use Rattle.scan_fns.{specs.declared.residue_scan.Divisor.{Divisor}, specs.LinearScan.{depth}, specs.RecalledScan.{given_at}}
 
 -- how far from 0 a number is as a divisor: what is nearer is its own residue by it
 abbrev pub extent_of : ℤ → ℕ

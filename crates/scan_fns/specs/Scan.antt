@@ -1,26 +1,14 @@
 -- Scan, f\B and f⍀B.
 use Rattle.std.specs.Prelude.{ℕ, ◌+◌, ◌-◌, nat_lt, ◌||◌, List, [], ◌∷◌, length, map, get_or, set, take, remove, if◌then◌else◌, Result}
 use Rattle.std.specs.List.{range_with_len}
-use Rattle.arrays_core.specs.declared.item.Item.{Item}
-use Rattle.arrays_core.specs.declared.item.ItemType.{ItemType}
-use Rattle.arrays_core.specs.declared.item.ItemType.TheVariants.{Nums}
-use Rattle.arrays_core.specs.declared.item.Kind.{Kind}
-use Rattle.arrays_core.specs.declared.item.Kind.TheVariants.{Axis, Domain}
-use Rattle.arrays_core.specs.Items.{all_or_first_error}
+use Rattle.arrays_core.{specs.declared.item.Item.{Item}, specs.declared.item.ItemType.{ItemType}, specs.declared.item.ItemType.TheVariants.{Nums}}
+use Rattle.arrays_core.{specs.declared.item.Kind.{Kind}, specs.declared.item.Kind.TheVariants.{Axis, Domain}, specs.Items.{all_or_first_error}}
 use Rattle.arrays_core.specs.Arrays.{ArrayValue, with_items}
-use Rattle.function_names.specs.declared.along.Along.{Along}
-use Rattle.index_region.specs.Checks.{Form, check, limited, whole}
-use Rattle.index_region.specs.Arguments.{counts_as_numbers}
-use Rattle.function_names.specs.Axes.{is_axis, axis_at}
-use Rattle.index_region.specs.Axes.{places_along}
-use Rattle.change_core.specs.RuleModels.{RuleModel, Use}
-use Rattle.change_core.specs.Growth.{growing}
-use Rattle.change_core.specs.Sourced.{one_rule}
-use Rattle.change_core.specs.Ways.{along as on_own_line}
-use Rattle.function_names.specs.declared.scalar.Scalar2.{Scalar2}
+use Rattle.function_names.{specs.declared.along.Along.{Along}, specs.Axes.{is_axis, axis_at}, specs.declared.scalar.Scalar2.{Scalar2}}
+use Rattle.index_region.{specs.Checks.{Form, check, limited, whole}, specs.Arguments.{counts_as_numbers}, specs.Axes.{places_along}}
+use Rattle.change_core.{specs.RuleModels.{RuleModel, Use}, specs.Growth.{growing}, specs.Sourced.{one_rule}, specs.Ways.{along as on_own_line}}
 use Rattle.scalar_fns.specs.RightFold.{fold_right}
-use Rattle.reduce_fns.specs.Lines.{line}
-use Rattle.reduce_fns.specs.Growth.{lines_grow}
+use Rattle.reduce_fns.{specs.Lines.{line}, specs.Growth.{lines_grow}}
 
 -- b itself where the axis is below 2
 abbrev pub scan_type : ArrayValue → ℕ → ItemType

@@ -1,14 +1,9 @@
 -- Worked boxes, computed: what changes of a result where boxes of the arguments changed.
 use Rattle.std.proofs.Common.{◌≡◌, [], ◌∷◌, refl, None}
-use Rattle.arrays_core.specs.Arrays.{ArrayValue}
-use Rattle.arrays_core.proofs.CaseWords.{nums, scalar, no_numbers, no_text}
-use Rattle.change_core.specs.declared.reach.Reach.TheVariants.{Anew, Inside, Unmoved}
-use Rattle.change_core.specs.Reaches.{reach_of}
+use Rattle.arrays_core.{specs.Arrays.{ArrayValue}, proofs.CaseWords.{nums, scalar, no_numbers, no_text}}
+use Rattle.change_core.{specs.declared.reach.Reach.TheVariants.{Anew, Inside, Unmoved}, specs.Reaches.{reach_of}}
 use Rattle.selection_fns.proofs.BoxCases.{table, three, place, places, block, one, two}
-use Rattle.search_fns.specs.IndexOf.{index_of_rule}
-use Rattle.search_fns.specs.Member.{member_rule}
-use Rattle.search_fns.specs.Encode.{encode_rule}
-use Rattle.search_fns.specs.Decode.{decode_rule}
+use Rattle.search_fns.{specs.IndexOf.{index_of_rule}, specs.Member.{member_rule}, specs.Encode.{encode_rule}, specs.Decode.{decode_rule}}
 
 -- 1 2 3 4, and a table of 3 rows and 5 columns
 abbrev four : ArrayValue

@@ -1,29 +1,18 @@
 -- The digits in a box, taken from those of its numbers by the radices from its first one on.
 use Rattle.std.proofs.Common.{◌≡◌, ℕ, ◌+◌, ◌-◌, ◌*◌, ◌/◌, ◌%◌, ◌<◌, ◌≤◌, IsTrue, ℤ, pos, List, [], ◌∷◌, ◌++◌, length, get_or, map, take, drop, Result, Ok, Err, refl, ap, sym, ◌∙◌, arith}
-use Rattle.std.specs.List.{range_with_len}
-use Rattle.std.proofs.lemmas.Bool.{and_parts, leb-true, false≢true}
+use Rattle.std.{specs.List.{range_with_len}, proofs.lemmas.Bool.{and_parts, leb-true, false≢true}}
 use Rattle.std.proofs.lemmas.List.{length-map, length-take, length-drop, get_or-take, get_or-drop, drop-drop, drop-map, get_or-map as get_or-map_inside, take_all}
-use Rattle.std.proofs.lemmas.List.FromFn.{length-map-range_with_len, get_or-map-range_with_len}
-use Rattle.std.proofs.lemmas.Nat.{div-mul-add, mod_below}
+use Rattle.std.{proofs.lemmas.List.FromFn.{length-map-range_with_len, get_or-map-range_with_len}, proofs.lemmas.Nat.{div-mul-add, mod_below}}
 use Rattle.std.proofs.Math.Nat.{mul-le-mul_right}
-use Rattle.arrays_core.specs.declared.item.Item.{Item}
-use Rattle.arrays_core.specs.declared.item.Item.TheVariants.{Num}
-use Rattle.arrays_core.specs.declared.item.ItemType.TheVariants.{Nums}
-use Rattle.arrays_core.specs.declared.item.Kind.{Kind}
-use Rattle.arrays_core.specs.declared.item.Kind.TheVariants.{Domain}
-use Rattle.arrays_core.specs.Items.{all_or_first_error, and_then, fill}
-use Rattle.arrays_core.specs.Shapes.{size, indices, index_after, places_before}
-use Rattle.arrays_core.specs.Arrays.{ArrayValue, collect, with_items, item_of}
+use Rattle.arrays_core.{specs.declared.item.Item.{Item}, specs.declared.item.Item.TheVariants.{Num}, specs.declared.item.ItemType.TheVariants.{Nums}}
+use Rattle.arrays_core.{specs.declared.item.Kind.{Kind}, specs.declared.item.Kind.TheVariants.{Domain}, specs.Items.{all_or_first_error, and_then, fill}}
+use Rattle.arrays_core.{specs.Shapes.{size, indices, index_after, places_before}, specs.Arrays.{ArrayValue, collect, with_items, item_of}}
 use Rattle.arrays_core.proofs.Order.{length-indices, get_or-indices}
-use Rattle.scalar_fns.specs.Items.{number_item}
-use Rattle.scalar_fns.specs.Numbers.{residue}
-use Rattle.index_region.specs.Arguments.{number_of, numbers}
-use Rattle.index_region.specs.Boxes.{Interval, interval_length, box_size, walk_at, fits}
-use Rattle.index_region.specs.Checks.{Form}
+use Rattle.scalar_fns.{specs.Items.{number_item}, specs.Numbers.{residue}}
+use Rattle.index_region.{specs.Arguments.{number_of, numbers}, specs.Boxes.{Interval, interval_length, box_size, walk_at, fits}, specs.Checks.{Form}}
 use Rattle.index_region.proofs.Walks.{some_place}
 use Rattle.change_core.specs.Parts.{items_in}
-use Rattle.search_fns.specs.Encode.{carried_through, digit, encode_form, encode_item, encode_whole}
-use Rattle.search_fns.specs.Digits.{AreColumns}
+use Rattle.search_fns.{specs.Encode.{carried_through, digit, encode_form, encode_item, encode_whole}, specs.Digits.{AreColumns}}
 use Rattle.search_fns.specs.Laws.Encode.{encode_facts}
 use Rattle.selection_fns.proofs.Entries.{entry_of, from_entries, long_entries}
 

@@ -1,27 +1,17 @@
 -- Decode, a row of digits at a time.
 use Rattle.std.proofs.Common.{◌≡◌, ℕ, ◌+◌, ◌-◌, ◌*◌, ◌<◌, ◌≤◌, false, List, [], ◌∷◌, length, get_or, map, take, drop, ℤ, pos, Ok, Err, refl, ap, sym, ◌∙◌, arith, Result}
-use Rattle.std.specs.Prelude.{nat_eq, if◌then◌else◌}
-use Rattle.std.specs.List.{range_with_len}
-use Rattle.std.proofs.lemmas.Bool.Decides.{nat_tests}
-use Rattle.std.proofs.lemmas.List.{length-map, length-take, length-drop, get_or-take, get_or-drop}
-use Rattle.std.proofs.Math.ListN.{get_or-map}
+use Rattle.std.{specs.Prelude.{nat_eq, if◌then◌else◌}, specs.List.{range_with_len}, proofs.lemmas.Bool.Decides.{nat_tests}}
+use Rattle.std.{proofs.lemmas.List.{length-map, length-take, length-drop, get_or-take, get_or-drop}, proofs.Math.ListN.{get_or-map}}
 use Rattle.std.proofs.Math.Nat.{mul-le-mul_right}
-use Rattle.arrays_core.specs.declared.item.Item.TheVariants.{Num}
-use Rattle.arrays_core.specs.declared.item.ItemType.TheVariants.{Nums}
-use Rattle.arrays_core.specs.declared.item.Item.{Item}
-use Rattle.arrays_core.specs.declared.item.Kind.{Kind}
-use Rattle.arrays_core.specs.declared.item.Kind.TheVariants.{Limit}
-use Rattle.arrays_core.specs.Items.{fill, and_then}
-use Rattle.arrays_core.specs.Shapes.{size, indices, places_before, index_after}
-use Rattle.arrays_core.specs.Arrays.{ArrayValue, collect, with_items}
+use Rattle.arrays_core.{specs.declared.item.Item.TheVariants.{Num}, specs.declared.item.ItemType.TheVariants.{Nums}, specs.declared.item.Item.{Item}}
+use Rattle.arrays_core.{specs.declared.item.Kind.{Kind}, specs.declared.item.Kind.TheVariants.{Limit}, specs.Items.{fill, and_then}}
+use Rattle.arrays_core.{specs.Shapes.{size, indices, places_before, index_after}, specs.Arrays.{ArrayValue, collect, with_items}}
 use Rattle.arrays_core.proofs.Order.{given_in_order, places_before-index_after, length-indices, get_or-indices}
 use Rattle.scalar_fns.specs.Items.{number_item}
-use Rattle.index_region.specs.Arguments.{number_of, numbers}
-use Rattle.index_region.specs.Axes.{places_along}
+use Rattle.index_region.{specs.Arguments.{number_of, numbers}, specs.Axes.{places_along}}
 use Rattle.search_fns.specs.Decode.{decode_item, digit_count, radix_at, digit_at, worth, decoded}
 use Rattle.search_fns.specs.DecodedRows.{with_one_more, HaveOneMore, LeavesNumbers, AreDecoded, HasLimit}
-use Rattle.search_fns.proofs.Worths.{digits_after, digit_pair, one_more_digit, number_there}
-use Rattle.search_fns.proofs.DecodeErrors.{limit_of_list, decode_limited}
+use Rattle.search_fns.{proofs.Worths.{digits_after, digit_pair, one_more_digit, number_there}, proofs.DecodeErrors.{limit_of_list, decode_limited}}
 
 -- ---- a number on its way: with the digits that are left it is worth what all digits are
 

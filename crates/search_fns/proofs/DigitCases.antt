@@ -1,10 +1,8 @@
 -- Worked cases of encode and of decode, computed.
-use Rattle.std.proofs.Common.{◌≡◌, refl, pos, [], ◌∷◌}
-use Rattle.std.specs.Prelude.{◌-◌, ◌^◌}
+use Rattle.std.{proofs.Common.{◌≡◌, refl, pos, [], ◌∷◌}, specs.Prelude.{◌-◌, ◌^◌}}
 use Rattle.arrays_core.specs.declared.item.Kind.TheVariants.{Rank, Length, Domain, Limit}
-use Rattle.search_fns.specs.Encode.{encode_whole}
-use Rattle.search_fns.specs.Decode.{decode_whole}
 use Rattle.arrays_core.proofs.CaseWords.{nums, ints, chars, is, fails, scalar, integer, no_text, no_numbers, minus, greatest, least}
+use Rattle.search_fns.{specs.Encode.{encode_whole}, specs.Decode.{decode_whole}}
 
 -- ---- encode
 

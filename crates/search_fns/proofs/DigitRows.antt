@@ -1,12 +1,9 @@
 -- The digits of numbers, a row for each radix, the row of the last radix first.
 use Rattle.std.proofs.Common.{◌≡◌, ℕ, ◌+◌, ◌-◌, ◌*◌, ◌<◌, ◌≤◌, List, length, get_or, drop, ℤ, pos, Ok, ap, sym, ◌∙◌, inl, inr, arith}
-use Rattle.std.proofs.lemmas.Bool.{cases_lt}
-use Rattle.std.proofs.Math.Nat.{mul-le-mul_right}
+use Rattle.std.{proofs.lemmas.Bool.{cases_lt}, proofs.Math.Nat.{mul-le-mul_right}}
 use Rattle.arrays_core.specs.Items.{and_then}
 use Rattle.scalar_fns.specs.Numbers.{residue}
-use Rattle.search_fns.specs.Encode.{carried_through, digit}
-use Rattle.search_fns.specs.EncodedRows.{AreCarried, HasRow}
-use Rattle.search_fns.proofs.Radices.{one_more_radix}
+use Rattle.search_fns.{specs.Encode.{carried_through, digit}, specs.EncodedRows.{AreCarried, HasRow}, proofs.Radices.{one_more_radix}}
 
 -- the digit by the radix before those that leave a number
 digit_here : (radices : List ℤ) (k : ℕ) (z rest : ℤ) → carried_through (drop (k + 1) radices) z ≡ Ok rest

@@ -1,26 +1,15 @@
 -- The array of the digits of an array by radices.
 use Rattle.std.proofs.Common.{◌≡◌, ℕ, zero, suc, true, ◌+◌, ◌*◌, ◌/◌, ◌%◌, ◌<◌, ◌≤◌, List, [], ◌∷◌, ◌++◌, length, get_or, drop, map, ℤ, pos, Ok, refl, ap, sym, ◌∙◌, arith, if◌then◌else◌}
-use Rattle.std.specs.Prelude.{nat_eq, nat_le, ◌&&◌}
-use Rattle.std.proofs.lemmas.Bool.Decides.{nat_tests}
-use Rattle.std.proofs.lemmas.List.{length-map, get_or-map}
-use Rattle.std.proofs.lemmas.Nat.{div_below, mod_below}
-use Rattle.std.proofs.Math.Nat.{div-add-mod'}
-use Rattle.arrays_core.specs.declared.item.Item.{Item}
-use Rattle.arrays_core.specs.declared.item.Item.TheVariants.{Num}
-use Rattle.arrays_core.specs.declared.item.ItemType.{ItemType}
-use Rattle.arrays_core.specs.declared.item.ItemType.TheVariants.{Nums}
-use Rattle.arrays_core.specs.declared.item.Kind.TheVariants.{Rank, Domain}
-use Rattle.arrays_core.specs.Items.{fill, and_then}
-use Rattle.arrays_core.specs.Shapes.{size, index_after}
-use Rattle.arrays_core.specs.Arrays.{ArrayValue, IsArray, item_of, collect, with_items}
+use Rattle.std.{specs.Prelude.{nat_eq, nat_le, ◌&&◌}, proofs.lemmas.Bool.Decides.{nat_tests}, proofs.lemmas.List.{length-map, get_or-map}}
+use Rattle.std.{proofs.lemmas.Nat.{div_below, mod_below}, proofs.Math.Nat.{div-add-mod'}}
+use Rattle.arrays_core.{specs.declared.item.Item.{Item}, specs.declared.item.Item.TheVariants.{Num}, specs.declared.item.ItemType.{ItemType}}
+use Rattle.arrays_core.{specs.declared.item.ItemType.TheVariants.{Nums}, specs.declared.item.Kind.TheVariants.{Rank, Domain}, specs.Items.{fill, and_then}}
+use Rattle.arrays_core.{specs.Shapes.{size, index_after}, specs.Arrays.{ArrayValue, IsArray, item_of, collect, with_items}}
 use Rattle.arrays_core.proofs.Order.{given_in_order, places_before-index_after}
 use Rattle.scalar_fns.specs.Items.{number_item}
-use Rattle.index_region.specs.Arguments.{is_list, counts_as_numbers, number_of, numbers}
-use Rattle.index_region.specs.Checks.{Form, form_of, check, limited}
-use Rattle.index_region.specs.ArgumentLists.{of_two_arguments}
-use Rattle.index_region.proofs.Passing.{two_arguments, gives, limited_gives}
-use Rattle.search_fns.specs.Encode.{digit, encode_form, encode_item, encode_whole}
-use Rattle.search_fns.specs.EncodedRows.{AreDigits}
+use Rattle.index_region.{specs.Arguments.{is_list, counts_as_numbers, number_of, numbers}, specs.Checks.{Form, form_of, check, limited}}
+use Rattle.index_region.{specs.ArgumentLists.{of_two_arguments}, proofs.Passing.{two_arguments, gives, limited_gives}}
+use Rattle.search_fns.{specs.Encode.{digit, encode_form, encode_item, encode_whole}, specs.EncodedRows.{AreDigits}}
 
 -- a place among rows is in a row of some places
 row_some : (n s m : ℕ) → m < n * s → 0 < s

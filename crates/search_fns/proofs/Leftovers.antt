@@ -1,14 +1,9 @@
 -- A digit, from what its radix leaves to the radices before it.
 use Rattle.std.proofs.Common.{◌≡◌, ◌∙◌, ◌+◌, ◌-◌, ◌*◌, ◌%◌, ◌^◌, ap, subst, refl, arith, of_z, to_z, Bool, true, false, if◌then◌else◌, ℤ, pos, negsuc, ◌-ℤ◌, ◌*ℤ◌, Ok, SFits, w64}
-use Rattle.std.specs.Ordering.{int_eq}
-use Rattle.std.specs.Int.{int_wrap}
-use Rattle.std.proofs.lemmas.Int.{ints, wrapping_sub-bits, wrapping_mul-bits, int_wrap_fits, int_wrap-sub_right, to_z-of_z}
-use Rattle.std.proofs.Math.Facts.{Fits-of_z}
-use Rattle.std.proofs.Math.Nat.{mod-lt}
-use Rattle.std.proofs.lemmas.Bool.Decides.{Decides-int_eq}
-use Rattle.scalar_fns.specs.Numbers.{residue, floor_div, number_or_limit}
-use Rattle.scalar_fns.specs.Residue.{IsFromZeroBelow}
-use Rattle.scalar_fns.proofs.Floors.{held_ok}
+use Rattle.std.{specs.Ordering.{int_eq}, specs.Int.{int_wrap}}
+use Rattle.std.{proofs.lemmas.Int.{ints, wrapping_sub-bits, wrapping_mul-bits, int_wrap_fits, int_wrap-sub_right, to_z-of_z}, proofs.Math.Facts.{Fits-of_z}}
+use Rattle.std.{proofs.Math.Nat.{mod-lt}, proofs.lemmas.Bool.Decides.{Decides-int_eq}}
+use Rattle.scalar_fns.{specs.Numbers.{residue, floor_div, number_or_limit}, specs.Residue.{IsFromZeroBelow}, proofs.Floors.{held_ok}}
 use Rattle.scalar_fns.proofs.Rests.{residue_is_rest}
 use Rattle.search_fns.specs.Encode.{carried}
 

@@ -1,11 +1,9 @@
 -- Items looked up in a list by their first places.
 use Rattle.std.proofs.Common.{◌≡◌, ℕ, ◌+◌, ◌<◌, ◌≤◌, Bool, true, false, cond, List, [], ◌∷◌, ◌++◌, length, get_or, take, drop, map, Option, Some, None, pos, refl, ap, sym, ◌∙◌, arith}
-use Rattle.std.specs.Prelude.{is_some}
-use mir.Val.{bool_byte}
-use Rattle.scalar_fns.specs.Numbers.{truth}
-use Rattle.std.specs.Cmp.{IsEquivalence}
-use Rattle.std.specs.List.{list_any, position_from, position_or_len}
+use Rattle.std.{specs.Prelude.{is_some}, specs.Cmp.{IsEquivalence}, specs.List.{list_any, position_from, position_or_len}}
 use Rattle.std.proofs.lemmas.List.{drop_more, take_more, map-append}
+use Rattle.scalar_fns.specs.Numbers.{truth}
+use mir.Val.{bool_byte}
 
 -- one more item in front of those whose first places are known
 pub one_more_first : {K : Type 0} {eq : K → K → Bool} (laws : IsEquivalence eq) (xs : List K) (x : K) (k place : ℕ) (m n : K → Option ℕ)

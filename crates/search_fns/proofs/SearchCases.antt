@@ -1,9 +1,8 @@
 -- Worked cases of index of and of membership, computed.
 use Rattle.std.proofs.Common.{◌≡◌, refl, pos, [], ◌∷◌}
 use Rattle.arrays_core.specs.declared.item.Kind.TheVariants.{Rank}
-use Rattle.search_fns.specs.IndexOf.{index_of_whole}
-use Rattle.search_fns.specs.Member.{member_whole}
 use Rattle.arrays_core.proofs.CaseWords.{nums, ints, chars, is, fails, scalar, integer, no_text, no_numbers, minus, greatest, least}
+use Rattle.search_fns.{specs.IndexOf.{index_of_whole}, specs.Member.{member_whole}}
 
 -- ---- index of
 

@@ -1,20 +1,11 @@
 -- Whole results of index of and of membership.
-use Rattle.std.proofs.Common.{◌≡◌, ℕ, List, [], ◌∷◌, length, get_or, map, suc, pos, ℤ, Ok, sym, ap, ◌∙◌}
-use Rattle.std.specs.Prelude.{nat_eq}
+use Rattle.std.{proofs.Common.{◌≡◌, ℕ, List, [], ◌∷◌, length, get_or, map, suc, pos, ℤ, Ok, sym, ap, ◌∙◌}, specs.Prelude.{nat_eq}}
 use Rattle.std.specs.List.{list_any, position_or_len}
 use Rattle.scalar_fns.specs.Numbers.{truth}
-use Rattle.arrays_core.specs.declared.item.Item.TheVariants.{Num}
-use Rattle.arrays_core.specs.declared.item.ItemType.{ItemType}
-use Rattle.arrays_core.specs.declared.item.ItemType.TheVariants.{Nums}
-use Rattle.arrays_core.specs.declared.item.Kind.TheVariants.{Rank}
-use Rattle.arrays_core.specs.Shapes.{size}
-use Rattle.arrays_core.specs.Arrays.{ArrayValue}
-use Rattle.index_region.specs.Checks.{form_of, Form, limited}
-use Rattle.index_region.specs.ArgumentLists.{of_two_arguments}
-use Rattle.index_region.proofs.Passing.{two_arguments, gives, limited_gives}
-use Rattle.search_fns.specs.SameItem.{same_item}
-use Rattle.search_fns.specs.IndexOf.{index_of_form, index_of_whole}
-use Rattle.search_fns.specs.Member.{member_form, member_whole}
+use Rattle.arrays_core.{specs.declared.item.Item.TheVariants.{Num}, specs.declared.item.ItemType.{ItemType}, specs.declared.item.ItemType.TheVariants.{Nums}}
+use Rattle.arrays_core.{specs.declared.item.Kind.TheVariants.{Rank}, specs.Shapes.{size}, specs.Arrays.{ArrayValue}}
+use Rattle.index_region.{specs.Checks.{form_of, Form, limited}, specs.ArgumentLists.{of_two_arguments}, proofs.Passing.{two_arguments, gives, limited_gives}}
+use Rattle.search_fns.{specs.SameItem.{same_item}, specs.IndexOf.{index_of_form, index_of_whole}, specs.Member.{member_form, member_whole}}
 use Rattle.search_fns.proofs.Flat.{flat_whole}
 
 module _ (args : List ArrayValue) (a b : ArrayValue) (two : length args ≡ 2) (first : a ≡ get_or args 0 a) (second : b ≡ get_or args 1 b) (shape : List ℕ) (item_type : ItemType) where

@@ -1,20 +1,11 @@
 -- Numbers of digits: where the digits and their radices stand, and one more digit.
 use Rattle.std.proofs.Common.{◌≡◌, ◌≢◌, ℕ, suc, ◌+◌, ◌-◌, ◌*◌, ◌<◌, ◌≤◌, ◌==◌, true, false, cond, List, [], ◌∷◌, length, get_or, map, drop, ℤ, pos, ◌+ℤ◌, ◌*ℤ◌, Result, Ok, Err, refl, ap, sym, ◌∙◌, arith}
-use Rattle.std.specs.Prelude.{◌&&◌, ◌||◌, nat_le, nat_eq, if◌then◌else◌}
-use Rattle.std.specs.List.{range_with_len}
-use Rattle.std.proofs.lemmas.Bool.Decides.{nat_tests}
-use Rattle.std.proofs.lemmas.Bool.{and_from, le-leb}
-use Rattle.std.proofs.Math.ListN.{get_or-map}
-use Rattle.arrays_core.specs.declared.item.Kind.{Kind}
-use Rattle.arrays_core.specs.declared.item.ItemType.{ItemType}
-use Rattle.arrays_core.specs.declared.item.ItemType.TheVariants.{Nums, Chars}
-use Rattle.arrays_core.specs.Items.{fill, and_then}
-use Rattle.arrays_core.specs.Shapes.{size, places_before, is_index_of}
-use Rattle.arrays_core.specs.Arrays.{ArrayValue}
+use Rattle.std.{specs.Prelude.{◌&&◌, ◌||◌, nat_le, nat_eq, if◌then◌else◌}, specs.List.{range_with_len}, proofs.lemmas.Bool.Decides.{nat_tests}}
+use Rattle.std.{proofs.lemmas.Bool.{and_from, le-leb}, proofs.Math.ListN.{get_or-map}}
+use Rattle.arrays_core.{specs.declared.item.Kind.{Kind}, specs.declared.item.ItemType.{ItemType}, specs.declared.item.ItemType.TheVariants.{Nums, Chars}}
+use Rattle.arrays_core.{specs.Items.{fill, and_then}, specs.Shapes.{size, places_before, is_index_of}, specs.Arrays.{ArrayValue}}
 use Rattle.scalar_fns.specs.Numbers.{number_or_limit}
-use Rattle.index_region.specs.Arguments.{is_list, has_one_item, counts_as_numbers, numbers, number_of}
-use Rattle.index_region.specs.Axes.{places_along}
-use Rattle.index_region.specs.Answers.{IsPlaceOf}
+use Rattle.index_region.{specs.Arguments.{is_list, has_one_item, counts_as_numbers, numbers, number_of}, specs.Axes.{places_along}, specs.Answers.{IsPlaceOf}}
 use Rattle.index_region.proofs.Passing.{passed, place_inside}
 use Rattle.search_fns.specs.Decode.{decode_form, digit_count, radix_at, digit_at, worth, decoded}
 

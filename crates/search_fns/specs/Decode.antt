@@ -1,22 +1,13 @@
 -- Decode, A⊥B: the numbers of digits by radices.
 use Rattle.std.specs.Prelude.{ℕ, nat_eq, ℤ, pos, ◌+ℤ◌, ◌*ℤ◌, ◌&&◌, ◌||◌, if◌then◌else◌, List, [], ◌∷◌, map, length, drop, Result, Ok, false, Some}
 use Rattle.std.specs.List.{range_with_len}
-use Rattle.arrays_core.specs.declared.item.Item.{Item}
-use Rattle.arrays_core.specs.declared.item.ItemType.TheVariants.{Nums}
-use Rattle.arrays_core.specs.declared.item.Kind.{Kind}
-use Rattle.arrays_core.specs.declared.item.Kind.TheVariants.{Rank, Length, Domain}
-use Rattle.arrays_core.specs.Items.{and_then}
-use Rattle.arrays_core.specs.Arrays.{ArrayValue, item_of}
+use Rattle.arrays_core.{specs.declared.item.Item.{Item}, specs.declared.item.ItemType.TheVariants.{Nums}, specs.declared.item.Kind.{Kind}}
+use Rattle.arrays_core.{specs.declared.item.Kind.TheVariants.{Rank, Length, Domain}, specs.Items.{and_then}, specs.Arrays.{ArrayValue, item_of}}
 use Rattle.arrays_core.specs.Shapes.{indices}
-use Rattle.index_region.specs.Checks.{Form, check, limited, whole}
-use Rattle.index_region.specs.Arguments.{is_scalar, is_list, has_one_item, counts_as_numbers, number_of}
+use Rattle.index_region.{specs.Checks.{Form, check, limited, whole}, specs.Arguments.{is_scalar, is_list, has_one_item, counts_as_numbers, number_of}}
 use Rattle.index_region.specs.Axes.{places_along}
-use Rattle.change_core.specs.RuleModels.{Use, RuleModel}
-use Rattle.change_core.specs.Sourced.{two_rule}
-use Rattle.change_core.specs.Ways.{everywhere}
-use Rattle.scalar_fns.specs.Numbers.{number_or_limit}
-use Rattle.scalar_fns.specs.Items.{number_item}
-use Rattle.scalar_fns.specs.ScalarExtension.{extended}
+use Rattle.change_core.{specs.RuleModels.{Use, RuleModel}, specs.Sourced.{two_rule}, specs.Ways.{everywhere}}
+use Rattle.scalar_fns.{specs.Numbers.{number_or_limit}, specs.Items.{number_item}, specs.ScalarExtension.{extended}}
 
 -- RANK, LENGTH and DOMAIN in this order; then numbers along the axes of b but the first
 abbrev pub decode_form : ArrayValue → ArrayValue → Result Form Kind

@@ -1,8 +1,6 @@
 -- The numbers in a box of an array.
 use Rattle.std.specs.Prelude.{◌≡◌, ℕ, ◌<◌, pos, List, [], ◌∷◌, get_or}
-use Rattle.arrays_core.specs.declared.item.Item.TheVariants.{Num}
-use Rattle.arrays_core.specs.declared.item.ItemType.TheVariants.{Nums}
-use Rattle.arrays_core.specs.Arrays.{ArrayValue, item_of}
+use Rattle.arrays_core.{specs.declared.item.Item.TheVariants.{Num}, specs.declared.item.ItemType.TheVariants.{Nums}, specs.Arrays.{ArrayValue, item_of}}
 use Rattle.index_region.specs.Boxes.{Interval, box_size, walk_at}
 
 -- a vector of the numbers of an array in a box, in row-major order

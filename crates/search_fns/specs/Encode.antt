@@ -1,21 +1,12 @@
 -- Encode, A⊤B: numbers as digits by radices.
 use Rattle.std.specs.Prelude.{ℕ, ◌-◌, ℤ, pos, ◌&&◌, if◌then◌else◌, List, [], ◌∷◌, ◌++◌, length, get_or, drop, Result, Ok, ◌+◌, false, map, Some}
-use Rattle.std.specs.Ordering.{int_eq}
-use Rattle.std.specs.List.{range_with_len}
-use Rattle.arrays_core.specs.declared.item.Item.{Item}
-use Rattle.arrays_core.specs.declared.item.ItemType.TheVariants.{Nums}
-use Rattle.arrays_core.specs.declared.item.Kind.{Kind}
-use Rattle.arrays_core.specs.declared.item.Kind.TheVariants.{Rank, Domain}
-use Rattle.arrays_core.specs.Items.{and_then}
-use Rattle.arrays_core.specs.Arrays.{ArrayValue, item_of}
-use Rattle.index_region.specs.Checks.{Form, check, limited, whole}
-use Rattle.index_region.specs.Arguments.{is_scalar, is_list, counts_as_numbers, number_of, numbers}
+use Rattle.std.{specs.Ordering.{int_eq}, specs.List.{range_with_len}}
+use Rattle.arrays_core.{specs.declared.item.Item.{Item}, specs.declared.item.ItemType.TheVariants.{Nums}, specs.declared.item.Kind.{Kind}}
+use Rattle.arrays_core.{specs.declared.item.Kind.TheVariants.{Rank, Domain}, specs.Items.{and_then}, specs.Arrays.{ArrayValue, item_of}}
+use Rattle.index_region.{specs.Checks.{Form, check, limited, whole}, specs.Arguments.{is_scalar, is_list, counts_as_numbers, number_of, numbers}}
 use Rattle.index_region.specs.Boxes.{whole_of}
-use Rattle.change_core.specs.RuleModels.{RuleModel}
-use Rattle.change_core.specs.Sourced.{Spread, two_rule}
-use Rattle.change_core.specs.Ways.{back}
-use Rattle.scalar_fns.specs.Numbers.{residue, floor_div, number_or_limit}
-use Rattle.scalar_fns.specs.Items.{number_item}
+use Rattle.change_core.{specs.RuleModels.{RuleModel}, specs.Sourced.{Spread, two_rule}, specs.Ways.{back}}
+use Rattle.scalar_fns.{specs.Numbers.{residue, floor_div, number_or_limit}, specs.Items.{number_item}}
 
 -- RANK and DOMAIN in this order; then numbers along the axes of a, and then those of b
 abbrev pub encode_form : ArrayValue → ArrayValue → Result Form Kind

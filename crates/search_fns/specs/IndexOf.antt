@@ -1,17 +1,10 @@
 -- Index of, A⍳B: the first place of each item of b in a.
-use Rattle.std.specs.Prelude.{ℕ, suc, nat_eq, pos, List, length, Result, Ok, false}
-use Rattle.std.specs.List.{position_or_len}
-use Rattle.arrays_core.specs.declared.item.Item.{Item}
-use Rattle.arrays_core.specs.declared.item.Item.TheVariants.{Num}
-use Rattle.arrays_core.specs.declared.item.ItemType.TheVariants.{Nums}
-use Rattle.arrays_core.specs.declared.item.Kind.{Kind}
-use Rattle.arrays_core.specs.declared.item.Kind.TheVariants.{Rank}
-use Rattle.arrays_core.specs.Arrays.{ArrayValue, item_of}
+use Rattle.std.{specs.Prelude.{ℕ, suc, nat_eq, pos, List, length, Result, Ok, false}, specs.List.{position_or_len}}
+use Rattle.arrays_core.{specs.declared.item.Item.{Item}, specs.declared.item.Item.TheVariants.{Num}, specs.declared.item.ItemType.TheVariants.{Nums}}
+use Rattle.arrays_core.{specs.declared.item.Kind.{Kind}, specs.declared.item.Kind.TheVariants.{Rank}, specs.Arrays.{ArrayValue, item_of}}
 use Rattle.arrays_core.specs.Shapes.{indices}
 use Rattle.index_region.specs.Checks.{Form, check, limited, whole}
-use Rattle.change_core.specs.RuleModels.{RuleModel}
-use Rattle.change_core.specs.Sourced.{two_rule}
-use Rattle.change_core.specs.Ways.{alike, everywhere}
+use Rattle.change_core.{specs.RuleModels.{RuleModel}, specs.Sourced.{two_rule}, specs.Ways.{alike, everywhere}}
 use Rattle.search_fns.specs.SameItem.{same_item}
 
 -- RANK where a is no vector; then numbers in the shape of b

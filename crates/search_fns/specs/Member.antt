@@ -1,16 +1,9 @@
 -- Membership, A∊B: which items of a are items of b.
-use Rattle.std.specs.Prelude.{ℕ, List, Result, Ok, false}
-use Rattle.std.specs.List.{list_any}
-use Rattle.arrays_core.specs.declared.item.Item.{Item}
-use Rattle.arrays_core.specs.declared.item.Item.TheVariants.{Num}
-use Rattle.arrays_core.specs.declared.item.ItemType.TheVariants.{Nums}
-use Rattle.arrays_core.specs.declared.item.Kind.{Kind}
-use Rattle.arrays_core.specs.Arrays.{ArrayValue, item_of}
-use Rattle.arrays_core.specs.Shapes.{indices}
+use Rattle.std.{specs.Prelude.{ℕ, List, Result, Ok, false}, specs.List.{list_any}}
+use Rattle.arrays_core.{specs.declared.item.Item.{Item}, specs.declared.item.Item.TheVariants.{Num}, specs.declared.item.ItemType.TheVariants.{Nums}}
+use Rattle.arrays_core.{specs.declared.item.Kind.{Kind}, specs.Arrays.{ArrayValue, item_of}, specs.Shapes.{indices}}
 use Rattle.index_region.specs.Checks.{Form, limited, whole}
-use Rattle.change_core.specs.RuleModels.{RuleModel}
-use Rattle.change_core.specs.Sourced.{two_rule}
-use Rattle.change_core.specs.Ways.{alike, everywhere}
+use Rattle.change_core.{specs.RuleModels.{RuleModel}, specs.Sourced.{two_rule}, specs.Ways.{alike, everywhere}}
 use Rattle.scalar_fns.specs.Numbers.{truth}
 use Rattle.search_fns.specs.SameItem.{same_item}
 

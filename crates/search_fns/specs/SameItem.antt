@@ -1,9 +1,6 @@
 -- When two items are the same.
-use Rattle.std.specs.Prelude.{pos, Bool, false, Result, Ok, Err}
-use Rattle.std.specs.Ordering.{int_eq}
-use Rattle.arrays_core.specs.declared.item.Item.{Item}
-use Rattle.arrays_core.specs.declared.item.Item.TheVariants.{Num, Char}
-use Rattle.arrays_core.specs.declared.item.Kind.{Kind}
+use Rattle.std.{specs.Prelude.{pos, Bool, false, Result, Ok, Err}, specs.Ordering.{int_eq}}
+use Rattle.arrays_core.{specs.declared.item.Item.{Item}, specs.declared.item.Item.TheVariants.{Num, Char}, specs.declared.item.Kind.{Kind}}
 use Rattle.function_names.specs.declared.scalar.Scalar2.TheVariants.{Equal}
 use Rattle.scalar_fns.specs.Items.{dyadic_on_items}
 

@@ -1,16 +1,10 @@
 -- Worked boxes, computed: what changes of a result where boxes of the arguments changed.
 use Rattle.std.proofs.Common.{◌≡◌, ℕ, List, [], ◌∷◌, refl, true, false, Option, Some, None}
-use Rattle.arrays_core.specs.Arrays.{ArrayValue}
-use Rattle.arrays_core.proofs.CaseWords.{nums, scalar, no_numbers}
+use Rattle.arrays_core.{specs.Arrays.{ArrayValue}, proofs.CaseWords.{nums, scalar, no_numbers}}
 use Rattle.function_names.specs.declared.along.Along.TheVariants.{First, Last}
 use Rattle.index_region.specs.Boxes.{Interval}
-use Rattle.change_core.specs.declared.reach.Reach.{Reach}
-use Rattle.change_core.specs.declared.reach.Reach.TheVariants.{Anew, Inside, Unmoved}
-use Rattle.change_core.specs.Reaches.{reach_of}
-use Rattle.selection_fns.specs.Shape.{shape_rule}
-use Rattle.selection_fns.specs.IndexGenerator.{generator_rule}
-use Rattle.selection_fns.specs.Replicate.{replicate_rule}
-use Rattle.selection_fns.specs.Index.{index_rule}
+use Rattle.change_core.{specs.declared.reach.Reach.{Reach}, specs.declared.reach.Reach.TheVariants.{Anew, Inside, Unmoved}, specs.Reaches.{reach_of}}
+use Rattle.selection_fns.{specs.Shape.{shape_rule}, specs.IndexGenerator.{generator_rule}, specs.Replicate.{replicate_rule}, specs.Index.{index_rule}}
 
 -- 2 3⍴⍳6, and a vector
 abbrev pub table : ArrayValue

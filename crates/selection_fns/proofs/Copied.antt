@@ -1,22 +1,13 @@
 -- What the checks of replicate say of the copies.
 use Rattle.std.proofs.Common.{◌≡◌, ℕ, zero, suc, ◌*◌, ◌≤◌, ◌<◌, Bool, true, false, nat_le, ◌&&◌, ◌||◌, nat_eq, List, [], ◌∷◌, length, take, replicate, get_or, refl, sym, ap, subst, arith, Result, Ok, Err}
-use Rattle.std.specs.Prelude.{max, sum}
-use Rattle.std.specs.List.{list_all}
-use Rattle.std.proofs.lemmas.Bool.{and_parts, leb-true}
-use Rattle.arrays_core.specs.declared.item.ItemType.{ItemType}
-use Rattle.arrays_core.specs.declared.item.Kind.{Kind}
-use Rattle.arrays_core.specs.declared.item.Kind.TheVariants.{Limit}
-use Rattle.arrays_core.specs.Arrays.{ArrayValue}
-use Rattle.arrays_core.specs.Shapes.{size}
-use Rattle.function_names.specs.declared.along.Along.{Along}
-use Rattle.index_region.specs.Arguments.{is_list, has_one_item, counts_as_numbers, none_negative, numbers}
-use Rattle.function_names.specs.Axes.{is_axis, axis_at}
-use Rattle.index_region.specs.Axes.{places_along}
-use Rattle.index_region.specs.Checks.{Form, form_of, check, limited, is_within_limits}
-use Rattle.index_region.proofs.Passing.{gives}
+use Rattle.std.{specs.Prelude.{max, sum}, specs.List.{list_all}, proofs.lemmas.Bool.{and_parts, leb-true}}
+use Rattle.arrays_core.{specs.declared.item.ItemType.{ItemType}, specs.declared.item.Kind.{Kind}, specs.declared.item.Kind.TheVariants.{Limit}}
+use Rattle.arrays_core.{specs.Arrays.{ArrayValue}, specs.Shapes.{size}}
+use Rattle.function_names.{specs.declared.along.Along.{Along}, specs.Axes.{is_axis, axis_at}}
+use Rattle.index_region.{specs.Arguments.{is_list, has_one_item, counts_as_numbers, none_negative, numbers}, specs.Axes.{places_along}}
+use Rattle.index_region.{specs.Checks.{Form, form_of, check, limited, is_within_limits}, proofs.Passing.{gives}}
 use Rattle.change_core.specs.RuleModels.{HasShape}
-use Rattle.selection_fns.specs.Replicate.{times, replicated_shape, replicate_form}
-use Rattle.selection_fns.specs.Laws.RepeatedPlaces.{sum_front}
+use Rattle.selection_fns.{specs.Replicate.{times, replicated_shape, replicate_form}, specs.Laws.RepeatedPlaces.{sum_front}}
 use Rattle.selection_fns.specs.Laws.CopiedPlaces.{exchanged_there}
 
 pub sum_first_same : (first places count : ℕ) → first ≤ places → sum (take first (replicate places count)) ≡ first * count

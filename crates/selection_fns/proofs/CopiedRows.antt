@@ -1,24 +1,13 @@
 -- The rows of the copies of an array's places.
 use Rattle.std.proofs.Common.{◌≡◌, ℕ, ◌+◌, ◌-◌, ◌<◌, ◌≤◌, true, List, [], ◌∷◌, ◌++◌, length, get_or, set, Ok, ap, sym, subst, ◌∙◌, arith}
-use Rattle.std.specs.Prelude.{max, sum}
-use Rattle.std.proofs.lemmas.List.{length_push}
-use Rattle.arrays_core.specs.Items.{fill}
-use Rattle.arrays_core.specs.Arrays.{ArrayValue, IsArray}
-use Rattle.arrays_core.specs.Shapes.{is_index_of, places_before}
-use Rattle.arrays_core.specs.Building.{IsRowOf}
-use Rattle.arrays_core.proofs.Shapes.{places_below}
-use Rattle.arrays_core.proofs.Rows.{places_in_row}
-use Rattle.function_names.specs.declared.along.Along.{Along}
-use Rattle.index_region.specs.Answers.{IsPlaceOf}
-use Rattle.function_names.specs.Axes.{axis_at}
-use Rattle.index_region.specs.Axes.{places_along}
-use Rattle.index_region.specs.Checks.{form_of}
-use Rattle.index_region.specs.Sources.{Place, item_from}
-use Rattle.index_region.proofs.Placed.{right_placed}
-use Rattle.index_region.proofs.RowIndices.{set_before, get_before, set_last, get_last}
+use Rattle.std.{specs.Prelude.{max, sum}, proofs.lemmas.List.{length_push}}
+use Rattle.arrays_core.{specs.Items.{fill}, specs.Arrays.{ArrayValue, IsArray}, specs.Shapes.{is_index_of, places_before}, specs.Building.{IsRowOf}}
+use Rattle.arrays_core.{proofs.Shapes.{places_below}, proofs.Rows.{places_in_row}}
+use Rattle.function_names.{specs.declared.along.Along.{Along}, specs.Axes.{axis_at}}
+use Rattle.index_region.{specs.Answers.{IsPlaceOf}, specs.Axes.{places_along}, specs.Checks.{form_of}, specs.Sources.{Place, item_from}}
+use Rattle.index_region.{proofs.Placed.{right_placed}, proofs.RowIndices.{set_before, get_before, set_last, get_last}}
 use Rattle.selection_fns.specs.Replicate.{times, copied_place, replicate_form, replicate_source, replicate_item}
-use Rattle.selection_fns.specs.Laws.CopiedPlaces.{replicate_gives, exchanged_there}
-use Rattle.selection_fns.proofs.Copies.{CopyFacts, copy_facts, copy_source}
+use Rattle.selection_fns.{specs.Laws.CopiedPlaces.{replicate_gives, exchanged_there}, proofs.Copies.{CopyFacts, copy_facts, copy_source}}
 use Rattle.selection_fns.proofs.SourcePlaces.{replicate_inside}
 
 -- a row of the copies of an array with axes, along its axis k

@@ -1,32 +1,18 @@
 -- Copies of the places of an axis.
 use Rattle.std.proofs.Common.{◌≡◌, ℕ, zero, suc, ◌+◌, ◌-◌, ◌*◌, ◌/◌, ◌<◌, ◌≤◌, Bool, true, false, nat_le, if◌then◌else◌, ◌&&◌, ◌||◌, nat_eq, All, Result, Ok, Err, List, [], ◌∷◌, length, ◌++◌, map, take, drop, pos, negsuc, unsigned_abs, get_or, set, replicate, insert, remove, refl, ap, sym, subst, ◌∙◌, append-nil, ℤ, arith}
-use Rattle.std.specs.Option.{is_some}
-use Rattle.std.specs.Prelude.{max, sum, Option, Some, None, IfSome}
-use Rattle.std.specs.List.{list_all}
-use Rattle.std.proofs.lemmas.Bool.{and_parts, and_from, leb-true}
-use Rattle.std.proofs.lemmas.List.Folds.{list_all_more}
-use Rattle.std.proofs.lemmas.Bool.Decides.{nat_tests}
+use Rattle.std.{specs.Option.{is_some}, specs.Prelude.{max, sum, Option, Some, None, IfSome}, specs.List.{list_all}}
+use Rattle.std.{proofs.lemmas.Bool.{and_parts, and_from, leb-true}, proofs.lemmas.List.Folds.{list_all_more}, proofs.lemmas.Bool.Decides.{nat_tests}}
 use Rattle.std.proofs.lemmas.List.{drop_more, take-map, get_or-map, get_or_default, length-append, length-map, length-replicate, get_or-replicate, take_all, take-set, take_more_set}
 use Rattle.std.proofs.Math.Nat.{div-eq-sub-div, div-eq_of_lt}
-use Rattle.arrays_core.specs.declared.item.Item.{Item}
-use Rattle.arrays_core.specs.declared.item.ItemType.{ItemType}
-use Rattle.arrays_core.specs.declared.item.Kind.{Kind}
-use Rattle.arrays_core.specs.declared.item.Kind.TheVariants.{Axis, Length, Domain, Limit}
-use Rattle.arrays_core.specs.Items.{type_of}
-use Rattle.arrays_core.specs.Arrays.{ArrayValue, item_of}
+use Rattle.arrays_core.{specs.declared.item.Item.{Item}, specs.declared.item.ItemType.{ItemType}, specs.declared.item.Kind.{Kind}}
+use Rattle.arrays_core.{specs.declared.item.Kind.TheVariants.{Axis, Length, Domain, Limit}, specs.Items.{type_of}, specs.Arrays.{ArrayValue, item_of}}
 use Rattle.arrays_core.specs.Shapes.{size, is_index_of}
-use Rattle.function_names.specs.declared.along.Along.{Along}
-use Rattle.index_region.specs.Checks.{form_of, Form, check, limited}
-use Rattle.index_region.specs.Sources.{Place, Source}
-use Rattle.function_names.specs.Axes.{is_axis, axis_at}
-use Rattle.index_region.specs.Axes.{places_along}
-use Rattle.index_region.specs.Arguments.{is_list, has_one_item, counts_as_numbers, none_negative, numbers, number_of}
-use Rattle.index_region.specs.Answers.{IsPlaceOf, HasTypeOf}
-use Rattle.index_region.proofs.Passing.{passed, place_inside, typed_check, typed_limited}
-use Rattle.selection_fns.specs.Laws.RepeatedPlaces.{sum_front, walk, maker_is_walk}
-use Rattle.selection_fns.proofs.Repeated.{sum_same, sum_within, maker_most}
+use Rattle.function_names.{specs.declared.along.Along.{Along}, specs.Axes.{is_axis, axis_at}}
+use Rattle.index_region.{specs.Checks.{form_of, Form, check, limited}, specs.Sources.{Place, Source}, specs.Axes.{places_along}}
+use Rattle.index_region.{specs.Arguments.{is_list, has_one_item, counts_as_numbers, none_negative, numbers, number_of}, specs.Answers.{IsPlaceOf, HasTypeOf}}
+use Rattle.index_region.{proofs.Passing.{passed, place_inside, typed_check, typed_limited}, proofs.RowIndices.{axis_below}}
+use Rattle.selection_fns.{specs.Laws.RepeatedPlaces.{sum_front, walk, maker_is_walk}, proofs.Repeated.{sum_same, sum_within, maker_most}}
 use Rattle.selection_fns.specs.Replicate.{is_bit, IsMask, times, maker, counts_checked, copied_place, replicated_shape, replicate_form, replicate_source}
-use Rattle.index_region.proofs.RowIndices.{axis_below}
 use Rattle.selection_fns.specs.Laws.CopiedPlaces.{IsCopied, is_copied, replicate_gives}
 
 -- the place that makes a copy where each is copied as often

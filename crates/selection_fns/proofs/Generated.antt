@@ -1,26 +1,14 @@
 -- The index lists of an index generator's result.
 use Rattle.std.proofs.Common.{◌≡◌, ℕ, Bool, true, false, cond, ◌+◌, ◌*◌, ◌<◌, ◌≤◌, pos, List, [], ◌∷◌, length, get_or, map, Ok, Err, refl, ap, sym, ◌∙◌, arith}
-use Rattle.std.specs.Prelude.{nat_eq, nat_le, unsigned_abs, ◌&&◌}
-use Rattle.std.specs.List.{range_with_len}
-use Rattle.std.proofs.lemmas.Bool.{false≢true, eqb-true, leb-true}
-use Rattle.std.proofs.lemmas.List.FromFn.{length-map-range_with_len, get_or-map-range_with_len}
-use Rattle.std.proofs.Math.Nat.{div-one}
-use Rattle.std.proofs.lemmas.Bool.Decides.{nat_tests}
-use Rattle.std.proofs.lemmas.List.{length-map, get_or-map}
-use Rattle.arrays_core.specs.declared.item.Item.{Item}
-use Rattle.arrays_core.specs.declared.item.Item.TheVariants.{Num}
-use Rattle.arrays_core.specs.declared.item.ItemType.{ItemType}
-use Rattle.arrays_core.specs.declared.item.ItemType.TheVariants.{Nums}
-use Rattle.arrays_core.specs.declared.item.Kind.TheVariants.{Rank, Length, Domain, Limit}
-use Rattle.arrays_core.specs.Items.{and_then}
-use Rattle.arrays_core.specs.Shapes.{index_after}
-use Rattle.arrays_core.specs.Arrays.{ArrayValue, collect, with_items, vector_of}
-use Rattle.arrays_core.proofs.Order.{given_in_order}
-use Rattle.index_region.specs.Checks.{Form, form_of, is_within_limits}
-use Rattle.arrays_core.proofs.Shapes.{as_long}
-use Rattle.index_region.specs.ArgumentLists.{of_one_argument}
-use Rattle.index_region.specs.Arguments.{is_list, has_one_item, counts_as_numbers, none_negative, numbers, number_of}
-use Rattle.index_region.specs.Answers.{IsPlaceOf}
+use Rattle.std.{specs.Prelude.{nat_eq, nat_le, unsigned_abs, ◌&&◌}, specs.List.{range_with_len}, proofs.lemmas.Bool.{false≢true, eqb-true, leb-true}}
+use Rattle.std.{proofs.lemmas.List.FromFn.{length-map-range_with_len, get_or-map-range_with_len}, proofs.Math.Nat.{div-one}}
+use Rattle.std.{proofs.lemmas.Bool.Decides.{nat_tests}, proofs.lemmas.List.{length-map, get_or-map}}
+use Rattle.arrays_core.{specs.declared.item.Item.{Item}, specs.declared.item.Item.TheVariants.{Num}, specs.declared.item.ItemType.{ItemType}}
+use Rattle.arrays_core.{specs.declared.item.ItemType.TheVariants.{Nums}, specs.declared.item.Kind.TheVariants.{Rank, Length, Domain, Limit}}
+use Rattle.arrays_core.{specs.Items.{and_then}, specs.Shapes.{index_after}, specs.Arrays.{ArrayValue, collect, with_items, vector_of}}
+use Rattle.arrays_core.{proofs.Order.{given_in_order}, proofs.Shapes.{as_long}}
+use Rattle.index_region.{specs.Checks.{Form, form_of, is_within_limits}, specs.ArgumentLists.{of_one_argument}}
+use Rattle.index_region.{specs.Arguments.{is_list, has_one_item, counts_as_numbers, none_negative, numbers, number_of}, specs.Answers.{IsPlaceOf}}
 use Rattle.index_region.proofs.Passing.{passed, place_inside, gives, limited_gives}
 use Rattle.selection_fns.specs.IndexGenerator.{generator_form, generator_item, generator_whole}
 

@@ -1,29 +1,16 @@
 -- The places that the items of an indexed reference come from.
 use Rattle.std.proofs.Common.{◌≡◌, ℕ, zero, suc, ◌+◌, ◌-◌, ◌*◌, ◌<◌, ◌≤◌, pos, unsigned_abs, Bool, true, false, List, [], ◌∷◌, ◌++◌, map, length, get_or, take, drop, Some, None, Ok, refl, ap, sym, subst, ◌∙◌, arith}
-use Rattle.std.specs.List.{list_all, range_with_len}
-use Rattle.std.specs.Prelude.{not, nat_eq, ◌&&◌}
-use Rattle.std.proofs.lemmas.Bool.{and_parts, eqb-true, false≢true}
+use Rattle.std.{specs.List.{list_all, range_with_len}, specs.Prelude.{not, nat_eq, ◌&&◌}, proofs.lemmas.Bool.{and_parts, eqb-true, false≢true}}
 use Rattle.std.proofs.lemmas.List.{length-map, get_or-map}
 use Rattle.std.proofs.lemmas.List.FromFn.{length-map-range_with_len, get_or-map-range_with_len, length-range_with_len, get_or-range_with_len}
-use Rattle.arrays_core.specs.declared.item.Item.{Item}
-use Rattle.arrays_core.specs.declared.item.ItemType.{ItemType}
-use Rattle.arrays_core.specs.Building.{listed}
-use Rattle.arrays_core.specs.Items.{fill, and_then}
-use Rattle.arrays_core.specs.Arrays.{ArrayValue, IsArray, collect, with_items}
-use Rattle.arrays_core.specs.Shapes.{size, is_index_of, places_before, index_after, IsWithinLimits}
-use Rattle.arrays_core.proofs.Shapes.{head_of, places_below}
-use Rattle.arrays_core.proofs.Order.{given_in_order, index_after-within, places_before-index_after}
-use Rattle.index_region.specs.Arguments.{is_scalar, number_of, numbers}
-use Rattle.index_region.specs.Checks.{Form, form_of}
-use Rattle.index_region.proofs.OnAxes.{OnAxis, one_more_inside}
+use Rattle.arrays_core.{specs.declared.item.Item.{Item}, specs.declared.item.ItemType.{ItemType}, specs.Building.{listed}, specs.Items.{fill, and_then}}
+use Rattle.arrays_core.{specs.Arrays.{ArrayValue, IsArray, collect, with_items}, specs.Shapes.{size, is_index_of, places_before, index_after, IsWithinLimits}}
+use Rattle.arrays_core.{proofs.Shapes.{head_of, places_below}, proofs.Order.{given_in_order, index_after-within, places_before-index_after}}
+use Rattle.index_region.{specs.Arguments.{is_scalar, number_of, numbers}, specs.Checks.{Form, form_of}, proofs.OnAxes.{OnAxis, one_more_inside}}
 use Rattle.index_region.proofs.Passing.{gives, limited_gives}
 use Rattle.selection_fns.specs.Index.{Position, written_positions, count_written, position_axes, indexed_shape, are_numbers, is_on_axis, is_on, are_on, source_index, index_form, index_item, index_whole}
-use Rattle.selection_fns.specs.IndexPlaces.{sums, ArePlacesOf}
-use Rattle.selection_fns.proofs.Indexed.{positions_long}
-use Rattle.selection_fns.proofs.IndexedRows.{own_index, item_there}
-use Rattle.selection_fns.proofs.PlaceSums.{length-sums, get_or-sums, sums_below}
-use Rattle.selection_fns.proofs.Positions.{split_inside}
-use Rattle.selection_fns.proofs.SourcePlaces.{index_on_axis}
+use Rattle.selection_fns.{specs.IndexPlaces.{sums, ArePlacesOf}, proofs.Indexed.{positions_long}, proofs.IndexedRows.{own_index, item_there}}
+use Rattle.selection_fns.{proofs.PlaceSums.{length-sums, get_or-sums, sums_below}, proofs.Positions.{split_inside}, proofs.SourcePlaces.{index_on_axis}}
 
 -- ---- shapes joined
 

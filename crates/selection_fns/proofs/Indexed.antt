@@ -1,16 +1,8 @@
 -- Indexed references whose checks have passed.
-use Rattle.std.proofs.Common.{◌≡◌, ℕ, suc, ◌<◌, Bool, true, false, List, [], ◌∷◌, length, refl, arith}
-use Rattle.std.specs.Prelude.{nat_eq, not, ◌&&◌, Result}
-use Rattle.std.specs.List.{list_all}
-use Rattle.std.proofs.lemmas.Bool.Decides.{nat_tests}
-use Rattle.arrays_core.specs.declared.item.Item.{Item}
-use Rattle.arrays_core.specs.declared.item.Kind.{Kind}
-use Rattle.arrays_core.specs.Arrays.{ArrayValue}
-use Rattle.arrays_core.specs.Shapes.{is_index_of}
-use Rattle.index_region.specs.Checks.{Form, whole}
-use Rattle.index_region.specs.Arguments.{is_scalar}
-use Rattle.index_region.specs.Answers.{IsPlaceOf}
-use Rattle.index_region.proofs.Passing.{passed, place_inside}
+use Rattle.std.{proofs.Common.{◌≡◌, ℕ, suc, ◌<◌, Bool, true, false, List, [], ◌∷◌, length, refl, arith}, specs.Prelude.{nat_eq, not, ◌&&◌, Result}}
+use Rattle.std.{specs.List.{list_all}, proofs.lemmas.Bool.Decides.{nat_tests}}
+use Rattle.arrays_core.{specs.declared.item.Item.{Item}, specs.declared.item.Kind.{Kind}, specs.Arrays.{ArrayValue}, specs.Shapes.{is_index_of}}
+use Rattle.index_region.{specs.Checks.{Form, whole}, specs.Arguments.{is_scalar}, specs.Answers.{IsPlaceOf}, proofs.Passing.{passed, place_inside}}
 use Rattle.selection_fns.specs.Index.{Position, count_written, written_positions, of_array_and_positions, are_numbers, are_on, indexed_shape, index_form}
 
 -- what the checks say, of an index list of the result

@@ -1,28 +1,15 @@
 -- Rows of an index: what stands along the last axis of the result comes from one row of the array, where the last position has an axis.
 use Rattle.std.proofs.Common.{◌≡◌, ℕ, suc, ◌+◌, ◌-◌, ◌*◌, ◌<◌, ◌≤◌, ℤ, pos, unsigned_abs, Bool, true, false, cond, List, [], ◌∷◌, ◌++◌, length, take, drop, get_or, Some, None, Result, Ok, Err, refl, ap, sym, subst, ◌∙◌, append-nil, arith}
-use Rattle.std.specs.Prelude.{unwrap_or, not, nat_eq, map, ◌&&◌}
-use Rattle.std.specs.List.{list_all}
-use Rattle.std.proofs.lemmas.Bool.{and_parts, false≢true}
+use Rattle.std.{specs.Prelude.{unwrap_or, not, nat_eq, map, ◌&&◌}, specs.List.{list_all}, proofs.lemmas.Bool.{and_parts, false≢true}}
 use Rattle.std.proofs.lemmas.List.{length-append, length-drop, length_push, take_all, take-append-le, drop-append-le, drop-drop, length-map, get_or-map}
 use Rattle.std.proofs.Math.Seq.{drop-length, get_or-append_seam}
-use Rattle.arrays_core.specs.declared.item.Item.TheVariants.{Num}
-use Rattle.arrays_core.specs.declared.item.ItemType.{ItemType}
-use Rattle.arrays_core.specs.declared.item.Kind.{Kind}
-use Rattle.arrays_core.specs.Items.{fill}
-use Rattle.arrays_core.specs.Arrays.{ArrayValue, IsArray, item_of}
-use Rattle.arrays_core.specs.Shapes.{size, is_index_of, places_before}
-use Rattle.arrays_core.proofs.Shapes.{as_long, head_of, places_below}
-use Rattle.arrays_core.proofs.Rows.{same_row, places_in_row, row_end}
-use Rattle.index_region.specs.Checks.{Form}
-use Rattle.index_region.specs.Arguments.{is_scalar, number_of}
-use Rattle.index_region.specs.Sources.{Place, item_from}
-use Rattle.index_region.specs.Answers.{IsRowIn}
-use Rattle.index_region.proofs.OnAxes.{OnAxis}
-use Rattle.index_region.proofs.Passing.{row_passed, row_inside, place_of_row}
+use Rattle.arrays_core.{specs.declared.item.Item.TheVariants.{Num}, specs.declared.item.ItemType.{ItemType}, specs.declared.item.Kind.{Kind}}
+use Rattle.arrays_core.{specs.Items.{fill}, specs.Arrays.{ArrayValue, IsArray, item_of}, specs.Shapes.{size, is_index_of, places_before}}
+use Rattle.arrays_core.{proofs.Shapes.{as_long, head_of, places_below}, proofs.Rows.{same_row, places_in_row, row_end}}
+use Rattle.index_region.{specs.Checks.{Form}, specs.Arguments.{is_scalar, number_of}, specs.Sources.{Place, item_from}, specs.Answers.{IsRowIn}}
+use Rattle.index_region.{proofs.OnAxes.{OnAxis}, proofs.Passing.{row_passed, row_inside, place_of_row}}
 use Rattle.selection_fns.specs.Index.{Position, written_positions, count_written, of_array_and_positions, position_axes, indexed_shape, is_on, are_on, are_numbers, source_index, index_form, index_item}
-use Rattle.selection_fns.proofs.Indexed.{has_passed, positions_long}
-use Rattle.selection_fns.proofs.Positions.{split_inside}
-use Rattle.selection_fns.proofs.SourcePlaces.{index_on_axis}
+use Rattle.selection_fns.{proofs.Indexed.{has_passed, positions_long}, proofs.Positions.{split_inside}, proofs.SourcePlaces.{index_on_axis}}
 
 -- ---- the last position
 

@@ -1,25 +1,12 @@
 -- The numbers that a mask keeps, one place after another.
 use Rattle.std.proofs.Common.{◌≡◌, ℕ, zero, suc, ◌+◌, ◌<◌, ◌≤◌, Bool, false, nat_eq, cond, List, [], ◌∷◌, ◌++◌, length, map, get_or, ℤ, pos, negsuc, unsigned_abs, w64, of_z, Ok, refl, ap, sym, ◌∙◌, append-nil, arith}
-use Rattle.std.specs.Prelude.{max, sum}
-use Rattle.std.proofs.lemmas.List.{length-map, get_or-map, map-append, take_all}
-use Rattle.arrays_core.specs.declared.item.Item.{Item}
-use Rattle.arrays_core.specs.declared.item.Item.TheVariants.{Num}
-use Rattle.arrays_core.specs.declared.item.ItemType.{ItemType}
-use Rattle.arrays_core.specs.declared.item.ItemType.TheVariants.{Nums}
-use Rattle.arrays_core.specs.Items.{fill}
-use Rattle.arrays_core.specs.Arrays.{ArrayValue}
-use Rattle.arrays_core.specs.Shapes.{size}
-use Rattle.function_names.specs.declared.along.Along.{Along}
-use Rattle.index_region.specs.Checks.{form_of}
-use Rattle.function_names.specs.Axes.{axis_at}
-use Rattle.index_region.specs.Axes.{places_along}
-use Rattle.index_region.specs.Arguments.{numbers}
-use Rattle.selection_fns.specs.Replicate.{maker, times, copied_place, replicate_form, replicate_whole}
-use Rattle.selection_fns.specs.Kept.{AreKept}
-use Rattle.index_region.proofs.RowIndices.{axis_below}
-use Rattle.selection_fns.specs.Laws.CopiedPlaces.{replicate_gives}
-use Rattle.selection_fns.proofs.Copies.{AreBefore, copies_fit, one_place_more}
-use Rattle.selection_fns.proofs.NumbersAt.{items_at}
+use Rattle.std.{specs.Prelude.{max, sum}, proofs.lemmas.List.{length-map, get_or-map, map-append, take_all}}
+use Rattle.arrays_core.{specs.declared.item.Item.{Item}, specs.declared.item.Item.TheVariants.{Num}, specs.declared.item.ItemType.{ItemType}}
+use Rattle.arrays_core.{specs.declared.item.ItemType.TheVariants.{Nums}, specs.Items.{fill}, specs.Arrays.{ArrayValue}, specs.Shapes.{size}}
+use Rattle.function_names.{specs.declared.along.Along.{Along}, specs.Axes.{axis_at}}
+use Rattle.index_region.{specs.Checks.{form_of}, specs.Axes.{places_along}, specs.Arguments.{numbers}, proofs.RowIndices.{axis_below}}
+use Rattle.selection_fns.{specs.Replicate.{maker, times, copied_place, replicate_form, replicate_whole}, specs.Kept.{AreKept}}
+use Rattle.selection_fns.{specs.Laws.CopiedPlaces.{replicate_gives}, proofs.Copies.{AreBefore, copies_fit, one_place_more}, proofs.NumbersAt.{items_at}}
 use Rattle.selection_fns.proofs.Picked.{picked_long, picked_copies}
 
 -- the numbers that the first k places keep

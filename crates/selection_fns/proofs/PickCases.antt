@@ -1,14 +1,11 @@
 -- Worked cases of shape, index generator, replicate and indexed reference, computed.
 use Rattle.std.proofs.Common.{◌≡◌, refl, pos, [], ◌∷◌, Some, None, Ok}
 use Rattle.arrays_core.specs.declared.item.ItemType.TheVariants.{Nums}
-use Rattle.arrays_core.specs.declared.item.Kind.TheVariants.{Axis as AxisError, Rank, Length, Domain, Index, Limit}
-use Rattle.arrays_core.specs.Arrays.{ArrayValue}
-use Rattle.function_names.specs.declared.along.Along.TheVariants.{First, Last, Axis}
-use Rattle.selection_fns.specs.Shape.{shape_whole}
-use Rattle.selection_fns.specs.IndexGenerator.{generator_form, generator_whole}
-use Rattle.selection_fns.specs.Replicate.{replicate_form, replicate_whole}
-use Rattle.selection_fns.specs.Index.{index_whole}
+use Rattle.arrays_core.{specs.declared.item.Kind.TheVariants.{Axis as AxisError, Rank, Length, Domain, Index, Limit}, specs.Arrays.{ArrayValue}}
 use Rattle.arrays_core.proofs.CaseWords.{nums, ints, chars, is, fails, scalar, integer, no_text, no_numbers, minus, greatest, least}
+use Rattle.function_names.specs.declared.along.Along.TheVariants.{First, Last, Axis}
+use Rattle.selection_fns.{specs.Shape.{shape_whole}, specs.IndexGenerator.{generator_form, generator_whole}, specs.Replicate.{replicate_form, replicate_whole}}
+use Rattle.selection_fns.specs.Index.{index_whole}
 use Rattle.index_region.specs.Checks.{form_of}
 
 -- 2 3⍴⍳6

@@ -1,24 +1,12 @@
 -- The copies of a vector's items, or of a scalar's.
 use Rattle.std.proofs.Common.{◌≡◌, ℕ, ◌+◌, ◌-◌, ◌*◌, ◌/◌, ◌<◌, ◌≤◌, Bool, true, false, nat_le, nat_eq, ◌&&◌, if◌then◌else◌, List, [], ◌∷◌, map, length, get_or, set, insert, remove, Some, None, Ok, refl, ap, sym, ◌∙◌, arith}
-use Rattle.std.specs.Prelude.{max, sum, unwrap_or}
-use Rattle.std.proofs.lemmas.Bool.Decides.{nat_tests}
-use Rattle.std.proofs.lemmas.List.{length-map, get_or-map}
-use Rattle.std.proofs.Math.Nat.{div-one}
-use Rattle.std.proofs.Math.ListN.{get_or-eq_default}
-use Rattle.arrays_core.specs.declared.item.Item.{Item}
-use Rattle.arrays_core.specs.declared.item.ItemType.{ItemType}
-use Rattle.arrays_core.specs.Items.{fill, and_then}
-use Rattle.arrays_core.specs.Shapes.{size, index_after}
-use Rattle.arrays_core.specs.Arrays.{ArrayValue, item_if_there, collect, with_items}
-use Rattle.arrays_core.proofs.Order.{given_in_order}
-use Rattle.function_names.specs.declared.along.Along.{Along}
-use Rattle.index_region.specs.Checks.{form_of}
-use Rattle.function_names.specs.Axes.{axis_at}
-use Rattle.index_region.specs.Axes.{places_along}
-use Rattle.index_region.specs.Sources.{Place, item_from}
-use Rattle.selection_fns.specs.Replicate.{times, copied_place, replicate_form, replicate_item, replicate_whole}
-use Rattle.index_region.proofs.RowIndices.{axis_below}
-use Rattle.selection_fns.specs.Laws.CopiedPlaces.{replicate_gives}
+use Rattle.std.{specs.Prelude.{max, sum, unwrap_or}, proofs.lemmas.Bool.Decides.{nat_tests}, proofs.lemmas.List.{length-map, get_or-map}}
+use Rattle.std.{proofs.Math.Nat.{div-one}, proofs.Math.ListN.{get_or-eq_default}}
+use Rattle.arrays_core.{specs.declared.item.Item.{Item}, specs.declared.item.ItemType.{ItemType}, specs.Items.{fill, and_then}}
+use Rattle.arrays_core.{specs.Shapes.{size, index_after}, specs.Arrays.{ArrayValue, item_if_there, collect, with_items}, proofs.Order.{given_in_order}}
+use Rattle.function_names.{specs.declared.along.Along.{Along}, specs.Axes.{axis_at}}
+use Rattle.index_region.{specs.Checks.{form_of}, specs.Axes.{places_along}, specs.Sources.{Place, item_from}, proofs.RowIndices.{axis_below}}
+use Rattle.selection_fns.{specs.Replicate.{times, copied_place, replicate_form, replicate_item, replicate_whole}, specs.Laws.CopiedPlaces.{replicate_gives}}
 
 -- the item of a vector after k places, or fill
 read_vector : (b : ArrayValue) (n place : ℕ) → b.shape ≡ n ∷ [] → length b.items ≡ n → 1 ≤ place

@@ -1,10 +1,8 @@
 -- Numbers of one list and of another, added.
 use Rattle.std.proofs.Common.{◌≡◌, ℕ, zero, suc, ◌+◌, ◌*◌, ◌<◌, ◌≤◌, List, [], ◌∷◌, ◌++◌, map, length, get_or, take, refl, ap, sym, ◌∙◌, append-nil, append_assoc, arith}
 use Rattle.std.proofs.lemmas.List.{length-append, length-map, get_or-map, get_or_append_left, get_or-append-add, map-append, take_more, take_all}
-use Rattle.std.proofs.lemmas.List.FromFn.{fill_by_all, length-range_with_len, get_or-range_with_len}
-use Rattle.std.proofs.lemmas.Nat.{mul-add-lt}
-use Rattle.std.proofs.lemmas.Simd.{map-map}
-use Rattle.std.specs.List.{range_with_len}
+use Rattle.std.{proofs.lemmas.List.FromFn.{fill_by_all, length-range_with_len, get_or-range_with_len}, proofs.lemmas.Nat.{mul-add-lt}}
+use Rattle.std.{proofs.lemmas.Simd.{map-map}, specs.List.{range_with_len}}
 use Rattle.arrays_core.specs.Building.{listed}
 use Rattle.selection_fns.specs.IndexPlaces.{sums}
 

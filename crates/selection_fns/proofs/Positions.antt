@@ -1,15 +1,9 @@
 -- Positions, one after another.
 use Rattle.std.proofs.Common.{◌≡◌, ℕ, zero, suc, ◌+◌, ◌-◌, ◌<◌, ◌≤◌, ℤ, pos, negsuc, int_le, unsigned_abs, Bool, true, false, nat_le, ◌&&◌, List, [], ◌∷◌, ◌++◌, map, length, take, drop, get_or, Some, None, refl, subst, sym, arith}
-use Rattle.std.specs.List.{list_all}
-use Rattle.std.proofs.lemmas.Bool.Decides.{nat_tests}
-use Rattle.arrays_core.specs.declared.item.Item.{Item}
-use Rattle.arrays_core.specs.declared.item.ItemType.{ItemType}
-use Rattle.arrays_core.specs.declared.item.ItemType.TheVariants.{Nums, Chars}
-use Rattle.arrays_core.specs.Items.{fill}
+use Rattle.std.{specs.List.{list_all}, proofs.lemmas.Bool.Decides.{nat_tests}, proofs.lemmas.List.{length-append, length-drop, take_all, drop_more}}
+use Rattle.arrays_core.{specs.declared.item.Item.{Item}, specs.declared.item.ItemType.{ItemType}, specs.declared.item.ItemType.TheVariants.{Nums, Chars}}
+use Rattle.arrays_core.{specs.Items.{fill}, specs.Arrays.{ArrayValue}, specs.Shapes.{is_index_of}}
 use Rattle.index_region.specs.Arguments.{number_of}
-use Rattle.std.proofs.lemmas.List.{length-append, length-drop, take_all, drop_more}
-use Rattle.arrays_core.specs.Arrays.{ArrayValue}
-use Rattle.arrays_core.specs.Shapes.{is_index_of}
 use Rattle.selection_fns.specs.Index.{count_written, written_positions, indexed_shape, is_on_axis, is_on, are_on}
 
 -- the first position where it is not written, and the rest

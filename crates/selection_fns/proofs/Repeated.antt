@@ -1,13 +1,9 @@
 -- The places of an axis, each as often as its count, and the same by a walk over the counts.
 use Rattle.std.proofs.Common.{◌≡◌, ℕ, zero, suc, ◌+◌, ◌-◌, ◌*◌, ◌<◌, ◌≤◌, if◌then◌else◌, List, [], ◌∷◌, ◌++◌, length, take, get_or, map, replicate, pos, unsigned_abs, refl, ap, sym, ◌∙◌, arith}
-use Rattle.std.specs.Prelude.{nat_eq, sum}
-use Rattle.std.proofs.lemmas.List.{get_or-map}
-use Rattle.arrays_core.specs.Items.{fill}
-use Rattle.arrays_core.specs.Shapes.{places_before}
-use Rattle.arrays_core.specs.Arrays.{ArrayValue, item_of}
+use Rattle.std.{specs.Prelude.{nat_eq, sum}, proofs.lemmas.List.{get_or-map}}
+use Rattle.arrays_core.{specs.Items.{fill}, specs.Shapes.{places_before}, specs.Arrays.{ArrayValue, item_of}}
 use Rattle.index_region.specs.Arguments.{numbers, number_of}
-use Rattle.selection_fns.specs.Replicate.{times, places_repeated, maker}
-use Rattle.selection_fns.specs.Laws.RepeatedPlaces.{sum_front}
+use Rattle.selection_fns.{specs.Replicate.{times, places_repeated, maker}, specs.Laws.RepeatedPlaces.{sum_front}}
 
 pub sum_same : (n count : ℕ) → sum (replicate n count) ≡ n * count
 sum_same zero count = let none : 0 * count ≡ 0 = omega arith in sym none

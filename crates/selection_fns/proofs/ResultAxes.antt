@@ -1,23 +1,13 @@
 -- Positions and their axes of the result.
 use Rattle.std.proofs.Common.{◌≡◌, ℕ, zero, suc, ◌+◌, ◌<◌, ◌≤◌, Bool, true, false, nat_eq, ◌&&◌, not, List, [], ◌∷◌, ◌++◌, length, take, drop, get_or, pos, unsigned_abs, Option, Some, None, refl, ap, sym, ◌∙◌, subst, arith, length-append}
-use Rattle.std.specs.List.{list_all}
-use Rattle.std.proofs.lemmas.Bool.{and_parts, eqb-true, cond-true, cond-false}
-use Rattle.std.proofs.lemmas.Bool.Decides.{nat_tests}
+use Rattle.std.{specs.List.{list_all}, proofs.lemmas.Bool.{and_parts, eqb-true, cond-true, cond-false}, proofs.lemmas.Bool.Decides.{nat_tests}}
 use Rattle.std.proofs.lemmas.List.{get_or-map, length-drop, length-map, length-take-le}
-use Rattle.arrays_core.specs.Arrays.{ArrayValue, item_of}
-use Rattle.arrays_core.specs.Items.{fill}
-use Rattle.arrays_core.specs.Shapes.{size, index_after}
-use Rattle.index_region.specs.Arguments.{is_scalar, number_of, numbers}
-use Rattle.index_region.specs.Boxes.{Interval, cover, cover_between, join_boxes, whole_of}
-use Rattle.index_region.specs.Checks.{form_of}
-use Rattle.index_region.proofs.Boxes.{fits_length, length-index_after}
-use Rattle.index_region.proofs.Passing.{gives}
+use Rattle.arrays_core.{specs.Arrays.{ArrayValue, item_of}, specs.Items.{fill}, specs.Shapes.{size, index_after}, proofs.Order.{places_before-index_after}}
+use Rattle.index_region.{specs.Arguments.{is_scalar, number_of, numbers}, specs.Boxes.{Interval, cover, cover_between, join_boxes, whole_of}}
+use Rattle.index_region.{specs.Checks.{form_of}, proofs.Boxes.{fits_length, length-index_after}, proofs.Passing.{gives}}
 use Rattle.change_core.specs.RuleModels.{FitsAt, HasShape, box_at}
-use Rattle.arrays_core.proofs.Order.{places_before-index_after}
 use Rattle.selection_fns.specs.Index.{Position, count_written, written_positions, of_array_and_positions, index_form, indexed_shape, are_numbers, are_on, least_box, place_named, point, position_uses, unselected}
-use Rattle.selection_fns.proofs.Indexed.{positions_long}
-use Rattle.selection_fns.specs.Laws.LeastBoxes.{length-point}
-use Rattle.selection_fns.specs.PositionAxes.{axes_before, count_axes}
+use Rattle.selection_fns.{proofs.Indexed.{positions_long}, specs.Laws.LeastBoxes.{length-point}, specs.PositionAxes.{axes_before, count_axes}}
 use Rattle.selection_fns.proofs.Copied.{has_form, limited_within}
 
 pub none_selected : (written : List Bool) (which : ℕ) → get_or (false ∷ unselected written) which false ≡ false

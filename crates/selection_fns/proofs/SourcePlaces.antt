@@ -1,30 +1,16 @@
 -- The place that a source names lies in its argument.
 use Rattle.std.proofs.Common.{◌≡◌, ℕ, zero, suc, ◌-◌, ◌<◌, ◌≤◌, ℤ, pos, Bool, true, false, ◌||◌, nat_eq, nat_le, if◌then◌else◌, unsigned_abs, List, [], ◌∷◌, length, map, get_or, take, drop, set, insert, remove, replicate, refl, ap, subst, ◌∙◌, arith}
-use Rattle.std.specs.Prelude.{max, sum}
-use Rattle.std.specs.List.{list_all}
-use Rattle.std.proofs.lemmas.Bool.{and_parts, and_from, eqb-true, eqb-false, false≢true}
-use Rattle.std.proofs.lemmas.Bool.Decides.{nat_tests}
-use Rattle.std.proofs.lemmas.Grind.{get_or_default_zero}
+use Rattle.std.{specs.Prelude.{max, sum}, specs.List.{list_all}, proofs.lemmas.Bool.{and_parts, and_from, eqb-true, eqb-false, false≢true}}
+use Rattle.std.{proofs.lemmas.Bool.Decides.{nat_tests}, proofs.lemmas.Grind.{get_or_default_zero}}
 use Rattle.std.proofs.lemmas.List.{length-map, length-replicate, get_or-map}
-use Rattle.arrays_core.specs.Items.{fill}
-use Rattle.arrays_core.specs.Arrays.{ArrayValue, IsArray, item_of}
-use Rattle.arrays_core.specs.Shapes.{is_index_of, places_before}
+use Rattle.arrays_core.{specs.Items.{fill}, specs.Arrays.{ArrayValue, IsArray, item_of}, specs.Shapes.{is_index_of, places_before}}
 use Rattle.arrays_core.proofs.Shapes.{places_below}
-use Rattle.function_names.specs.declared.along.Along.{Along}
-use Rattle.index_region.specs.Arguments.{is_scalar, is_list, has_one_item, number_of, numbers}
-use Rattle.function_names.specs.Axes.{is_axis, axis_at}
-use Rattle.index_region.specs.Axes.{places_along}
-use Rattle.index_region.specs.Answers.{IsPlaceOf}
-use Rattle.index_region.specs.Sources.{Place}
-use Rattle.index_region.proofs.Passing.{passed}
-use Rattle.index_region.proofs.OnAxes.{OnAxis, scalar_inside, one_more_inside}
+use Rattle.function_names.{specs.declared.along.Along.{Along}, specs.Axes.{is_axis, axis_at}}
+use Rattle.index_region.{specs.Arguments.{is_scalar, is_list, has_one_item, number_of, numbers}, specs.Axes.{places_along}, specs.Answers.{IsPlaceOf}}
+use Rattle.index_region.{specs.Sources.{Place}, proofs.Passing.{passed}, proofs.OnAxes.{OnAxis, scalar_inside, one_more_inside}, proofs.RowIndices.{axis_below}}
 use Rattle.selection_fns.specs.Index.{is_on_axis, are_on, written_positions, count_written, indexed_shape, source_index}
-use Rattle.selection_fns.specs.Replicate.{times, maker, copied_place, replicate_form, replicate_source}
-use Rattle.selection_fns.proofs.Positions.{place_in, split_inside}
-use Rattle.selection_fns.specs.Laws.RepeatedPlaces.{sum_front, walk, maker_is_walk}
-use Rattle.selection_fns.proofs.Repeated.{maker_positive}
-use Rattle.index_region.proofs.RowIndices.{axis_below}
-use Rattle.selection_fns.specs.Laws.CopiedPlaces.{is_copied}
+use Rattle.selection_fns.{specs.Replicate.{times, maker, copied_place, replicate_form, replicate_source}, proofs.Positions.{place_in, split_inside}}
+use Rattle.selection_fns.{specs.Laws.RepeatedPlaces.{sum_front, walk, maker_is_walk}, proofs.Repeated.{maker_positive}, specs.Laws.CopiedPlaces.{is_copied}}
 use Rattle.selection_fns.proofs.Copies.{replicated_inside, on_axis}
 
 -- ---- indexes

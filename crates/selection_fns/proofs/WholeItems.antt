@@ -1,25 +1,15 @@
 -- The items in a box of a result that was worked out whole.
 use Rattle.std.proofs.Common.{◌≡◌, ℕ, ◌<◌, true, IsTrue, List, [], length, get_or, map, Some, Result, Ok, Err, refl, ap, sym, ◌∙◌, arith}
-use Rattle.std.specs.List.{range_with_len}
-use Rattle.std.proofs.lemmas.Bool.{cond-true}
-use Rattle.std.proofs.lemmas.List.{length-map, get_or-map as get_or-map_inside}
+use Rattle.std.{specs.List.{range_with_len}, proofs.lemmas.Bool.{cond-true}, proofs.lemmas.List.{length-map, get_or-map as get_or-map_inside}}
 use Rattle.std.proofs.lemmas.List.FromFn.{length-map-range_with_len, get_or-map-range_with_len}
-use Rattle.arrays_core.specs.declared.item.Item.{Item}
-use Rattle.arrays_core.specs.declared.item.ItemType.{ItemType}
-use Rattle.arrays_core.specs.declared.item.Kind.{Kind}
-use Rattle.arrays_core.specs.declared.item.Kind.TheVariants.{Domain}
-use Rattle.arrays_core.specs.Items.{all_or_first_error, and_then, fill}
-use Rattle.arrays_core.specs.Shapes.{indices, is_index_of, places_before}
-use Rattle.arrays_core.specs.Arrays.{ArrayValue, collect, with_items, item_of}
-use Rattle.arrays_core.proofs.Order.{length-indices, at_place}
-use Rattle.arrays_core.proofs.Shapes.{places_below}
-use Rattle.index_region.specs.Boxes.{Interval, box_size, walk_at, fits}
-use Rattle.index_region.specs.Checks.{Form, form_of, whole}
-use Rattle.index_region.proofs.Patched.{fits_within}
+use Rattle.arrays_core.{specs.declared.item.Item.{Item}, specs.declared.item.ItemType.{ItemType}, specs.declared.item.Kind.{Kind}}
+use Rattle.arrays_core.{specs.declared.item.Kind.TheVariants.{Domain}, specs.Items.{all_or_first_error, and_then, fill}}
+use Rattle.arrays_core.{specs.Shapes.{indices, is_index_of, places_before}, specs.Arrays.{ArrayValue, collect, with_items, item_of}}
+use Rattle.arrays_core.{proofs.Order.{length-indices, at_place}, proofs.Shapes.{places_below}}
+use Rattle.index_region.{specs.Boxes.{Interval, box_size, walk_at, fits}, specs.Checks.{Form, form_of, whole}, proofs.Patched.{fits_within}}
 use Rattle.index_region.proofs.Walks.{walk_within}
 use Rattle.change_core.specs.Parts.{items_in}
-use Rattle.selection_fns.specs.WholeBox.{IsPicked}
-use Rattle.selection_fns.proofs.Entries.{entry_of, from_entries}
+use Rattle.selection_fns.{specs.WholeBox.{IsPicked}, proofs.Entries.{entry_of, from_entries}}
 
 -- what a whole result without errors is
 record Whole (item : List ℕ → Result Item Kind) (shape : List ℕ) (t : ItemType) (w : ArrayValue) : Type 0 where

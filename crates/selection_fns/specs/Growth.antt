@@ -1,6 +1,5 @@
 -- When indexed reference grows with its arguments.
-use Rattle.std.specs.Prelude.{◌&&◌, not, nat_le, Bool, true, false, List, [], ◌∷◌, length}
-use Rattle.std.specs.List.{list_all}
+use Rattle.std.{specs.Prelude.{◌&&◌, not, nat_le, Bool, true, false, List, [], ◌∷◌, length}, specs.List.{list_all}}
 use Rattle.change_core.specs.RuleModels.{Growth}
 
 -- the first argument is marked, and no other

@@ -1,7 +1,6 @@
 -- The items of an array in a box.
 use Rattle.std.specs.Prelude.{◌≡◌, ℕ, ◌<◌, List, length, get_or, Some}
-use Rattle.arrays_core.specs.Arrays.{ArrayValue, item_if_there}
-use Rattle.arrays_core.specs.Items.{fill}
+use Rattle.arrays_core.{specs.Arrays.{ArrayValue, item_if_there}, specs.Items.{fill}}
 use Rattle.index_region.specs.Boxes.{Interval, box_size, walk_at}
 
 -- these are the items of an array in a box, in row-major order

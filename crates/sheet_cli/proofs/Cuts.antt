@@ -1,10 +1,7 @@
 -- How lines are cut, from the left.
 use Rattle.std.proofs.Common.{◌≡◌, ℕ, zero, suc, ◌+◌, ◌-◌, ◌<◌, ◌≤◌, min, Bool, true, false, cond, eqb, List, [], ◌∷◌, ◌++◌, length, take, get_or, refl, sym, ap, ◌∙◌, arith, ⊎_elim}
-use Rattle.std.specs.Prelude.{◌==◌, ◌&&◌, Result, is_ok}
-use Rattle.std.specs.Result.{IsOk}
-use Rattle.std.proofs.lemmas.Bool.{and_parts, eqb-true, cases_lt, cond_both}
-use Rattle.std.proofs.lemmas.List.{take_all, take_more, length-take}
-use Rattle.std.proofs.Math.Seq.{take-append-add}
+use Rattle.std.{specs.Prelude.{◌==◌, ◌&&◌, Result, is_ok}, specs.Result.{IsOk}, proofs.lemmas.Bool.{and_parts, eqb-true, cases_lt, cond_both}}
+use Rattle.std.{proofs.lemmas.List.{take_all, take_more, length-take}, proofs.Math.Seq.{take-append-add}}
 use Rattle.sheet_cli.specs.Lines.{strip_bom, onto_first, ended_lines, onto_last, last_line, line_if_any, lines_of, longest_line}
 use Rattle.sheet_cli.specs.Progress.{most_kept, first_stripped, line_after}
 

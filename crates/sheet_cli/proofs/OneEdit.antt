@@ -1,13 +1,8 @@
 -- An edit has one outcome, but for want of memory.
 use Rattle.std.proofs.Common.{◌≡◌, ℕ, List, refl, sym, subst, ◌∙◌}
-use Rattle.sheet_recalc.specs.Names.{Names}
-use Rattle.sheet_recalc.specs.Changes.{SheetChange}
-use Rattle.sheet_recalc.specs.Costs.{HasCost}
-use Rattle.sheet_desk.specs.Desk.{Refused}
-use Rattle.sheet_desk.proofs.Causes.{accepted_refused, refused_one}
-use Rattle.sheet_desk.proofs.Spent.{accepts_one}
-use Rattle.sheet_cli.specs.Answer.{State, refusal_text, IsChangeAnswered, accepted, refused}
-use Rattle.sheet_cli.proofs.OneEvent.{texts_one}
+use Rattle.sheet_recalc.{specs.Names.{Names}, specs.Changes.{SheetChange}, specs.Costs.{HasCost}}
+use Rattle.sheet_desk.{specs.Desk.{Refused}, proofs.Causes.{accepted_refused, refused_one}, proofs.Spent.{accepts_one}}
+use Rattle.sheet_cli.{specs.Answer.{State, refusal_text, IsChangeAnswered, accepted, refused}, proofs.OneEvent.{texts_one}}
 
 -- what accepts an edit gives one cost
 costs_one : (names : Names) (edit : SheetChange) (new₁ new₂ : Names) (cost₁ cost₂ : ℕ) → new₁ ≡ new₂ → HasCost names edit new₁ cost₁ → HasCost names edit new₂ cost₂ → cost₁ ≡ cost₂

@@ -1,15 +1,14 @@
 -- How the program ends, with what status, and what it tells of that.
 use Rattle.std.specs.Prelude.{ℕ, List, [], ◌++◌, codes, decimal, Option, Some, None, Result, Ok, Err}
 use Rattle.program_words.specs.declared.reading.WordsFault.{WordsFault}
-use Rattle.program_words.specs.declared.reading.WordsFault.TheVariants as fault
 use Rattle.sheet_cli.specs.declared.ending.Ending.{Ending}
 use Rattle.sheet_cli.specs.declared.ending.Ending.TheVariants.{Done, Run, Table, CannotRead, NoMemory, BadName, BadWords}
 use Rattle.sheet_cli.specs.declared.host.NotRead.{NotRead}
+use Rattle.array_text.{specs.declared.table_fault.TableFault.{TableFault}, specs.Text.{line_end}}
+use Rattle.program_words.specs.declared.reading.WordsFault.TheVariants as fault
 use Rattle.sheet_cli.specs.declared.host.NotRead.TheVariants as unread
 use Rattle.sheet_cli.specs.declared.run_loop.RunFault.TheVariants as run
-use Rattle.array_text.specs.declared.table_fault.TableFault.{TableFault}
 use Rattle.array_text.specs.declared.table_fault.TableFault.TheVariants as table
-use Rattle.array_text.specs.Text.{line_end}
 
 -- 0 where all is done, 2 where the words are refused, and else 1
 abbrev pub status_of : Ending → ℕ

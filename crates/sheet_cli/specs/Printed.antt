@@ -1,7 +1,6 @@
 -- The bytes of what a line prints.
 use Rattle.std.specs.Prelude.{ℕ, List, string_bytes}
-use Rattle.sheet_cli.specs.declared.printed.Printed.{Printed}
-use Rattle.sheet_cli.specs.declared.printed.Printed.TheVariants.{Fixed, Count, Made}
+use Rattle.sheet_cli.{specs.declared.printed.Printed.{Printed}, specs.declared.printed.Printed.TheVariants.{Fixed, Count, Made}}
 
 -- a text that is always there, a count, or a text that was made
 abbrev pub printed_bytes : Printed → List ℕ

@@ -2,8 +2,8 @@
 use Rattle.std.specs.Prelude.{◌≢◌, ◌⊎◌, Bool, true, false, None}
 use Rattle.apl_expr.specs.Lines.{Meaning, Nothing, Cost, Open, Step, Commit, Drop}
 use Rattle.sheet_recalc.specs.declared.refusal.Refusal.{Refusal}
-use Rattle.sheet_recalc.specs.declared.refusal.Refusal.TheVariants as why
 use Rattle.sheet_desk.specs.Desk.{DeskValue, held_in, open_refusal, step_refusal, HasStepsLeft}
+use Rattle.sheet_recalc.specs.declared.refusal.Refusal.TheVariants as why
 
 -- whether the text is always there: it is but for the error of an expression, which may name where it arose; for want of memory there is none
 abbrev pub is_always_there : Refusal → Bool

@@ -1,13 +1,9 @@
 -- The count of steps is one number.
-use Rattle.std.proofs.Common.{◌≡◌, ◌≤◌, ◌+◌, ⊎_elim, ℕ, List, [], ◌∷◌, ◌++◌, sym, ap, subst, ◌∙◌, arith}
-use Rattle.std.specs.List.{Contains, sum_by}
+use Rattle.std.{proofs.Common.{◌≡◌, ◌≤◌, ◌+◌, ⊎_elim, ℕ, List, [], ◌∷◌, ◌++◌, sym, ap, subst, ◌∙◌, arith}, specs.List.{Contains, sum_by}}
 use Rattle.std.proofs.lemmas.List.Sums.{sum_by-cons, sum_by-append}
 use Rattle.std.proofs.lemmas.List.Elements.{Contains-append_left, Contains-append_right, Contains-append_cases}
-use Rattle.dep_order.specs.Follows.{IsOnce}
-use Rattle.dep_order.proofs.Following.{contains_here, contains_there, contains_cases, contains_none}
-use Rattle.sheet_recalc.specs.Names.{Names}
-use Rattle.sheet_recalc.specs.Costs.{IsStepCount, functions_in}
-use Rattle.sheet_recalc.proofs.Keeping.{distinct_once}
+use Rattle.dep_order.{specs.Follows.{IsOnce}, proofs.Following.{contains_here, contains_there, contains_cases, contains_none}}
+use Rattle.sheet_recalc.{specs.Names.{Names}, specs.Costs.{IsStepCount, functions_in}, proofs.Keeping.{distinct_once}}
 
 module _ {A : Type 0} where
   -- a list is what stands before an element of it, the element, and what stands behind

@@ -1,11 +1,8 @@
 -- Events and answers of the code, as the model has them.
-use Rattle.std.specs.Prelude.{ℕ, Result, Ok, Err}
-use Rattle.std.specs.declared.alloc.AllocError.{AllocError}
+use Rattle.std.{specs.Prelude.{ℕ, Result, Ok, Err}, specs.declared.alloc.AllocError.{AllocError}}
 use Rattle.apl_expr.specs.Trees.{tree_of}
 use Rattle.arrays_core.specs.Outcomes.{Outcome}
-use Rattle.sheet_recalc.specs.History.{change_of}
-use Rattle.sheet_recalc.specs.declared.refusal.Refusal.{Refusal}
-use Rattle.sheet_recalc.specs.declared.refusal.Refusal.TheVariants.{NoMemory}
+use Rattle.sheet_recalc.{specs.History.{change_of}, specs.declared.refusal.Refusal.{Refusal}, specs.declared.refusal.Refusal.TheVariants.{NoMemory}}
 use Rattle.sheet_desk.specs.Desk.{Event, Open, Step, Commit, Drop, Plain, Show, Answer, Done, Left, Shown, Refused}
 use Rattle.sheet_desk.specs.declared.event.Event as asked
 use Rattle.sheet_desk.specs.declared.event.Event.TheVariants as asked_for

@@ -4,11 +4,8 @@ use Rattle.std.specs.Option.{option_map}
 use Rattle.apl_expr.specs.Trees.{Tree}
 use Rattle.formula_core.specs.Meaning.{eval}
 use Rattle.arrays_core.specs.Outcomes.{Outcome}
-use Rattle.sheet_recalc.specs.Names.{Names}
-use Rattle.sheet_recalc.specs.Meaning.{val}
-use Rattle.sheet_recalc.specs.Changes.{SheetChange, Accepts, Refuses}
-use Rattle.sheet_recalc.specs.Costs.{HasCost, HasTicks, changed_name, expression_cost, IsStepCost, IsStepCount}
-use Rattle.sheet_recalc.specs.declared.refusal.Refusal.{Refusal}
+use Rattle.sheet_recalc.{specs.Names.{Names}, specs.Meaning.{val}, specs.Changes.{SheetChange, Accepts, Refuses}}
+use Rattle.sheet_recalc.{specs.Costs.{HasCost, HasTicks, changed_name, expression_cost, IsStepCost, IsStepCount}, specs.declared.refusal.Refusal.{Refusal}}
 use Rattle.sheet_recalc.specs.declared.refusal.Refusal.TheVariants.{NoMemory, Stale, NotReady, NoSlot, SlotInUse}
 use Rattle.sheet_desk.specs.Slots.{slot_in, with_slot}
 

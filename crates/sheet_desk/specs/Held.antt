@@ -1,13 +1,7 @@
 -- What the slots of the code hold, as the model has it.
-use Rattle.std.specs.Prelude.{◌≡◌, false, true, List, map, length, Option, Some, None}
-use Rattle.std.specs.List.{All}
-use Rattle.std.specs.Option.{option_map}
-use Rattle.sheet_recalc.specs.Names.{SheetValue}
-use Rattle.sheet_recalc.specs.History.{change_of}
-use Rattle.sheet_recalc.specs.Pending.{IsPendingOn, steps_left}
-use Rattle.sheet_desk.specs.Slots.{slot_count}
-use Rattle.sheet_desk.specs.Desk.{SlotValue}
-use Rattle.sheet_desk.specs.declared.slot.Slot.{Slot}
+use Rattle.std.{specs.Prelude.{◌≡◌, false, true, List, map, length, Option, Some, None}, specs.List.{All}, specs.Option.{option_map}}
+use Rattle.sheet_recalc.{specs.Names.{SheetValue}, specs.History.{change_of}, specs.Pending.{IsPendingOn, steps_left}}
+use Rattle.sheet_desk.{specs.Slots.{slot_count}, specs.Desk.{SlotValue}, specs.declared.slot.Slot.{Slot}}
 
 -- a change that is open
 abbrev pub slot_value_of : Slot → SlotValue

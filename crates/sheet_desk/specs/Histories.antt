@@ -1,16 +1,12 @@
 -- What follows of any list of events.
-use Rattle.std.specs.Prelude.{◌≡◌, ◌≢◌, ℕ, ℤ, Bool, true, false, ◌||◌, ◌⊎◌, List, [], ◌∷◌, ◌++◌, map, Option, Some, None}
-use Rattle.std.specs.Option.{option_map}
+use Rattle.std.{specs.Prelude.{◌≡◌, ◌≢◌, ℕ, ℤ, Bool, true, false, ◌||◌, ◌⊎◌, List, [], ◌∷◌, ◌++◌, map, Option, Some, None}, specs.Option.{option_map}}
 use Rattle.apl_expr.specs.Trees.{Tree}
 use Rattle.formula_core.specs.Meaning.{eval}
 use Rattle.arrays_core.specs.Outcomes.{Outcome}
-use Rattle.sheet_recalc.specs.Names.{Names}
-use Rattle.sheet_recalc.specs.Meaning.{val}
-use Rattle.sheet_recalc.specs.Changes.{SheetChange, Accepts}
-use Rattle.sheet_recalc.specs.Costs.{NoItemFails, changed_name, asked_change}
-use Rattle.sheet_recalc.specs.declared.refusal.Refusal.TheVariants as why
+use Rattle.sheet_recalc.{specs.Names.{Names}, specs.Meaning.{val}, specs.Changes.{SheetChange, Accepts}, specs.Costs.{NoItemFails, changed_name, asked_change}}
 use Rattle.sheet_desk.specs.Slots.{slot_in, with_slot}
 use Rattle.sheet_desk.specs.Desk.{DeskValue, SlotValue, Event, Open, Commit, Drop, Plain, Show, Answer, Done, Left, Shown, Refused, held_in, IsEvent, AreEvents}
+use Rattle.sheet_recalc.specs.declared.refusal.Refusal.TheVariants as why
 
 -- the changes that are open, slot by slot
 abbrev pub open_changes : List (Option SlotValue) → List (Option SheetChange)

@@ -1,16 +1,11 @@
 -- What a sheet keeps of a change: what it cost, and the items that were computed.
-use Rattle.std.proofs.Common.{◌≡◌, ◌≢◌, ◌+◌, ◌≤◌, ◌<◌, ◌∙◌, ℕ, List, Some, Ok, min, sym, ap, arith}
+use Rattle.std.{proofs.Common.{◌≡◌, ◌≢◌, ◌+◌, ◌≤◌, ◌<◌, ◌∙◌, ℕ, List, Some, Ok, min, sym, ap, arith}, specs.Prelude.{Vec}}
 use Rattle.arrays_core.specs.Arrays.{ArrayValue}
-use Rattle.index_region.specs.declared.delta.Delta.{Delta}
-use Rattle.index_region.specs.declared.delta.Delta.TheVariants.{Whole}
+use Rattle.index_region.{specs.declared.delta.Delta.{Delta}, specs.declared.delta.Delta.TheVariants.{Whole}}
 use Rattle.change_core.specs.Meters.{ticked}
-use Rattle.std.specs.Prelude.{Vec}
 use Rattle.apl_expr.specs.Trees.{Tree}
-use Rattle.sheet_recalc.specs.Names.{Names, Data, Formula, binding, put}
-use Rattle.sheet_recalc.specs.Live.{TellsUsers}
-use Rattle.sheet_recalc.specs.Meaning.{val}
-use Rattle.sheet_recalc.proofs.Binding.{rebound_own, rebound_same}
-use Rattle.sheet_recalc.proofs.Live.{val_data}
+use Rattle.sheet_recalc.{specs.Names.{Names, Data, Formula, binding, put}, specs.Live.{TellsUsers}, specs.Meaning.{val}}
+use Rattle.sheet_recalc.{proofs.Binding.{rebound_own, rebound_same}, proofs.Live.{val_data}}
 
 -- a name that is bound to an array shows it
 pub shows_put : (names : Names) (name : List ℕ) (a : ArrayValue) → val (put names name (Data a)) name ≡ Ok a

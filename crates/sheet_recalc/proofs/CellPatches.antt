@@ -1,18 +1,11 @@
 -- The patch of one place.
 use Rattle.std.proofs.Common.{◌≡◌, ℕ, Ok, ◌+◌, List, [], ◌∷◌, set, true, refl, sym, ap, subst, arith}
-use Rattle.arrays_core.specs.declared.item.Item.{Item}
-use Rattle.arrays_core.specs.Arrays.{ArrayValue, IsArray}
-use Rattle.arrays_core.specs.Items.{type_of}
-use Rattle.arrays_core.specs.Shapes.{is_index_of, places_before}
-use Rattle.index_region.specs.Boxes.{box_size, walk_at}
-use Rattle.index_region.specs.Patches.{PatchValue, FitsPatch, patched}
-use Rattle.index_region.proofs.OnePlace.{one_place_size, one_place_fits, one_place_walk}
-use Rattle.index_region.proofs.Written.{IsWritten, written_none, written_more, written_all}
-use Rattle.arrays_core.specs.declared.item.ItemType.{ItemType}
-use Rattle.arrays_core.specs.declared.item.ItemType.TheVariants.{Nums, Chars}
+use Rattle.arrays_core.{specs.declared.item.Item.{Item}, specs.Arrays.{ArrayValue, IsArray}, specs.Items.{type_of}, specs.Shapes.{is_index_of, places_before}}
+use Rattle.arrays_core.{specs.declared.item.ItemType.{ItemType}, specs.declared.item.ItemType.TheVariants.{Nums, Chars}}
+use Rattle.index_region.{specs.Boxes.{box_size, walk_at}, specs.Patches.{PatchValue, FitsPatch, patched}}
+use Rattle.index_region.{proofs.OnePlace.{one_place_size, one_place_fits, one_place_walk}, proofs.Written.{IsWritten, written_none, written_more, written_all}}
 use Rattle.index_region.specs.Arguments.{is_same_type}
-use Rattle.sheet_recalc.specs.Cells.{with_item, item_put}
-use Rattle.sheet_recalc.specs.Costs.{cell_patch}
+use Rattle.sheet_recalc.{specs.Cells.{with_item, item_put}, specs.Costs.{cell_patch}}
 
 -- an array with a patch of one place is the array with the item there
 pub patched_one : (a : ArrayValue) (index : List ℕ) (item : Item) → IsArray a → is_index_of a.shape index ≡ true → type_of item ≡ a.item_type → patched a (cell_patch index item) ≡ with_item a index item

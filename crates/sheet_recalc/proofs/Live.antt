@@ -1,32 +1,19 @@
 -- Entries, the names that they stand for, and what they show.
 use Rattle.std.proofs.Common.{◌≡◌, ℕ, zero, suc, ◌+◌, ◌-◌, ◌<◌, ◌≤◌, Bool, true, false, cond, List, [], ◌∷◌, ◌++◌, length, take, get_or, slice_get, ⊎_elim, ◌⊎◌, Option, Some, None, Ok, Err, IsSome, is_some, refl, sym, ap, ◌∙◌, subst, arith, not, if◌then◌else◌}
-use Rattle.std.specs.Str.{bytes_eq}
-use Rattle.std.specs.Map.{lookup, keys_of, set_value}
-use Rattle.std.specs.Option.{option_map, unwrap_or}
-use Rattle.std.specs.List.{IsDistinct, Contains}
-use Rattle.std.specs.Prelude.{Vec}
-use Rattle.std.proofs.lemmas.Bool.{false≢true}
-use Rattle.std.proofs.lemmas.List.{take_all, take_more, length-map, same_from_push}
-use Rattle.std.proofs.lemmas.List.Elements.{Contains-push_cases}
-use Rattle.std.proofs.lemmas.Map.Views.{Contains-keys_from_lookup}
+use Rattle.std.{specs.Str.{bytes_eq}, specs.Map.{lookup, keys_of, set_value}, specs.Option.{option_map, unwrap_or}, specs.List.{IsDistinct, Contains}}
+use Rattle.std.{specs.Prelude.{Vec}, proofs.lemmas.Bool.{false≢true}, proofs.lemmas.List.{take_all, take_more, length-map, same_from_push}}
+use Rattle.std.{proofs.lemmas.List.Elements.{Contains-push_cases}, proofs.lemmas.Map.Views.{Contains-keys_from_lookup}}
 use Rattle.indexmap.specs.IndexMap.{insert_entry, set_value_at}
-use Rattle.arrays_core.specs.Arrays.{ArrayValue}
-use Rattle.arrays_core.specs.declared.item.Kind.TheVariants.{Value}
-use Rattle.dep_order.specs.Reachability.{Chain, IsAcyclic, Reaches}
-use Rattle.dep_order.specs.Users.{Uses, EndsWith, EachFollowsUsers, HasNothing}
-use Rattle.arrays_core.specs.Outcomes.{Outcome, fault}
+use Rattle.arrays_core.{specs.Arrays.{ArrayValue}, specs.declared.item.Kind.TheVariants.{Value}, specs.Outcomes.{Outcome, fault}}
+use Rattle.dep_order.{specs.Reachability.{Chain, IsAcyclic, Reaches}, specs.Users.{Uses, EndsWith, EachFollowsUsers, HasNothing}}
+use Rattle.dep_order.proofs.Following.{contains_none}
 use Rattle.formula_core.specs.Plans.{PlanValue}
-use Rattle.sheet_recalc.specs.Names.{Names, Data, binding, put, without, Refers}
-use Rattle.sheet_recalc.specs.Meaning.{shown_beside, val, val_at}
+use Rattle.sheet_recalc.{specs.Names.{Names, Data, binding, put, without, Refers}, specs.Meaning.{shown_beside, val, val_at}}
 use Rattle.sheet_recalc.specs.Entries.{names_of, binding_of, entry_outcome, adopting}
 use Rattle.sheet_recalc.specs.Live.{IsRightEntry, IsCurrent, IsLive, IsReach, CanAdopt, AreRightOnceTaken, IsAdopting, entry_after, plan_in}
-use Rattle.sheet_recalc.specs.declared.entry.Entry.{Entry}
+use Rattle.sheet_recalc.{specs.declared.entry.Entry.{Entry}, proofs.NameEquality.{names_equal, equal-true, equal-same}, proofs.Scratch.{val_absent}}
+use Rattle.sheet_recalc.{proofs.Putting.{lookup_put}, proofs.Removing.{others, lookup_others, names_of_others}}
 use Rattle.sheet_recalc.specs.declared.entry.Entry.TheVariants as entry
-use Rattle.sheet_recalc.proofs.NameEquality.{names_equal, equal-true, equal-same}
-use Rattle.sheet_recalc.proofs.Scratch.{val_absent}
-use Rattle.sheet_recalc.proofs.Putting.{lookup_put}
-use Rattle.sheet_recalc.proofs.Removing.{others, lookup_others, names_of_others}
-use Rattle.dep_order.proofs.Following.{contains_none}
 
 -- what a name shows, by what the entries hold
 abbrev pub shown_by : List (List ℕ × Entry) → List ℕ → Outcome

@@ -1,16 +1,10 @@
 -- A change that is worked out at once.
-use Rattle.std.proofs.Common.{◌≡◌, ◌<◌, ◌∙◌, ℕ, false, sym, subst, arith}
+use Rattle.std.{proofs.Common.{◌≡◌, ◌<◌, ◌∙◌, ℕ, false, sym, subst, arith}, specs.Map.{keys_of}}
 use Rattle.change_core.specs.Meters.{MeterValue}
-use Rattle.sheet_recalc.specs.Names.{SheetValue}
-use Rattle.sheet_recalc.specs.Tables.{Tables}
-use Rattle.sheet_recalc.specs.Changes.{SheetChange}
-use Rattle.std.specs.Map.{keys_of}
-use Rattle.sheet_recalc.specs.Costs.{AreAllThatReach}
+use Rattle.sheet_recalc.{specs.Names.{SheetValue}, specs.Tables.{Tables}, specs.Changes.{SheetChange}, specs.Costs.{AreAllThatReach}}
 use Rattle.sheet_recalc.specs.Planning.{AllWait, CanBe, IsPlanning, IsProposed}
 use Rattle.sheet_recalc.specs.Pending.{HasPlace, IsLaidOut, IsLaidOutOn, IsPendingOn, names_after, outline_for, steps_left}
-use Rattle.sheet_recalc.specs.declared.pending.Pending.{Pending}
-use Rattle.sheet_recalc.specs.declared.plans.Plans.{Plans}
-use Rattle.sheet_recalc.proofs.Forward.{all_made}
+use Rattle.sheet_recalc.{specs.declared.pending.Pending.{Pending}, specs.declared.plans.Plans.{Plans}, proofs.Forward.{all_made}}
 use Rattle.sheet_recalc.proofs.Stepped.{begun_of_laid_out, of_laid_out, is_ready, IsAllReady}
 
 -- what was found for a proposal is laid out

@@ -1,11 +1,7 @@
 -- Names are compared by their texts.
-use Rattle.std.proofs.Common.{◌≡◌, ℕ, List, [], ◌∷◌, true, refl}
+use Rattle.std.{proofs.Common.{◌≡◌, ℕ, List, [], ◌∷◌, true, refl}, specs.Str.{bytes_eq}, specs.Cmp.{IsEquivalence}, proofs.lemmas.Bool.{and_parts, false≢true}}
+use Rattle.std.{proofs.lemmas.Cmp.{nat_list_eq_equiv}, proofs.lemmas.Slice.Eq.{bytes_eq-Decides}}
 use lib.Pointwise.{pointwise}
-use Rattle.std.specs.Str.{bytes_eq}
-use Rattle.std.specs.Cmp.{IsEquivalence}
-use Rattle.std.proofs.lemmas.Bool.{and_parts, false≢true}
-use Rattle.std.proofs.lemmas.Cmp.{nat_list_eq_equiv}
-use Rattle.std.proofs.lemmas.Slice.Eq.{bytes_eq-Decides}
 
 pub names_equal : IsEquivalence bytes_eq
 names_equal = nat_list_eq_equiv

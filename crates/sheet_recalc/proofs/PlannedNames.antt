@@ -1,55 +1,29 @@
 -- What a plan makes of a formula makes the name show what it is to show.
 use Rattle.std.proofs.Common.{◌≡◌, ℕ, zero, suc, ◌<◌, ◌-◌, Bool, true, false, List, [], ◌∷◌, ◌++◌, length, map, get_or, Option, Some, None, IsSome, Result, Ok, Err, IfOk, refl, sym, ap, ◌∙◌, subst, arith, ⊎_elim}
-use Rattle.std.specs.Borrow.{Bor}
-use Rattle.std.specs.Str.{bytes_eq}
-use Rattle.std.specs.Map.{lookup}
-use Rattle.std.specs.List.{Contains}
-use Rattle.std.specs.Option.{option_map, option_map_or}
-use Rattle.std.proofs.lemmas.Bool.{false≢true}
-use Rattle.std.proofs.lemmas.List.{length-map, length-append, map-append, get_or-map}
-use Rattle.std.proofs.lemmas.List.Elements.{Contains-append_cases}
+use Rattle.std.{specs.Borrow.{Bor}, specs.Str.{bytes_eq}, specs.Map.{lookup}, specs.List.{Contains}, specs.Option.{option_map, option_map_or}}
+use Rattle.std.{proofs.lemmas.Bool.{false≢true}, proofs.lemmas.List.{length-map, length-append, map-append, get_or-map}}
+use Rattle.std.{proofs.lemmas.List.Elements.{Contains-append_cases}, proofs.Math.Seq.{get_or-append_seam}, specs.declared.alloc.AllocError.{AllocError}}
 use Rattle.dep_order.proofs.Following.{contains_one}
-use Rattle.std.proofs.Math.Seq.{get_or-append_seam}
 use Rattle.apl_expr.specs.Trees.{Tree}
-use Rattle.arrays_core.specs.Arrays.{ArrayValue, IsArray}
-use Rattle.arrays_core.specs.declared.fault.Fault.{Fault}
-use Rattle.arrays_core.specs.declared.item.Kind.TheVariants.{Value}
-use Rattle.arrays_core.specs.Growth.{grown_by}
-use Rattle.index_region.specs.Patches.{patched}
-use Rattle.index_region.specs.declared.delta.Delta.{Delta}
-use Rattle.index_region.specs.declared.delta.Delta.TheVariants.{Same, Patch, Grown, Whole}
-use Rattle.std.specs.declared.alloc.AllocError.{AllocError}
+use Rattle.arrays_core.{specs.Arrays.{ArrayValue, IsArray}, specs.declared.fault.Fault.{Fault}, specs.declared.item.Kind.TheVariants.{Value}}
+use Rattle.arrays_core.{specs.Growth.{grown_by}, specs.Outcomes.{Outcome, fault}}
+use Rattle.index_region.{specs.Patches.{patched}, specs.declared.delta.Delta.{Delta}, specs.declared.delta.Delta.TheVariants.{Same, Patch, Grown, Whole}}
 use Rattle.change_core.specs.Meters.{ticked}
-use Rattle.change_rules.specs.Currency.{applied}
-use Rattle.change_rules.specs.Nodes.{is_same}
-use Rattle.arrays_core.specs.Outcomes.{Outcome, fault}
-use Rattle.formula_core.specs.Meaning.{eval, names_in}
-use Rattle.formula_core.specs.Tables.{subtrees}
-use Rattle.formula_core.specs.Formulas.{FormulaValue, root_result}
-use Rattle.formula_core.specs.Changes.{NamesChange, FitsIn, IsNameChanged}
-use Rattle.formula_core.specs.declared.kept.NodeChange.{NodeChange}
-use Rattle.formula_core.specs.Holdings.{Holding, holding_at, not_worked_out, no_change, taking, adopted}
-use Rattle.formula_core.specs.Inputs.{IsInput, IsAllOrNothing}
+use Rattle.change_rules.{specs.Currency.{applied}, specs.Nodes.{is_same}}
+use Rattle.formula_core.{specs.Meaning.{eval, names_in}, specs.Tables.{subtrees}, specs.Formulas.{FormulaValue, root_result}}
+use Rattle.formula_core.{specs.Changes.{NamesChange, FitsIn, IsNameChanged}, specs.declared.kept.NodeChange.{NodeChange}}
+use Rattle.formula_core.{specs.Holdings.{Holding, holding_at, not_worked_out, no_change, taking, adopted}, specs.Inputs.{IsInput, IsAllOrNothing}}
 use Rattle.formula_core.specs.Plans.{PlanValue, IsPlanOf, IsPlanned, root_change, node_change, IsNameSound, AreInputs, IsTold, tree_cost}
-use Rattle.formula_core.specs.declared.input.Input.{Input}
-use Rattle.formula_core.specs.declared.input.Input.TheVariants.{Good, Bad}
-use Rattle.formula_core.proofs.Rooted.{before_root, root_last}
-use Rattle.sheet_recalc.specs.Names.{Names, Binding, Formula, binding}
+use Rattle.formula_core.{specs.declared.input.Input.{Input}, specs.declared.input.Input.TheVariants.{Good, Bad}, proofs.Rooted.{before_root, root_last}}
 use Rattle.formula_core.specs.Outcomes.{arisen_in}
-use Rattle.sheet_recalc.specs.Meaning.{with_origin, shown_beside, val}
-use Rattle.sheet_recalc.specs.Costs.{origin_delta, delta_by, binding_cost}
-use Rattle.sheet_recalc.specs.Entries.{names_of, binding_of}
-use Rattle.sheet_recalc.specs.Live.{IsRightEntry}
+use Rattle.sheet_recalc.{specs.Names.{Names, Binding, Formula, binding}, specs.Meaning.{with_origin, shown_beside, val}}
+use Rattle.sheet_recalc.{specs.Costs.{origin_delta, delta_by, binding_cost}, specs.Entries.{names_of, binding_of}, specs.Live.{IsRightEntry}}
 use Rattle.sheet_recalc.specs.ProposedSheet.{Outline, is_data, data_entry, proposed_entry, own_entry, proposed_names, proposed_delta, proposed_change, entry_of}
 use Rattle.sheet_recalc.specs.Planning.{IsProposed, IsPlanAt, ArePlans, HasItsPlan, IsUntouched, NeedsNoPlan, IsProposalAt, name_cost}
-use Rattle.sheet_recalc.specs.declared.entry.Entry.{Entry}
+use Rattle.sheet_recalc.{specs.declared.entry.Entry.{Entry}, specs.declared.proposal.Proposal.{Proposal}, proofs.NameEquality.{equal-true, equal-same}}
+use Rattle.sheet_recalc.{proofs.Scratch.{val_absent}, proofs.Live.{val_data, binding_of_name}, proofs.Proposed.{bound_own, bound_other}}
 use Rattle.sheet_recalc.specs.declared.entry.Entry.TheVariants as entry
-use Rattle.sheet_recalc.specs.declared.proposal.Proposal.{Proposal}
 use Rattle.sheet_recalc.specs.declared.proposal.Proposal.TheVariants as proposed
-use Rattle.sheet_recalc.proofs.NameEquality.{equal-true, equal-same}
-use Rattle.sheet_recalc.proofs.Scratch.{val_absent}
-use Rattle.sheet_recalc.proofs.Live.{val_data, binding_of_name}
-use Rattle.sheet_recalc.proofs.Proposed.{bound_own, bound_other}
 
 -- an array or an error gets its origin, and so does its change
 pub origin_applied : (x : List ℕ) (d : Delta) (o : Outcome) → applied (origin_delta x d) (with_origin x o) ≡ with_origin x (applied d o)

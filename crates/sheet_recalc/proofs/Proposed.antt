@@ -1,15 +1,8 @@
 -- What names are bound to once one of a sheet's is bound anew, or removed, by its entries.
-use Rattle.std.proofs.Common.{◌≡◌, ℕ, false, true, List, Option, sym, ap, ◌∙◌}
-use Rattle.std.specs.Str.{bytes_eq}
-use Rattle.std.specs.Map.{lookup}
-use Rattle.std.specs.Option.{option_map}
+use Rattle.std.{proofs.Common.{◌≡◌, ℕ, false, true, List, Option, sym, ap, ◌∙◌}, specs.Str.{bytes_eq}, specs.Map.{lookup}, specs.Option.{option_map}}
 use Rattle.std.proofs.lemmas.Bool.{false≢true}
-use Rattle.sheet_recalc.specs.Names.{Binding, binding, rebound}
-use Rattle.sheet_recalc.specs.Entries.{names_of, binding_of}
-use Rattle.sheet_recalc.specs.declared.entry.Entry.{Entry}
-use Rattle.sheet_recalc.proofs.NameEquality.{equal-true, equal-same}
-use Rattle.sheet_recalc.proofs.Binding.{rebound_same, rebound_own}
-use Rattle.sheet_recalc.proofs.Live.{binding_of_name}
+use Rattle.sheet_recalc.{specs.Names.{Binding, binding, rebound}, specs.Entries.{names_of, binding_of}, specs.declared.entry.Entry.{Entry}}
+use Rattle.sheet_recalc.{proofs.NameEquality.{equal-true, equal-same}, proofs.Binding.{rebound_same, rebound_own}, proofs.Live.{binding_of_name}}
 
 module _ (es : List (List ℕ × Entry)) (name : List ℕ) (b : Option Binding) where
   pub bound_own : (q : List ℕ) → bytes_eq q name ≡ true → binding (rebound (names_of es) name b) q ≡ b

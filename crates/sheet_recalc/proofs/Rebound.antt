@@ -1,23 +1,12 @@
 -- A name is bound anew, or removed: the names that reach it, and itself, are found; either it would reach itself, or the order is kept.
-use Rattle.std.proofs.Common.{◌≡◌, ◌≢◌, ℕ, ◌⊎◌, ◌↔◌, inl, inr, List, [], ◌∷◌, Option, Some, None, refl, sym, ◌∙◌, subst, arith, ⊎_elim}
-use Rattle.std.specs.Str.{bytes_eq}
-use Rattle.std.specs.List.{Contains, IsDistinct}
-use Rattle.std.specs.Prelude.{Vec}
-use Rattle.dep_order.specs.Reachability.{Chain, Reaches, IsAcyclic}
-use Rattle.std.specs.Option.{option_map_or}
-use Rattle.sheet_recalc.specs.Names.{Names, Binding, Data, Formula, binding, put, rebound, Refers, referred, referred_by, IsSheet}
-use Rattle.sheet_recalc.specs.Meaning.{val, IsSettled}
-use Rattle.sheet_recalc.specs.Costs.{AreAllThatReach}
-use Rattle.sheet_recalc.specs.Entries.{names_of}
-use Rattle.sheet_recalc.specs.Live.{IsLive, IsCurrent, TellsUsers}
-use Rattle.sheet_recalc.specs.ProposedSheet.{IsReaching}
-use Rattle.dep_order.specs.Follows.{Follows}
-use Rattle.dep_order.specs.Users.{Uses, EachFollowsUsers, HasNoEmptyBut}
-use Rattle.sheet_recalc.specs.NameOrder.{IsKeptOrder, HasOrder}
-use Rattle.sheet_recalc.specs.declared.entry.Entry.{Entry}
-use Rattle.sheet_recalc.proofs.Binding.{rebound_same, rebound_own}
-use Rattle.sheet_recalc.proofs.Scratch.{val_is, acyclic_from_order}
+use Rattle.std.{proofs.Common.{◌≡◌, ◌≢◌, ℕ, ◌⊎◌, ◌↔◌, inl, inr, List, [], ◌∷◌, Option, Some, None, refl, sym, ◌∙◌, subst, arith, ⊎_elim}, specs.Str.{bytes_eq}}
+use Rattle.std.{specs.List.{Contains, IsDistinct}, specs.Prelude.{Vec}, specs.Option.{option_map_or}}
+use Rattle.dep_order.{specs.Reachability.{Chain, Reaches, IsAcyclic}, specs.Follows.{Follows}, specs.Users.{Uses, EachFollowsUsers, HasNoEmptyBut}}
 use Rattle.dep_order.proofs.Following.{contains_none, follows_weaker, follows_has}
+use Rattle.sheet_recalc.specs.Names.{Names, Binding, Data, Formula, binding, put, rebound, Refers, referred, referred_by, IsSheet}
+use Rattle.sheet_recalc.{specs.Meaning.{val, IsSettled}, specs.Costs.{AreAllThatReach}, specs.Entries.{names_of}, specs.Live.{IsLive, IsCurrent, TellsUsers}}
+use Rattle.sheet_recalc.{specs.ProposedSheet.{IsReaching}, specs.NameOrder.{IsKeptOrder, HasOrder}, specs.declared.entry.Entry.{Entry}}
+use Rattle.sheet_recalc.{proofs.Binding.{rebound_same, rebound_own}, proofs.Scratch.{val_is, acyclic_from_order}}
 use Rattle.sheet_recalc.proofs.Keeping.{cases_name, distinct_once, name_order, kept_order, unaffected}
 
 -- what a name refers to

@@ -1,30 +1,18 @@
 -- Why a change was refused, from why a name could not be bound so.
 use Rattle.std.proofs.Common.{◌≡◌, ◌≤◌, ◌<◌, ◌+◌, ◌∙◌, ℕ, ℤ, List, [], ◌∷◌, length, is_some, IsSome, Option, Some, None, Ok, Err, sym, ap, subst, arith, refl, ⊎_elim}
-use Rattle.std.specs.Option.{option_map, option_map_or}
-use Rattle.std.proofs.lemmas.Bool.{false≢true}
-use Rattle.std.proofs.lemmas.List.{length-map, length-append}
+use Rattle.std.{specs.Option.{option_map, option_map_or}, proofs.lemmas.Bool.{false≢true}, proofs.lemmas.List.{length-map, length-append}}
 use Rattle.dep_order.specs.Reachability.{IsAcyclic}
 use Rattle.apl_expr.specs.Trees.{Tree, Literal}
-use Rattle.arrays_core.specs.Arrays.{ArrayValue}
+use Rattle.arrays_core.{specs.Arrays.{ArrayValue}, specs.Growth.{grown_by}}
 use Rattle.change_rules.specs.Currency.{applied}
 use Rattle.formula_core.specs.Meaning.{eval}
-use Rattle.arrays_core.specs.Growth.{grown_by}
-use Rattle.index_region.specs.Patches.{PatchValue, patched}
-use Rattle.index_region.specs.Tails.{TailValue}
-use Rattle.index_region.specs.declared.delta.Delta.TheVariants.{Patch, Grown}
-use Rattle.sheet_recalc.specs.Names.{Names, Binding, Data, Formula, binding, put, without, rebound, Refers, referred, most_names}
-use Rattle.sheet_recalc.specs.Meaning.{val}
-use Rattle.sheet_recalc.specs.Cells.{cell_put}
-use Rattle.sheet_recalc.specs.Entries.{binding_of}
-use Rattle.sheet_recalc.specs.ProposedSheet.{data_entry, names_with}
-use Rattle.sheet_recalc.specs.declared.proposal.Proposal.TheVariants as proposed
-use Rattle.sheet_recalc.specs.Rows.{row_put}
+use Rattle.index_region.{specs.Patches.{PatchValue, patched}, specs.Tails.{TailValue}, specs.declared.delta.Delta.TheVariants.{Patch, Grown}}
+use Rattle.sheet_recalc.{specs.Names.{Names, Binding, Data, Formula, binding, put, without, rebound, Refers, referred, most_names}, specs.Meaning.{val}}
+use Rattle.sheet_recalc.{specs.Cells.{cell_put}, specs.Entries.{binding_of}, specs.ProposedSheet.{data_entry, names_with}, specs.Rows.{row_put}}
 use Rattle.sheet_recalc.specs.Changes.{Define, Store, Put, SetCell, AddRow, Erase, Refuses, CannotBecome, CannotPut, IsCycleFrom, HasRoomForName}
-use Rattle.sheet_recalc.specs.declared.refusal.Refusal.{Refusal}
+use Rattle.sheet_recalc.{specs.declared.refusal.Refusal.{Refusal}, proofs.Cycles.{no_cycle_anew}, proofs.Live.{val_data}, proofs.Putting.{keys_put, put_last}}
+use Rattle.sheet_recalc.specs.declared.proposal.Proposal.TheVariants as proposed
 use Rattle.sheet_recalc.specs.declared.refusal.Refusal.TheVariants as why
-use Rattle.sheet_recalc.proofs.Cycles.{no_cycle_anew}
-use Rattle.sheet_recalc.proofs.Live.{val_data}
-use Rattle.sheet_recalc.proofs.Putting.{keys_put, put_last}
 
 pub refused_define : (names : Names) (name : List ℕ) (t : Tree) (cause : Refusal) → CannotPut names name (Formula t) cause → Refuses names (Define name t) cause
 refused_define names name t (why.Cycle c) h = h

@@ -1,11 +1,7 @@
 -- What a list of names is without one of them.
-use Rattle.std.proofs.Common.{◌≡◌, ℕ, ◌≤◌, Bool, true, false, not, cond, List, [], ◌∷◌, length, filter, None, refl, sym, ap, ◌∙◌, arith}
-use Rattle.std.specs.Str.{bytes_eq}
-use Rattle.std.specs.Map.{lookup, keys_of, remove_entry}
-use Rattle.std.specs.List.{IsDistinct, AllByRecursion}
-use Rattle.sheet_recalc.specs.Entries.{names_of, binding_of}
-use Rattle.sheet_recalc.specs.Names.{without}
-use Rattle.sheet_recalc.specs.declared.entry.Entry.{Entry}
+use Rattle.std.{proofs.Common.{◌≡◌, ℕ, ◌≤◌, Bool, true, false, not, cond, List, [], ◌∷◌, length, filter, None, refl, sym, ap, ◌∙◌, arith}, specs.Str.{bytes_eq}}
+use Rattle.std.{specs.Map.{lookup, keys_of, remove_entry}, specs.List.{IsDistinct, AllByRecursion}}
+use Rattle.sheet_recalc.{specs.Entries.{names_of, binding_of}, specs.Names.{without}, specs.declared.entry.Entry.{Entry}}
 use Rattle.sheet_recalc.proofs.NameEquality.{equal-true, equal-same}
 
 module _ {X : Type 0} (name : List ℕ) where

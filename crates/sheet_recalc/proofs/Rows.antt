@@ -1,20 +1,11 @@
 -- Rows of data: the types of their items, and that a row which passes the checks is put.
-use Rattle.std.proofs.Common.{◌≡◌, ℕ, ℤ, List, [], ◌∷◌, length, drop, true, false, Some, Ok, Err, refl, sym, ◌∙◌, ◌<◌, arith, eq-eqb}
-use Rattle.std.specs.Prelude.{◌==◌}
+use Rattle.std.{proofs.Common.{◌≡◌, ℕ, ℤ, List, [], ◌∷◌, length, drop, true, false, Some, Ok, Err, refl, sym, ◌∙◌, ◌<◌, arith, eq-eqb}, specs.Prelude.{◌==◌}}
 use Rattle.std.proofs.lemmas.Bool.{false_from_ne_true}
 use Rattle.apl_expr.specs.Trees.{Numbers, Text}
-use Rattle.arrays_core.specs.Arrays.{ArrayValue}
-use Rattle.arrays_core.specs.Growth.{one_longer, grown_by}
-use Rattle.arrays_core.specs.Shapes.{IsWithinLimits, size}
-use Rattle.arrays_core.specs.declared.item.Item.{Item}
-use Rattle.arrays_core.specs.declared.item.ItemType.{ItemType}
-use Rattle.arrays_core.specs.declared.item.ItemType.TheVariants.{Nums, Chars}
-use Rattle.index_region.specs.Checks.{is_within_limits}
-use Rattle.index_region.proofs.Passing.{is_within_from, within_limits}
-use Rattle.index_region.specs.Arguments.{is_same_type}
-use Rattle.sheet_recalc.specs.Cells.{literal_items}
-use Rattle.sheet_recalc.specs.declared.refusal.Refusal.TheVariants.{Limit}
-use Rattle.sheet_recalc.specs.Rows.{items_in_row, are_of_type, row_items_put}
+use Rattle.arrays_core.{specs.Arrays.{ArrayValue}, specs.Growth.{one_longer, grown_by}, specs.Shapes.{IsWithinLimits, size}, specs.declared.item.Item.{Item}}
+use Rattle.arrays_core.{specs.declared.item.ItemType.{ItemType}, specs.declared.item.ItemType.TheVariants.{Nums, Chars}}
+use Rattle.index_region.{specs.Checks.{is_within_limits}, proofs.Passing.{is_within_from, within_limits}, specs.Arguments.{is_same_type}}
+use Rattle.sheet_recalc.{specs.Cells.{literal_items}, specs.declared.refusal.Refusal.TheVariants.{Limit}, specs.Rows.{items_in_row, are_of_type, row_items_put}}
 
 all_numbers : (ns : List ℤ) → are_of_type Nums (literal_items (Numbers ns)) ≡ true
 all_numbers [] = refl

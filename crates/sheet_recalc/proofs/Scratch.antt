@@ -1,16 +1,12 @@
 -- Where each name stands after all that it refers to, one step from what the names show gives what they show: a greater depth
 -- changes nothing. And then nothing reaches itself.
 use Rattle.std.proofs.Common.{◌≡◌, ℕ, zero, suc, ◌<◌, List, [], ◌∷◌, take, length, slice_index_or, Option, Some, None, Err, IsSome, refl, sym, ap, ◌∙◌, subst, arith, ◌≤◌}
-use Rattle.std.specs.List.{Contains}
-use Rattle.std.proofs.lemmas.List.{get_or-take, get_or_default, length-take}
+use Rattle.std.{specs.List.{Contains}, proofs.lemmas.List.{get_or-take, get_or_default, length-take}}
 use Rattle.dep_order.specs.Reachability.{Chain, IsAcyclic}
 use Rattle.apl_expr.specs.Trees.{Tree}
-use Rattle.arrays_core.specs.declared.item.Kind.TheVariants.{Value}
-use Rattle.arrays_core.specs.Outcomes.{Outcome, fault}
-use Rattle.formula_core.specs.Meaning.{names_in}
-use Rattle.formula_core.proofs.Alike.{eval_alike}
-use Rattle.sheet_recalc.specs.Names.{Names, Binding, Data, Formula, binding, Refers}
-use Rattle.sheet_recalc.specs.Meaning.{shown_beside, with_origin, val_at, val}
+use Rattle.arrays_core.{specs.declared.item.Kind.TheVariants.{Value}, specs.Outcomes.{Outcome, fault}}
+use Rattle.formula_core.{specs.Meaning.{names_in}, proofs.Alike.{eval_alike}}
+use Rattle.sheet_recalc.{specs.Names.{Names, Binding, Data, Formula, binding, Refers}, specs.Meaning.{shown_beside, with_origin, val_at, val}}
 
 -- each present name, after all the present names that it refers to
 pub record IsNameOrder (names : Names) (order : List (List ℕ)) : Type 0 where

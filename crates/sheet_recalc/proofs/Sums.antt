@@ -1,23 +1,14 @@
 -- What a change costs is what it costs at the names that are found; and counts that stay at the greatest number.
 use Rattle.std.proofs.Common.{◌≡◌, ℕ, ◌+◌, min, Bool, true, false, List, [], ◌∷◌, Some, refl, sym, ap, ◌∙◌, subst, arith, ⊎_elim, if◌then◌else◌}
-use Rattle.std.specs.Str.{bytes_eq}
-use Rattle.std.specs.Map.{lookup, keys_of}
-use Rattle.std.specs.Option.{option_map_or}
-use Rattle.std.specs.List.{Contains, IsDistinct, AllByRecursion, sum_by}
-use Rattle.std.proofs.lemmas.Bool.{cond-false, false≢true}
-use Rattle.std.proofs.lemmas.List.Sums.{sum_by-cons}
-use Rattle.std.proofs.lemmas.Map.Views.{lookup-from_Contains}
+use Rattle.std.{specs.Str.{bytes_eq}, specs.Map.{lookup, keys_of}, specs.Option.{option_map_or}, specs.List.{Contains, IsDistinct, AllByRecursion, sum_by}}
+use Rattle.std.{proofs.lemmas.Bool.{cond-false, false≢true}, proofs.lemmas.List.Sums.{sum_by-cons}, proofs.lemmas.Map.Views.{lookup-from_Contains}}
 use Rattle.index_region.specs.declared.delta.Delta.TheVariants.{Same}
 use Rattle.change_core.specs.Meters.{ticked, most_ticks}
+use Rattle.formula_core.{specs.Plans.{tree_cost}, proofs.Alike.{unchanged_tree_costs_nothing}}
+use Rattle.dep_order.{specs.Follows.{Follows, IsOnce}, proofs.Following.{contains_here, contains_there, contains_cases, contains_none}}
+use Rattle.sheet_recalc.{specs.Names.{Names, Binding, Data, Formula, binding, Refers}, specs.Costs.{binding_cost, formulas_cost}}
+use Rattle.sheet_recalc.{proofs.NameEquality.{names_equal, equal-true, equal-same}, proofs.Deltas.{apart_from_found, not_named}}
 use Rattle.formula_core.specs.Changes as formula
-use Rattle.formula_core.specs.Plans.{tree_cost}
-use Rattle.formula_core.proofs.Alike.{unchanged_tree_costs_nothing}
-use Rattle.dep_order.specs.Follows.{Follows, IsOnce}
-use Rattle.dep_order.proofs.Following.{contains_here, contains_there, contains_cases, contains_none}
-use Rattle.sheet_recalc.specs.Names.{Names, Binding, Data, Formula, binding, Refers}
-use Rattle.sheet_recalc.specs.Costs.{binding_cost, formulas_cost}
-use Rattle.sheet_recalc.proofs.NameEquality.{names_equal, equal-true, equal-same}
-use Rattle.sheet_recalc.proofs.Deltas.{apart_from_found, not_named}
 
 -- a number at one name alone
 abbrev only_at : List ℕ → ℕ → List ℕ → ℕ

@@ -1,39 +1,24 @@
 -- Plans that are made one after another, in an order in which each name comes after all that it refers to.
 use Rattle.std.proofs.Common.{◌≡◌, ◌≢◌, ℕ, ◌<◌, ◌+◌, inl, inr, Bool, true, false, cond, List, [], ◌∷◌, ◌++◌, length, map, Option, Some, None, is_some, refl, sym, ap, ◌∙◌, subst, arith, ⊎_elim}
-use Rattle.std.specs.Str.{bytes_eq}
-use Rattle.std.specs.List.{Contains, IsDistinct}
-use Rattle.std.specs.Option.{option_map, option_map_or}
-use Rattle.std.proofs.lemmas.Bool.{false≢true}
-use Rattle.std.proofs.lemmas.List.{map-append}
-use Rattle.std.proofs.lemmas.List.Sums.{sum_by_push}
+use Rattle.std.{specs.Str.{bytes_eq}, specs.List.{Contains, IsDistinct}, specs.Option.{option_map, option_map_or}, proofs.lemmas.Bool.{false≢true}}
+use Rattle.std.{proofs.lemmas.List.{map-append}, proofs.lemmas.List.Sums.{sum_by_push}}
 use Rattle.std.proofs.lemmas.List.Elements.{Contains-append_left, Contains-append_right, Contains-append_cases}
 use Rattle.apl_expr.specs.Trees.{Tree, Const, Name, Monad, Dyad, Index, Reduce, Scan, Outer, Inner, Positions, NoPositions, Empty, Filled}
-use Rattle.apl_expr.specs.declared.functions.Function1.TheVariants as function1
 use Rattle.arrays_core.specs.Outcomes.{Outcome}
-use Rattle.formula_core.specs.Meaning.{names_in, names_in_positions}
-use Rattle.formula_core.specs.Tables.{inside, inside_positions, subtrees}
-use Rattle.formula_core.specs.Formulas.{FormulaValue, root_result}
-use Rattle.formula_core.specs.Holdings.{Holding, holding_at}
-use Rattle.formula_core.specs.Plans.{PlanValue}
-use Rattle.formula_core.specs.Sums.{total_of, summed_in, summed_at}
-use Rattle.dep_order.specs.Follows.{Follows, IsOnce}
-use Rattle.dep_order.proofs.Following.{contains_none, contains_one, follows_has, follows_front, follows_behind}
-use Rattle.sheet_recalc.specs.Names.{Names, Binding, Data, Formula, binding, Refers}
-use Rattle.sheet_recalc.specs.Meaning.{val, with_origin}
-use Rattle.sheet_recalc.specs.Costs.{delta_by, binding_cost}
-use Rattle.sheet_recalc.specs.Entries.{names_of, binding_of, adopting}
+use Rattle.formula_core.{specs.Meaning.{names_in, names_in_positions}, specs.Tables.{inside, inside_positions, subtrees}}
+use Rattle.formula_core.{specs.Formulas.{FormulaValue, root_result}, specs.Holdings.{Holding, holding_at}, specs.Plans.{PlanValue}}
+use Rattle.formula_core.{specs.Sums.{total_of, summed_in, summed_at}, proofs.Alike.{eval_alike}}
+use Rattle.dep_order.{specs.Follows.{Follows, IsOnce}, proofs.Following.{contains_none, contains_one, follows_has, follows_front, follows_behind}}
+use Rattle.sheet_recalc.{specs.Names.{Names, Binding, Data, Formula, binding, Refers}, specs.Meaning.{val, with_origin}}
+use Rattle.sheet_recalc.{specs.Costs.{delta_by, binding_cost, functions_of}, specs.Entries.{names_of, binding_of, adopting}}
 use Rattle.sheet_recalc.specs.Live.{IsRightEntry, AreRightOnceTaken, CanAdopt}
 use Rattle.sheet_recalc.specs.ProposedSheet.{Outline, proposed_names, proposed_change, own_entry, entry_of}
 use Rattle.sheet_recalc.specs.Planning.{IsProposed, IsUntouched, IsPlanAt, NeedsNoPlan, HasItsPlan, IsUnderWay, name_cost, names_cost, functions_at}
-use Rattle.sheet_recalc.specs.Costs.{functions_of}
-use Rattle.sheet_recalc.specs.declared.entry.Entry.{Entry}
-use Rattle.sheet_recalc.specs.declared.entry.Entry.TheVariants as entry
-use Rattle.sheet_recalc.proofs.NameEquality.{equal-true, equal-same}
-use Rattle.formula_core.proofs.Alike.{eval_alike}
-use Rattle.sheet_recalc.proofs.Scratch.{val_absent}
-use Rattle.sheet_recalc.proofs.Keeping.{once_distinct, distinct_once, once_front}
-use Rattle.sheet_recalc.proofs.Live.{val_data, binding_of_name}
+use Rattle.sheet_recalc.{specs.declared.entry.Entry.{Entry}, proofs.NameEquality.{equal-true, equal-same}, proofs.Scratch.{val_absent}}
+use Rattle.sheet_recalc.{proofs.Keeping.{once_distinct, distinct_once, once_front}, proofs.Live.{val_data, binding_of_name}}
 use Rattle.sheet_recalc.proofs.PlannedNames.{at_root, binding_entry, entry_other, delta_other, shows_formula, formula_old, plan_now}
+use Rattle.apl_expr.specs.declared.functions.Function1.TheVariants as function1
+use Rattle.sheet_recalc.specs.declared.entry.Entry.TheVariants as entry
 
 -- the name that is bound anew is among these, each stands after all others that refer to it, and what is not among them is as it was
 pub record IsAffected (o : Outline) (found : List (List ℕ)) : Type 0 where

@@ -1,18 +1,9 @@
 -- The entries of a sheet, as the list of its names and as what they show.
-use Rattle.std.specs.Prelude.{◌≡◌, ℕ, List, Some, false, Ok, map}
-use Rattle.std.specs.Str.{bytes_eq}
-use Rattle.std.specs.Map.{lookup}
-use Rattle.arrays_core.specs.Arrays.{ArrayValue}
-use Rattle.arrays_core.specs.Growth.{grown_by}
-use Rattle.index_region.specs.Patches.{PatchValue, FitsPatch, patched}
-use Rattle.index_region.specs.Tails.{TailValue, FitsTail}
-use Rattle.arrays_core.specs.Outcomes.{Outcome}
-use Rattle.formula_core.specs.Formulas.{root_result}
-use Rattle.formula_core.specs.Holdings.{adopted}
-use Rattle.formula_core.specs.Plans.{PlanValue}
-use Rattle.sheet_recalc.specs.Meaning.{with_origin}
-use Rattle.sheet_recalc.specs.Names.{Names, Binding, Data, Formula}
-use Rattle.sheet_recalc.specs.declared.entry.Entry.{Entry}
+use Rattle.std.{specs.Prelude.{◌≡◌, ℕ, List, Some, false, Ok, map}, specs.Str.{bytes_eq}, specs.Map.{lookup}}
+use Rattle.arrays_core.{specs.Arrays.{ArrayValue}, specs.Growth.{grown_by}, specs.Outcomes.{Outcome}}
+use Rattle.index_region.{specs.Patches.{PatchValue, FitsPatch, patched}, specs.Tails.{TailValue, FitsTail}}
+use Rattle.formula_core.{specs.Formulas.{root_result}, specs.Holdings.{adopted}, specs.Plans.{PlanValue}}
+use Rattle.sheet_recalc.{specs.Meaning.{with_origin}, specs.Names.{Names, Binding, Data, Formula}, specs.declared.entry.Entry.{Entry}}
 use Rattle.sheet_recalc.specs.declared.entry.Entry.TheVariants as entry
 
 -- what an entry is bound to

@@ -1,9 +1,7 @@
 -- What each name shows, worked out from scratch.
 use Rattle.std.specs.Prelude.{◌≡◌, ℕ, zero, suc, List, Option, Some, None, Ok, Err, length}
-use Rattle.arrays_core.specs.declared.item.Kind.TheVariants.{Value}
-use Rattle.arrays_core.specs.Outcomes.{Outcome, fault}
-use Rattle.formula_core.specs.Meaning.{eval}
-use Rattle.formula_core.specs.Outcomes.{arisen_in}
+use Rattle.arrays_core.{specs.declared.item.Kind.TheVariants.{Value}, specs.Outcomes.{Outcome, fault}}
+use Rattle.formula_core.{specs.Meaning.{eval}, specs.Outcomes.{arisen_in}}
 use Rattle.sheet_recalc.specs.Names.{Names, Binding, Data, Formula, binding}
 
 -- an outcome in the formula of a name: an error gets its origin there

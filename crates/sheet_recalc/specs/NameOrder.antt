@@ -1,6 +1,5 @@
 -- Orders in which names can be worked out.
-use Rattle.std.specs.Prelude.{ℕ, List, IsSome}
-use Rattle.std.specs.List.{Contains}
+use Rattle.std.{specs.Prelude.{ℕ, List, IsSome}, specs.List.{Contains}}
 use Rattle.dep_order.specs.Follows.{Follows, IsOnce}
 use Rattle.sheet_recalc.specs.Names.{Names, binding, Refers}
 

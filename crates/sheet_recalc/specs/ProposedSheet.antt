@@ -1,25 +1,16 @@
 -- A sheet as it would be after a change: its entries as they are, and what one name is to be bound to.
-use Rattle.std.specs.Prelude.{◌≡◌, ℕ, List, [], ◌⊎◌, Bool, true, false, Option, Some, None, Ok, Err}
-use Rattle.std.specs.List.{Contains}
-use Rattle.std.specs.Option.{option_map}
-use Rattle.index_region.specs.declared.delta.Delta.{Delta}
-use Rattle.index_region.specs.declared.delta.Delta.TheVariants.{Same, Patch, Grown, Whole}
+use Rattle.std.{specs.Prelude.{◌≡◌, ℕ, List, [], ◌⊎◌, Bool, true, false, Option, Some, None, Ok, Err}, specs.List.{Contains}, specs.Option.{option_map}}
+use Rattle.index_region.{specs.declared.delta.Delta.{Delta}, specs.declared.delta.Delta.TheVariants.{Same, Patch, Grown, Whole}}
 use Rattle.change_rules.specs.Currency.{applied}
-use Rattle.dep_order.specs.Follows.{Follows}
-use Rattle.dep_order.specs.Reachability.{Reaches}
+use Rattle.dep_order.{specs.Follows.{Follows}, specs.Reachability.{Reaches}}
 use Rattle.arrays_core.specs.Outcomes.{Outcome}
 use Rattle.formula_core.specs.Meaning.{names_in}
-use Rattle.sheet_recalc.specs.Names.{Names, Refers, rebound}
-use Rattle.sheet_recalc.specs.Entries.{names_of, binding_of}
-use Rattle.sheet_recalc.specs.Meaning.{val}
-use Rattle.sheet_recalc.specs.Costs.{sheet_change, formulas_cost}
-use Rattle.sheet_recalc.specs.Live.{entry_after}
+use Rattle.sheet_recalc.{specs.Names.{Names, Refers, rebound}, specs.Entries.{names_of, binding_of}, specs.Meaning.{val}}
+use Rattle.sheet_recalc.{specs.Costs.{sheet_change, formulas_cost}, specs.Live.{entry_after}, specs.declared.entry.Entry.{Entry}}
+use Rattle.sheet_recalc.{specs.declared.proposal.Proposal.{Proposal}, specs.declared.proposed_sheet.ProposedSheet.{ProposedSheet}}
 use Rattle.formula_core.specs.Changes as formula
-use Rattle.sheet_recalc.specs.declared.entry.Entry.{Entry}
 use Rattle.sheet_recalc.specs.declared.entry.Entry.TheVariants as entry
-use Rattle.sheet_recalc.specs.declared.proposal.Proposal.{Proposal}
 use Rattle.sheet_recalc.specs.declared.proposal.Proposal.TheVariants as proposed
-use Rattle.sheet_recalc.specs.declared.proposed_sheet.ProposedSheet.{ProposedSheet}
 
 -- a change of a sheet in outline: the entries as they are, a name, and what it is to be bound to
 pub record Outline : Type 0 where

@@ -1,17 +1,10 @@
 -- A row at the end of data.
-use Rattle.std.specs.Prelude.{ℕ, ◌==◌, Bool, List, [], ◌∷◌, length, Option, Some, None, Result, Ok, Err, if◌then◌else◌}
-use Rattle.std.specs.List.{list_all}
+use Rattle.std.{specs.Prelude.{ℕ, ◌==◌, Bool, List, [], ◌∷◌, length, Option, Some, None, Result, Ok, Err, if◌then◌else◌}, specs.List.{list_all}}
 use Rattle.apl_expr.specs.Trees.{Literal}
-use Rattle.arrays_core.specs.Arrays.{ArrayValue}
-use Rattle.arrays_core.specs.Growth.{one_longer, grown_by}
-use Rattle.arrays_core.specs.Items.{type_of}
-use Rattle.arrays_core.specs.declared.item.Item.{Item}
+use Rattle.arrays_core.{specs.Arrays.{ArrayValue}, specs.Growth.{one_longer, grown_by}, specs.Items.{type_of}, specs.declared.item.Item.{Item}}
 use Rattle.arrays_core.specs.declared.item.ItemType.{ItemType}
-use Rattle.index_region.specs.Checks.{is_within_limits}
-use Rattle.sheet_recalc.specs.Names.{Binding, Data, Formula}
-use Rattle.index_region.specs.Arguments.{is_same_type}
-use Rattle.sheet_recalc.specs.Cells.{literal_items}
-use Rattle.sheet_recalc.specs.declared.refusal.Refusal.{Refusal}
+use Rattle.index_region.{specs.Checks.{is_within_limits}, specs.Arguments.{is_same_type}}
+use Rattle.sheet_recalc.{specs.Names.{Binding, Data, Formula}, specs.Cells.{literal_items}, specs.declared.refusal.Refusal.{Refusal}}
 use Rattle.sheet_recalc.specs.declared.refusal.Refusal.TheVariants.{NotFound, NotData, Rank, Length, Domain, Limit}
 
 -- how many items a row has: one of a vector, one a column of a table; other arrays have no rows

@@ -1,8 +1,6 @@
 -- How the names of a sheet lie: their entries, and who refers to whom, each with room for more. No answer tells of it.
-use Rattle.std.specs.Prelude.{ℕ, List}
-use Rattle.std.proofs.Common.{BuildHasherDefault, FoldHasher, Global}
+use Rattle.std.{specs.Prelude.{ℕ, List, Vec}, proofs.Common.{BuildHasherDefault, FoldHasher, Global}}
 use Rattle.indexmap.specs.IndexMap.{IndexMap}
-use Rattle.std.specs.Prelude.{Vec}
 use Rattle.sheet_recalc.specs.declared.entry.Entry.{Entry}
 
 abbrev pub Hasher : Type 0

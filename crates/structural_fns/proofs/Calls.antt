@@ -1,12 +1,8 @@
 -- What a call of a rule's box is given.
 use Rattle.std.proofs.Common.{◌≡◌, ◌<◌, ℕ, zero, suc, List, [], ◌∷◌, length, true, Result, Ok, Err, arith, refl, subst, sym}
-use Rattle.arrays_core.specs.declared.item.Kind.{Kind}
-use Rattle.arrays_core.specs.Arrays.{ArrayValue}
-use Rattle.index_region.specs.ArgumentLists.{of_two_arguments}
-use Rattle.index_region.specs.Boxes.{Interval, fits}
-use Rattle.index_region.specs.Checks.{Form}
-use Rattle.change_core.specs.RuleModels.{Use, FitsAt, HasShape, box_at}
-use Rattle.change_core.specs.Sourced.{uses_of_two}
+use Rattle.arrays_core.{specs.declared.item.Kind.{Kind}, specs.Arrays.{ArrayValue}}
+use Rattle.index_region.{specs.ArgumentLists.{of_two_arguments}, specs.Boxes.{Interval, fits}, specs.Checks.{Form}}
+use Rattle.change_core.{specs.RuleModels.{Use, FitsAt, HasShape, box_at}, specs.Sourced.{uses_of_two}}
 
 -- the checks have passed, and this is the shape of the result
 pub record IsForm (checked : Result Form Kind) (shape : List ℕ) : Type 0 where

@@ -1,17 +1,10 @@
 -- Worked cases of the definitions, computed.
 use Rattle.std.proofs.Common.{◌≡◌, refl, ℕ, pos, negsuc, List, [], ◌∷◌}
-use Rattle.arrays_core.specs.declared.item.Kind.TheVariants.{Axis as AxisError, Rank, Length, Domain, Limit}
-use Rattle.arrays_core.specs.Arrays.{ArrayValue}
+use Rattle.arrays_core.{specs.declared.item.Kind.TheVariants.{Axis as AxisError, Rank, Length, Domain, Limit}, specs.Arrays.{ArrayValue}}
 use Rattle.arrays_core.proofs.CaseWords.{nums, ints, chars, is, fails, scalar, no_text, no_numbers}
 use Rattle.function_names.specs.declared.along.Along.TheVariants.{First, Last, Axis}
-use Rattle.structural_fns.specs.Reshape.{reshape_whole}
-use Rattle.structural_fns.specs.Ravel.{ravel_whole}
-use Rattle.structural_fns.specs.Take.{take_whole}
-use Rattle.structural_fns.specs.Drop.{drop_whole}
-use Rattle.structural_fns.specs.Reverse.{reverse_whole}
-use Rattle.structural_fns.specs.Rotate.{rotate_whole}
-use Rattle.structural_fns.specs.Catenate.{catenate_whole}
-use Rattle.structural_fns.specs.Transpose.{transpose_whole}
+use Rattle.structural_fns.{specs.Reshape.{reshape_whole}, specs.Ravel.{ravel_whole}, specs.Take.{take_whole}, specs.Drop.{drop_whole}}
+use Rattle.structural_fns.{specs.Reverse.{reverse_whole}, specs.Rotate.{rotate_whole}, specs.Catenate.{catenate_whole}, specs.Transpose.{transpose_whole}}
 use Rattle.structural_fns.specs.DyadicTranspose.{transpose_by_whole}
 
 -- 2 3⍴⍳6

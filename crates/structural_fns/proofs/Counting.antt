@@ -1,20 +1,11 @@
 -- Counts and index lists, one axis after another.
 use Rattle.std.proofs.Common.{◌≡◌, ℕ, zero, suc, ◌+◌, ◌-◌, ◌<◌, ◌≤◌, ℤ, pos, unsigned_abs, Bool, true, false, if◌then◌else◌, ◌&&◌, nat_le, Result, Ok, Err, All, List, [], ◌∷◌, length, replicate, ap, get_or, drop, refl, subst, sym, ◌∙◌, arith}
-use Rattle.std.proofs.lemmas.List.{drop_more, length-map, length-replicate, get_or-map, get_or-replicate}
-use Rattle.std.proofs.lemmas.Bool.{lt-leb}
-use Rattle.std.specs.List.{list_all}
-use Rattle.arrays_core.specs.declared.item.ItemType.{ItemType}
-use Rattle.arrays_core.specs.declared.item.Kind.{Kind}
-use Rattle.arrays_core.specs.declared.item.Kind.TheVariants.{Limit}
-use Rattle.arrays_core.specs.Arrays.{ArrayValue}
-use Rattle.arrays_core.specs.Shapes.{size, IsWithinLimits, is_index_of}
-use Rattle.arrays_core.proofs.Shapes.{as_long, head_at}
+use Rattle.std.{proofs.lemmas.List.{drop_more, length-map, length-replicate, get_or-map, get_or-replicate}, proofs.lemmas.Bool.{lt-leb}, specs.List.{list_all}}
+use Rattle.arrays_core.{specs.declared.item.ItemType.{ItemType}, specs.declared.item.Kind.{Kind}, specs.declared.item.Kind.TheVariants.{Limit}}
+use Rattle.arrays_core.{specs.Arrays.{ArrayValue}, specs.Shapes.{size, IsWithinLimits, is_index_of}, proofs.Shapes.{as_long, head_at}}
 use Rattle.arrays_core.proofs.NextIndex.{drop_inside}
-use Rattle.index_region.specs.Checks.{form_of, check, Form, limited}
-use Rattle.index_region.specs.Arguments.{numbers, number_of, is_scalar}
-use Rattle.structural_fns.specs.Reshape.{magnitudes}
-use Rattle.structural_fns.specs.Take.{taken_place, taken_places}
-use Rattle.structural_fns.specs.Drop.{dropped_shape, kept_place, kept_places}
+use Rattle.index_region.{specs.Checks.{form_of, check, Form, limited}, specs.Arguments.{numbers, number_of, is_scalar}}
+use Rattle.structural_fns.{specs.Reshape.{magnitudes}, specs.Take.{taken_place, taken_places}, specs.Drop.{dropped_shape, kept_place, kept_places}}
 use Rattle.structural_fns.specs.AxisCounts.{counted_shape}
 
 pub numbers_long : (a : ArrayValue) → length (numbers a) ≡ length a.items

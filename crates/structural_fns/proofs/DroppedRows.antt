@@ -1,21 +1,12 @@
 -- The rows of what is left of an array.
 use Rattle.std.proofs.Common.{◌≡◌, ℕ, suc, ◌+◌, ◌-◌, ◌<◌, ◌≤◌, ℤ, pos, negsuc, nat_eq, true, List, [], ◌∷◌, ◌++◌, length, get_or, Ok, refl, ap, sym, ◌∙◌, arith}
 use Rattle.std.proofs.lemmas.Bool.{eqb-true}
-use Rattle.arrays_core.specs.declared.item.ItemType.{ItemType}
-use Rattle.arrays_core.specs.Items.{fill}
-use Rattle.arrays_core.specs.Arrays.{ArrayValue, IsArray}
-use Rattle.arrays_core.specs.Shapes.{is_index_of, places_before}
-use Rattle.arrays_core.specs.Building.{IsRowOf}
-use Rattle.arrays_core.proofs.Shapes.{places_below}
-use Rattle.arrays_core.proofs.Rows.{row_end, places_in_row}
-use Rattle.index_region.specs.Answers.{IsRowIn}
-use Rattle.index_region.specs.Arguments.{numbers, is_list, counts_as_numbers}
-use Rattle.index_region.proofs.Passing.{row_passed, row_inside}
+use Rattle.arrays_core.{specs.declared.item.ItemType.{ItemType}, specs.Items.{fill}, specs.Arrays.{ArrayValue, IsArray}}
+use Rattle.arrays_core.{specs.Shapes.{is_index_of, places_before}, specs.Building.{IsRowOf}, proofs.Shapes.{places_below}, proofs.Rows.{row_end, places_in_row}}
+use Rattle.index_region.{specs.Answers.{IsRowIn}, specs.Arguments.{numbers, is_list, counts_as_numbers}, proofs.Passing.{row_passed, row_inside}}
 use Rattle.index_region.proofs.Placed.{right_placed}
-use Rattle.structural_fns.specs.AxisCounts.{counted_shape, uncounted}
-use Rattle.structural_fns.specs.Drop.{drop_form, drop_item, dropped_shape, kept_place, kept_places}
-use Rattle.structural_fns.proofs.Counting.{numbers_long, dropped_long}
-use Rattle.structural_fns.proofs.SourcePlaces.{kept_inside, uncounted_inside}
+use Rattle.structural_fns.{specs.AxisCounts.{counted_shape, uncounted}, specs.Drop.{drop_form, drop_item, dropped_shape, kept_place, kept_places}}
+use Rattle.structural_fns.{proofs.Counting.{numbers_long, dropped_long}, proofs.SourcePlaces.{kept_inside, uncounted_inside}}
 use Rattle.structural_fns.proofs.TakenRows.{uncounted_place}
 
 -- what is known of a row of what is left

@@ -1,11 +1,7 @@
 -- The entries of a dyadic transpose.
-use Rattle.std.proofs.Common.{◌≡◌, ℕ, suc, ◌+◌, ◌-◌, ◌<◌, nat_eq, List, ◌∷◌, length, refl, arith}
-use Rattle.std.specs.List.{range_with_len}
-use Rattle.std.proofs.lemmas.Bool.{eqb-true}
+use Rattle.std.{proofs.Common.{◌≡◌, ℕ, suc, ◌+◌, ◌-◌, ◌<◌, nat_eq, List, ◌∷◌, length, refl, arith}, specs.List.{range_with_len}, proofs.lemmas.Bool.{eqb-true}}
 use Rattle.arrays_core.specs.Arrays.{ArrayValue}
-use Rattle.index_region.specs.Arguments.{is_list}
-use Rattle.index_region.specs.Answers.{IsPlaceOf}
-use Rattle.index_region.proofs.Passing.{passed}
+use Rattle.index_region.{specs.Arguments.{is_list}, specs.Answers.{IsPlaceOf}, proofs.Passing.{passed}}
 use Rattle.structural_fns.specs.DyadicTranspose.{transpose_by_form}
 
 -- the next of some numbers in a row

@@ -1,6 +1,5 @@
 -- An interval of a box that lies in a shape.
-use Rattle.std.proofs.Common.{◌≡◌, ℕ, zero, suc, ◌≤◌, ◌<◌, List, [], ◌∷◌, length, get_or, arith, true}
-use Rattle.std.proofs.lemmas.Bool.{and_parts, leb-true, false≢true}
+use Rattle.std.{proofs.Common.{◌≡◌, ℕ, zero, suc, ◌≤◌, ◌<◌, List, [], ◌∷◌, length, get_or, arith, true}, proofs.lemmas.Bool.{and_parts, leb-true, false≢true}}
 use Rattle.index_region.specs.Boxes.{Interval, fits}
 
 -- it begins at 1 or later, has a place, and ends on the axis

@@ -1,29 +1,16 @@
 -- The rows of a catenation.
 use Rattle.std.proofs.Common.{◌≡◌, ℕ, ◌+◌, ◌-◌, ◌*◌, ◌<◌, ◌≤◌, min, nat_eq, nat_le, Bool, true, false, cond, if◌then◌else◌, List, [], ◌∷◌, ◌++◌, length, get_or, set, insert, remove, Some, None, Result, Ok, refl, ap, sym, subst, ◌∙◌, ◌⊎◌, inl, inr, arith}
-use Rattle.std.specs.Prelude.{unwrap_or, not, ◌&&◌}
-use Rattle.std.proofs.lemmas.Bool.{eqb-true, eqb-false, le-leb, leb-true}
+use Rattle.std.{specs.Prelude.{unwrap_or, not, ◌&&◌}, proofs.lemmas.Bool.{eqb-true, eqb-false, le-leb, leb-true}}
 use Rattle.std.proofs.lemmas.List.{set-append_left, get_or_append_left, append-nil}
-use Rattle.std.proofs.lemmas.List.Edits.{remove-append_left, remove-append_right, length-insert, get_or-insert_at}
-use Rattle.std.proofs.Math.Seq.{set-append_seam}
-use Rattle.arrays_core.specs.declared.item.Item.{Item}
-use Rattle.arrays_core.specs.declared.item.ItemType.{ItemType}
-use Rattle.arrays_core.specs.declared.item.Kind.{Kind}
-use Rattle.arrays_core.specs.Items.{fill}
-use Rattle.arrays_core.specs.Arrays.{ArrayValue, IsArray, item_of}
-use Rattle.arrays_core.specs.Building.{listed, with_row}
-use Rattle.arrays_core.specs.Shapes.{is_index_of, places_before}
-use Rattle.arrays_core.proofs.Shapes.{places_below}
-use Rattle.arrays_core.proofs.Rows.{places_in_row, with_row_none, with_row_more}
-use Rattle.function_names.specs.declared.along.Along.{Along}
-use Rattle.index_region.specs.Answers.{IsRowIn}
-use Rattle.index_region.specs.Arguments.{is_scalar, has_items}
-use Rattle.function_names.specs.Axes.{is_axis, axis_at}
-use Rattle.index_region.specs.Sources.{Place, item_from}
+use Rattle.std.{proofs.lemmas.List.Edits.{remove-append_left, remove-append_right, length-insert, get_or-insert_at}, proofs.Math.Seq.{set-append_seam}}
+use Rattle.arrays_core.{specs.declared.item.Item.{Item}, specs.declared.item.ItemType.{ItemType}, specs.declared.item.Kind.{Kind}, specs.Items.{fill}}
+use Rattle.arrays_core.{specs.Arrays.{ArrayValue, IsArray, item_of}, specs.Building.{listed, with_row}, specs.Shapes.{is_index_of, places_before}}
+use Rattle.arrays_core.{proofs.Shapes.{places_below}, proofs.Rows.{places_in_row, with_row_none, with_row_more}}
+use Rattle.function_names.{specs.declared.along.Along.{Along}, specs.Axes.{is_axis, axis_at}}
+use Rattle.index_region.{specs.Answers.{IsRowIn}, specs.Arguments.{is_scalar, has_items}, specs.Sources.{Place, item_from}}
 use Rattle.index_region.proofs.Passing.{RowInside, row_passed, row_inside, place_of_row}
 use Rattle.structural_fns.specs.Catenate.{joined_rank, joined_places, other_axes, ranks_join, axes_agree, types_join, joined_type, joined_shape, in_side, in_side_of_row, catenate_form, catenate_item}
-use Rattle.structural_fns.specs.Laws.SharedAxes.{shared_long}
-use Rattle.structural_fns.proofs.Sides.{right_typed}
-use Rattle.structural_fns.proofs.SidePlaces.{JoinFacts, join_facts}
+use Rattle.structural_fns.{specs.Laws.SharedAxes.{shared_long}, proofs.Sides.{right_typed}, proofs.SidePlaces.{JoinFacts, join_facts}}
 use Rattle.structural_fns.proofs.SteppedRows.{listed_same, step_of_two, at_end}
 
 -- all places of a row come from one place of a side, or from places one after another

@@ -1,27 +1,16 @@
 -- Catenate along the first axis, where the items of each side are a run of the result's.
 use Rattle.std.proofs.Common.{◌≡◌, ℕ, zero, suc, ◌+◌, ◌-◌, ◌*◌, ◌/◌, ◌%◌, ◌<◌, ◌≤◌, Bool, true, false, ◌||◌, if◌then◌else◌, nat_eq, List, [], ◌∷◌, ◌++◌, length, get_or, Ok, refl, sym, ap, subst, ◌∙◌, inl, inr, arith}
-use Rattle.std.specs.Prelude.{bytes_eq}
-use Rattle.std.proofs.lemmas.Bool.{le-leb, lt-leb, cases_lt}
-use Rattle.std.proofs.lemmas.Bool.Decides.{nat_tests}
-use Rattle.std.proofs.lemmas.Slice.Eq.{bytes_eq-Decides}
-use Rattle.std.proofs.lemmas.Nat.{div_below}
+use Rattle.std.{specs.Prelude.{bytes_eq}, proofs.lemmas.Bool.{le-leb, lt-leb, cases_lt}, proofs.lemmas.Bool.Decides.{nat_tests}}
+use Rattle.std.{proofs.lemmas.Slice.Eq.{bytes_eq-Decides}, proofs.lemmas.Nat.{div_below}}
 use Rattle.std.proofs.Math.Nat.{mul-add-div_right, mul-add-mod_self_right, mod-eq_of_lt}
 use Rattle.std.proofs.lemmas.List.{get_or_append_left, get_or-append_right, get_or_default, length-append}
-use Rattle.arrays_core.specs.declared.item.Item.{Item}
-use Rattle.arrays_core.specs.declared.item.ItemType.{ItemType}
-use Rattle.arrays_core.specs.declared.item.Kind.TheVariants.{Axis as AxisKind, Rank, Length, Domain}
-use Rattle.arrays_core.specs.Items.{fill, and_then}
-use Rattle.arrays_core.specs.Shapes.{size, index_after}
-use Rattle.arrays_core.specs.Arrays.{ArrayValue, IsArray, collect, with_items}
-use Rattle.arrays_core.proofs.Order.{given_in_order}
-use Rattle.function_names.specs.declared.along.Along.{Along}
-use Rattle.index_region.specs.Arguments.{is_scalar}
-use Rattle.function_names.specs.Axes.{is_axis, axis_at}
-use Rattle.index_region.specs.Checks.{form_of}
+use Rattle.arrays_core.{specs.declared.item.Item.{Item}, specs.declared.item.ItemType.{ItemType}}
+use Rattle.arrays_core.{specs.declared.item.Kind.TheVariants.{Axis as AxisKind, Rank, Length, Domain}, specs.Items.{fill, and_then}}
+use Rattle.arrays_core.{specs.Shapes.{size, index_after}, specs.Arrays.{ArrayValue, IsArray, collect, with_items}, proofs.Order.{given_in_order}}
+use Rattle.function_names.{specs.declared.along.Along.{Along}, specs.Axes.{is_axis, axis_at}}
+use Rattle.index_region.{specs.Arguments.{is_scalar}, specs.Checks.{form_of}, proofs.Passing.{gives}}
 use Rattle.structural_fns.specs.Catenate.{joined_rank, joined_places, other_axes, ranks_join, axes_agree, joined_type, joined_shape, types_join, in_side, catenate_item, catenate_form, catenate_whole}
-use Rattle.index_region.proofs.Passing.{gives}
-use Rattle.structural_fns.proofs.Runs.{item_after, limited_is, positive}
-use Rattle.structural_fns.specs.Laws.SharedAxes.{shared_long}
+use Rattle.structural_fns.{proofs.Runs.{item_after, limited_is, positive}, specs.Laws.SharedAxes.{shared_long}}
 
 -- ---- a side whose items are taken once, in row-major order, beside the other axes of the result
 

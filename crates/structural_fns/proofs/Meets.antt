@@ -1,10 +1,8 @@
 -- Intervals that go to one axis, met one by one.
-use Rattle.std.proofs.Common.{◌≡◌, ℕ, zero, suc, ◌-◌, ◌<◌, List, [], ◌∷◌, length, drop, get_or, unsigned_abs, arith, ◌∙◌}
-use Rattle.std.proofs.lemmas.List.{length-map}
+use Rattle.std.{proofs.Common.{◌≡◌, ℕ, zero, suc, ◌-◌, ◌<◌, List, [], ◌∷◌, length, drop, get_or, unsigned_abs, arith, ◌∙◌}, proofs.lemmas.List.{length-map}}
 use Rattle.std.proofs.lemmas.Bool.{cond-false, false_from_ne_true, eqb-true}
 use Rattle.arrays_core.specs.Arrays.{ArrayValue}
-use Rattle.index_region.specs.Arguments.{number_of, numbers}
-use Rattle.index_region.specs.Boxes.{Interval}
+use Rattle.index_region.{specs.Arguments.{number_of, numbers}, specs.Boxes.{Interval}}
 use Rattle.change_core.specs.Ways.{meet_at}
 use Rattle.structural_fns.specs.DyadicTranspose.{axes_to, axes_from_zero}
 

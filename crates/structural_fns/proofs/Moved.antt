@@ -1,11 +1,9 @@
 -- Intervals that take and drop move, one axis after another.
 use Rattle.std.proofs.Common.{◌≡◌, ◌+◌, ◌<◌, ◌≤◌, ℕ, zero, suc, ℤ, pos, List, [], ◌∷◌, length, get_or, drop, refl, true, ◌&&◌, nat_le, arith}
-use Rattle.std.proofs.lemmas.Bool.{and_parts, leb-true, false≢true}
-use Rattle.std.proofs.lemmas.List.{drop_more}
+use Rattle.std.{proofs.lemmas.Bool.{and_parts, leb-true, false≢true}, proofs.lemmas.List.{drop_more}}
 use Rattle.index_region.specs.Boxes.{Interval, fits}
 use Rattle.change_core.specs.Ways.{images}
-use Rattle.structural_fns.specs.Take.{taken, taken_axes}
-use Rattle.structural_fns.specs.Drop.{kept, kept_axes}
+use Rattle.structural_fns.{specs.Take.{taken, taken_axes}, specs.Drop.{kept, kept_axes}}
 
 pub taken_more : (shape : List ℕ) (counts : List ℤ) (region : List Interval) (k : ℕ) → k < length shape → k < length counts → k < length region
     → images (taken_axes (drop k shape) (drop k counts)) (drop k region)

@@ -1,17 +1,11 @@
 -- Worked cases of the boxes of ravel, reshape, take, drop and catenate, computed.
 use Rattle.std.proofs.Common.{◌≡◌, refl, ℕ, pos, negsuc, List, [], ◌∷◌, Some, None}
-use Rattle.arrays_core.specs.Arrays.{ArrayValue}
-use Rattle.arrays_core.proofs.CaseWords.{nums, ints, chars, scalar, no_text}
+use Rattle.arrays_core.{specs.Arrays.{ArrayValue}, proofs.CaseWords.{nums, ints, chars, scalar, no_text}}
 use Rattle.function_names.specs.declared.along.Along.TheVariants.{First, Last, Axis}
 use Rattle.index_region.specs.Boxes.{Interval}
-use Rattle.change_core.specs.declared.reach.Reach.{Reach}
-use Rattle.change_core.specs.declared.reach.Reach.TheVariants.{Unmoved, Inside, Anew}
-use Rattle.change_core.specs.RuleModels.{RuleModel}
+use Rattle.change_core.{specs.declared.reach.Reach.{Reach}, specs.declared.reach.Reach.TheVariants.{Unmoved, Inside, Anew}, specs.RuleModels.{RuleModel}}
 use Rattle.change_core.specs.Reaches.{reach_of}
-use Rattle.structural_fns.specs.Ravel.{ravel_rule}
-use Rattle.structural_fns.specs.Reshape.{reshape_rule}
-use Rattle.structural_fns.specs.Take.{take_rule}
-use Rattle.structural_fns.specs.Drop.{drop_rule}
+use Rattle.structural_fns.{specs.Ravel.{ravel_rule}, specs.Reshape.{reshape_rule}, specs.Take.{take_rule}, specs.Drop.{drop_rule}}
 use Rattle.structural_fns.specs.Catenate.{catenate_rule}
 
 -- what may change of f B where a box of B changed

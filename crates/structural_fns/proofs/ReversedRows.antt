@@ -1,22 +1,12 @@
 -- The rows of an array whose places along an axis stand the other way round.
 use Rattle.std.proofs.Common.{◌≡◌, ℕ, suc, ◌+◌, ◌-◌, ◌<◌, ◌≤◌, true, List, [], ◌∷◌, ◌++◌, length, get_or, set, Ok, ap, sym, ◌∙◌, arith}
 use Rattle.std.proofs.lemmas.List.{get_or_default}
-use Rattle.arrays_core.specs.declared.item.ItemType.{ItemType}
-use Rattle.arrays_core.specs.Items.{fill}
-use Rattle.arrays_core.specs.Arrays.{ArrayValue, IsArray}
-use Rattle.arrays_core.specs.Shapes.{is_index_of, places_before}
-use Rattle.arrays_core.specs.Building.{IsRowOf}
-use Rattle.arrays_core.proofs.Shapes.{places_below}
-use Rattle.arrays_core.proofs.Rows.{places_in_row}
-use Rattle.index_region.specs.Answers.{IsRowIn}
-use Rattle.function_names.specs.Axes.{is_axis, axis_at}
-use Rattle.index_region.specs.Axes.{places_along}
-use Rattle.function_names.specs.declared.along.Along.{Along}
-use Rattle.index_region.proofs.Passing.{row_passed, row_inside}
-use Rattle.index_region.proofs.Placed.{left_placed}
-use Rattle.structural_fns.specs.Reverse.{reverse_form, reverse_item}
-use Rattle.structural_fns.proofs.SourcePlaces.{reversed_inside}
+use Rattle.arrays_core.{specs.declared.item.ItemType.{ItemType}, specs.Items.{fill}, specs.Arrays.{ArrayValue, IsArray}}
+use Rattle.arrays_core.{specs.Shapes.{is_index_of, places_before}, specs.Building.{IsRowOf}, proofs.Shapes.{places_below}, proofs.Rows.{places_in_row}}
+use Rattle.index_region.{specs.Answers.{IsRowIn}, specs.Axes.{places_along}, proofs.Passing.{row_passed, row_inside}, proofs.Placed.{left_placed}}
 use Rattle.index_region.proofs.RowIndices.{set_before, get_before, set_last, get_last, axis_below}
+use Rattle.function_names.{specs.Axes.{is_axis, axis_at}, specs.declared.along.Along.{Along}}
+use Rattle.structural_fns.{specs.Reverse.{reverse_form, reverse_item}, proofs.SourcePlaces.{reversed_inside}}
 
 module _ (along : Along) (b : ArrayValue) (row : List ℕ) (count : ℕ) (item_type : ItemType) (is : IsRowIn (reverse_form along b) row count item_type) where
   abbrev pub axis : ℕ

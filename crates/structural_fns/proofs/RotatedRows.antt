@@ -1,27 +1,15 @@
 -- The rows of an array whose places are moved along an axis.
 use Rattle.std.proofs.Common.{◌≡◌, ℕ, zero, suc, pos, negsuc, ◌+◌, ◌-◌, ◌*◌, ◌/◌, ◌%◌, ◌<◌, ◌≤◌, ◌⊎◌, inl, inr, ℤ, ◌+ℤ◌, ◌-ℤ◌, unsigned_abs, nat_eq, ◌||◌, bytes_eq, if◌then◌else◌, true, List, [], ◌∷◌, ◌++◌, length, get_or, set, remove, Ok, ap, sym, subst, ◌∙◌, arith}
-use Rattle.std.specs.Int.{int_rem_euclid}
-use Rattle.std.proofs.lemmas.Bool.{cases_lt, eq-eqb}
-use Rattle.std.proofs.lemmas.Int.{ints}
-use Rattle.std.proofs.lemmas.List.{get_or_default}
+use Rattle.std.{specs.Int.{int_rem_euclid}, proofs.lemmas.Bool.{cases_lt, eq-eqb}, proofs.lemmas.Int.{ints}, proofs.lemmas.List.{get_or_default}}
 use Rattle.std.proofs.lemmas.Nat.{mod_below, mod-mul-add, div-add-mod'}
-use Rattle.arrays_core.specs.declared.item.ItemType.{ItemType}
-use Rattle.arrays_core.specs.Items.{fill}
-use Rattle.arrays_core.specs.Arrays.{ArrayValue, IsArray}
-use Rattle.arrays_core.specs.Shapes.{size, is_index_of, places_before}
-use Rattle.arrays_core.proofs.Shapes.{places_below}
-use Rattle.arrays_core.proofs.Rows.{places_in_row}
+use Rattle.arrays_core.{specs.declared.item.ItemType.{ItemType}, specs.Items.{fill}, specs.Arrays.{ArrayValue, IsArray}}
+use Rattle.arrays_core.{specs.Shapes.{size, is_index_of, places_before}, proofs.Shapes.{places_below}, proofs.Rows.{places_in_row}}
 use Rattle.scalar_fns.specs.ScalarExtension.{extended}
-use Rattle.function_names.specs.declared.along.Along.{Along}
-use Rattle.index_region.specs.Answers.{IsRowIn}
-use Rattle.index_region.specs.Arguments.{has_one_item, counts_as_numbers, number_of}
-use Rattle.function_names.specs.Axes.{is_axis, axis_at}
-use Rattle.index_region.specs.Axes.{places_along}
-use Rattle.index_region.proofs.Passing.{RowInside, row_passed, row_inside}
-use Rattle.index_region.proofs.Placed.{right_placed}
-use Rattle.structural_fns.specs.Rotate.{rotate_form, rotate_item, rotated_place, rotation}
+use Rattle.function_names.{specs.declared.along.Along.{Along}, specs.Axes.{is_axis, axis_at}}
+use Rattle.index_region.{specs.Answers.{IsRowIn}, specs.Arguments.{has_one_item, counts_as_numbers, number_of}, specs.Axes.{places_along}}
+use Rattle.index_region.{proofs.Passing.{RowInside, row_passed, row_inside}, proofs.Placed.{right_placed}}
 use Rattle.index_region.proofs.RowIndices.{set_before, get_before, set_last, get_last, remove_last, axis_below}
-use Rattle.structural_fns.proofs.SourcePlaces.{rotated_inside}
+use Rattle.structural_fns.{specs.Rotate.{rotate_form, rotate_item, rotated_place, rotation}, proofs.SourcePlaces.{rotated_inside}}
 use Rattle.structural_fns.proofs.Turning.{residue_euclid}
 
 -- ---- the place after a place, counted round the end of an axis

@@ -1,30 +1,17 @@
 -- Results whose items are a run of those of an argument.
 use Rattle.std.proofs.Common.{◌≡◌, ℕ, ◌+◌, ◌-◌, ◌/◌, ◌%◌, ◌<◌, ◌≤◌, List, [], ◌∷◌, ◌++◌, take, drop, length, get_or, Some, Result, Ok, Bool, true, false, cond, refl, sym, ap, subst, ◌∙◌, arith}
-use Rattle.std.specs.Prelude.{unwrap_or, not, nat_eq, ◌&&◌}
-use Rattle.std.proofs.lemmas.Bool.{eqb-true, eqb-false}
-use Rattle.std.proofs.lemmas.Bool.Decides.{nat_tests}
-use Rattle.std.proofs.lemmas.Nat.{mod_below}
-use Rattle.std.proofs.lemmas.List.FromFn.{fill_by_all, length-map-range_with_len, get_or-map-range_with_len}
-use Rattle.std.proofs.Math.ListN.{get_or-eq_default}
-use Rattle.std.proofs.Math.Nat.{div-one, mod-eq_of_lt}
+use Rattle.std.{specs.Prelude.{unwrap_or, not, nat_eq, ◌&&◌}, proofs.lemmas.Bool.{eqb-true, eqb-false}, proofs.lemmas.Bool.Decides.{nat_tests}}
+use Rattle.std.{proofs.lemmas.Nat.{mod_below}, proofs.lemmas.List.FromFn.{fill_by_all, length-map-range_with_len, get_or-map-range_with_len}}
+use Rattle.std.{proofs.Math.ListN.{get_or-eq_default}, proofs.Math.Nat.{div-one, mod-eq_of_lt}}
 use Rattle.std.proofs.lemmas.List.{length-take-le, length-drop, get_or-take, get_or-drop}
-use Rattle.arrays_core.specs.declared.item.Item.{Item}
-use Rattle.arrays_core.specs.declared.item.ItemType.{ItemType}
-use Rattle.arrays_core.specs.declared.item.Kind.{Kind}
-use Rattle.arrays_core.specs.declared.item.Kind.TheVariants.{Rank, Domain}
-use Rattle.arrays_core.specs.Items.{fill, and_then}
-use Rattle.arrays_core.specs.Building.{listed}
-use Rattle.arrays_core.specs.Shapes.{size, index_after, places_before}
-use Rattle.arrays_core.specs.Arrays.{ArrayValue, item_if_there, collect, with_items}
-use Rattle.index_region.specs.Checks.{form_of, Form, limited}
-use Rattle.index_region.specs.Arguments.{is_list, counts_as_numbers, none_negative, numbers}
-use Rattle.index_region.specs.ArgumentLists.{of_one_argument, of_two_arguments}
-use Rattle.index_region.specs.Sources.{Place, Fill, item_from}
-use Rattle.structural_fns.specs.Reshape.{magnitudes, again_under, reshape_form, reshape_item, reshape_whole}
-use Rattle.structural_fns.specs.Ravel.{ravel_item, ravel_whole}
-use Rattle.structural_fns.proofs.SteppedRows.{listed_same}
-use Rattle.index_region.proofs.Passing.{gives, limited_gives}
+use Rattle.arrays_core.{specs.declared.item.Item.{Item}, specs.declared.item.ItemType.{ItemType}, specs.declared.item.Kind.{Kind}}
+use Rattle.arrays_core.{specs.declared.item.Kind.TheVariants.{Rank, Domain}, specs.Items.{fill, and_then}, specs.Building.{listed}}
+use Rattle.arrays_core.{specs.Shapes.{size, index_after, places_before}, specs.Arrays.{ArrayValue, item_if_there, collect, with_items}}
 use Rattle.arrays_core.proofs.Order.{given_in_order, index_after-within, places_before-index_after}
+use Rattle.index_region.{specs.Checks.{form_of, Form, limited}, specs.Arguments.{is_list, counts_as_numbers, none_negative, numbers}}
+use Rattle.index_region.{specs.ArgumentLists.{of_one_argument, of_two_arguments}, specs.Sources.{Place, Fill, item_from}, proofs.Passing.{gives, limited_gives}}
+use Rattle.structural_fns.{specs.Reshape.{magnitudes, again_under, reshape_form, reshape_item, reshape_whole}, specs.Ravel.{ravel_item, ravel_whole}}
+use Rattle.structural_fns.proofs.SteppedRows.{listed_same}
 
 -- the item at the index list that has k before it
 pub item_after : (b : ArrayValue) (k : ℕ) → k < size b.shape → item_if_there b (index_after b.shape k) ≡ Some (get_or b.items k (fill b.item_type))

@@ -1,15 +1,9 @@
 -- The place in a side that an item of a catenation comes from lies in that side.
 use Rattle.std.proofs.Common.{◌≡◌, ℕ, zero, suc, ◌+◌, ◌<◌, ◌≤◌, Bool, true, false, ◌||◌, if◌then◌else◌, nat_eq, List, [], ◌∷◌, length, get_or, set, insert, remove, bytes_eq, refl, ap, sym, subst, ◌∙◌, arith}
-use Rattle.std.proofs.lemmas.Bool.{and_parts, and_from, eqb-true, false≢true}
-use Rattle.std.proofs.lemmas.Slice.Eq.{bytes_eq-Decides}
-use Rattle.arrays_core.specs.Arrays.{ArrayValue}
-use Rattle.arrays_core.specs.Shapes.{is_index_of}
-use Rattle.arrays_core.proofs.Shapes.{head_of}
-use Rattle.function_names.specs.declared.along.Along.{Along}
-use Rattle.index_region.specs.Arguments.{is_scalar}
-use Rattle.function_names.specs.Axes.{is_axis, axis_at}
-use Rattle.index_region.specs.Answers.{IsPlaceOf}
-use Rattle.index_region.proofs.Passing.{passed, place_inside}
+use Rattle.std.{proofs.lemmas.Bool.{and_parts, and_from, eqb-true, false≢true}, proofs.lemmas.Slice.Eq.{bytes_eq-Decides}}
+use Rattle.arrays_core.{specs.Arrays.{ArrayValue}, specs.Shapes.{is_index_of}, proofs.Shapes.{head_of}}
+use Rattle.function_names.{specs.declared.along.Along.{Along}, specs.Axes.{is_axis, axis_at}}
+use Rattle.index_region.{specs.Arguments.{is_scalar}, specs.Answers.{IsPlaceOf}, proofs.Passing.{passed, place_inside}}
 use Rattle.index_region.proofs.OnAxes.{OnAxis, scalar_inside, one_more_inside}
 use Rattle.structural_fns.specs.Catenate.{joined_rank, joined_places, other_axes, ranks_join, axes_agree, types_join, joined_type, joined_shape, in_side, catenate_form}
 use Rattle.structural_fns.specs.Laws.SharedAxes.{shared_long}

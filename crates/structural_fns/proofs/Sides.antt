@@ -1,19 +1,11 @@
 -- The two sides of a catenation.
 use Rattle.std.proofs.Common.{◌≡◌, ℕ, ◌+◌, ◌<◌, Bool, true, false, not, ◌&&◌, ◌||◌, if◌then◌else◌, List, length, refl, ◌∙◌, arith}
-use Rattle.std.proofs.lemmas.Bool.{false≢true}
-use Rattle.std.proofs.lemmas.List.Edits.{length-insert}
-use Rattle.arrays_core.specs.declared.item.Item.{Item}
-use Rattle.arrays_core.specs.declared.item.ItemType.{ItemType}
-use Rattle.arrays_core.specs.declared.item.ItemType.TheVariants.{Nums, Chars}
-use Rattle.arrays_core.specs.declared.item.Kind.TheVariants.{Axis as AxisKind, Rank, Length, Domain}
-use Rattle.arrays_core.specs.Items.{type_of}
-use Rattle.arrays_core.specs.Arrays.{ArrayValue}
+use Rattle.std.{proofs.lemmas.Bool.{false≢true}, proofs.lemmas.List.Edits.{length-insert}}
+use Rattle.arrays_core.{specs.declared.item.Item.{Item}, specs.declared.item.ItemType.{ItemType}, specs.declared.item.ItemType.TheVariants.{Nums, Chars}}
+use Rattle.arrays_core.{specs.declared.item.Kind.TheVariants.{Axis as AxisKind, Rank, Length, Domain}, specs.Items.{type_of}, specs.Arrays.{ArrayValue}}
 use Rattle.arrays_core.proofs.Shapes.{as_long}
-use Rattle.function_names.specs.declared.along.Along.{Along}
-use Rattle.index_region.specs.Checks.{check, limited}
-use Rattle.index_region.specs.Arguments.{is_scalar, has_items, is_same_type}
-use Rattle.function_names.specs.Axes.{is_axis, axis_at}
-use Rattle.index_region.specs.Answers.{IsPlaceOf, HasTypeOf}
+use Rattle.function_names.{specs.declared.along.Along.{Along}, specs.Axes.{is_axis, axis_at}}
+use Rattle.index_region.{specs.Checks.{check, limited}, specs.Arguments.{is_scalar, has_items, is_same_type}, specs.Answers.{IsPlaceOf, HasTypeOf}}
 use Rattle.index_region.proofs.Passing.{passed, place_inside, typed_check, typed_limited}
 use Rattle.structural_fns.specs.Catenate.{joined_rank, joined_places, other_axes, ranks_join, axes_agree, types_join, joined_type, joined_shape, catenate_form}
 use Rattle.structural_fns.specs.Laws.SharedAxes.{shared_long}

@@ -1,30 +1,17 @@
 -- The place that a source names lies in its argument.
 use Rattle.std.proofs.Common.{◌≡◌, ℕ, zero, suc, ◌≤◌, map, zip, ◌+◌, ◌-◌, ◌<◌, ◌%◌, nat_eq, ◌&&◌, ℤ, pos, negsuc, ◌+ℤ◌, ◌-ℤ◌, unsigned_abs, Bool, true, false, if◌then◌else◌, List, [], ◌∷◌, length, get_or, replicate, set, reverse, refl, subst, arith}
-use Rattle.std.specs.Int.{int_rem_euclid}
-use Rattle.std.specs.List.{filter}
-use Rattle.std.proofs.lemmas.Bool.{and_parts, leb-true, eqb-true, eq-eqb, false≢true}
+use Rattle.std.{specs.Int.{int_rem_euclid}, specs.List.{filter}, proofs.lemmas.Bool.{and_parts, leb-true, eqb-true, eq-eqb, false≢true}}
 use Rattle.std.proofs.lemmas.List.{length-map, get_or-map, length-reverse, get_or-reverse}
-use Rattle.std.proofs.lemmas.List.FromFn.{get_or-map-range_with_len, length-map-range_with_len}
-use Rattle.std.proofs.lemmas.Grind.{get_or_default_zero}
+use Rattle.std.{proofs.lemmas.List.FromFn.{get_or-map-range_with_len, length-map-range_with_len}, proofs.lemmas.Grind.{get_or_default_zero}}
 use Rattle.std.proofs.lemmas.Nat.{mod_below}
-use Rattle.arrays_core.specs.Arrays.{ArrayValue}
-use Rattle.arrays_core.specs.Shapes.{size, is_index_of, index_after}
-use Rattle.arrays_core.proofs.Order.{index_after-within}
+use Rattle.arrays_core.{specs.Arrays.{ArrayValue}, specs.Shapes.{size, is_index_of, index_after}, proofs.Order.{index_after-within}}
 use Rattle.arrays_core.proofs.Shapes.{as_long, head_of}
-use Rattle.index_region.specs.Axes.{places_along}
-use Rattle.index_region.specs.Arguments.{is_scalar, is_list, counts_as_numbers, numbers}
-use Rattle.index_region.specs.Answers.{IsPlaceOf}
-use Rattle.index_region.proofs.Passing.{passed, place_inside}
-use Rattle.index_region.proofs.OnAxes.{OnAxis, scalar_inside, one_more_inside, on_axis, inside_by_axes, set_inside}
-use Rattle.structural_fns.specs.Ravel.{ravel_form}
-use Rattle.structural_fns.specs.Transpose.{transpose_form}
-use Rattle.structural_fns.specs.Rotate.{rotated_place}
-use Rattle.structural_fns.specs.AxisCounts.{counted_shape, uncounted}
-use Rattle.structural_fns.specs.Drop.{dropped_shape, kept_places}
+use Rattle.index_region.{specs.Axes.{places_along}, specs.Arguments.{is_scalar, is_list, counts_as_numbers, numbers}, specs.Answers.{IsPlaceOf}}
+use Rattle.index_region.{proofs.Passing.{passed, place_inside}, proofs.OnAxes.{OnAxis, scalar_inside, one_more_inside, on_axis, inside_by_axes, set_inside}}
+use Rattle.structural_fns.{specs.Ravel.{ravel_form}, specs.Transpose.{transpose_form}, specs.Rotate.{rotated_place}}
+use Rattle.structural_fns.{specs.AxisCounts.{counted_shape, uncounted}, specs.Drop.{dropped_shape, kept_places}}
 use Rattle.structural_fns.specs.DyadicTranspose.{axes_to, greatest_of, least_of, all_positive, are_axes, lengths_at, transposed_shape, gathered, transpose_by_form}
-use Rattle.structural_fns.proofs.Turning.{residue_euclid}
-use Rattle.structural_fns.proofs.Counting.{numbers_long, magnitudes_long, magnitude_at}
-use Rattle.structural_fns.proofs.Entries.{entries_long}
+use Rattle.structural_fns.{proofs.Turning.{residue_euclid}, proofs.Counting.{numbers_long, magnitudes_long, magnitude_at}, proofs.Entries.{entries_long}}
 
 pub ravel_inside : (b : ArrayValue) (index : List ℕ) → IsPlaceOf (ravel_form b) index
     → is_index_of b.shape (index_after b.shape (get_or index 0 0 - 1)) ≡ true

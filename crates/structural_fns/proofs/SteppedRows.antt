@@ -1,24 +1,12 @@
 -- Rows of a result whose items are evenly spaced in an argument.
 use Rattle.std.proofs.Common.{◌≡◌, ℕ, zero, suc, ◌+◌, ◌-◌, ◌*◌, ◌<◌, ◌≤◌, true, cond, List, [], ◌∷◌, ◌++◌, length, get_or, drop, reverse, Some, None, Result, Ok, refl, ap, ◌∙◌, arith, min, nat_eq, Bool, false, map, Err}
-use Rattle.std.specs.Prelude.{unwrap_or}
-use Rattle.std.specs.List.{range_with_len}
-use Rattle.std.proofs.lemmas.Bool.{false≢true, eqb-true, eqb-false}
+use Rattle.std.{specs.Prelude.{unwrap_or}, specs.List.{range_with_len}, proofs.lemmas.Bool.{false≢true, eqb-true, eqb-false}}
 use Rattle.std.proofs.lemmas.List.{length-reverse, reverse-append}
-use Rattle.arrays_core.specs.declared.item.Item.{Item}
-use Rattle.arrays_core.specs.declared.item.ItemType.{ItemType}
-use Rattle.arrays_core.specs.declared.item.Kind.{Kind}
-use Rattle.arrays_core.specs.Items.{fill}
-use Rattle.arrays_core.specs.Arrays.{ArrayValue, IsArray}
-use Rattle.arrays_core.specs.Building.{listed, with_row}
-use Rattle.arrays_core.specs.Shapes.{size, is_index_of, places_before, IsWithinLimits}
-use Rattle.arrays_core.proofs.Shapes.{places_below, head_of}
-use Rattle.arrays_core.proofs.Rows.{with_row_none, with_row_more}
-use Rattle.index_region.specs.Checks.{Form}
-use Rattle.index_region.specs.Answers.{IsRowIn}
-use Rattle.index_region.specs.Sources.{Place, item_from}
-use Rattle.index_region.proofs.Passing.{row_inside, place_of_row}
-use Rattle.structural_fns.specs.Transpose.{transpose_form, transpose_item}
-use Rattle.structural_fns.specs.DyadicTranspose.{axes_to, gathered, transpose_by_form, transpose_by_item}
+use Rattle.arrays_core.{specs.declared.item.Item.{Item}, specs.declared.item.ItemType.{ItemType}, specs.declared.item.Kind.{Kind}, specs.Items.{fill}}
+use Rattle.arrays_core.{specs.Arrays.{ArrayValue, IsArray}, specs.Building.{listed, with_row}, specs.Shapes.{size, is_index_of, places_before, IsWithinLimits}}
+use Rattle.arrays_core.{proofs.Shapes.{places_below, head_of}, proofs.Rows.{with_row_none, with_row_more}}
+use Rattle.index_region.{specs.Checks.{Form}, specs.Answers.{IsRowIn}, specs.Sources.{Place, item_from}, proofs.Passing.{row_inside, place_of_row}}
+use Rattle.structural_fns.{specs.Transpose.{transpose_form, transpose_item}, specs.DyadicTranspose.{axes_to, gathered, transpose_by_form, transpose_by_item}}
 use Rattle.structural_fns.proofs.SourcePlaces.{transpose_inside, gathered_inside}
 
 pub one_argument : (args : List ArrayValue) (b : ArrayValue) → length args ≡ 1 → b ≡ get_or args 0 b → args ≡ b ∷ []

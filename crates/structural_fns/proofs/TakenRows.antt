@@ -1,25 +1,14 @@
 -- The rows of what is taken.
 use Rattle.std.proofs.Common.{◌≡◌, ℕ, zero, suc, ◌+◌, ◌-◌, ◌<◌, ◌≤◌, min, ℤ, pos, negsuc, unsigned_abs, nat_eq, Bool, true, false, cond, if◌then◌else◌, List, [], ◌∷◌, ◌++◌, length, get_or, replicate, Some, None, Result, Ok, refl, ap, sym, subst, ◌∙◌, arith}
-use Rattle.std.specs.Prelude.{unwrap_or, int_le}
-use Rattle.std.proofs.lemmas.Bool.{eqb-true, false≢true, le-leb}
-use Rattle.arrays_core.specs.declared.item.Item.{Item}
-use Rattle.arrays_core.specs.declared.item.ItemType.{ItemType}
-use Rattle.arrays_core.specs.declared.item.Kind.{Kind}
-use Rattle.arrays_core.specs.Items.{fill}
-use Rattle.arrays_core.specs.Arrays.{ArrayValue, IsArray}
-use Rattle.arrays_core.specs.Building.{listed, with_row}
-use Rattle.arrays_core.specs.Shapes.{size, is_index_of, places_before}
-use Rattle.arrays_core.proofs.Shapes.{places_below}
-use Rattle.arrays_core.proofs.Rows.{row_end, same_row, places_in_row, with_row_none, with_row_more, with_row_then}
-use Rattle.index_region.specs.Answers.{IsRowIn, IsPlaceOf}
-use Rattle.index_region.specs.Arguments.{numbers, is_scalar, is_list, counts_as_numbers}
-use Rattle.index_region.specs.Sources.{Place, Fill, item_from}
-use Rattle.index_region.proofs.Passing.{passed, place_inside, row_passed, row_inside}
-use Rattle.structural_fns.specs.AxisCounts.{counted_shape, uncounted}
-use Rattle.structural_fns.specs.Reshape.{magnitudes}
+use Rattle.std.{specs.Prelude.{unwrap_or, int_le}, proofs.lemmas.Bool.{eqb-true, false≢true, le-leb}}
+use Rattle.arrays_core.{specs.declared.item.Item.{Item}, specs.declared.item.ItemType.{ItemType}, specs.declared.item.Kind.{Kind}, specs.Items.{fill}}
+use Rattle.arrays_core.{specs.Arrays.{ArrayValue, IsArray}, specs.Building.{listed, with_row}, specs.Shapes.{size, is_index_of, places_before}}
+use Rattle.arrays_core.{proofs.Shapes.{places_below}, proofs.Rows.{row_end, same_row, places_in_row, with_row_none, with_row_more, with_row_then}}
+use Rattle.index_region.{specs.Answers.{IsRowIn, IsPlaceOf}, specs.Arguments.{numbers, is_scalar, is_list, counts_as_numbers}}
+use Rattle.index_region.{specs.Sources.{Place, Fill, item_from}, proofs.Passing.{passed, place_inside, row_passed, row_inside}}
+use Rattle.structural_fns.{specs.AxisCounts.{counted_shape, uncounted}, specs.Reshape.{magnitudes}}
 use Rattle.structural_fns.specs.Take.{take_form, take_item, taken_place, taken_places, AreOnLastAxis}
-use Rattle.structural_fns.proofs.Counting.{numbers_long, magnitudes_long, magnitude_at}
-use Rattle.structural_fns.proofs.SourcePlaces.{uncounted_inside}
+use Rattle.structural_fns.{proofs.Counting.{numbers_long, magnitudes_long, magnitude_at}, proofs.SourcePlaces.{uncounted_inside}}
 
 -- what is known of a row of what is taken
 pub record TakenRow (a b : ArrayValue) (row : List ℕ) (count : ℕ) (item_type : ItemType) : Type 0 where

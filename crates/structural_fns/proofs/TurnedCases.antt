@@ -1,15 +1,10 @@
 -- What may change of the functions that move places along axes, or axes, in worked cases.
 use Rattle.std.proofs.Common.{◌≡◌, ℕ, ℤ, List, [], ◌∷◌, length, map, Some, None, replicate, pos, refl}
-use Rattle.arrays_core.specs.declared.item.Item.TheVariants.{Num}
-use Rattle.arrays_core.specs.declared.item.ItemType.TheVariants.{Nums}
-use Rattle.arrays_core.specs.Arrays.{ArrayValue}
+use Rattle.arrays_core.{specs.declared.item.Item.TheVariants.{Num}, specs.declared.item.ItemType.TheVariants.{Nums}, specs.Arrays.{ArrayValue}}
 use Rattle.arrays_core.specs.Shapes.{size}
 use Rattle.function_names.specs.declared.along.Along.TheVariants.{First, Last, Axis}
-use Rattle.change_core.specs.declared.reach.Reach.TheVariants.{Unmoved, Inside, Anew}
-use Rattle.change_core.specs.Reaches.{reach_of}
-use Rattle.structural_fns.specs.Reverse.{reverse_rule}
-use Rattle.structural_fns.specs.Rotate.{rotate_rule}
-use Rattle.structural_fns.specs.Transpose.{transpose_rule}
+use Rattle.change_core.{specs.declared.reach.Reach.TheVariants.{Unmoved, Inside, Anew}, specs.Reaches.{reach_of}}
+use Rattle.structural_fns.{specs.Reverse.{reverse_rule}, specs.Rotate.{rotate_rule}, specs.Transpose.{transpose_rule}}
 use Rattle.structural_fns.specs.DyadicTranspose.{transpose_by_rule}
 
 -- an array of zeros

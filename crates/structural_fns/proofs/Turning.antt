@@ -1,25 +1,15 @@
 -- Lines along an axis, and places counted round its end.
 use Rattle.std.proofs.Common.{◌≡◌, ℕ, zero, suc, ◌/◌, ◌<◌, ℤ, pos, negsuc, false, ◌||◌, nat_eq, length, remove, bytes_eq, ap, arith}
-use Rattle.std.specs.Int.{int_rem_euclid}
-use Rattle.std.specs.Ordering.{int_eq}
-use Rattle.std.proofs.lemmas.Int.{ints}
-use Rattle.std.proofs.lemmas.Bool.{false_from_ne_true}
-use Rattle.std.proofs.lemmas.Bool.Decides.{Decides-int_eq}
-use Rattle.std.proofs.lemmas.Nat.{mod_below, div-add-mod'}
-use lib.IntN.{nat_abs, pos-*ℤ-negsuc}
-use Rattle.arrays_core.specs.declared.item.Item.{Item}
-use Rattle.arrays_core.specs.declared.item.Kind.TheVariants.{Axis as AxisKind, Rank, Length, Domain}
-use Rattle.arrays_core.specs.Items.{type_of}
+use Rattle.std.{specs.Int.{int_rem_euclid}, specs.Ordering.{int_eq}, proofs.lemmas.Int.{ints}, proofs.lemmas.Bool.{false_from_ne_true}}
+use Rattle.std.{proofs.lemmas.Bool.Decides.{Decides-int_eq}, proofs.lemmas.Nat.{mod_below, div-add-mod'}}
+use Rattle.arrays_core.{specs.declared.item.Item.{Item}, specs.declared.item.Kind.TheVariants.{Axis as AxisKind, Rank, Length, Domain}, specs.Items.{type_of}}
 use Rattle.arrays_core.specs.Arrays.{ArrayValue}
-use Rattle.scalar_fns.specs.Numbers.{residue}
-use Rattle.scalar_fns.proofs.Residues.{both_positive}
-use Rattle.function_names.specs.declared.along.Along.{Along}
-use Rattle.index_region.specs.Checks.{check, limited}
-use Rattle.function_names.specs.Axes.{is_axis, axis_at}
-use Rattle.index_region.specs.Arguments.{has_one_item, counts_as_numbers}
-use Rattle.index_region.specs.Answers.{HasTypeOf}
+use Rattle.scalar_fns.{specs.Numbers.{residue}, proofs.Residues.{both_positive}}
+use Rattle.function_names.{specs.declared.along.Along.{Along}, specs.Axes.{is_axis, axis_at}}
+use Rattle.index_region.{specs.Checks.{check, limited}, specs.Arguments.{has_one_item, counts_as_numbers}, specs.Answers.{HasTypeOf}}
 use Rattle.index_region.proofs.Passing.{typed_check, typed_limited}
 use Rattle.structural_fns.specs.Rotate.{rotate_form}
+use lib.IntN.{nat_abs, pos-*ℤ-negsuc}
 
 not_zero : (a : ℕ) → int_eq (pos (suc a)) (pos 0) ≡ false
 not_zero a = false_from_ne_true _ (λ t. let e : suc a ≡ 0 = ap nat_abs ((Decides-int_eq (pos (suc a)) (pos 0)).0 t) in absurd (omega arith))

@@ -1,26 +1,14 @@
 -- Take and drop of a vector: a run of its items.
 use Rattle.std.proofs.Common.{◌≡◌, ℕ, suc, ◌+◌, ◌-◌, ◌*◌, ◌/◌, ◌<◌, ◌≤◌, ℤ, List, [], ◌∷◌, take, drop, length, get_or, map, Result, Ok, refl, sym, ap, ◌∙◌, arith}
-use Rattle.std.specs.Prelude.{pos, negsuc, unsigned_abs, nat_eq, IfOk}
-use Rattle.std.proofs.Math.Nat.{div-one}
-use Rattle.std.proofs.lemmas.Bool.{eqb-true}
+use Rattle.std.{specs.Prelude.{pos, negsuc, unsigned_abs, nat_eq, IfOk}, proofs.Math.Nat.{div-one}, proofs.lemmas.Bool.{eqb-true}}
 use Rattle.std.proofs.lemmas.Result.{IfOk-weaker}
-use Rattle.arrays_core.specs.declared.item.Item.{Item}
-use Rattle.arrays_core.specs.declared.item.ItemType.{ItemType}
-use Rattle.arrays_core.specs.declared.item.Kind.{Kind}
-use Rattle.arrays_core.specs.declared.item.Kind.TheVariants.{Rank, Length, Domain}
-use Rattle.arrays_core.specs.Items.{fill, and_then}
-use Rattle.arrays_core.specs.Shapes.{size}
-use Rattle.arrays_core.specs.Arrays.{ArrayValue, IsArray, collect}
-use Rattle.arrays_core.proofs.Order.{index_after-within}
-use Rattle.index_region.specs.Checks.{form_of}
-use Rattle.index_region.specs.Arguments.{is_list, counts_as_numbers, numbers}
-use Rattle.structural_fns.specs.Reshape.{magnitudes}
-use Rattle.structural_fns.specs.AxisCounts.{counted_shape, counted_form}
-use Rattle.structural_fns.specs.Take.{taken_place, take_form, take_item, take_whole}
-use Rattle.structural_fns.specs.Drop.{kept_place, dropped_shape, drop_form, drop_item, drop_whole}
-use Rattle.index_region.proofs.Passing.{gives}
-use Rattle.structural_fns.proofs.Counting.{numbers_long}
-use Rattle.structural_fns.proofs.Runs.{item_after, run_collected, limited_is}
+use Rattle.arrays_core.{specs.declared.item.Item.{Item}, specs.declared.item.ItemType.{ItemType}, specs.declared.item.Kind.{Kind}}
+use Rattle.arrays_core.{specs.declared.item.Kind.TheVariants.{Rank, Length, Domain}, specs.Items.{fill, and_then}, specs.Shapes.{size}}
+use Rattle.arrays_core.{specs.Arrays.{ArrayValue, IsArray, collect}, proofs.Order.{index_after-within}}
+use Rattle.index_region.{specs.Checks.{form_of}, specs.Arguments.{is_list, counts_as_numbers, numbers}, proofs.Passing.{gives}}
+use Rattle.structural_fns.{specs.Reshape.{magnitudes}, specs.AxisCounts.{counted_shape, counted_form}}
+use Rattle.structural_fns.{specs.Take.{taken_place, take_form, take_item, take_whole}, specs.Drop.{kept_place, dropped_shape, drop_form, drop_item, drop_whole}}
+use Rattle.structural_fns.{proofs.Counting.{numbers_long}, proofs.Runs.{item_after, run_collected, limited_is}}
 
 -- what is known where the checks of counts have passed
 pub record CountsPassed (asked : List ℕ) (a b : ArrayValue) (shape : List ℕ) (item_type : ItemType) : Type 0 where

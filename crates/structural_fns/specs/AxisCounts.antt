@@ -1,11 +1,7 @@
 -- What take and drop share: a count for each axis.
 use Rattle.std.specs.Prelude.{ℕ, nat_eq, if◌then◌else◌, List, [], length, replicate, Result}
-use Rattle.arrays_core.specs.declared.item.Kind.{Kind}
-use Rattle.arrays_core.specs.declared.item.Kind.TheVariants.{Rank, Length, Domain}
-use Rattle.arrays_core.specs.Arrays.{ArrayValue}
-use Rattle.index_region.specs.Checks.{check, Form, limited}
-use Rattle.index_region.specs.Arguments.{is_scalar, is_list, counts_as_numbers}
-use Rattle.index_region.specs.Boxes.{Interval, whole_of}
+use Rattle.arrays_core.{specs.declared.item.Kind.{Kind}, specs.declared.item.Kind.TheVariants.{Rank, Length, Domain}, specs.Arrays.{ArrayValue}}
+use Rattle.index_region.{specs.Checks.{check, Form, limited}, specs.Arguments.{is_scalar, is_list, counts_as_numbers}, specs.Boxes.{Interval, whole_of}}
 
 -- the shape that the counts of a are for: of a scalar, an axis of one place for each count
 abbrev pub counted_shape : ArrayValue → ArrayValue → List ℕ

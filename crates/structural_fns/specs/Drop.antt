@@ -1,14 +1,8 @@
 -- Drop, A↓B: the first places of each axis, or the last, left out.
 use Rattle.std.specs.Prelude.{ℕ, ◌+◌, ◌-◌, ℤ, pos, negsuc, unsigned_abs, List, [], ◌∷◌, Result, suc, true, Some, None}
-use Rattle.arrays_core.specs.declared.item.Item.{Item}
-use Rattle.arrays_core.specs.declared.item.Kind.{Kind}
-use Rattle.arrays_core.specs.Arrays.{ArrayValue}
-use Rattle.index_region.specs.Checks.{Form, whole}
-use Rattle.index_region.specs.Arguments.{numbers}
-use Rattle.index_region.specs.Sources.{Place, Source, item_from}
-use Rattle.change_core.specs.RuleModels.{RuleModel}
-use Rattle.change_core.specs.Ways.{Axis, images}
-use Rattle.change_core.specs.Sourced.{Spread, two_sourced}
+use Rattle.arrays_core.{specs.declared.item.Item.{Item}, specs.declared.item.Kind.{Kind}, specs.Arrays.{ArrayValue}}
+use Rattle.index_region.{specs.Checks.{Form, whole}, specs.Arguments.{numbers}, specs.Sources.{Place, Source, item_from}}
+use Rattle.change_core.{specs.RuleModels.{RuleModel}, specs.Ways.{Axis, images}, specs.Sourced.{Spread, two_sourced}}
 use Rattle.structural_fns.specs.AxisCounts.{counted_shape, uncounted, counted_form, counted_box}
 
 -- the lengths that are left of the axes

@@ -1,14 +1,9 @@
 -- Ravel, ,B: the items in row-major order, as a vector.
 use Rattle.std.specs.Prelude.{ℕ, ◌-◌, List, [], ◌∷◌, get_or, Result, ◌+◌, Some}
-use Rattle.arrays_core.specs.declared.item.Item.{Item}
-use Rattle.arrays_core.specs.declared.item.Kind.{Kind}
-use Rattle.arrays_core.specs.Arrays.{ArrayValue}
+use Rattle.arrays_core.{specs.declared.item.Item.{Item}, specs.declared.item.Kind.{Kind}, specs.Arrays.{ArrayValue}}
 use Rattle.arrays_core.specs.Shapes.{size, index_after, places_before}
-use Rattle.index_region.specs.Checks.{Form, limited, whole}
-use Rattle.index_region.specs.Sources.{Place, Source, item_from}
-use Rattle.change_core.specs.Places.{first_of_box, last_of_box}
-use Rattle.change_core.specs.RuleModels.{RuleModel}
-use Rattle.change_core.specs.Sourced.{Spread, one_sourced}
+use Rattle.index_region.{specs.Checks.{Form, limited, whole}, specs.Sources.{Place, Source, item_from}}
+use Rattle.change_core.{specs.Places.{first_of_box, last_of_box}, specs.RuleModels.{RuleModel}, specs.Sourced.{Spread, one_sourced}}
 
 -- the checks, and the shape and the type of the result
 abbrev pub ravel_form : ArrayValue → Result Form Kind

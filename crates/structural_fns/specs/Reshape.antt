@@ -1,18 +1,10 @@
 -- Reshape, A⍴B: the items in row-major order, again and again, under another shape.
 use Rattle.std.specs.Prelude.{ℕ, ◌%◌, unsigned_abs, ◌&&◌, if◌then◌else◌, List, map, length, get_or, Result, true, None}
-use Rattle.arrays_core.specs.declared.item.Item.{Item}
-use Rattle.arrays_core.specs.declared.item.Kind.{Kind}
-use Rattle.arrays_core.specs.declared.item.Kind.TheVariants.{Rank, Domain}
-use Rattle.arrays_core.specs.Arrays.{ArrayValue}
-use Rattle.arrays_core.specs.Items.{fill}
-use Rattle.arrays_core.specs.Building.{listed}
-use Rattle.arrays_core.specs.Shapes.{size, index_after, places_before}
-use Rattle.index_region.specs.Checks.{check, Form, limited, whole}
-use Rattle.index_region.specs.Arguments.{is_list, has_items, counts_as_numbers, numbers, none_negative}
+use Rattle.arrays_core.{specs.declared.item.Item.{Item}, specs.declared.item.Kind.{Kind}, specs.declared.item.Kind.TheVariants.{Rank, Domain}}
+use Rattle.arrays_core.{specs.Arrays.{ArrayValue}, specs.Items.{fill}, specs.Building.{listed}, specs.Shapes.{size, index_after, places_before}}
+use Rattle.index_region.{specs.Checks.{check, Form, limited, whole}, specs.Arguments.{is_list, has_items, counts_as_numbers, numbers, none_negative}}
 use Rattle.index_region.specs.Sources.{Place, Fill, Source, item_from}
-use Rattle.change_core.specs.Places.{by_place}
-use Rattle.change_core.specs.RuleModels.{RuleModel}
-use Rattle.change_core.specs.Sourced.{Spread, two_sourced}
+use Rattle.change_core.{specs.Places.{by_place}, specs.RuleModels.{RuleModel}, specs.Sourced.{Spread, two_sourced}}
 
 -- the lengths of axes that an array of numbers asks for, whatever their signs
 abbrev pub magnitudes : ArrayValue → List ℕ

@@ -1,17 +1,9 @@
 -- Take, A↑B: the first places of each axis, or the last, and fill beyond them.
 use Rattle.std.specs.Prelude.{ℕ, suc, ◌+◌, ◌-◌, ◌≤◌, ℤ, pos, negsuc, if◌then◌else◌, List, [], ◌∷◌, length, get_or, Result, true, Some, None}
-use Rattle.arrays_core.specs.declared.item.Item.{Item}
-use Rattle.arrays_core.specs.declared.item.Kind.{Kind}
-use Rattle.arrays_core.specs.Arrays.{ArrayValue}
-use Rattle.arrays_core.specs.Shapes.{is_index_of}
-use Rattle.index_region.specs.Checks.{Form, whole}
-use Rattle.index_region.specs.Arguments.{numbers}
-use Rattle.index_region.specs.Sources.{Place, Fill, Source, item_from}
-use Rattle.change_core.specs.RuleModels.{RuleModel}
-use Rattle.change_core.specs.Ways.{Axis, images}
-use Rattle.change_core.specs.Sourced.{Spread, two_sourced}
-use Rattle.structural_fns.specs.Reshape.{magnitudes}
-use Rattle.structural_fns.specs.AxisCounts.{counted_shape, uncounted, counted_form, counted_box}
+use Rattle.arrays_core.{specs.declared.item.Item.{Item}, specs.declared.item.Kind.{Kind}, specs.Arrays.{ArrayValue}, specs.Shapes.{is_index_of}}
+use Rattle.index_region.{specs.Checks.{Form, whole}, specs.Arguments.{numbers}, specs.Sources.{Place, Fill, Source, item_from}}
+use Rattle.change_core.{specs.RuleModels.{RuleModel}, specs.Ways.{Axis, images}, specs.Sourced.{Spread, two_sourced}}
+use Rattle.structural_fns.{specs.Reshape.{magnitudes}, specs.AxisCounts.{counted_shape, uncounted, counted_form, counted_box}}
 
 -- the checks, and the shape and the type of the result
 abbrev pub take_form : ArrayValue → ArrayValue → Result Form Kind

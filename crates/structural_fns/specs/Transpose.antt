@@ -1,12 +1,8 @@
 -- Transpose, ⍉B: the axes in reverse order.
 use Rattle.std.specs.Prelude.{ℕ, List, reverse, Result, Some}
-use Rattle.arrays_core.specs.declared.item.Item.{Item}
-use Rattle.arrays_core.specs.declared.item.Kind.{Kind}
-use Rattle.arrays_core.specs.Arrays.{ArrayValue}
-use Rattle.index_region.specs.Checks.{Form, limited, whole}
-use Rattle.index_region.specs.Sources.{Place, Source, item_from}
-use Rattle.change_core.specs.RuleModels.{RuleModel}
-use Rattle.change_core.specs.Sourced.{Spread, one_sourced}
+use Rattle.arrays_core.{specs.declared.item.Item.{Item}, specs.declared.item.Kind.{Kind}, specs.Arrays.{ArrayValue}}
+use Rattle.index_region.{specs.Checks.{Form, limited, whole}, specs.Sources.{Place, Source, item_from}}
+use Rattle.change_core.{specs.RuleModels.{RuleModel}, specs.Sourced.{Spread, one_sourced}}
 
 -- the checks, and the shape and the type of the result
 abbrev pub transpose_form : ArrayValue → Result Form Kind

@@ -2,37 +2,20 @@
 use Rattle.std.proofs.Common.{◌≡◌, ◌≢◌, ℕ, ◌+◌, ◌-◌, ◌*◌, ◌/◌, ◌<◌, ◌≤◌, ℤ, pos, true, false, List, length, get_or, set, map, remove, insert, refl, ap, sym, subst, ◌∙◌, arith, nat_eq, inl, inr}
 use Rattle.std.proofs.lemmas.Bool.{cases_Bool, cond-true, cond-false, eqb-true, eqb-false}
 use Rattle.std.proofs.lemmas.List.{length-map, ext_get_or, get_or_default, get_or-set_same, get_or-set_other}
-use Rattle.std.proofs.lemmas.List.FromFn.{length-map-range_with_len, get_or-map-range_with_len}
-use Rattle.std.proofs.Math.ListN.{get_or-map}
+use Rattle.std.{proofs.lemmas.List.FromFn.{length-map-range_with_len, get_or-map-range_with_len}, proofs.Math.ListN.{get_or-map}}
 use Rattle.std.proofs.Math.Nat.{mul-div_cancel}
-use Rattle.arrays_core.specs.declared.item.Item.{Item}
-use Rattle.arrays_core.specs.declared.item.Item.TheVariants.{Num, Char}
-use Rattle.arrays_core.specs.declared.item.ItemType.TheVariants.{Nums}
-use Rattle.arrays_core.specs.Arrays.{ArrayValue, item_of}
-use Rattle.arrays_core.specs.Items.{fill, type_of}
-use Rattle.arrays_core.specs.Shapes.{size, is_index_of, places_before}
+use Rattle.arrays_core.{specs.declared.item.Item.{Item}, specs.declared.item.Item.TheVariants.{Num, Char}, specs.declared.item.ItemType.TheVariants.{Nums}}
+use Rattle.arrays_core.{specs.Arrays.{ArrayValue, item_of}, specs.Items.{fill, type_of}, specs.Shapes.{size, is_index_of, places_before}}
 use Rattle.arrays_core.proofs.Shapes.{places_below}
-use Rattle.function_names.specs.declared.scalar.Scalar2.{Scalar2}
-use Rattle.scalar_fns.specs.Folds.{strided, line_start}
-use Rattle.scalar_fns.proofs.RightFolds.{length-strided, get_or-strided}
-use Rattle.index_region.specs.Arguments.{number_of}
-use Rattle.index_region.specs.Axes.{places_along}
-use Rattle.function_names.specs.declared.along.Along.{Along}
-use Rattle.index_region.specs.Boxes.{Interval, box_size, box_offset, is_within, walk_at}
-use Rattle.index_region.specs.Patches.{PatchValue, IsPatch, FitsPatch, patched, patched_item}
-use Rattle.index_region.proofs.Boxes.{fits_length}
-use Rattle.index_region.proofs.Patched.{fits_within, patched_at}
-use Rattle.index_region.proofs.Walks.{offset_below, offset_of_walk, walk_of_offset, walk_within}
+use Rattle.function_names.{specs.declared.scalar.Scalar2.{Scalar2}, specs.declared.along.Along.{Along}}
+use Rattle.scalar_fns.{specs.Folds.{strided, line_start}, proofs.RightFolds.{length-strided, get_or-strided}, specs.RightFold.{fold_right}}
+use Rattle.index_region.{specs.Arguments.{number_of}, specs.Axes.{places_along}, specs.Boxes.{Interval, box_size, box_offset, is_within, walk_at}}
+use Rattle.index_region.{specs.Patches.{PatchValue, IsPatch, FitsPatch, patched, patched_item}, proofs.Boxes.{fits_length}}
+use Rattle.index_region.{proofs.Patched.{fits_within, patched_at}, proofs.Walks.{offset_below, offset_of_walk, walk_of_offset, walk_within}}
 use Rattle.fold_trees.specs.ArrayLines.{TreesValue, line_through, numbers_through, with_number}
-use Rattle.reduce_fns.specs.Laws.LineIndices.{inside}
-use Rattle.reduce_fns.proofs.Lines.{long_with_axis, remove_inserted, stride}
-use Rattle.reduce_fns.proofs.Reduced.{start_is}
-use Rattle.scalar_fns.specs.RightFold.{fold_right}
-use Rattle.reduce_fns.specs.Lines.{line}
-use Rattle.sum_rules.specs.LineSums.{StandFor, array_of_shape, line_length, line_step}
-use Rattle.sum_rules.specs.Totals.{StoodFor, is_one_a_line, box_of_lines}
-use Rattle.sum_rules.proofs.OneAxis.{FitsAxis, fits_axis, size_with_one, walk_with_one, within_axis}
-use Rattle.sum_rules.proofs.Lines.{line_through_place, some_step}
+use Rattle.reduce_fns.{specs.Laws.LineIndices.{inside}, proofs.Lines.{long_with_axis, remove_inserted, stride}, proofs.Reduced.{start_is}, specs.Lines.{line}}
+use Rattle.sum_rules.{specs.LineSums.{StandFor, array_of_shape, line_length, line_step}, specs.Totals.{StoodFor, is_one_a_line, box_of_lines}}
+use Rattle.sum_rules.{proofs.OneAxis.{FitsAxis, fits_axis, size_with_one, walk_with_one, within_axis}, proofs.Lines.{line_through_place, some_step}}
 
 -- an item of numbers is its number
 number_item_is : (x : Item) → type_of x ≡ Nums → x ≡ Num (number_of x)

@@ -1,43 +1,22 @@
 -- The totals of which one number of the line is new.
 use Rattle.std.proofs.Common.{◌≡◌, ℕ, ◌-◌, ◌*◌, ◌<◌, ◌≤◌, Bool, true, false, ◌&&◌, not, if◌then◌else◌, nat_eq, is_ok, List, [], ◌∷◌, length, map, remove, Option, Some, None, Result, Ok, Err, IfOk, OnOk, refl, ap, sym, subst, ◌∙◌, arith}
-use Rattle.std.specs.Prelude.{◌==◌}
-use Rattle.std.specs.List.{range_with_len}
-use Rattle.std.specs.declared.alloc.AllocError.{AllocError}
-use Rattle.std.proofs.lemmas.Bool.{cond-false, false≢true}
-use Rattle.arrays_core.specs.Arrays.{ArrayValue, collect}
-use Rattle.arrays_core.specs.Items.{all_or_first_error, and_then}
-use Rattle.arrays_core.specs.declared.item.ItemType.TheVariants.{Nums}
-use Rattle.index_region.specs.Axes.{places_along}
-use Rattle.arrays_core.specs.declared.item.Item.{Item}
-use Rattle.arrays_core.specs.declared.item.Kind.{Kind}
-use Rattle.arrays_core.specs.declared.item.ItemType.{ItemType}
-use Rattle.reduce_fns.specs.declared.reduce.Reduce.{Reduce}
-use Rattle.function_names.specs.Axes.{axis_at, is_axis}
-use Rattle.function_names.specs.declared.along.Along.{Along}
-use Rattle.index_region.specs.Boxes.{Interval, box_size, walk_at, met, unless_empty, join_boxes}
-use Rattle.index_region.specs.Checks.{Form, form_of}
-use Rattle.index_region.specs.Patches.{PatchValue, patched}
-use Rattle.index_region.specs.Tails.{TailValue}
-use Rattle.reduce_fns.specs.Reduce.{reduce_form, reduce_item, reduce_whole}
-use Rattle.fold_trees.specs.ArrayLines.{TreesValue}
-use Rattle.reduce_fns.specs.Laws.ReducedShapes.{reduce_facts}
-use Rattle.change_core.specs.declared.reach.Reach.TheVariants.{Inside, Unmoved}
-use Rattle.change_core.specs.Parts.{items_in}
-use Rattle.change_core.specs.Reaches.{as_reach, reach_by, reach_of}
-use Rattle.change_core.proofs.Filling.{few_places}
-use Rattle.index_region.specs.declared.delta.Delta.{Delta}
+use Rattle.std.{specs.Prelude.{◌==◌}, specs.List.{range_with_len}, specs.declared.alloc.AllocError.{AllocError}, proofs.lemmas.Bool.{cond-false, false≢true}}
+use Rattle.arrays_core.{specs.Arrays.{ArrayValue, collect}, specs.Items.{all_or_first_error, and_then}, specs.declared.item.ItemType.TheVariants.{Nums}}
+use Rattle.arrays_core.{specs.declared.item.Item.{Item}, specs.declared.item.Kind.{Kind}, specs.declared.item.ItemType.{ItemType}, specs.Outcomes.{Outcome}}
+use Rattle.index_region.{specs.Axes.{places_along}, specs.Boxes.{Interval, box_size, walk_at, met, unless_empty, join_boxes}, specs.Checks.{Form, form_of}}
+use Rattle.index_region.{specs.Patches.{PatchValue, patched}, specs.Tails.{TailValue}, specs.declared.delta.Delta.{Delta}}
 use Rattle.index_region.specs.declared.delta.Delta.TheVariants.{Same, Patch, Grown, Whole}
-use Rattle.change_rules.specs.Nodes.{Argument, all_patched_at_most, all_same, is_patched_at_most, is_same, is_error, moved_by, node_cost, node_delta, node_grows, reached_cost, reached_delta, size_in}
-use Rattle.arrays_core.specs.Outcomes.{Outcome}
-use Rattle.change_rules.specs.Evaluation.{evaluation}
-use Rattle.change_core.specs.RuleModels.{form_size}
+use Rattle.reduce_fns.{specs.declared.reduce.Reduce.{Reduce}, specs.Reduce.{reduce_form, reduce_item, reduce_whole}, specs.Laws.ReducedShapes.{reduce_facts}}
 use Rattle.reduce_fns.specs.Growth.{is_along_a_later_axis}
-use Rattle.change_rules.proofs.Nodes.{delta_reached}
-use Rattle.change_core.specs.Meters.{ticked}
+use Rattle.function_names.{specs.Axes.{axis_at, is_axis}, specs.declared.along.Along.{Along}}
+use Rattle.fold_trees.specs.ArrayLines.{TreesValue}
+use Rattle.change_core.{specs.declared.reach.Reach.TheVariants.{Inside, Unmoved}, specs.Parts.{items_in}, specs.Reaches.{as_reach, reach_by, reach_of}}
+use Rattle.change_core.{proofs.Filling.{few_places}, specs.RuleModels.{form_size}, specs.Meters.{ticked}, proofs.Regions.{fit_some, met_fit}}
+use Rattle.change_rules.specs.Nodes.{Argument, all_patched_at_most, all_same, is_patched_at_most, is_same, is_error, moved_by, node_cost, node_delta, node_grows, reached_cost, reached_delta, size_in}
+use Rattle.change_rules.{specs.Evaluation.{evaluation}, proofs.Nodes.{delta_reached}}
 use Rattle.sum_rules.specs.LineSums.{array_of_shape, length_along}
 use Rattle.sum_rules.specs.Totals.{AreFolds, HasAllJoins, StoodFor, is_by_trees, is_narrow, is_one_a_line, box_of_lines, total_rule}
 use Rattle.sum_rules.proofs.ChangedLines.{as_many_lines, fits_axes, line_there, now_is}
-use Rattle.change_core.proofs.Regions.{fit_some, met_fit}
 
 -- the axis that is meant stays under a patch
 axis_before : (along : Along) (t : TreesValue) (p : PatchValue) (now : ArrayValue) (stood : StoodFor along t p now) → axis_at (length now.shape) along ≡ axis_at (length stood.before.shape) along

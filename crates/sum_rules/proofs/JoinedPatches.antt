@@ -1,20 +1,11 @@
 -- What is joined for a patch of one place of an array whose lines are kept as trees.
-use Rattle.std.proofs.Common.{◌≡◌, ◌∙◌, ℕ, ℤ, List, [], ◌∷◌, get_or, set, map, true, refl, sym, ap, subst, arith}
-use Rattle.std.proofs.lemmas.List.{map-set}
-use Rattle.arrays_core.specs.declared.item.Item.{Item}
-use Rattle.arrays_core.specs.declared.item.Item.TheVariants.{Num}
-use Rattle.arrays_core.specs.declared.item.ItemType.TheVariants.{Nums}
-use Rattle.arrays_core.specs.Arrays.{ArrayValue, IsArray}
-use Rattle.arrays_core.specs.Items.{fill}
-use Rattle.arrays_core.specs.Shapes.{places_before}
-use Rattle.index_region.specs.Arguments.{number_of}
-use Rattle.index_region.specs.Boxes.{box_size, walk_at}
-use Rattle.index_region.specs.Patches.{PatchValue, FitsPatch, patched}
+use Rattle.std.{proofs.Common.{◌≡◌, ◌∙◌, ℕ, ℤ, List, [], ◌∷◌, get_or, set, map, true, refl, sym, ap, subst, arith}, proofs.lemmas.List.{map-set}}
+use Rattle.arrays_core.{specs.declared.item.Item.{Item}, specs.declared.item.Item.TheVariants.{Num}, specs.declared.item.ItemType.TheVariants.{Nums}}
+use Rattle.arrays_core.{specs.Arrays.{ArrayValue, IsArray}, specs.Items.{fill}, specs.Shapes.{places_before}}
+use Rattle.index_region.{specs.Arguments.{number_of}, specs.Boxes.{box_size, walk_at}, specs.Patches.{PatchValue, FitsPatch, patched}}
 use Rattle.index_region.proofs.Written.{IsWritten, written_none, written_more, written_all}
-use Rattle.fold_trees.specs.ArrayLines.{TreesValue}
-use Rattle.fold_trees.specs.FoldTrees.{FoldsValue}
-use Rattle.sum_rules.specs.LineSums.{StandFor, array_of_shape}
-use Rattle.sum_rules.specs.JoinedPatches.{IsJoinedIn, IsJoinedWith}
+use Rattle.fold_trees.{specs.ArrayLines.{TreesValue}, specs.FoldTrees.{FoldsValue}}
+use Rattle.sum_rules.{specs.LineSums.{StandFor, array_of_shape}, specs.JoinedPatches.{IsJoinedIn, IsJoinedWith}}
 use Rattle.sum_rules.specs.declared.joined_patch.JoinedPatch.{JoinedPatch}
 
 -- a patch of one number puts it at its place

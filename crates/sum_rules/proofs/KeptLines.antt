@@ -1,39 +1,21 @@
 -- The lines of an array in which a patch that has one place a line changes nothing.
 use Rattle.std.proofs.Common.{◌≡◌, ◌∙◌, ℕ, zero, suc, ◌+◌, ◌-◌, ◌*◌, ◌/◌, ◌<◌, ℤ, pos, true, false, List, [], ◌∷◌, length, get_or, map, remove, insert, refl, ap, sym, subst, arith, inl, inr, Result}
-use Rattle.std.specs.List.{range_with_len}
-use Rattle.arrays_core.specs.declared.item.Kind.{Kind}
-use Rattle.arrays_core.specs.Items.{all_or_first_error, fill}
-use Rattle.change_core.proofs.Collected.{along as items_along, collected, collected_is}
-use Rattle.change_core.proofs.Walking.{box_size-whole, walk_is}
-use Rattle.std.proofs.lemmas.Bool.{and_from, and_parts, cases_Bool, cond-false, eqb-true, false≢true}
-use Rattle.std.proofs.lemmas.List.{length-map, ext_get_or, get_or_default}
-use Rattle.std.proofs.lemmas.List.FromFn.{length-map-range_with_len, get_or-map-range_with_len}
-use Rattle.std.proofs.Math.ListN.{get_or-map}
-use Rattle.arrays_core.specs.declared.item.Item.{Item}
-use Rattle.arrays_core.specs.declared.item.Item.TheVariants.{Num}
-use Rattle.arrays_core.specs.Arrays.{ArrayValue, item_of}
-use Rattle.arrays_core.specs.Shapes.{indices, is_index_of, places_before, size}
-use Rattle.arrays_core.proofs.Shapes.{places_below}
-use Rattle.std.proofs.Math.Nat.{mul-div_cancel}
+use Rattle.std.{specs.List.{range_with_len}, proofs.lemmas.Bool.{and_from, and_parts, cases_Bool, cond-false, eqb-true, false≢true}}
+use Rattle.std.{proofs.lemmas.List.{length-map, ext_get_or, get_or_default}, proofs.lemmas.List.FromFn.{length-map-range_with_len, get_or-map-range_with_len}}
+use Rattle.std.{proofs.Math.ListN.{get_or-map}, proofs.Math.Nat.{mul-div_cancel}}
+use Rattle.arrays_core.{specs.declared.item.Kind.{Kind}, specs.Items.{all_or_first_error, fill}, specs.declared.item.Item.{Item}}
+use Rattle.arrays_core.{specs.declared.item.Item.TheVariants.{Num}, specs.Arrays.{ArrayValue, item_of}}
+use Rattle.arrays_core.{specs.Shapes.{indices, is_index_of, places_before, size}, proofs.Shapes.{places_below}}
+use Rattle.change_core.{proofs.Collected.{along as items_along, collected, collected_is}, proofs.Walking.{box_size-whole, walk_is}}
 use Rattle.function_names.specs.declared.scalar.Scalar2.{Scalar2}
-use Rattle.scalar_fns.specs.Folds.{strided, line_start}
-use Rattle.scalar_fns.proofs.RightFolds.{length-strided, get_or-strided}
-use Rattle.index_region.specs.Axes.{places_along}
-use Rattle.index_region.specs.Boxes.{Interval, box_offset, is_within, walk_at, whole_of}
-use Rattle.index_region.proofs.Walks.{offset_below, walk_of_offset, walk_within}
-use Rattle.index_region.specs.Patches.{PatchValue, FitsPatch, patched}
-use Rattle.index_region.proofs.Boxes.{fits_length}
+use Rattle.scalar_fns.{specs.Folds.{strided, line_start}, proofs.RightFolds.{length-strided, get_or-strided}, specs.RightFold.{fold_right}}
+use Rattle.index_region.{specs.Axes.{places_along}, specs.Boxes.{Interval, box_offset, is_within, walk_at, whole_of}}
+use Rattle.index_region.{proofs.Walks.{offset_below, walk_of_offset, walk_within}, specs.Patches.{PatchValue, FitsPatch, patched}, proofs.Boxes.{fits_length}}
 use Rattle.index_region.proofs.Patched.{patched_at}
 use Rattle.fold_trees.specs.ArrayLines.{TreesValue, line_count, numbers_of_line}
-use Rattle.reduce_fns.specs.Laws.LineIndices.{inside}
-use Rattle.reduce_fns.proofs.Lines.{long_with_axis, stride}
-use Rattle.reduce_fns.proofs.Reduced.{lines_whole, start_is}
-use Rattle.scalar_fns.specs.RightFold.{fold_right}
-use Rattle.reduce_fns.specs.Lines.{line}
-use Rattle.sum_rules.specs.LineSums.{StandFor, line_length, line_step}
-use Rattle.sum_rules.specs.Totals.{box_of_lines, is_one_a_line}
-use Rattle.sum_rules.proofs.OneAxis.{size_with_one, walk_with_one}
-use Rattle.sum_rules.proofs.Lines.{some_step}
+use Rattle.reduce_fns.{specs.Laws.LineIndices.{inside}, proofs.Lines.{long_with_axis, stride}, proofs.Reduced.{lines_whole, start_is}, specs.Lines.{line}}
+use Rattle.sum_rules.{specs.LineSums.{StandFor, line_length, line_step}, specs.Totals.{box_of_lines, is_one_a_line}}
+use Rattle.sum_rules.{proofs.OneAxis.{size_with_one, walk_with_one}, proofs.Lines.{some_step}}
 
 -- a place of a box is in it on the other axes
 within_rest : (axis : ℕ) (region : List Interval) (index : List ℕ) (j : ℕ) → axis < length region → length index + 1 ≡ length region → is_within region (insert index axis j) ≡ true → is_within (remove region axis) index ≡ true

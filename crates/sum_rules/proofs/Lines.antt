@@ -1,12 +1,10 @@
 -- Where the lines of an array along an axis lie.
 use Rattle.std.proofs.Common.{◌≡◌, ℕ, zero, suc, ◌+◌, ◌*◌, ◌/◌, ◌%◌, ◌<◌, List, [], ◌∷◌, length, sym, ap, ◌∙◌, arith}
-use Rattle.std.proofs.lemmas.Nat.{div-add-mod', div-mul-add, mod-mul-add, mod_below, mul-add-lt}
-use Rattle.std.proofs.Math.Nat.{mul-mod_left}
+use Rattle.std.{proofs.lemmas.Nat.{div-add-mod', div-mul-add, mod-mul-add, mod_below, mul-add-lt}, proofs.Math.Nat.{mul-mod_left}}
 use Rattle.arrays_core.specs.Shapes.{size}
 use Rattle.scalar_fns.specs.Folds.{line_start}
 use Rattle.fold_trees.specs.ArrayLines.{line_through}
-use Rattle.reduce_fns.proofs.Lines.{size-drop-le}
-use Rattle.reduce_fns.proofs.Reduced.{sizes}
+use Rattle.reduce_fns.{proofs.Lines.{size-drop-le}, proofs.Reduced.{sizes}}
 use Rattle.sum_rules.specs.LineSums.{line_length, line_step}
 
 -- lines that have items lie along an axis that there is

@@ -1,45 +1,23 @@
 -- The totals of lines that got one more number each.
 use Rattle.std.proofs.Common.{◌≡◌, ◌∙◌, ℕ, zero, suc, ◌+◌, ◌-◌, ◌*◌, ◌/◌, ◌<◌, ◌≤◌, ℤ, pos, List, [], ◌∷◌, ◌++◌, length, drop, get_or, map, remove, refl, ap, sym, subst, arith, inl, inr, Result, Ok}
-use Rattle.std.specs.List.{range_with_len}
-use Rattle.std.proofs.lemmas.Bool.{cases_lt}
+use Rattle.std.{specs.List.{range_with_len}, proofs.lemmas.Bool.{cases_lt}}
 use Rattle.std.proofs.lemmas.List.{ext_get_or, length-append, length-map, map-append, get_or_append_left, get_or-append_right}
-use Rattle.std.proofs.lemmas.List.FromFn.{length-map-range_with_len, get_or-map-range_with_len}
-use Rattle.std.proofs.Math.ListN.{get_or-map}
-use Rattle.std.proofs.Math.Nat.{div-eq_of_lt, mod-eq_of_lt, mul-div_cancel, mul-le-mul_left}
-use Rattle.std.proofs.lemmas.Nat.{mul-add-lt}
-use Rattle.arrays_core.specs.declared.item.Item.{Item}
-use Rattle.arrays_core.specs.declared.item.Item.TheVariants.{Num}
-use Rattle.arrays_core.specs.declared.item.ItemType.{ItemType}
-use Rattle.arrays_core.specs.declared.item.ItemType.TheVariants.{Nums}
-use Rattle.arrays_core.specs.declared.item.Kind.{Kind}
-use Rattle.arrays_core.specs.Arrays.{ArrayValue, with_items}
-use Rattle.arrays_core.specs.Growth.{one_longer}
-use Rattle.arrays_core.specs.Items.{all_or_first_error}
-use Rattle.arrays_core.specs.Shapes.{size, indices, places_before}
-use Rattle.arrays_core.proofs.Growing.{rank_longer, size_longer}
-use Rattle.arrays_core.proofs.Order.{length-indices, get_or-indices, places_before-index_after}
+use Rattle.std.{proofs.lemmas.List.FromFn.{length-map-range_with_len, get_or-map-range_with_len}, proofs.Math.ListN.{get_or-map}}
+use Rattle.std.{proofs.Math.Nat.{div-eq_of_lt, mod-eq_of_lt, mul-div_cancel, mul-le-mul_left}, proofs.lemmas.Nat.{mul-add-lt}}
+use Rattle.arrays_core.{specs.declared.item.Item.{Item}, specs.declared.item.Item.TheVariants.{Num}, specs.declared.item.ItemType.{ItemType}}
+use Rattle.arrays_core.{specs.declared.item.ItemType.TheVariants.{Nums}, specs.declared.item.Kind.{Kind}, specs.Arrays.{ArrayValue, with_items}}
+use Rattle.arrays_core.{specs.Growth.{one_longer}, specs.Items.{all_or_first_error}, specs.Shapes.{size, indices, places_before}}
+use Rattle.arrays_core.{proofs.Growing.{rank_longer, size_longer}, proofs.Order.{length-indices, get_or-indices, places_before-index_after}}
 use Rattle.arrays_core.proofs.Shapes.{places_below}
-use Rattle.function_names.specs.declared.scalar.Scalar2.{Scalar2}
-use Rattle.scalar_fns.specs.Folds.{strided, folded, line_start}
-use Rattle.scalar_fns.specs.Items.{number_item}
-use Rattle.scalar_fns.specs.Numbers.{dyadic_on_numbers}
-use Rattle.scalar_fns.proofs.RightFolds.{length-strided, get_or-strided}
-use Rattle.function_names.specs.Axes.{axis_at, is_axis}
-use Rattle.index_region.specs.Checks.{form_of}
-use Rattle.index_region.specs.Tails.{TailValue}
-use Rattle.reduce_fns.specs.Reduce.{reduce_form, reduce_whole}
-use Rattle.scalar_fns.specs.RightFold.{fold_right}
+use Rattle.function_names.{specs.declared.scalar.Scalar2.{Scalar2}, specs.Axes.{axis_at, is_axis}}
+use Rattle.scalar_fns.{specs.Folds.{strided, folded, line_start}, specs.Items.{number_item}, specs.Numbers.{dyadic_on_numbers}}
+use Rattle.scalar_fns.{proofs.RightFolds.{length-strided, get_or-strided}, specs.RightFold.{fold_right}, proofs.ItemFolds.{number_items_folded}}
+use Rattle.index_region.{specs.Checks.{form_of}, specs.Tails.{TailValue}}
+use Rattle.reduce_fns.{specs.Reduce.{reduce_form, reduce_whole}, specs.declared.reduce.Reduce.{Reduce}, proofs.Placewise.{collected_same}}
+use Rattle.reduce_fns.{specs.Laws.ReducedShapes.{reduce_facts}, proofs.Reduced.{reduced_whole}}
 use Rattle.fold_trees.specs.ArrayLines.{TreesValue, line_count, numbers_of_line}
-use Rattle.reduce_fns.specs.declared.reduce.Reduce.{Reduce}
-use Rattle.reduce_fns.proofs.Placewise.{collected_same}
-use Rattle.reduce_fns.specs.Laws.ReducedShapes.{reduce_facts}
-use Rattle.reduce_fns.proofs.Reduced.{reduced_whole}
-use Rattle.scalar_fns.proofs.ItemFolds.{number_items_folded}
-use Rattle.sum_rules.specs.LineSums.{StandFor, length_along, line_length, line_step}
-use Rattle.sum_rules.specs.Totals.{StoodBefore, AreJoinsWithin, longer_totals}
-use Rattle.sum_rules.proofs.KeptSums.{along_axis}
-use Rattle.sum_rules.proofs.Lines.{some_in_line, some_step}
-use Rattle.sum_rules.proofs.MorePlaces.{between, longer, same_step}
+use Rattle.sum_rules.{specs.LineSums.{StandFor, length_along, line_length, line_step}, specs.Totals.{StoodBefore, AreJoinsWithin, longer_totals}}
+use Rattle.sum_rules.{proofs.KeptSums.{along_axis}, proofs.Lines.{some_in_line, some_step}, proofs.MorePlaces.{between, longer, same_step}}
 
 -- the total of one of them
 abbrev pub longer_total : Scalar2 → TreesValue → List ℤ → ℕ → Result Item Kind

@@ -1,21 +1,12 @@
 -- Lines behind those of an array that grows.
 use Rattle.std.proofs.Common.{◌≡◌, ℕ, zero, suc, ◌+◌, ◌-◌, ◌*◌, ◌/◌, ◌%◌, ◌<◌, ℤ, List, [], ◌∷◌, ◌++◌, length, drop, refl, ap, sym, ◌∙◌, arith}
-use Rattle.std.proofs.Math.Nat.{add-mul-div_right}
-use Rattle.std.proofs.lemmas.List.{length-append, length-map}
-use Rattle.std.proofs.lemmas.List.Elements.{All-map}
+use Rattle.std.{proofs.Math.Nat.{add-mul-div_right}, proofs.lemmas.List.{length-append, length-map}, proofs.lemmas.List.Elements.{All-map}}
 use Rattle.std.proofs.lemmas.Nat.{div-add-mod'}
-use Rattle.arrays_core.specs.declared.item.Item.TheVariants.{Num}
-use Rattle.arrays_core.specs.declared.item.ItemType.TheVariants.{Nums}
-use Rattle.arrays_core.specs.Growth.{one_longer}
-use Rattle.arrays_core.specs.Items.{type_of}
-use Rattle.arrays_core.specs.Shapes.{size}
-use Rattle.arrays_core.proofs.Growing.{size_longer}
-use Rattle.fold_trees.specs.ArrayLines.{with_lines}
-use Rattle.fold_trees.specs.FoldTrees.{FoldsValue, NewFoldsValue}
-use Rattle.sum_rules.specs.LineSums.{line_length, line_step, array_of_shape, StandFor}
-use Rattle.sum_rules.specs.NewLines.{lines_behind, AreNewLinesOf, FitsSums}
-use Rattle.sum_rules.specs.declared.new_lines.Growth.TheVariants.{Lines}
-use Rattle.sum_rules.proofs.Lines.{factor_divides, some_in_line, whole_lines}
+use Rattle.arrays_core.{specs.declared.item.Item.TheVariants.{Num}, specs.declared.item.ItemType.TheVariants.{Nums}, specs.Growth.{one_longer}}
+use Rattle.arrays_core.{specs.Items.{type_of}, specs.Shapes.{size}, proofs.Growing.{size_longer}}
+use Rattle.fold_trees.{specs.ArrayLines.{with_lines}, specs.FoldTrees.{FoldsValue, NewFoldsValue}}
+use Rattle.sum_rules.{specs.LineSums.{line_length, line_step, array_of_shape, StandFor}, specs.NewLines.{lines_behind, AreNewLinesOf, FitsSums}}
+use Rattle.sum_rules.{specs.declared.new_lines.Growth.TheVariants.{Lines}, proofs.Lines.{factor_divides, some_in_line, whole_lines}}
 
 -- ---- the first axis alone grows
 

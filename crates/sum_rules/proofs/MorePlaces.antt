@@ -1,20 +1,11 @@
 -- One more place of each line of an array that grows, where the lines lie along the first axis.
 use Rattle.std.proofs.Common.{◌≡◌, ℕ, ◌+◌, ◌-◌, ◌*◌, ◌<◌, ◌≤◌, ℤ, max, List, [], ◌∷◌, ◌++◌, length, drop, refl, ap, sym, ◌∙◌, arith}
-use Rattle.std.proofs.lemmas.List.{length-append, length-map}
-use Rattle.std.proofs.lemmas.List.Elements.{All-map}
-use Rattle.std.proofs.Math.Nat.{mul-le-mul_right}
-use Rattle.arrays_core.specs.declared.item.Item.TheVariants.{Num}
-use Rattle.arrays_core.specs.declared.item.ItemType.TheVariants.{Nums}
-use Rattle.arrays_core.specs.Growth.{one_longer}
-use Rattle.arrays_core.specs.Items.{type_of}
-use Rattle.arrays_core.specs.Shapes.{size}
-use Rattle.arrays_core.proofs.Growing.{size_longer}
-use Rattle.fold_trees.specs.ArrayLines.{FitNext, with_places}
-use Rattle.fold_trees.specs.FoldTrees.{FoldsValue, NextFoldsValue}
-use Rattle.sum_rules.specs.LineSums.{line_length, line_step, array_of_shape, StandFor}
-use Rattle.sum_rules.specs.NewLines.{lines_behind, AreNewLinesOf, FitsSums}
-use Rattle.sum_rules.specs.declared.new_lines.Growth.TheVariants.{Places}
-use Rattle.sum_rules.proofs.Lines.{some_in_line}
+use Rattle.std.{proofs.lemmas.List.{length-append, length-map}, proofs.lemmas.List.Elements.{All-map}, proofs.Math.Nat.{mul-le-mul_right}}
+use Rattle.arrays_core.{specs.declared.item.Item.TheVariants.{Num}, specs.declared.item.ItemType.TheVariants.{Nums}, specs.Growth.{one_longer}}
+use Rattle.arrays_core.{specs.Items.{type_of}, specs.Shapes.{size}, proofs.Growing.{size_longer}}
+use Rattle.fold_trees.{specs.ArrayLines.{FitNext, with_places}, specs.FoldTrees.{FoldsValue, NextFoldsValue}}
+use Rattle.sum_rules.{specs.LineSums.{line_length, line_step, array_of_shape, StandFor}, specs.NewLines.{lines_behind, AreNewLinesOf, FitsSums}}
+use Rattle.sum_rules.{specs.declared.new_lines.Growth.TheVariants.{Places}, proofs.Lines.{some_in_line}}
 
 pub longer : (shape : List ℕ) → 0 < length shape → line_length 0 (one_longer shape) ≡ line_length 0 shape + 1
 longer [] h = absurd (omega arith)

@@ -1,10 +1,7 @@
 -- One axis of boxes, shapes and index lists, and the others.
 use Rattle.std.proofs.Common.{◌≡◌, ℕ, zero, suc, ◌+◌, ◌*◌, ◌/◌, ◌%◌, ◌<◌, ◌≤◌, true, List, [], ◌∷◌, length, get_or, insert, remove, ap, ◌∙◌, arith}
-use Rattle.std.proofs.Math.Nat.{div-eq_of_lt, mod-eq_of_lt}
-use Rattle.std.proofs.lemmas.Bool.{and_parts, and_from, leb-true, false≢true}
-use Rattle.std.proofs.lemmas.Nat.{mod_below}
-use Rattle.index_region.specs.Boxes.{Interval, box_size, interval_length, is_within, walk_at, fits}
-use Rattle.index_region.proofs.Walks.{rest_positive}
+use Rattle.std.{proofs.Math.Nat.{div-eq_of_lt, mod-eq_of_lt}, proofs.lemmas.Bool.{and_parts, and_from, leb-true, false≢true}, proofs.lemmas.Nat.{mod_below}}
+use Rattle.index_region.{specs.Boxes.{Interval, box_size, interval_length, is_within, walk_at, fits}, proofs.Walks.{rest_positive}}
 
 -- the interval of a box on an axis
 abbrev pub on_axis : List Interval → ℕ → Interval

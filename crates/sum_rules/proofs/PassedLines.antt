@@ -1,13 +1,10 @@
 -- How many lines of a box come before a line, where all lines are gone over in their order.
 use Rattle.std.proofs.Common.{◌≡◌, ◌∙◌, ℕ, zero, suc, ◌+◌, ◌*◌, ◌<◌, ◌≤◌, List, true, false, refl, ap, sym, arith, inl, inr}
-use Rattle.std.proofs.Math.Nat.{mul-le-mul_right}
-use Rattle.std.proofs.lemmas.Bool.{false≢true, cases_order}
+use Rattle.std.{proofs.Math.Nat.{mul-le-mul_right}, proofs.lemmas.Bool.{false≢true, cases_order}}
 use Rattle.arrays_core.specs.Shapes.{is_index_of, size, index_after, places_before}
-use Rattle.arrays_core.proofs.Order.{index_after-places_before, index_after-within, places_before-index_after}
-use Rattle.arrays_core.proofs.Shapes.{places_below}
+use Rattle.arrays_core.{proofs.Order.{index_after-places_before, index_after-within, places_before-index_after}, proofs.Shapes.{places_below}}
 use Rattle.change_rules.proofs.PatchRight.{offset_order}
-use Rattle.index_region.proofs.Patched.{fits_within}
-use Rattle.index_region.proofs.Walks.{offset_below, offset_of_walk, walk_within}
+use Rattle.index_region.{proofs.Patched.{fits_within}, proofs.Walks.{offset_below, offset_of_walk, walk_within}}
 use Rattle.index_region.specs.Boxes.{Interval, box_offset, box_size, fits, is_within, walk_at}
 use Rattle.sum_rules.specs.Totals.{AreJoinsFrom, AreJoinsWithin}
 

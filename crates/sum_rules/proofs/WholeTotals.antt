@@ -1,34 +1,17 @@
 -- The totals of all lines of an array, as the trees of the lines tell them.
 use Rattle.std.proofs.Common.{◌≡◌, ◌∙◌, ℕ, zero, suc, ◌*◌, ◌/◌, ◌%◌, ◌<◌, ◌≤◌, ℤ, pos, List, length, map, refl, ap, sym, subst, arith, Result, Ok, Some}
-use Rattle.std.specs.List.{range_with_len}
-use Rattle.std.proofs.lemmas.List.{length-map}
-use Rattle.std.proofs.Math.Nat.{mul-div_cancel}
-use Rattle.arrays_core.specs.declared.item.Item.{Item}
-use Rattle.arrays_core.specs.declared.item.Item.TheVariants.{Num}
-use Rattle.arrays_core.specs.declared.item.ItemType.{ItemType}
-use Rattle.arrays_core.specs.declared.item.ItemType.TheVariants.{Nums}
-use Rattle.arrays_core.specs.declared.item.Kind.{Kind}
-use Rattle.arrays_core.specs.Arrays.{ArrayValue, with_items}
-use Rattle.arrays_core.specs.Items.{all_or_first_error}
-use Rattle.arrays_core.specs.Shapes.{size, places_before}
-use Rattle.function_names.specs.declared.scalar.Scalar2.{Scalar2}
-use Rattle.scalar_fns.specs.Folds.{strided, folded, line_start}
-use Rattle.scalar_fns.specs.Items.{number_item}
-use Rattle.scalar_fns.specs.Numbers.{dyadic_on_numbers}
-use Rattle.scalar_fns.proofs.RightFolds.{length-strided}
-use Rattle.function_names.specs.Axes.{axis_at}
+use Rattle.std.{specs.List.{range_with_len}, proofs.lemmas.List.{length-map}, proofs.Math.Nat.{mul-div_cancel}}
+use Rattle.arrays_core.{specs.declared.item.Item.{Item}, specs.declared.item.Item.TheVariants.{Num}, specs.declared.item.ItemType.{ItemType}}
+use Rattle.arrays_core.{specs.declared.item.ItemType.TheVariants.{Nums}, specs.declared.item.Kind.{Kind}, specs.Arrays.{ArrayValue, with_items}}
+use Rattle.arrays_core.{specs.Items.{all_or_first_error}, specs.Shapes.{size, places_before}}
+use Rattle.function_names.{specs.declared.scalar.Scalar2.{Scalar2}, specs.Axes.{axis_at}}
+use Rattle.scalar_fns.{specs.Folds.{strided, folded, line_start}, specs.Items.{number_item}, specs.Numbers.{dyadic_on_numbers}}
+use Rattle.scalar_fns.{proofs.RightFolds.{length-strided}, specs.RightFold.{fold_right}, proofs.ItemFolds.{number_items_folded}}
 use Rattle.index_region.specs.Checks.{form_of}
-use Rattle.reduce_fns.specs.Reduce.{reduce_form, reduce_whole}
-use Rattle.scalar_fns.specs.RightFold.{fold_right}
+use Rattle.reduce_fns.{specs.Reduce.{reduce_form, reduce_whole}, specs.declared.reduce.Reduce.{Reduce}, proofs.Placewise.{collected_same}}
+use Rattle.reduce_fns.{specs.Laws.ReducedShapes.{reduce_facts}, proofs.Reduced.{lines_whole, reduced_whole}}
 use Rattle.fold_trees.specs.ArrayLines.{TreesValue, line_count, numbers_of_line}
-use Rattle.reduce_fns.specs.declared.reduce.Reduce.{Reduce}
-use Rattle.reduce_fns.proofs.Placewise.{collected_same}
-use Rattle.reduce_fns.specs.Laws.ReducedShapes.{reduce_facts}
-use Rattle.reduce_fns.proofs.Reduced.{lines_whole, reduced_whole}
-use Rattle.scalar_fns.proofs.ItemFolds.{number_items_folded}
-use Rattle.sum_rules.specs.LineSums.{StandFor, SummedValue, summed}
-use Rattle.sum_rules.specs.Totals.{all_totals}
-use Rattle.sum_rules.proofs.KeptSums.{summed_is}
+use Rattle.sum_rules.{specs.LineSums.{StandFor, SummedValue, summed}, specs.Totals.{all_totals}, proofs.KeptSums.{summed_is}}
 use Rattle.sum_rules.proofs.LongerTotals.{items_by_place}
 
 -- the total of one of them

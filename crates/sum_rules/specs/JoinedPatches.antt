@@ -1,12 +1,8 @@
 -- Patches of an array whose lines are kept as trees, with what was joined for them.
 use Rattle.std.specs.Prelude.{◌≡◌, ℕ, true, List, set}
 use Rattle.index_region.specs.Patches.{PatchValue, patched}
-use Rattle.fold_trees.specs.ArrayLines.{TreesValue}
-use Rattle.fold_trees.specs.FoldTrees.{FoldsValue}
-use Rattle.fold_trees.specs.Joined.{IsJoinedFor}
-use Rattle.fold_trees.specs.declared.joined.Joined.{Joined}
-use Rattle.sum_rules.specs.LineSums.{SummedValue, StandFor, array_of_shape}
-use Rattle.sum_rules.specs.declared.joined_patch.JoinedPatch.{JoinedPatch}
+use Rattle.fold_trees.{specs.ArrayLines.{TreesValue}, specs.FoldTrees.{FoldsValue}, specs.Joined.{IsJoinedFor}, specs.declared.joined.Joined.{Joined}}
+use Rattle.sum_rules.{specs.LineSums.{SummedValue, StandFor, array_of_shape}, specs.declared.joined_patch.JoinedPatch.{JoinedPatch}}
 
 -- it was joined for the one number of a patch of an array of this shape, whose lines these trees are
 pub record IsJoinedIn (shape : List ℕ) (t : FoldsValue) (p : PatchValue) (j : Joined) : Type 0 where

@@ -1,19 +1,11 @@
 -- Arrays whose lines along an axis are kept as trees.
 use Rattle.std.specs.Prelude.{◌≡◌, ℕ, suc, ◌<◌, ℤ, nat_lt, List, Bool, ◌&&◌, Option, Some, None, if◌then◌else◌, length, map, get_or, drop}
-use Rattle.arrays_core.specs.declared.item.Item.TheVariants.{Num}
-use Rattle.arrays_core.specs.declared.item.ItemType.TheVariants.{Nums}
-use Rattle.arrays_core.specs.declared.item.Item.{Item}
-use Rattle.arrays_core.specs.Arrays.{ArrayValue, IsArray}
-use Rattle.arrays_core.specs.Growth.{grown_by}
-use Rattle.arrays_core.specs.Shapes.{size}
-use Rattle.function_names.specs.declared.scalar.Scalar2.{Scalar2}
-use Rattle.index_region.specs.Arguments.{is_of_numbers}
-use Rattle.function_names.specs.Axes.{is_axis, axis_at}
-use Rattle.function_names.specs.declared.along.Along.{Along}
-use Rattle.index_region.specs.Patches.{PatchValue, patched}
+use Rattle.arrays_core.{specs.declared.item.Item.TheVariants.{Num}, specs.declared.item.ItemType.TheVariants.{Nums}, specs.declared.item.Item.{Item}}
+use Rattle.arrays_core.{specs.Arrays.{ArrayValue, IsArray}, specs.Growth.{grown_by}, specs.Shapes.{size}}
+use Rattle.function_names.{specs.declared.scalar.Scalar2.{Scalar2}, specs.Axes.{is_axis, axis_at}, specs.declared.along.Along.{Along}}
+use Rattle.index_region.{specs.Arguments.{is_of_numbers}, specs.Patches.{PatchValue, patched}}
 use Rattle.reduce_fns.specs.declared.reduce.Reduce.{Reduce}
-use Rattle.fold_trees.specs.FoldTrees.{has_trees}
-use Rattle.fold_trees.specs.ArrayLines.{TreesValue}
+use Rattle.fold_trees.{specs.FoldTrees.{has_trees}, specs.ArrayLines.{TreesValue}}
 
 -- ---- the lines of an array
 

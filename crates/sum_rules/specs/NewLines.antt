@@ -1,14 +1,10 @@
 -- What the lines of an array get where it grows.
 use Rattle.std.specs.Prelude.{◌≡◌, ℕ, ◌-◌, ◌/◌, ◌<◌, ℤ, max, List, length, map}
-use Rattle.arrays_core.specs.declared.item.Item.TheVariants.{Num}
-use Rattle.arrays_core.specs.declared.item.ItemType.TheVariants.{Nums}
-use Rattle.arrays_core.specs.Shapes.{size, IsWithinLimits}
+use Rattle.arrays_core.{specs.declared.item.Item.TheVariants.{Num}, specs.declared.item.ItemType.TheVariants.{Nums}, specs.Shapes.{size, IsWithinLimits}}
 use Rattle.function_names.specs.declared.scalar.Scalar2.{Scalar2}
 use Rattle.index_region.specs.Tails.{TailValue, FitsTail}
-use Rattle.fold_trees.specs.ArrayLines.{with_lines, with_places}
-use Rattle.fold_trees.specs.FoldTrees.{FoldsValue, AreFoldedBehind, AreFoldedNext}
-use Rattle.sum_rules.specs.LineSums.{SummedValue, line_length, line_step}
-use Rattle.sum_rules.specs.declared.new_lines.Growth.{Growth}
+use Rattle.fold_trees.{specs.ArrayLines.{with_lines, with_places}, specs.FoldTrees.{FoldsValue, AreFoldedBehind, AreFoldedNext}}
+use Rattle.sum_rules.{specs.LineSums.{SummedValue, line_length, line_step}, specs.declared.new_lines.Growth.{Growth}}
 use Rattle.sum_rules.specs.declared.new_lines.Growth.TheVariants.{Lines, Places}
 
 -- what an array of numbers grows by, with the function by which its lines are folded and the axis along which they lie

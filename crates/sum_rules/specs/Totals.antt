@@ -1,29 +1,17 @@
 -- The totals of the lines of an array whose sums are kept by trees.
 use Rattle.std.specs.Prelude.{◌≡◌, ℕ, ◌+◌, ◌-◌, ◌*◌, ◌<◌, ◌≤◌, ◌^◌, ℤ, pos, nat_eq, Bool, true, false, List, [], ◌∷◌, ◌++◌, length, get_or, map, remove, All, Result}
 use Rattle.std.specs.List.{flat_map, range_with_len}
-use Rattle.function_names.specs.declared.scalar.Scalar2.{Scalar2}
-use Rattle.function_names.specs.declared.scalar.Scalar2.TheVariants.{Plus}
-use Rattle.arrays_core.specs.Arrays.{ArrayValue}
-use Rattle.arrays_core.specs.Growth.{grown_by}
-use Rattle.arrays_core.specs.declared.item.Item.{Item}
-use Rattle.arrays_core.specs.declared.item.Item.TheVariants.{Num}
-use Rattle.arrays_core.specs.declared.item.Kind.{Kind}
-use Rattle.function_names.specs.Axes.{is_axis, axis_at}
-use Rattle.function_names.specs.declared.along.Along.{Along}
-use Rattle.function_names.specs.declared.along.Along.TheVariants.{Last}
-use Rattle.index_region.specs.declared.delta.Delta.{Delta}
-use Rattle.index_region.specs.declared.delta.Delta.TheVariants.{Patch, Grown}
-use Rattle.index_region.specs.Boxes.{Interval, box_size}
-use Rattle.index_region.specs.Patches.{PatchValue, FitsPatch, patched}
-use Rattle.index_region.specs.Tails.{TailValue, FitsTail}
-use Rattle.change_core.specs.RuleModels.{RuleModel}
+use Rattle.function_names.{specs.declared.scalar.Scalar2.{Scalar2}, specs.declared.scalar.Scalar2.TheVariants.{Plus}, specs.Axes.{is_axis, axis_at}}
+use Rattle.function_names.{specs.declared.along.Along.{Along}, specs.declared.along.Along.TheVariants.{Last}}
+use Rattle.arrays_core.{specs.Arrays.{ArrayValue}, specs.Growth.{grown_by}, specs.declared.item.Item.{Item}, specs.declared.item.Item.TheVariants.{Num}}
+use Rattle.arrays_core.{specs.declared.item.Kind.{Kind}, specs.Outcomes.{Outcome}}
+use Rattle.index_region.{specs.declared.delta.Delta.{Delta}, specs.declared.delta.Delta.TheVariants.{Patch, Grown}, specs.Boxes.{Interval, box_size}}
+use Rattle.index_region.{specs.Patches.{PatchValue, FitsPatch, patched}, specs.Tails.{TailValue, FitsTail}}
+use Rattle.change_core.{specs.RuleModels.{RuleModel}, specs.Meters.{ticked}}
 use Rattle.change_rules.specs.Nodes.{Argument, node_cost}
-use Rattle.arrays_core.specs.Outcomes.{Outcome}
-use Rattle.change_core.specs.Meters.{ticked}
-use Rattle.reduce_fns.specs.declared.reduce.Reduce.{Reduce}
+use Rattle.reduce_fns.{specs.declared.reduce.Reduce.{Reduce}, specs.Reduce.{reduce_rule}}
 use Rattle.scalar_fns.specs.RightFold.{fold_right}
 use Rattle.fold_trees.specs.ArrayLines.{TreesValue, line_count, numbers_of_line}
-use Rattle.reduce_fns.specs.Reduce.{reduce_rule}
 use Rattle.sum_rules.specs.LineSums.{StandFor, length_along}
 
 -- the totals that a reduction gives, as those of +/B

@@ -1,7 +1,5 @@
 -- Literals can be written as numbers.
-use Rattle.std.specs.Prelude.{◌≡◌, ℕ, ℤ, List, ◌⊎◌, refl}
-use Rattle.std.proofs.Common.{inl, inr}
-use Rattle.std.specs.Coded.{Coded, code_by, coded_list, coded_ℕ, coded_ℤ, coded⊎}
+use Rattle.std.{specs.Prelude.{◌≡◌, ℕ, ℤ, List, ◌⊎◌, refl}, proofs.Common.{inl, inr}, specs.Coded.{Coded, code_by, coded_list, coded_ℕ, coded_ℤ, coded⊎}}
 use Rattle.apl_expr.specs.Trees.{Literal, Numbers, Text}
 
 abbrev parted : Literal → List ℤ ⊎ List ℕ

@@ -1,16 +1,10 @@
 -- What the checks of the inner product have shown, and the places of its rows and columns.
 use Rattle.std.proofs.Common.{◌≡◌, ◌≢◌, ℕ, ◌+◌, ◌-◌, ◌*◌, ◌<◌, Bool, true, false, cond, eqb, ◌||◌, List, [], ◌∷◌, ◌++◌, length, get_or, take, drop, refl, ap, sym, subst, ◌∙◌, arith}
-use Rattle.std.proofs.lemmas.Bool.{eq-eqb, ne_eqb, and_from, le-leb, eqb-true}
-use Rattle.std.proofs.lemmas.List.{take_all, take_more, length-take-le}
-use Rattle.arrays_core.specs.declared.item.ItemType.TheVariants.{Nums}
-use Rattle.arrays_core.specs.Items.{fill}
-use Rattle.arrays_core.specs.Shapes.{size, is_index_of, places_before}
-use Rattle.arrays_core.specs.Arrays.{ArrayValue, item_of}
-use Rattle.arrays_core.proofs.Shapes.{places_below, as_long}
+use Rattle.std.{proofs.lemmas.Bool.{eq-eqb, ne_eqb, and_from, le-leb, eqb-true}, proofs.lemmas.List.{take_all, take_more, length-take-le}}
+use Rattle.arrays_core.{specs.declared.item.ItemType.TheVariants.{Nums}, specs.Items.{fill}, specs.Shapes.{size, is_index_of, places_before}}
+use Rattle.arrays_core.{specs.Arrays.{ArrayValue, item_of}, proofs.Shapes.{places_below, as_long}}
 use Rattle.scalar_fns.specs.ScalarExtension.{extended}
-use Rattle.index_region.specs.Arguments.{has_one_item}
-use Rattle.index_region.specs.Answers.{IsPlaceOf}
-use Rattle.index_region.proofs.Passing.{passed, place_inside}
+use Rattle.index_region.{specs.Arguments.{has_one_item}, specs.Answers.{IsPlaceOf}, proofs.Passing.{passed, place_inside}}
 use Rattle.operator_fns.specs.InnerProduct.{row_rank, row_length, column_length, inner_length, inner_form}
 use Rattle.operator_fns.specs.Laws.JoinedIndices.{places-append, joined_inside, parts}
 

@@ -1,8 +1,7 @@
 -- The law of inner product.
 use Rattle.std.proofs.Common.{false, refl}
 use Rattle.function_names.specs.declared.scalar.Scalar2.{Scalar2}
-use Rattle.change_core.specs.Tightness.{IsTight}
-use Rattle.change_core.proofs.Sourced.{two_arrays_tight}
+use Rattle.change_core.{specs.Tightness.{IsTight}, proofs.Sourced.{two_arrays_tight}}
 use Rattle.operator_fns.specs.InnerProduct.{inner_form, inner_item, column_use, inner_rule, row_use}
 use Rattle.operator_fns.specs.Laws.InnerProductReads.{column_covered, inner_same, row_covered}
 

@@ -1,29 +1,18 @@
 -- What settles an item of an inner product, and what a changed box reaches.
 use Rattle.std.proofs.Common.{◌≡◌, ◌≢◌, ℕ, ◌+◌, ◌-◌, ◌*◌, ◌<◌, ◌≤◌, zero, suc, true, nat_eq, nat_le, ◌&&◌, List, [], ◌∷◌, ◌++◌, length, get_or, map, take, drop, Option, Result, Ok, if◌then◌else◌, refl, sym, ap, subst, ◌∙◌, arith, inl, inr}
-use Rattle.std.specs.Prelude.{◌==◌}
-use Rattle.std.specs.List.{range_with_len}
+use Rattle.std.{specs.Prelude.{◌==◌}, specs.List.{range_with_len}}
 use Rattle.std.proofs.lemmas.Bool.{and_from, and_parts, cases_Bool, cond-false, cond-true, eqb-false, eqb-true, false≢true, leb-true}
 use Rattle.std.proofs.lemmas.List.{take-append-le, take_all}
-use Rattle.arrays_core.specs.declared.item.Item.{Item}
-use Rattle.arrays_core.specs.declared.item.Kind.{Kind}
-use Rattle.arrays_core.specs.Arrays.{ArrayValue, IsArray, item_if_there}
-use Rattle.arrays_core.specs.Items.{fill, and_then}
-use Rattle.arrays_core.specs.Shapes.{is_index_of, size}
-use Rattle.arrays_core.proofs.Shapes.{as_long}
+use Rattle.arrays_core.{specs.declared.item.Item.{Item}, specs.declared.item.Kind.{Kind}, specs.Arrays.{ArrayValue, IsArray, item_if_there}}
+use Rattle.arrays_core.{specs.Items.{fill, and_then}, specs.Shapes.{is_index_of, size}, proofs.Shapes.{as_long}}
 use Rattle.function_names.specs.declared.scalar.Scalar2.{Scalar2}
-use Rattle.scalar_fns.specs.Items.{dyadic_on_items}
-use Rattle.scalar_fns.specs.ScalarExtension.{extended}
-use Rattle.scalar_fns.specs.Laws.OneItem.{ones_inside, ones_first, only_index}
-use Rattle.index_region.specs.Answers.{IsPlaceOf}
-use Rattle.index_region.specs.Boxes.{Interval, is_within, whole_of}
-use Rattle.index_region.specs.Checks.{Form}
-use Rattle.change_core.specs.Tightness.{Covered, Each}
-use Rattle.change_core.specs.Sourced.{other}
-use Rattle.change_core.proofs.UsedWays.{back-onto, each_all, each_map, front-onto}
-use Rattle.operator_fns.specs.InnerProduct.{all_or_last_error, column_length, inner_form, inner_item, inner_length, row_length, row_rank, column_use, extended_line, row_use}
+use Rattle.scalar_fns.{specs.Items.{dyadic_on_items}, specs.ScalarExtension.{extended}, specs.Laws.OneItem.{ones_inside, ones_first, only_index}}
 use Rattle.scalar_fns.specs.RightFold.{fold_right}
-use Rattle.operator_fns.specs.Laws.InnerPlaces.{PassedInner, column_place, extended_many, extended_one, passed_inner, row_place}
+use Rattle.index_region.{specs.Answers.{IsPlaceOf}, specs.Boxes.{Interval, is_within, whole_of}, specs.Checks.{Form}}
+use Rattle.change_core.{specs.Tightness.{Covered, Each}, specs.Sourced.{other}, proofs.UsedWays.{back-onto, each_all, each_map, front-onto}}
 use Rattle.change_core.proofs.ReadAlike.{item_same}
+use Rattle.operator_fns.specs.InnerProduct.{all_or_last_error, column_length, inner_form, inner_item, inner_length, row_length, row_rank, column_use, extended_line, row_use}
+use Rattle.operator_fns.specs.Laws.InnerPlaces.{PassedInner, column_place, extended_many, extended_one, passed_inner, row_place}
 
 -- ---- the place of an array of one item
 

@@ -1,19 +1,12 @@
 -- The growth of an outer product.
-use Rattle.std.proofs.Common.{◌≡◌, ℕ, ◌<◌, ap, sym, ◌∙◌, refl, arith, true, false, List, [], ◌∷◌, ◌++◌, length, take, drop}
-use Rattle.std.proofs.lemmas.Bool.{false≢true}
-use Rattle.arrays_core.specs.declared.item.Item.{Item}
-use Rattle.arrays_core.specs.declared.item.ItemType.TheVariants.{Nums}
-use Rattle.arrays_core.specs.Arrays.{item_of}
+use Rattle.std.{proofs.Common.{◌≡◌, ℕ, ◌<◌, ap, sym, ◌∙◌, refl, arith, true, false, List, [], ◌∷◌, ◌++◌, length, take, drop}, proofs.lemmas.Bool.{false≢true}}
+use Rattle.arrays_core.{specs.declared.item.Item.{Item}, specs.declared.item.ItemType.TheVariants.{Nums}, specs.Arrays.{item_of}, specs.Growth.{one_longer}}
 use Rattle.function_names.specs.declared.scalar.Scalar2.{Scalar2}
 use Rattle.scalar_fns.specs.Items.{dyadic_on_items}
-use Rattle.index_region.specs.Checks.{form_of}
-use Rattle.index_region.proofs.Passing.{limited_gives}
-use Rattle.arrays_core.specs.Growth.{one_longer}
-use Rattle.change_core.specs.Growth.{IsGrowing}
-use Rattle.change_core.proofs.Growing.{item_kept, length-longer, longer_form, shape_grown, two_growing, growing_growing}
+use Rattle.index_region.{specs.Checks.{form_of}, proofs.Passing.{limited_gives}}
+use Rattle.change_core.{specs.Growth.{IsGrowing}, proofs.Growing.{item_kept, length-longer, longer_form, shape_grown, two_growing, growing_growing}}
 use Rattle.change_core.proofs.UsedWays.{index-take}
-use Rattle.operator_fns.specs.OuterProduct.{outer_form, outer_item, outer_rule, front_use, back_use}
-use Rattle.operator_fns.specs.OuterProduct.{outer_grows}
+use Rattle.operator_fns.specs.OuterProduct.{outer_form, outer_item, outer_rule, front_use, back_use, outer_grows}
 
 joined_longer : (s t : List ℕ) → 0 < length s → one_longer s ++ t ≡ one_longer (s ++ t)
 joined_longer [] t h = absurd (omega arith)

@@ -1,8 +1,6 @@
 -- Index lists of lines.
-use Rattle.std.proofs.Common.{◌≡◌, ℕ, zero, suc, ◌<◌, ◌≤◌, true, List, [], ◌∷◌, length, get_or, arith, insert, remove}
-use Rattle.std.proofs.lemmas.Bool.{and_from, le-leb}
-use Rattle.arrays_core.specs.Shapes.{is_index_of}
-use Rattle.arrays_core.proofs.Shapes.{head_of}
+use Rattle.std.{proofs.Common.{◌≡◌, ℕ, zero, suc, ◌<◌, ◌≤◌, true, List, [], ◌∷◌, length, get_or, arith, insert, remove}, proofs.lemmas.Bool.{and_from, le-leb}}
+use Rattle.arrays_core.{specs.Shapes.{is_index_of}, proofs.Shapes.{head_of}}
 
 pub inside : (axis : ℕ) (shape index : List ℕ) (j : ℕ) → axis < length shape → is_index_of (remove shape axis) index ≡ true
     → 1 ≤ j → j ≤ get_or shape axis 0 → is_index_of shape (insert index axis j) ≡ true

@@ -1,29 +1,15 @@
 -- The law of reduction.
 use Rattle.std.proofs.Common.{◌≡◌, ℕ, ◌<◌, ◌≤◌, zero, suc, true, nat_eq, List, [], ◌∷◌, length, map, insert, remove, refl, sym, ap, ◌∙◌, subst, arith, inl, inr}
-use Rattle.std.proofs.lemmas.Bool.{cases_Bool, cond-true, cond-false, eqb-true, eqb-false, false≢true}
-use Rattle.std.proofs.lemmas.List.{get_or_default}
+use Rattle.std.{proofs.lemmas.Bool.{cases_Bool, cond-true, cond-false, eqb-true, eqb-false, false≢true}, proofs.lemmas.List.{get_or_default}}
 use Rattle.std.proofs.lemmas.List.Edits.{length-remove}
-use Rattle.arrays_core.specs.declared.item.Item.{Item}
-use Rattle.arrays_core.specs.Arrays.{ArrayValue, item_if_there}
-use Rattle.arrays_core.specs.Shapes.{is_index_of}
-use Rattle.function_names.specs.declared.scalar.Scalar2.{Scalar2}
-use Rattle.function_names.specs.declared.along.Along.{Along}
-use Rattle.function_names.specs.Axes.{axis_at}
-use Rattle.index_region.specs.Axes.{places_along}
-use Rattle.index_region.specs.Boxes.{Interval, fits, is_within}
-use Rattle.change_core.specs.Tightness.{IsTight, Covered, Each}
-use Rattle.change_core.specs.Sourced.{other}
-use Rattle.change_core.proofs.Growing.{tight_growing}
-use Rattle.change_core.proofs.Sourced.{one_tight}
-use Rattle.change_core.proofs.UsedWays.{lines-covered}
-use Rattle.reduce_fns.specs.Reduce.{reduce_form, reduce_item, line_use, reduce_rule, reduce_use}
+use Rattle.arrays_core.{specs.declared.item.Item.{Item}, specs.Arrays.{ArrayValue, item_if_there}, specs.Shapes.{is_index_of}}
+use Rattle.function_names.{specs.declared.scalar.Scalar2.{Scalar2}, specs.declared.along.Along.{Along}, specs.Axes.{axis_at}}
+use Rattle.index_region.{specs.Axes.{places_along}, specs.Boxes.{Interval, fits, is_within}, proofs.RowIndices.{axis_below}}
+use Rattle.change_core.{specs.Tightness.{IsTight, Covered, Each}, specs.Sourced.{other}, proofs.Growing.{tight_growing}, proofs.Sourced.{one_tight}}
+use Rattle.change_core.{proofs.UsedWays.{lines-covered}, proofs.ReadAlike.{item_same}}
+use Rattle.reduce_fns.{specs.Reduce.{reduce_form, reduce_item, line_use, reduce_rule, reduce_use}, specs.Lines.{line}, specs.Laws.LineIndices.{inside}}
+use Rattle.reduce_fns.{specs.Laws.ReducedShapes.{reduce_facts}, specs.Laws.ReadLines.{items_same, no_axes, scalar_line}}
 use Rattle.scalar_fns.specs.RightFold.{fold_right}
-use Rattle.reduce_fns.specs.Lines.{line}
-use Rattle.reduce_fns.specs.Laws.LineIndices.{inside}
-use Rattle.reduce_fns.specs.Laws.ReducedShapes.{reduce_facts}
-use Rattle.index_region.proofs.RowIndices.{axis_below}
-use Rattle.change_core.proofs.ReadAlike.{item_same}
-use Rattle.reduce_fns.specs.Laws.ReadLines.{items_same, no_axes, scalar_line}
 
 -- a line is the same where it is read alike
 line_same : (d : ArrayValue) (xs : List Item) (axis : ℕ) (index : List ℕ) → (0 < length d.shape → axis < length d.shape) → is_index_of (remove d.shape axis) index ≡ true

@@ -1,11 +1,8 @@
 -- What the checks of reduction have shown.
 use Rattle.std.proofs.Common.{◌≡◌, ℕ, true, List, length, ap, remove, Ok}
-use Rattle.arrays_core.specs.declared.item.ItemType.{ItemType}
-use Rattle.arrays_core.specs.Arrays.{ArrayValue}
-use Rattle.function_names.specs.declared.along.Along.{Along}
-use Rattle.index_region.specs.Checks.{form_of, Form, limited}
-use Rattle.function_names.specs.Axes.{is_axis, axis_at}
-use Rattle.index_region.proofs.Passing.{gives, limited_gives}
+use Rattle.arrays_core.{specs.declared.item.ItemType.{ItemType}, specs.Arrays.{ArrayValue}}
+use Rattle.function_names.{specs.declared.along.Along.{Along}, specs.Axes.{is_axis, axis_at}}
+use Rattle.index_region.{specs.Checks.{form_of, Form, limited}, proofs.Passing.{gives, limited_gives}}
 use Rattle.reduce_fns.specs.Reduce.{reduce_type, reduce_form}
 
 -- the shape and the type that the checks give

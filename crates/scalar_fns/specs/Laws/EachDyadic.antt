@@ -1,23 +1,13 @@
 -- All that changes of a scalar function of two arrays lies in its box.
 use Rattle.std.proofs.Common.{◌≡◌, ℕ, true, false, eqb, List, map, refl, ap, sym, subst, ◌∙◌, inl, inr, Result, Ok, Err, bytes_eq, if◌then◌else◌}
-use Rattle.std.proofs.lemmas.Bool.{eqb-true, cases_Bool, cond-true, cond-false}
-use Rattle.std.proofs.lemmas.Slice.Eq.{bytes_eq-Decides}
-use Rattle.arrays_core.specs.declared.item.Kind.{Kind}
-use Rattle.arrays_core.specs.declared.item.ItemType.TheVariants.{Nums}
-use Rattle.arrays_core.specs.Shapes.{size, is_index_of}
+use Rattle.std.{proofs.lemmas.Bool.{eqb-true, cases_Bool, cond-true, cond-false}, proofs.lemmas.Slice.Eq.{bytes_eq-Decides}}
+use Rattle.arrays_core.{specs.declared.item.Kind.{Kind}, specs.declared.item.ItemType.TheVariants.{Nums}, specs.Shapes.{size, is_index_of}}
 use Rattle.arrays_core.specs.Arrays.{ArrayValue}
 use Rattle.function_names.specs.declared.scalar.Scalar2.{Scalar2}
-use Rattle.scalar_fns.specs.Items.{dyadic_on_items}
-use Rattle.scalar_fns.specs.ScalarExtension.{common, for_shape}
-use Rattle.scalar_fns.specs.Laws.Extension.{ExtendsTo, common_extends}
-use Rattle.index_region.specs.Boxes.{Interval, is_within, whole_of}
-use Rattle.index_region.specs.Checks.{Form, form_of}
-use Rattle.change_core.specs.Tightness.{Covered, IsTight}
-use Rattle.change_core.proofs.Growing.{tight_growing}
-use Rattle.change_core.proofs.Sourced.{two_tight}
-use Rattle.change_core.proofs.UsedWays.{within-whole}
-use Rattle.scalar_fns.specs.EachDyadic.{each_dyadic_form, each_dyadic_item, each_dyadic_rule, extended_use}
-use Rattle.scalar_fns.specs.Laws.OneItem.{extended_same, only_index}
+use Rattle.scalar_fns.{specs.Items.{dyadic_on_items}, specs.ScalarExtension.{common, for_shape}, specs.Laws.Extension.{ExtendsTo, common_extends}}
+use Rattle.scalar_fns.{specs.EachDyadic.{each_dyadic_form, each_dyadic_item, each_dyadic_rule, extended_use}, specs.Laws.OneItem.{extended_same, only_index}}
+use Rattle.index_region.{specs.Boxes.{Interval, is_within, whole_of}, specs.Checks.{Form, form_of}}
+use Rattle.change_core.{specs.Tightness.{Covered, IsTight}, proofs.Growing.{tight_growing}, proofs.Sourced.{two_tight}, proofs.UsedWays.{within-whole}}
 
 -- where an argument of the result's shape is read, is the place itself
 read_at : (from shape index : List ℕ) → from ≡ shape → is_index_of shape index ≡ true → (if eqb (size from) 1 then map (λ _. 1) from else index) ≡ index

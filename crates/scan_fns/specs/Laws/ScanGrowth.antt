@@ -1,21 +1,12 @@
 -- The growth of scans along an axis that is not the first.
-use Rattle.std.proofs.Common.{◌≡◌, ℕ, ◌<◌, ap, sym, ◌∙◌, List, length, take, get_or, remove, nat_lt, if◌then◌else◌}
-use Rattle.std.proofs.lemmas.Bool.{and_parts}
-use Rattle.arrays_core.specs.declared.item.Item.{Item}
-use Rattle.arrays_core.specs.declared.item.ItemType.TheVariants.{Nums}
-use Rattle.function_names.specs.declared.scalar.Scalar2.{Scalar2}
-use Rattle.function_names.specs.declared.along.Along.{Along}
-use Rattle.function_names.specs.Axes.{axis_at}
-use Rattle.arrays_core.specs.Growth.{one_longer}
-use Rattle.change_core.specs.Growth.{IsGrowing}
-use Rattle.change_core.proofs.Growing.{growing_growing, longer_form, one_growing, shape_grown, type_grown}
-use Rattle.scan_fns.specs.Scan.{scan_form, scan_item, scan_type, scan_rule, scan_use}
+use Rattle.std.{proofs.Common.{◌≡◌, ℕ, ◌<◌, ap, sym, ◌∙◌, List, length, take, get_or, remove, nat_lt, if◌then◌else◌}, proofs.lemmas.Bool.{and_parts}}
+use Rattle.arrays_core.{specs.declared.item.Item.{Item}, specs.declared.item.ItemType.TheVariants.{Nums}, specs.Growth.{one_longer}}
+use Rattle.function_names.{specs.declared.scalar.Scalar2.{Scalar2}, specs.declared.along.Along.{Along}, specs.Axes.{axis_at}}
+use Rattle.change_core.{specs.Growth.{IsGrowing}, proofs.Growing.{growing_growing, longer_form, one_growing, shape_grown, type_grown}}
+use Rattle.scan_fns.{specs.Scan.{scan_form, scan_item, scan_type, scan_rule, scan_use}, specs.Laws.ScannedPlaces.{at_axis, scan_facts}}
 use Rattle.scalar_fns.specs.RightFold.{fold_right}
-use Rattle.reduce_fns.specs.Lines.{line}
-use Rattle.scan_fns.specs.Laws.ScannedPlaces.{at_axis, scan_facts}
+use Rattle.reduce_fns.{specs.Lines.{line}, specs.Growth.{lines_grow}, specs.Laws.LinesGrowth.{Alike, alike, line_kept, form_is}}
 use Rattle.index_region.proofs.RowIndices.{axis_below}
-use Rattle.reduce_fns.specs.Growth.{lines_grow}
-use Rattle.reduce_fns.specs.Laws.LinesGrowth.{Alike, alike, line_kept, form_is}
 
 pub scan_growing : (f : Scalar2) (along : Along) → IsGrowing (scan_rule f along) (lines_grow along)
 scan_growing f along = growing_growing _ _ (one_growing (scan_form along) (scan_item f along) (scan_use along) _ (λ old new g k h so sn listed e w.

@@ -1,13 +1,9 @@
 -- The law of the index generator.
 use Rattle.std.proofs.Common.{◌≡◌, ℕ, List, [], ◌∷◌, length, true, ap, arith, Ok, IsOk}
-use Rattle.arrays_core.specs.Arrays.{ArrayValue, IsArray}
-use Rattle.arrays_core.specs.Shapes.{is_index_of}
-use Rattle.change_core.specs.Tightness.{AllCovered, Each, IsTight, frames, items_read}
-use Rattle.change_core.specs.Sourced.{uses_of_one}
-use Rattle.change_core.specs.Ways.{unread}
+use Rattle.arrays_core.{specs.Arrays.{ArrayValue, IsArray}, specs.Shapes.{is_index_of}}
+use Rattle.change_core.{specs.Tightness.{AllCovered, Each, IsTight, frames, items_read}, specs.Sourced.{uses_of_one}, specs.Ways.{unread}}
 use Rattle.change_core.proofs.UsedWays.{unread-covered}
-use Rattle.index_region.specs.ArgumentLists.{of_one_argument}
-use Rattle.index_region.specs.Checks.{Form}
+use Rattle.index_region.{specs.ArgumentLists.{of_one_argument}, specs.Checks.{Form}}
 use Rattle.selection_fns.specs.IndexGenerator.{generator_form, generator_item, generator_rule}
 
 -- the number itself is the same where what a selector shows is

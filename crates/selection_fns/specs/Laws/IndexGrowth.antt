@@ -1,17 +1,10 @@
 -- The growth of indexed reference.
 use Rattle.std.proofs.Common.{◌≡◌, ℕ, ◌+◌, ◌<◌, ◌≤◌, ap, sym, ◌∙◌, refl, arith, true, false, Bool, not, ◌&&◌, nat_le, nat_eq, List, [], ◌∷◌, length, get_or, drop, Some, None, Ok, unwrap_or, inl, inr}
-use Rattle.std.specs.List.{list_all}
-use Rattle.std.proofs.lemmas.Bool.{and_parts, and_from, cases_Bool, cond-true, cond-false, eqb-true, false≢true, leb-true, le-leb}
-use Rattle.arrays_core.specs.declared.item.Item.{Item}
-use Rattle.arrays_core.specs.Arrays.{ArrayValue, IsArray, item_if_there}
-use Rattle.arrays_core.specs.Items.{fill}
-use Rattle.arrays_core.specs.Shapes.{is_index_of}
-use Rattle.index_region.specs.Arguments.{is_scalar}
-use Rattle.index_region.specs.Checks.{Form, form_of}
-use Rattle.index_region.proofs.Passing.{gives, limited_gives}
+use Rattle.std.{specs.List.{list_all}, proofs.lemmas.Bool.{and_parts, and_from, cases_Bool, cond-true, cond-false, eqb-true, false≢true, leb-true, le-leb}}
+use Rattle.arrays_core.{specs.declared.item.Item.{Item}, specs.Arrays.{ArrayValue, IsArray, item_if_there}, specs.Items.{fill}, specs.Shapes.{is_index_of}}
 use Rattle.arrays_core.specs.Growth.{one_longer}
-use Rattle.change_core.specs.Growth.{AllGrew, IsGrown, IsGrowing}
-use Rattle.change_core.proofs.Growing.{item_kept, longer_form, shape_grown, type_grown}
+use Rattle.index_region.{specs.Arguments.{is_scalar}, specs.Checks.{Form, form_of}, proofs.Passing.{gives, limited_gives}}
+use Rattle.change_core.{specs.Growth.{AllGrew, IsGrown, IsGrowing}, proofs.Growing.{item_kept, longer_form, shape_grown, type_grown}}
 use Rattle.selection_fns.specs.Index.{Position, are_numbers, are_on, indexed_shape, index_form, index_item, source_index, written_positions, index_rule}
 use Rattle.selection_fns.specs.Growth.{index_grows}
 

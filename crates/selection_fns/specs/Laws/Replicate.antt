@@ -1,26 +1,15 @@
 -- The law of replicate.
 use Rattle.std.proofs.Common.{◌≡◌, ℕ, zero, suc, ◌-◌, ◌<◌, ◌≤◌, true, false, nat_eq, nat_le, List, [], ◌∷◌, length, take, get_or, insert, remove, set, refl, sym, ap, ◌∙◌, subst, arith, Option, Ok, if◌then◌else◌, inl, inr}
-use Rattle.std.specs.Prelude.{max, sum}
-use Rattle.std.proofs.lemmas.Bool.{cases_Bool, cond-true, cond-false, eqb-false, leb-true}
-use Rattle.std.proofs.lemmas.Bool.Decides.{nat_tests}
+use Rattle.std.{specs.Prelude.{max, sum}, proofs.lemmas.Bool.{cases_Bool, cond-true, cond-false, eqb-false, leb-true}, proofs.lemmas.Bool.Decides.{nat_tests}}
 use Rattle.std.proofs.lemmas.List.{get_or_default}
-use Rattle.arrays_core.specs.Arrays.{ArrayValue}
-use Rattle.arrays_core.specs.Shapes.{is_index_of}
-use Rattle.function_names.specs.declared.along.Along.{Along}
-use Rattle.index_region.specs.Arguments.{is_scalar}
-use Rattle.function_names.specs.Axes.{axis_at}
-use Rattle.index_region.specs.Axes.{places_along}
-use Rattle.index_region.specs.Boxes.{Interval, is_within}
-use Rattle.index_region.specs.Checks.{Form}
-use Rattle.change_core.specs.Tightness.{Covered, IsTight}
-use Rattle.change_core.specs.Reaches.{is_moved}
-use Rattle.change_core.specs.Sourced.{right_used}
-use Rattle.change_core.proofs.Sourced.{selected_sourced-tight}
+use Rattle.arrays_core.{specs.Arrays.{ArrayValue}, specs.Shapes.{is_index_of}}
+use Rattle.function_names.{specs.declared.along.Along.{Along}, specs.Axes.{axis_at}}
+use Rattle.index_region.{specs.Arguments.{is_scalar}, specs.Axes.{places_along}, specs.Boxes.{Interval, is_within}, specs.Checks.{Form}}
+use Rattle.index_region.proofs.RowIndices.{axis_below}
+use Rattle.change_core.{specs.Tightness.{Covered, IsTight}, specs.Reaches.{is_moved}, specs.Sourced.{right_used}, proofs.Sourced.{selected_sourced-tight}}
 use Rattle.change_core.proofs.UsedWays.{Follows, within-set, within-whole}
 use Rattle.selection_fns.specs.Replicate.{times, copied_place, replicate_form, replicate_source, copied_interval, replicate_box, replicate_rule}
-use Rattle.index_region.proofs.RowIndices.{axis_below}
-use Rattle.selection_fns.specs.Laws.CopiedPlaces.{exchanged_there, is_copied, replicate_gives}
-use Rattle.selection_fns.specs.Laws.RepeatedPlaces.{maker_is_walk, sum_front, walk}
+use Rattle.selection_fns.{specs.Laws.CopiedPlaces.{exchanged_there, is_copied, replicate_gives}, specs.Laws.RepeatedPlaces.{maker_is_walk, sum_front, walk}}
 
 past : (i count : ℕ) → nat_le i count ≡ false → count < i
 past i count f = grind (arith, nat_tests)

@@ -1,9 +1,6 @@
 -- The law of shape.
 use Rattle.std.proofs.Common.{refl}
-use Rattle.change_core.specs.Tightness.{IsTight}
-use Rattle.change_core.specs.Ways.{unread}
-use Rattle.change_core.proofs.Sourced.{one_tight}
-use Rattle.change_core.proofs.UsedWays.{unread-covered}
+use Rattle.change_core.{specs.Tightness.{IsTight}, specs.Ways.{unread}, proofs.Sourced.{one_tight}, proofs.UsedWays.{unread-covered}}
 use Rattle.selection_fns.specs.Shape.{shape_form, shape_item, shape_rule}
 
 pub shape_tight : IsTight shape_rule

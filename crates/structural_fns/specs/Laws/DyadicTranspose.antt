@@ -1,10 +1,7 @@
 -- All that changes of A⍉B lies in its box.
 use Rattle.std.proofs.Common.{◌≡◌, ℕ, ◌-◌, List, [], ◌∷◌, map, get_or, refl, ap, subst, true}
 use Rattle.index_region.specs.Boxes.{is_within}
-use Rattle.change_core.specs.Tightness.{Each, IsTight}
-use Rattle.change_core.specs.Reaches.{is_moved}
-use Rattle.change_core.proofs.Sourced.{selected_sourced-tight}
-use Rattle.change_core.proofs.UsedWays.{permuted-covered}
+use Rattle.change_core.{specs.Tightness.{Each, IsTight}, specs.Reaches.{is_moved}, proofs.Sourced.{selected_sourced-tight}, proofs.UsedWays.{permuted-covered}}
 use Rattle.structural_fns.specs.DyadicTranspose.{axes_to, gathered, transpose_by_form, transpose_by_source, axes_from_zero, transpose_by_box, transpose_by_rule}
 
 -- the index of each axis, by axes counted from 1 and from 0

@@ -1,8 +1,7 @@
 -- Sources that are a place of the right argument only where a test passes, and fill else.
 use Rattle.std.proofs.Common.{◌≡◌, List, ℕ, [], Bool, true, false, if◌then◌else◌, refl}
 use Rattle.index_region.specs.Sources.{Place, Fill}
-use Rattle.change_core.specs.Tightness.{Each}
-use Rattle.change_core.specs.Sourced.{left_of, right_of}
+use Rattle.change_core.{specs.Tightness.{Each}, specs.Sourced.{left_of, right_of}}
 
 pub none_left : (test : Bool) (place : List ℕ) → left_of (if test then Place 1 place else Fill) ≡ []
 none_left true place = refl

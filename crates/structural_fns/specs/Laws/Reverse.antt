@@ -1,11 +1,8 @@
 -- All that changes of ⌽B lies in its box.
 use Rattle.std.proofs.Common.{length, refl, arith}
-use Rattle.function_names.specs.declared.along.Along.{Along}
-use Rattle.function_names.specs.Axes.{axis_at}
+use Rattle.function_names.{specs.declared.along.Along.{Along}, specs.Axes.{axis_at}}
 use Rattle.index_region.specs.Axes.{places_along}
-use Rattle.change_core.specs.Tightness.{IsTight}
-use Rattle.change_core.proofs.Sourced.{one_sourced-tight}
-use Rattle.change_core.proofs.UsedWays.{within-set}
+use Rattle.change_core.{specs.Tightness.{IsTight}, proofs.Sourced.{one_sourced-tight}, proofs.UsedWays.{within-set}}
 use Rattle.structural_fns.specs.Reverse.{reverse_form, reverse_source, reversed, reverse_box, reverse_rule}
 
 pub reverse_tight : (along : Along) → IsTight (reverse_rule along)

@@ -1,12 +1,10 @@
 -- All that changes of ⍉B lies in its box.
-use Rattle.std.proofs.Common.{◌≡◌, ℕ, List, [], ◌∷◌, reverse, refl, ap, sym, ◌∙◌, true}
-use Rattle.std.proofs.lemmas.Bool.{and_parts, and_from, false≢true}
+use Rattle.std.{proofs.Common.{◌≡◌, ℕ, List, [], ◌∷◌, reverse, refl, ap, sym, ◌∙◌, true}, proofs.lemmas.Bool.{and_parts, and_from, false≢true}}
 use Rattle.std.proofs.lemmas.List.{reverse-reverse}
-use mathlib.Core.List.{reverse_aux}
 use Rattle.index_region.specs.Boxes.{Interval, is_within}
-use Rattle.change_core.specs.Tightness.{IsTight}
-use Rattle.change_core.proofs.Sourced.{one_sourced-tight}
+use Rattle.change_core.{specs.Tightness.{IsTight}, proofs.Sourced.{one_sourced-tight}}
 use Rattle.structural_fns.specs.Transpose.{transpose_form, transpose_source, transpose_box, transpose_rule}
+use mathlib.Core.List.{reverse_aux}
 
 within-aux : (region others : List Interval) (index rest : List ℕ) → is_within region index ≡ true → is_within others rest ≡ true
     → is_within (reverse_aux region others) (reverse_aux index rest) ≡ true

@@ -1,8 +1,6 @@
-use Rattle.std.proofs.Common.{◌∷◌}
-use Rattle.std.proofs.lemmas.Result.{err_from_is_err_and}
+use Rattle.std.{proofs.Common.{◌∷◌}, proofs.lemmas.Result.{err_from_is_err_and}}
 use Rattle.apl_tokens.specs.Lexemes.{lexemes, Named, Sign}
-use Rattle.apl_expr.specs.Changes.{IsChangeOf}
-use Rattle.apl_expr.proofs.Changes.{cell_ok, cell_err, exits}
+use Rattle.apl_expr.{specs.Changes.{IsChangeOf}, proofs.Changes.{cell_ok, cell_err, exits}}
 use Rattle.apl_expr.proofs.command.cell.Goals as goal
 
 pub returns-in_err-positions : goal.returns-in_err-positions

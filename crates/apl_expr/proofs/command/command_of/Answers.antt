@@ -1,12 +1,7 @@
-use Rattle.std.proofs.Common.{◌≡◌, [], Ok, Err, subst, sym, refl, arith}
-use Rattle.std.proofs.lemmas.List.{length-map, nil_from_length}
-use Rattle.std.proofs.lemmas.Grind.{common_steps}
+use Rattle.std.{proofs.Common.{◌≡◌, [], Ok, Err, subst, sym, refl, arith}, proofs.lemmas.List.{length-map, nil_from_length}, proofs.lemmas.Grind.{common_steps}}
 use Rattle.apl_tokens.specs.Lexemes.{lexemes}
-use Rattle.apl_expr.specs.declared.command.Command.{Command}
-use Rattle.apl_expr.specs.declared.fault.ParseFault.{ParseFault}
-use Rattle.apl_expr.specs.Lines.{IsCommand, IsLine, nothing, Nothing}
-use Rattle.apl_expr.specs.Changes.{IsChangeOf}
-use Rattle.apl_expr.proofs.Commands.{change_ok, change_too_large}
+use Rattle.apl_expr.{specs.declared.command.Command.{Command}, specs.declared.fault.ParseFault.{ParseFault}, specs.Lines.{IsCommand, IsLine, nothing, Nothing}}
+use Rattle.apl_expr.{specs.Changes.{IsChangeOf}, proofs.Commands.{change_ok, change_too_large}}
 use Rattle.apl_expr.proofs.command.command_of.Goals as goal
 
 pub returns-then-is_empty : goal.returns-then-is_empty

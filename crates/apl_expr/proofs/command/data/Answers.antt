@@ -1,10 +1,6 @@
-use Rattle.std.proofs.Common.{◌∷◌}
-use Rattle.std.proofs.lemmas.List.{length-map}
-use Rattle.std.proofs.lemmas.Result.{err_from_is_err_and}
+use Rattle.std.{proofs.Common.{◌∷◌}, proofs.lemmas.List.{length-map}, proofs.lemmas.Result.{err_from_is_err_and}}
 use Rattle.apl_tokens.specs.Lexemes.{lexemes, Named, Sign}
-use Rattle.apl_expr.specs.Lines.{data_word}
-use Rattle.apl_expr.specs.Changes.{IsChangeOf}
-use Rattle.apl_expr.proofs.Changes.{data_none, data_ok, data_err, exits}
+use Rattle.apl_expr.{specs.Lines.{data_word}, specs.Changes.{IsChangeOf}, proofs.Changes.{data_none, data_ok, data_err, exits}}
 use Rattle.apl_expr.proofs.command.data.Goals as goal
 
 pub returns-in_default : goal.returns-in_default

@@ -1,8 +1,7 @@
-use Rattle.std.proofs.Common.{refl}
-use Rattle.std.proofs.lemmas.List.{length-map}
+use Rattle.std.{proofs.Common.{refl}, proofs.lemmas.List.{length-map}}
 use Rattle.apl_tokens.specs.Lexemes.{lexemes}
-use Rattle.apl_expr.specs.declared.command.Change.TheVariants as changed
 use Rattle.apl_expr.proofs.Changes.{define_ok, define_err}
+use Rattle.apl_expr.specs.declared.command.Change.TheVariants as changed
 use Rattle.apl_expr.proofs.command.define_into.Goals as goal
 
 pub returns-in-Ok : goal.returns-in-Ok

@@ -1,12 +1,7 @@
-use Rattle.std.proofs.Common.{Ok, ◌∷◌, rules, w64, SFits}
-use Rattle.std.proofs.lemmas.Int.{to_z-of_z}
-use Rattle.std.proofs.lemmas.List.{length-map}
+use Rattle.std.{proofs.Common.{Ok, ◌∷◌, rules, w64, SFits}, proofs.lemmas.Int.{to_z-of_z}, proofs.lemmas.List.{length-map}}
 use Rattle.std.proofs.lemmas.Result.{err_from_is_err_and}
 use Rattle.apl_tokens.specs.Lexemes.{lexemes, Named, Sign}
-use Rattle.apl_expr.specs.Lines.{open_word, IsCommand}
-use Rattle.apl_expr.specs.Changes.{IsChangeOf}
-use Rattle.apl_expr.proofs.Changes.{exits}
-use Rattle.apl_expr.proofs.Commands.{open_none, open_ok, open_err}
+use Rattle.apl_expr.{specs.Lines.{open_word, IsCommand}, specs.Changes.{IsChangeOf}, proofs.Changes.{exits}, proofs.Commands.{open_none, open_ok, open_err}}
 use Rattle.apl_expr.proofs.command.open.Goals as goal
 
 pub returns-in_default : goal.returns-in_default

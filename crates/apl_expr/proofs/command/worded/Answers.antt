@@ -1,5 +1,4 @@
-use Rattle.std.proofs.Common.{◌∙◌}
-use Rattle.std.proofs.lemmas.List.{length-map}
+use Rattle.std.{proofs.Common.{◌∙◌}, proofs.lemmas.List.{length-map}}
 use Rattle.apl_tokens.specs.Lexemes.{lexemes}
 use Rattle.apl_expr.proofs.Commands.{other_word}
 use Rattle.apl_expr.proofs.command.worded.Goals as goal

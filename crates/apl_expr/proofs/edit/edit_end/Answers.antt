@@ -1,7 +1,5 @@
-use Rattle.std.proofs.Common.{sym, ap, ◌∙◌}
-use Rattle.std.proofs.lemmas.Bool.{eqb-true}
-use Rattle.apl_expr.specs.Edits.{edit_of}
-use Rattle.apl_expr.proofs.Editing.{no_items, not_none, some_items}
+use Rattle.std.{proofs.Common.{sym, ap, ◌∙◌}, proofs.lemmas.Bool.{eqb-true}}
+use Rattle.apl_expr.{specs.Edits.{edit_of}, proofs.Editing.{no_items, not_none, some_items}}
 use Rattle.apl_expr.proofs.edit.edit_end.Goals as goal
 
 pub returns-then-is_empty : goal.returns-then-is_empty

@@ -1,6 +1,5 @@
 use Rattle.apl_tokens.specs.Lexemes.{lexemes}
-use Rattle.apl_expr.specs.Trees.{literal_of}
-use Rattle.apl_expr.proofs.CellEdits.{no_positions}
+use Rattle.apl_expr.{specs.Trees.{literal_of}, proofs.CellEdits.{no_positions}}
 use Rattle.apl_expr.proofs.edit.whole_literal.Goals as goal
 
 pub returns : goal.returns

@@ -1,8 +1,6 @@
 use Rattle.std.proofs.Common.{◌∙◌, ◌≤◌, length, ap, subst, sym}
 use Rattle.apl_tokens.specs.Lexemes.{Sign, lexeme, lexemes}
-use Rattle.apl_expr.specs.declared.functions.Function.{Function}
-use Rattle.apl_expr.specs.Functions.{function_from}
-use Rattle.apl_expr.proofs.FunctionsRead.{more_short}
+use Rattle.apl_expr.{specs.declared.functions.Function.{Function}, specs.Functions.{function_from}, proofs.FunctionsRead.{more_short}}
 use Rattle.apl_expr.proofs.functions.function_from.Goals as goal
 
 pub returns-in-Mark-clause-is : goal.returns-in-Mark-clause-is

@@ -1,6 +1,5 @@
 use Rattle.std.proofs.Common.{ap, sym, ◌∙◌, Some}
-use Rattle.apl_expr.specs.Trees.{Tree}
-use Rattle.apl_expr.proofs.Rows.{index_made}
+use Rattle.apl_expr.{specs.Trees.{Tree}, proofs.Rows.{index_made}}
 use Rattle.apl_expr.proofs.parser.index_closed.Goals as goal
 
 pub returns : goal.returns

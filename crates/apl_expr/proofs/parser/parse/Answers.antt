@@ -1,8 +1,6 @@
-use Rattle.std.proofs.Common.{arith}
-use Rattle.std.proofs.lemmas.List.{length-map}
+use Rattle.std.{proofs.Common.{arith}, proofs.lemmas.List.{length-map}}
 use Rattle.apl_tokens.specs.Lexemes.{lexemes}
-use Rattle.apl_expr.specs.Trees.{tree_of}
-use Rattle.apl_expr.proofs.FewTokens.{few_tokens}
+use Rattle.apl_expr.{specs.Trees.{tree_of}, proofs.FewTokens.{few_tokens}}
 use Rattle.apl_expr.proofs.parser.parse.Goals as goal
 
 pub returns-in-Ok-Some : goal.returns-in-Ok-Some

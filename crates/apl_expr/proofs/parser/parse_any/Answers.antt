@@ -1,11 +1,6 @@
-use Rattle.std.proofs.Common.{◌<◌, ◌≤◌, inl, inr, arith}
-use Rattle.std.proofs.lemmas.List.{length-map}
-use Rattle.std.proofs.lemmas.Result.{err_from_is_err_and}
+use Rattle.std.{proofs.Common.{◌<◌, ◌≤◌, inl, inr, arith}, proofs.lemmas.List.{length-map}, proofs.lemmas.Result.{err_from_is_err_and}}
 use Rattle.apl_tokens.specs.Lexemes.{lexemes}
-use Rattle.apl_expr.specs.Limits.{most_height, most_nodes}
-use Rattle.apl_expr.specs.Trees.{tree_of, height, nodes}
-use Rattle.apl_expr.proofs.Sizes.{above_limit}
-use Rattle.apl_expr.proofs.FewTokens.{few_tokens}
+use Rattle.apl_expr.{specs.Limits.{most_height, most_nodes}, specs.Trees.{tree_of, height, nodes}, proofs.Sizes.{above_limit}, proofs.FewTokens.{few_tokens}}
 use Rattle.apl_expr.proofs.Parsed.{refused, too_large, read_tree}
 use Rattle.apl_expr.proofs.parser.parse_any.Goals as goal
 

@@ -1,7 +1,6 @@
 use Rattle.std.proofs.Common.{◌≡◌, Some, [], length}
 use Rattle.apl_tokens.specs.Lexemes.{lexemes}
-use Rattle.apl_expr.specs.Machine.{run, state, Nothing}
-use Rattle.apl_expr.specs.Parsing.{stack, reading_of}
+use Rattle.apl_expr.{specs.Machine.{run, state, Nothing}, specs.Parsing.{stack, reading_of}}
 use Rattle.apl_expr.proofs.parser.tree.Given as goal
 
 abbrev pub invariant-loop-first : goal.invariant-loop-first

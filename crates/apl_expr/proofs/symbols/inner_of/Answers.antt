@@ -1,7 +1,5 @@
-use Rattle.std.proofs.Common.{◌≡◌, ◌∙◌, Some, sym, ap}
-use Rattle.std.specs.Prelude.{option_and_then, option_map}
-use Rattle.apl_expr.specs.declared.functions.Function2.TheVariants.{Inner}
-use Rattle.apl_expr.specs.Symbols.{scalar_dyad_of}
+use Rattle.std.{proofs.Common.{◌≡◌, ◌∙◌, Some, sym, ap}, specs.Prelude.{option_and_then, option_map}}
+use Rattle.apl_expr.{specs.declared.functions.Function2.TheVariants.{Inner}, specs.Symbols.{scalar_dyad_of}}
 use Rattle.apl_expr.proofs.symbols.inner_of.Goals as goal
 
 pub returns : goal.returns

@@ -1,10 +1,5 @@
-use Rattle.std.proofs.Common.{◌≡◌, ℕ, List, [], ◌∷◌, length, sym, subst, ◌∙◌, rules, w64, SFits}
-use Rattle.std.proofs.lemmas.Bool.{eqb-true}
-use Rattle.std.proofs.lemmas.Int.{to_z-of_z}
-use Rattle.apl_tokens.specs.Lexemes.{Named}
-use Rattle.apl_tokens.specs.Signs.{left_bracket}
-use Rattle.apl_tokens.specs.Reading.{ReadsBefore, EndsName}
-use Rattle.apl_tokens.proofs.EditBytes.{edit_read}
+use Rattle.std.{proofs.Common.{◌≡◌, ℕ, List, [], ◌∷◌, length, sym, subst, ◌∙◌, rules, w64, SFits}, proofs.lemmas.Bool.{eqb-true}, proofs.lemmas.Int.{to_z-of_z}}
+use Rattle.apl_tokens.{specs.Lexemes.{Named}, specs.Signs.{left_bracket}, specs.Reading.{ReadsBefore, EndsName}, proofs.EditBytes.{edit_read}}
 use Rattle.apl_tokens.proofs.cell_edit.number_edit.Goals as goal
 
 pub returns : goal.returns

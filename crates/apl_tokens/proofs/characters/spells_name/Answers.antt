@@ -1,9 +1,5 @@
-use Rattle.std.proofs.Common.{◌≡◌, ℕ, ◌++◌, List, Bool, true, rules, tests, sym, ap, ◌∙◌, refl}
-use Rattle.std.specs.Prelude.{encode_utf8, ◌&&◌}
-use Rattle.std.specs.Str.{chars, IsUtf8}
-use Rattle.std.specs.List.{list_all}
-use Rattle.std.proofs.lemmas.Str.{chars_past_char, IsUtf8-past_char}
-use Rattle.std.proofs.lemmas.Iterator.{YieldsList-from_chars}
+use Rattle.std.{proofs.Common.{◌≡◌, ℕ, ◌++◌, List, Bool, true, rules, tests, sym, ap, ◌∙◌, refl}, specs.Prelude.{encode_utf8, ◌&&◌}, specs.Str.{chars, IsUtf8}}
+use Rattle.std.{specs.List.{list_all}, proofs.lemmas.Str.{chars_past_char, IsUtf8-past_char}, proofs.lemmas.Iterator.{YieldsList-from_chars}}
 use Rattle.std.proofs.lemmas.Iterator.Search.{all_from_yields_List}
 use Rattle.apl_tokens.specs.Characters.{is_letter, is_name_part, spells_name}
 use Rattle.apl_tokens.proofs.characters.spells_name.Goals as goal

@@ -1,9 +1,5 @@
-use Rattle.std.proofs.Common.{◌≡◌, ℕ, List, [], ◌∷◌, sym, ap, ◌∙◌, subst}
-use Rattle.std.proofs.lemmas.Option.{IfSome_then}
-use Rattle.apl_tokens.specs.Lexemes.{Sign}
-use Rattle.apl_tokens.specs.Signs.{left_arrow}
-use Rattle.apl_tokens.specs.Reading.{Reads}
-use Rattle.apl_tokens.proofs.EditBytes.{reads_arrow}
+use Rattle.std.{proofs.Common.{◌≡◌, ℕ, List, [], ◌∷◌, sym, ap, ◌∙◌, subst}, proofs.lemmas.Option.{IfSome_then}}
+use Rattle.apl_tokens.{specs.Lexemes.{Sign}, specs.Signs.{left_arrow}, specs.Reading.{Reads}, proofs.EditBytes.{reads_arrow}}
 use Rattle.apl_tokens.proofs.fronts.after_arrow.Goals as goal
 
 pub returns : goal.returns

@@ -1,5 +1,4 @@
-use Rattle.std.proofs.Common.{ℕ, List, ◌∷◌, ap, ◌∙◌}
-use Rattle.std.proofs.lemmas.Option.{IfSome_then}
+use Rattle.std.{proofs.Common.{ℕ, List, ◌∷◌, ap, ◌∙◌}, proofs.lemmas.Option.{IfSome_then}}
 use Rattle.apl_tokens.proofs.fronts.after_minus.Goals as goal
 
 pub returns : goal.returns

@@ -1,6 +1,4 @@
-use Rattle.std.proofs.Common.{◌≡◌, true, take}
-use Rattle.std.specs.List.{list_all}
-use Rattle.std.specs.Str.{IsAscii}
+use Rattle.std.{proofs.Common.{◌≡◌, true, take}, specs.List.{list_all}, specs.Str.{IsAscii}}
 use Rattle.apl_tokens.specs.Characters.{is_name_part}
 use Rattle.apl_tokens.proofs.fronts.count_parts.Given as goal
 

@@ -1,10 +1,6 @@
-use Rattle.std.proofs.Common.{List, ℕ, ◌≡◌, true, sym, ap, subst, ◌∙◌, rules, w64, SFits}
-use Rattle.std.specs.Char.{is_ascii_digit}
-use Rattle.std.specs.List.{list_all}
-use Rattle.std.specs.Str.{IsAscii}
-use Rattle.std.proofs.lemmas.Int.{to_z-of_z}
-use Rattle.apl_tokens.specs.Characters.{decimal_from, fits_number, signed}
-use Rattle.apl_tokens.proofs.EditBytes.{digits_read}
+use Rattle.std.{proofs.Common.{List, ℕ, ◌≡◌, true, sym, ap, subst, ◌∙◌, rules, w64, SFits}, specs.Char.{is_ascii_digit}, specs.List.{list_all}}
+use Rattle.std.{specs.Str.{IsAscii}, proofs.lemmas.Int.{to_z-of_z}}
+use Rattle.apl_tokens.{specs.Characters.{decimal_from, fits_number, signed}, proofs.EditBytes.{digits_read}}
 use Rattle.apl_tokens.proofs.fronts.digits_front.Goals as goal
 
 pub returns : goal.returns

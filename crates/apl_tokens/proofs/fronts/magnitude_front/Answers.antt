@@ -1,6 +1,4 @@
-use Rattle.std.proofs.Common.{◌<◌, length, arith, rules}
-use Rattle.std.proofs.lemmas.Grind.{common_steps}
-use Rattle.std.proofs.lemmas.Str.Ascii.{IsAscii-more}
+use Rattle.std.{proofs.Common.{◌<◌, length, arith, rules}, proofs.lemmas.Grind.{common_steps}, proofs.lemmas.Str.Ascii.{IsAscii-more}}
 use Rattle.apl_tokens.proofs.Decimals.{one_more_digit}
 use Rattle.apl_tokens.proofs.fronts.magnitude_front.Goals as goal
 

@@ -1,7 +1,4 @@
-use Rattle.std.proofs.Common.{◌≡◌, true, take}
-use Rattle.std.specs.Char.{is_ascii_digit}
-use Rattle.std.specs.List.{list_all}
-use Rattle.std.specs.Str.{IsAscii}
+use Rattle.std.{proofs.Common.{◌≡◌, true, take}, specs.Char.{is_ascii_digit}, specs.List.{list_all}, specs.Str.{IsAscii}}
 use Rattle.apl_tokens.specs.Characters.{decimal_from}
 use Rattle.apl_tokens.proofs.fronts.magnitude_front.Given as goal
 

@@ -1,5 +1,4 @@
-use Rattle.std.proofs.Common.{rules}
-use Rattle.std.proofs.lemmas.Nat.{le_bytes_8}
+use Rattle.std.{proofs.Common.{rules}, proofs.lemmas.Nat.{le_bytes_8}}
 use Rattle.apl_tokens.proofs.name.number_of.Goals as goal
 
 pub returns : goal.returns

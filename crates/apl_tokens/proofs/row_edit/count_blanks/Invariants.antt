@@ -1,5 +1,4 @@
-use Rattle.std.proofs.Common.{◌≡◌, ◌≤◌, take}
-use Rattle.std.specs.Prelude.{count_by, ◌==◌}
+use Rattle.std.{proofs.Common.{◌≡◌, ◌≤◌, take}, specs.Prelude.{count_by, ◌==◌}}
 use Rattle.apl_tokens.proofs.row_edit.count_blanks.Given as goal
 
 abbrev pub invariant-loop-byte : goal.invariant-loop-byte

@@ -1,6 +1,4 @@
-use Rattle.std.proofs.Common.{◌≡◌, length, sym, ◌∙◌, rules, w64, SFits}
-use Rattle.std.proofs.lemmas.Bool.{eqb-true}
-use Rattle.std.proofs.lemmas.Int.{to_z-of_z}
+use Rattle.std.{proofs.Common.{◌≡◌, length, sym, ◌∙◌, rules, w64, SFits}, proofs.lemmas.Bool.{eqb-true}, proofs.lemmas.Int.{to_z-of_z}}
 use Rattle.apl_tokens.proofs.EditBytes.{one_number}
 use Rattle.apl_tokens.proofs.row_edit.row_numbers.Goals as goal
 

@@ -1,5 +1,4 @@
-use Rattle.std.proofs.Common.{◌≡◌, List, [], ◌∷◌, length, subst, arith, rules}
-use Rattle.std.specs.Prelude.{ℤ}
+use Rattle.std.{proofs.Common.{◌≡◌, List, [], ◌∷◌, length, subst, arith, rules}, specs.Prelude.{ℤ}}
 use Rattle.apl_tokens.specs.Reading.{GoesOn}
 use Rattle.apl_tokens.proofs.row_edit.several_numbers.Goals as goal
 

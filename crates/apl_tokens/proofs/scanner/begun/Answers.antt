@@ -1,6 +1,4 @@
-use Rattle.std.proofs.Common.{sym, subst, arith}
-use Rattle.std.specs.Str.{IsUtf8}
-use Rattle.std.proofs.lemmas.Str.{IsUtf8-encode}
+use Rattle.std.{proofs.Common.{sym, subst, arith}, specs.Str.{IsUtf8}, proofs.lemmas.Str.{IsUtf8-encode}}
 use Rattle.apl_tokens.proofs.scanner.begun.Goals as goal
 
 pub returns-then-is_letter-clause-reading : goal.returns-then-is_letter-clause-reading

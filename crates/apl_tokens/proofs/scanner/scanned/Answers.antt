@@ -1,11 +1,6 @@
-use Rattle.std.proofs.Common.{◌≡◌, ◌+◌, [], length, arith, sym, ap, ◌∙◌, subst}
-use Rattle.std.specs.Str.{chars, IsUtf8}
-use Rattle.std.specs.declared.str.Chars.{Chars}
-use Rattle.std.proofs.lemmas.Result.{err_from_is_err_and}
-use Rattle.std.proofs.lemmas.Str.{chars_past_char, IsUtf8-past_char}
-use Rattle.apl_tokens.specs.Scanner.{scan, turn, Between, Goes}
-use Rattle.apl_tokens.specs.Scans.{with_front}
-use Rattle.apl_tokens.specs.Scanning.{all_spanned, prepended, scan_of, Finds, IsReading}
+use Rattle.std.{proofs.Common.{◌≡◌, ◌+◌, [], length, arith, sym, ap, ◌∙◌, subst}, specs.Str.{chars, IsUtf8}, specs.declared.str.Chars.{Chars}}
+use Rattle.std.{proofs.lemmas.Result.{err_from_is_err_and}, proofs.lemmas.Str.{chars_past_char, IsUtf8-past_char}}
+use Rattle.apl_tokens.{specs.Scanner.{scan, turn, Between, Goes}, specs.Scans.{with_front}, specs.Scanning.{all_spanned, prepended, scan_of, Finds, IsReading}}
 use Rattle.apl_tokens.proofs.Walk.{bytes_of_next, stands, drop_next, front_of_none, no_characters, goes, fails, at_end}
 use Rattle.apl_tokens.proofs.scanner.scanned.Goals as goal
 

@@ -1,8 +1,5 @@
-use Rattle.std.proofs.Common.{◌≡◌, ◌+◌, length, drop}
-use Rattle.std.specs.Str.{chars, IsUtf8}
-use Rattle.apl_tokens.specs.Scans.{with_front}
-use Rattle.apl_tokens.specs.Scanner.{scan, Between}
-use Rattle.apl_tokens.specs.Scanning.{all_spanned, scan_of, IsReading}
+use Rattle.std.{proofs.Common.{◌≡◌, ◌+◌, length, drop}, specs.Str.{chars, IsUtf8}}
+use Rattle.apl_tokens.{specs.Scans.{with_front}, specs.Scanner.{scan, Between}, specs.Scanning.{all_spanned, scan_of, IsReading}}
 use Rattle.apl_tokens.proofs.scanner.scanned.Given as goal
 
 abbrev pub invariant-loop-c : goal.invariant-loop-c

@@ -1,8 +1,5 @@
-use Rattle.std.proofs.Common.{◌+◌}
-use Rattle.std.specs.Char.{len_utf8}
-use Rattle.apl_tokens.specs.Scanner.{ended, begun}
-use Rattle.apl_tokens.specs.Scanning.{all_spanned, scan_of}
-use Rattle.apl_tokens.proofs.Turns.{turns_on}
+use Rattle.std.{proofs.Common.{◌+◌}, specs.Char.{len_utf8}}
+use Rattle.apl_tokens.{specs.Scanner.{ended, begun}, specs.Scanning.{all_spanned, scan_of}, proofs.Turns.{turns_on}}
 use Rattle.apl_tokens.proofs.scanner.then_begun.Goals as goal
 
 pub returns-clause-turns : goal.returns-clause-turns

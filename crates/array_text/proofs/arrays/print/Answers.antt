@@ -1,9 +1,7 @@
-use Rattle.std.proofs.Common.{◌++◌, ◌∙◌, ap, sym, List, ℕ}
-use Rattle.std.specs.Prelude.{string_bytes}
-use Rattle.array_text.specs.Text.{numbers_text, characters_text}
-use Rattle.array_text.proofs.Ranks.{text_of_numbers, text_of_characters}
-use Rattle.array_text.proofs.arrays.print.Goals as goal
+use Rattle.std.{proofs.Common.{◌++◌, ◌∙◌, ap, sym, List, ℕ}, specs.Prelude.{string_bytes}}
+use Rattle.array_text.{specs.Text.{numbers_text, characters_text}, proofs.Ranks.{text_of_numbers, text_of_characters}}
 use Rattle.array_text.proofs.arrays.print.Goals.{in-Some+in_ok-push_items-in-Some, in-None+in_ok-push_items-in-None}
+use Rattle.array_text.proofs.arrays.print.Goals as goal
 
 pub returns : goal.returns
 returns c =

@@ -1,6 +1,4 @@
-use Rattle.std.proofs.Common.{◌≡◌, ◌+◌, drop}
-use Rattle.std.specs.List.{prefix_len}
-use Rattle.std.specs.Char.{is_ascii_digit}
+use Rattle.std.{proofs.Common.{◌≡◌, ◌+◌, drop}, specs.List.{prefix_len}, specs.Char.{is_ascii_digit}}
 use Rattle.array_text.proofs.fields.digits_at.Given as goal
 
 abbrev pub invariant-loop-offset : goal.invariant-loop-offset

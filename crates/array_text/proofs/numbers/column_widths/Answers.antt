@@ -1,6 +1,4 @@
-use Rattle.std.proofs.Common.{◌≡◌, ◌∙◌, ap, refl, ℕ, map, arith}
-use Rattle.std.specs.List.{range_with_len}
-use Rattle.std.proofs.lemmas.List.FromFn.{map-range_with_len_more}
+use Rattle.std.{proofs.Common.{◌≡◌, ◌∙◌, ap, refl, ℕ, map, arith}, specs.List.{range_with_len}, proofs.lemmas.List.FromFn.{map-range_with_len_more}}
 use Rattle.array_text.specs.Text.{column_width, column_widths}
 use Rattle.array_text.proofs.numbers.column_widths.Goals as goal
 

@@ -1,11 +1,8 @@
 use lib.Utf8.{encode}
-use Rattle.std.proofs.Common.{◌≡◌, ◌++◌, ◌∙◌, ◌∷◌, [], ap, List, ℕ, pos, get_or, length, append_assoc, rules, w64, arith}
-use Rattle.std.specs.Prelude.{string_bytes}
-use Rattle.std.specs.List.{join_by, range_with_len}
-use Rattle.std.proofs.lemmas.Int.{to_z-of_z}
+use Rattle.std.{proofs.Common.{◌≡◌, ◌++◌, ◌∙◌, ◌∷◌, [], ap, List, ℕ, pos, get_or, length, append_assoc, rules, w64, arith}, specs.Prelude.{string_bytes}}
+use Rattle.std.{specs.List.{join_by, range_with_len}, proofs.lemmas.Int.{to_z-of_z}}
+use Rattle.array_text.{specs.Text.{right_justified, number_row, between_numbers}, proofs.Writing.{pushed, grown_twice, join_by-range_step, all_done}}
 use mir.Val.{SFits}
-use Rattle.array_text.specs.Text.{right_justified, number_row, between_numbers}
-use Rattle.array_text.proofs.Writing.{pushed, grown_twice, join_by-range_step, all_done}
 use Rattle.array_text.proofs.numbers.push_row.Goals as goal
 
 pub loop-column-preserved : goal.loop-column-preserved

@@ -1,6 +1,4 @@
-use Rattle.std.proofs.Common.{◌≡◌, ◌++◌, get_or, pos}
-use Rattle.std.specs.Prelude.{string_bytes}
-use Rattle.std.specs.List.{join_by, range_with_len}
+use Rattle.std.{proofs.Common.{◌≡◌, ◌++◌, get_or, pos}, specs.Prelude.{string_bytes}, specs.List.{join_by, range_with_len}}
 use Rattle.array_text.specs.Text.{right_justified, between_numbers}
 use Rattle.array_text.proofs.numbers.push_row.Given as goal
 

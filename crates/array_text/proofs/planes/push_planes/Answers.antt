@@ -1,10 +1,6 @@
-use Rattle.std.proofs.Common.{◌++◌, ◌∙◌, ◌*◌, sym, ap, List, ℕ, length, take, drop, arith}
-use Rattle.std.specs.Prelude.{string_bytes}
-use Rattle.std.specs.List.{join_by, range_with_len}
-use Rattle.std.proofs.lemmas.Bool.{eqb-true}
-use Rattle.std.proofs.lemmas.List.{append-nil}
-use Rattle.array_text.specs.Text.{part_of, line_end}
-use Rattle.array_text.proofs.Writing.{grown_twice, join_by-range_step, all_done, part_width, planes_none, planes_some}
+use Rattle.std.{proofs.Common.{◌++◌, ◌∙◌, ◌*◌, sym, ap, List, ℕ, length, take, drop, arith}, specs.Prelude.{string_bytes}, specs.List.{join_by, range_with_len}}
+use Rattle.std.{proofs.lemmas.Bool.{eqb-true}, proofs.lemmas.List.{append-nil}}
+use Rattle.array_text.{specs.Text.{part_of, line_end}, proofs.Writing.{grown_twice, join_by-range_step, all_done, part_width, planes_none, planes_some}}
 use Rattle.array_text.proofs.planes.push_planes.Goals as goal
 
 pub returns-then-is_empty : goal.returns-then-is_empty

@@ -1,5 +1,4 @@
-use Rattle.std.proofs.Common.{◌≡◌, ◌++◌}
-use Rattle.std.specs.Prelude.{string_bytes, replicate}
+use Rattle.std.{proofs.Common.{◌≡◌, ◌++◌}, specs.Prelude.{string_bytes, replicate}}
 use Rattle.array_text.proofs.spacing.push_blanks.Given as goal
 
 abbrev pub invariant-loop-blank : goal.invariant-loop-blank

@@ -1,9 +1,7 @@
-use Rattle.std.proofs.Common.{◌<◌, ◌∙◌, ◌++◌, ◌∷◌, [], ℤ, sym, ap, length, arith, rules, w64}
-use Rattle.std.proofs.lemmas.Int.{to_z-of_z}
-use mir.Val.{SFits}
-use Rattle.std.proofs.lemmas.Option.{none-some}
+use Rattle.std.{proofs.Common.{◌<◌, ◌∙◌, ◌++◌, ◌∷◌, [], ℤ, sym, ap, length, arith, rules, w64}, proofs.lemmas.Int.{to_z-of_z}, proofs.lemmas.Option.{none-some}}
 use Rattle.csv.specs.Records.{fields_of}
 use Rattle.array_text.proofs.Tables.{bad_found, field_there, good_found, number_found}
+use mir.Val.{SFits}
 use Rattle.array_text.proofs.table_reader.push_fields.Goals as goal
 
 pub unreachable-requires : goal.unreachable-requires

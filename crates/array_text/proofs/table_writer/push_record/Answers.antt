@@ -1,13 +1,8 @@
 use lib.Utf8.{encode}
-use Rattle.std.proofs.Common.{◌≡◌, ◌++◌, ◌∙◌, ◌∷◌, [], ap, List, ℕ, pos, get_or, append_assoc, rules, w64}
-use Rattle.std.specs.Prelude.{string_bytes}
-use Rattle.std.specs.Fmt.{signed_decimal}
-use Rattle.std.specs.List.{join_by}
-use Rattle.std.proofs.lemmas.List.{take_all}
-use Rattle.std.proofs.lemmas.Int.{to_z-of_z}
+use Rattle.std.{proofs.Common.{◌≡◌, ◌++◌, ◌∙◌, ◌∷◌, [], ap, List, ℕ, pos, get_or, append_assoc, rules, w64}, specs.Prelude.{string_bytes}}
+use Rattle.std.{specs.Fmt.{signed_decimal}, specs.List.{join_by}, proofs.lemmas.List.{take_all}, proofs.lemmas.Int.{to_z-of_z}}
+use Rattle.array_text.{specs.Tables.{between_fields, record_text}, proofs.Writing.{pushed, grown_twice, join_by-more}}
 use mir.Val.{SFits}
-use Rattle.array_text.specs.Tables.{between_fields, record_text}
-use Rattle.array_text.proofs.Writing.{pushed, grown_twice, join_by-more}
 use Rattle.array_text.proofs.table_writer.push_record.Goals as goal
 
 pub loop-column-preserved : goal.loop-column-preserved

@@ -1,7 +1,4 @@
-use Rattle.std.proofs.Common.{◌≡◌, ◌++◌, take}
-use Rattle.std.specs.Prelude.{string_bytes}
-use Rattle.std.specs.Fmt.{signed_decimal}
-use Rattle.std.specs.List.{join_by}
+use Rattle.std.{proofs.Common.{◌≡◌, ◌++◌, take}, specs.Prelude.{string_bytes}, specs.Fmt.{signed_decimal}, specs.List.{join_by}}
 use Rattle.array_text.specs.Tables.{between_fields}
 use Rattle.array_text.proofs.table_writer.push_record.Given as goal
 

@@ -1,8 +1,5 @@
-use Rattle.std.proofs.Common.{◌≡◌, ◌++◌}
-use Rattle.std.specs.Prelude.{string_bytes}
-use Rattle.std.specs.List.{flat_map, range_with_len}
-use Rattle.array_text.specs.Text.{part_of}
-use Rattle.array_text.specs.Tables.{record_text}
+use Rattle.std.{proofs.Common.{◌≡◌, ◌++◌}, specs.Prelude.{string_bytes}, specs.List.{flat_map, range_with_len}}
+use Rattle.array_text.{specs.Text.{part_of}, specs.Tables.{record_text}}
 use Rattle.array_text.proofs.table_writer.push_records.Given as goal
 
 abbrev pub invariant-loop-row : goal.invariant-loop-row

@@ -1,8 +1,6 @@
-use Rattle.std.proofs.Common.{◌≡◌, ◌∙◌, ◌+◌, ◌-◌, ◌<◌, ◌≤◌, ◌++◌, ap, get_or, length, pos, unsigned_abs, arith, w64, to_z, of_z}
-use Rattle.std.proofs.lemmas.Int.{ints}
+use Rattle.std.{proofs.Common.{◌≡◌, ◌∙◌, ◌+◌, ◌-◌, ◌<◌, ◌≤◌, ◌++◌, ap, get_or, length, pos, unsigned_abs, arith, w64, to_z, of_z}, proofs.lemmas.Int.{ints}}
 use Rattle.std.proofs.lemmas.List.{get_or_default}
-use Rattle.arrays_core.specs.Building.{listed}
-use Rattle.arrays_core.proofs.Building.{listed_more}
+use Rattle.arrays_core.{specs.Building.{listed}, proofs.Building.{listed_more}}
 use Rattle.arrays_core.proofs.builder.extend_at.Goals as goal
 
 pub loop-k-preserved : goal.loop-k-preserved

@@ -1,8 +1,6 @@
-use Rattle.std.proofs.Common.{◌≡◌, ◌∙◌, ap, ◌+◌, ◌-◌, ◌++◌, ◌≤◌, ℕ, get_or, take, drop, length, arith, Ok, Err, Result, List}
-use Rattle.std.specs.Result.{is_ok}
+use Rattle.std.{proofs.Common.{◌≡◌, ◌∙◌, ap, ◌+◌, ◌-◌, ◌++◌, ◌≤◌, ℕ, get_or, take, drop, length, arith, Ok, Err, Result, List}, specs.Result.{is_ok}}
 use Rattle.std.specs.Prelude.{OnOk, if◌then◌else◌}
-use Rattle.arrays_core.specs.Building.{listed}
-use Rattle.arrays_core.proofs.Building.{run_listed}
+use Rattle.arrays_core.{specs.Building.{listed}, proofs.Building.{run_listed}}
 use Rattle.arrays_core.proofs.builder.extend_run.Goals as goal
 
 run_put : {A T E : Type 0} (r : Result T E) (now before xs : List A) (first n m : ℕ) → now ≡ (if is_ok r then before ++ take m (drop first xs) else before)

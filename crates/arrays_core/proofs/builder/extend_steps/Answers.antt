@@ -1,7 +1,5 @@
-use Rattle.std.proofs.Common.{◌≡◌, ◌∙◌, ◌+◌, ◌*◌, ◌<◌, ◌++◌, ap, get_or, arith}
-use Rattle.std.proofs.lemmas.List.{get_or_default}
-use Rattle.arrays_core.specs.Building.{listed}
-use Rattle.arrays_core.proofs.Building.{listed_more}
+use Rattle.std.{proofs.Common.{◌≡◌, ◌∙◌, ◌+◌, ◌*◌, ◌<◌, ◌++◌, ap, get_or, arith}, proofs.lemmas.List.{get_or_default}}
+use Rattle.arrays_core.{specs.Building.{listed}, proofs.Building.{listed_more}}
 use Rattle.arrays_core.proofs.builder.extend_steps.Goals as goal
 
 pub loop-k-preserved : goal.loop-k-preserved

@@ -1,9 +1,6 @@
-use Rattle.std.proofs.Common.{◌≡◌, ◌∙◌, ap, refl, ◌+◌, ◌-◌, ◌++◌, ℕ, take, length, replicate, arith, Ok, Err, Result, List}
-use Rattle.std.specs.Result.{is_ok}
-use Rattle.std.specs.Prelude.{OnOk, if◌then◌else◌}
-use Rattle.std.proofs.lemmas.List.{take_all}
-use Rattle.arrays_core.specs.Building.{listed}
-use Rattle.arrays_core.proofs.Building.{listed_same}
+use Rattle.std.{proofs.Common.{◌≡◌, ◌∙◌, ap, refl, ◌+◌, ◌-◌, ◌++◌, ℕ, take, length, replicate, arith, Ok, Err, Result, List}, specs.Result.{is_ok}}
+use Rattle.std.{specs.Prelude.{OnOk, if◌then◌else◌}, proofs.lemmas.List.{take_all}}
+use Rattle.arrays_core.{specs.Building.{listed}, proofs.Building.{listed_same}}
 use Rattle.arrays_core.proofs.builder.extend_with.Goals as goal
 
 same_put : {A T E : Type 0} (r : Result T E) (now before : List A) (x : A) (n long m len : ℕ) → now ≡ (if is_ok r then take m before ++ replicate (m - len) x else before)

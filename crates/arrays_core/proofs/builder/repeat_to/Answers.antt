@@ -1,8 +1,6 @@
-use Rattle.std.proofs.Common.{◌≡◌, ◌≤◌, ◌<◌, ◌+◌, ◌-◌, ◌%◌, ◌++◌, ◌∙◌, ap, get_or, length, take, drop, refl, arith}
-use Rattle.std.proofs.Math.Nat.{mod_self}
+use Rattle.std.{proofs.Common.{◌≡◌, ◌≤◌, ◌<◌, ◌+◌, ◌-◌, ◌%◌, ◌++◌, ◌∙◌, ap, get_or, length, take, drop, refl, arith}, proofs.Math.Nat.{mod_self}}
 use Rattle.std.proofs.lemmas.List.{length-append, length-take-le}
-use Rattle.arrays_core.specs.Building.{listed}
-use Rattle.arrays_core.proofs.Building.{again_listed, first_round, two_rounds}
+use Rattle.arrays_core.{specs.Building.{listed}, proofs.Building.{again_listed, first_round, two_rounds}}
 use Rattle.arrays_core.proofs.builder.repeat_to.Goals as goal
 
 pub loop-items-init : goal.loop-items-init

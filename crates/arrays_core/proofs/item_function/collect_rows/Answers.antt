@@ -1,6 +1,5 @@
 use Rattle.std.proofs.Common.{◌≡◌, ◌∙◌, ◌<◌, ◌++◌, ◌∷◌, [], sym, ap, arith}
-use Rattle.arrays_core.specs.Shapes.{size as size_of}
-use Rattle.arrays_core.proofs.Rows.{rows_within, some_rows, items_long}
+use Rattle.arrays_core.{specs.Shapes.{size as size_of}, proofs.Rows.{rows_within, some_rows, items_long}}
 use Rattle.arrays_core.proofs.item_function.collect_rows.Goals as goal
 
 pub extend_rows-requires-clause-within : goal.extend_rows-requires-clause-within

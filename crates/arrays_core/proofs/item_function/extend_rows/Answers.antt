@@ -1,8 +1,6 @@
 use Rattle.std.proofs.Common.{◌≡◌, ◌∙◌, ◌+◌, ◌*◌, ◌<◌, ◌++◌, ◌∷◌, [], List, ℕ, sym, refl, ap, length, true, arith, take, drop, Ok}
 use Rattle.std.proofs.lemmas.List.{take_at}
-use Rattle.arrays_core.specs.Building.{with_row}
-use Rattle.arrays_core.specs.Shapes.{is_index_of, places_before, size as size_of}
-use Rattle.arrays_core.proofs.Shapes.{as_long}
+use Rattle.arrays_core.{specs.Building.{with_row}, specs.Shapes.{is_index_of, places_before, size as size_of}, proofs.Shapes.{as_long}}
 use Rattle.arrays_core.proofs.Order.{CollectedTo, none_collected, all_collected, index_after-within, places_before-index_after}
 use Rattle.arrays_core.proofs.Rows.{row_of, row_collected, size_row}
 use Rattle.arrays_core.proofs.item_function.extend_rows.Goals as goal

@@ -1,8 +1,6 @@
-use Rattle.std.proofs.Common.{◌≡◌, ◌∙◌, ◌+◌, ◌<◌, ◌≤◌, ◌^◌, ℕ, length, vec_capacity, ap, sym, subst, arith, rules}
-use Rattle.std.specs.Int.{IsNextPowerOfTwo}
+use Rattle.std.{proofs.Common.{◌≡◌, ◌∙◌, ◌+◌, ◌<◌, ◌≤◌, ◌^◌, ℕ, length, vec_capacity, ap, sym, subst, arith, rules}, specs.Int.{IsNextPowerOfTwo}}
 use Rattle.std.proofs.lemmas.List.{length-append}
-use Rattle.arrays_core.specs.Growth.{IsRoomy}
-use Rattle.arrays_core.proofs.Rooms.{brought, larger, roomy_of}
+use Rattle.arrays_core.{specs.Growth.{IsRoomy}, proofs.Rooms.{brought, larger, roomy_of}}
 use Rattle.arrays_core.proofs.room.put_behind.Goals.{then-capacity-room_of, else-capacity-room_of}
 use Rattle.arrays_core.proofs.room.put_behind.Goals as goal
 

@@ -1,6 +1,5 @@
 use Rattle.std.proofs.Common.{◌≡◌, ◌*◌, ◌≤◌, drop}
-use Rattle.arrays_core.specs.Limits.{most_places}
-use Rattle.arrays_core.specs.Shapes.{size as size_of}
+use Rattle.arrays_core.{specs.Limits.{most_places}, specs.Shapes.{size as size_of}}
 use Rattle.arrays_core.proofs.shape.are_places_within.Given as goal
 
 abbrev pub invariant-loop-axis : goal.invariant-loop-axis

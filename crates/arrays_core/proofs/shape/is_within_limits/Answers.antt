@@ -1,7 +1,5 @@
 use Rattle.std.proofs.Common.{◌≡◌, ◌∙◌, ◌≤◌, length, sym, arith, All}
-use Rattle.arrays_core.specs.Limits.{most_axes, longest_axis}
-use Rattle.arrays_core.specs.Shapes.{size as size_of}
-use Rattle.arrays_core.proofs.Shapes.{has_zero, no_zero}
+use Rattle.arrays_core.{specs.Limits.{most_axes, longest_axis}, specs.Shapes.{size as size_of}, proofs.Shapes.{has_zero, no_zero}}
 use Rattle.arrays_core.proofs.shape.is_within_limits.Goals as goal
 
 pub are_places_within-requires-clause-positive : goal.are_places_within-requires-clause-positive

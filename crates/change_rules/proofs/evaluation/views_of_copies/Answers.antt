@@ -1,6 +1,5 @@
 use Rattle.std.proofs.Common.{◌≡◌, ◌∙◌}
-use Rattle.change_rules.proofs.Copied.{view_in, one_more_view}
-use Rattle.change_rules.proofs.evaluation.views_of_copies.Goals.{in-Some-Some, in_default}
+use Rattle.change_rules.{proofs.Copied.{view_in, one_more_view}, proofs.evaluation.views_of_copies.Goals.{in-Some-Some, in_default}}
 use Rattle.change_rules.proofs.evaluation.views_of_copies.Goals as goal
 
 pub loop-which-preserved : goal.loop-which-preserved

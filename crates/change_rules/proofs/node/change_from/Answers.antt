@@ -1,8 +1,6 @@
-use Rattle.std.proofs.Common.{◌≡◌, ◌≤◌, ◌∙◌, sym, false, ◌+◌, ℕ, subst}
-use Rattle.std.proofs.lemmas.Bool.{false≢true, or_parts, not-false}
+use Rattle.std.{proofs.Common.{◌≡◌, ◌≤◌, ◌∙◌, sym, false, ◌+◌, ℕ, subst}, proofs.lemmas.Bool.{false≢true, or_parts, not-false}}
 use Rattle.std.proofs.lemmas.Result.{IfOk-weaker}
-use Rattle.change_rules.specs.Nodes.{all_patched_at_most}
-use Rattle.change_rules.proofs.Nodes.{delta_reached, cost_reached, delta_grown, cost_grown}
+use Rattle.change_rules.{specs.Nodes.{all_patched_at_most}, proofs.Nodes.{delta_reached, cost_reached, delta_grown, cost_grown}}
 use Rattle.change_rules.proofs.node.change_from.Goals.{else-is_ok-via-then-is_ok+else-patched_at_most, else-is_ok-via-else-is_ok}
 use Rattle.change_rules.proofs.node.change_from.Given.{Over}
 use Rattle.change_rules.proofs.node.change_from.Goals as goal

@@ -1,6 +1,5 @@
 use Rattle.std.proofs.Common.{arith}
-use Rattle.change_core.specs.Reaches.{reach_of}
-use Rattle.change_core.proofs.Covers.{reaches_inside}
+use Rattle.change_core.{specs.Reaches.{reach_of}, proofs.Covers.{reaches_inside}}
 use Rattle.change_rules.proofs.Items.{inside_fit, few_inside}
 use Rattle.change_rules.proofs.node.reached.Goals as goal
 

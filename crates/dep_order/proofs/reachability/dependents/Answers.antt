@@ -1,8 +1,6 @@
-use Rattle.std.proofs.Common.{◌≡◌, ℕ, ◌<◌, slice_index, true, List, Bool, length, set, subst, arith, sym, ap, nat_eq, ◌∙◌}
-use Rattle.std.specs.List.{Contains, IsDistinct}
+use Rattle.std.{proofs.Common.{◌≡◌, ℕ, ◌<◌, slice_index, true, List, Bool, length, set, subst, arith, sym, ap, nat_eq, ◌∙◌}, specs.List.{Contains, IsDistinct}}
 use Rattle.std.proofs.lemmas.List.{length-set}
-use Rattle.dep_order.specs.TopologicalOrder.{Points, IsPlaced, IsUnplaced, IsHit}
-use Rattle.dep_order.proofs.Chains.{back_along}
+use Rattle.dep_order.{specs.TopologicalOrder.{Points, IsPlaced, IsUnplaced, IsHit}, proofs.Chains.{back_along}}
 use Rattle.dep_order.proofs.Marks.{of_each, none_marked, now_listed, now_marked, still_once, IsDistinct-none, now_reach, points_from}
 use Rattle.dep_order.proofs.reachability.dependents.Goals as goal
 

@@ -1,7 +1,5 @@
-use Rattle.std.proofs.Common.{◌≡◌, ℕ, ◌<◌, length, count_by, not, slice_index, nat_eq}
-use Rattle.std.specs.List.{Contains, IsDistinct}
-use Rattle.dep_order.specs.TopologicalOrder.{IsPlaced, Points}
-use Rattle.dep_order.specs.Reachability.{Reaches}
+use Rattle.std.{proofs.Common.{◌≡◌, ℕ, ◌<◌, length, count_by, not, slice_index, nat_eq}, specs.List.{Contains, IsDistinct}}
+use Rattle.dep_order.{specs.TopologicalOrder.{IsPlaced, Points}, specs.Reachability.{Reaches}}
 use Rattle.dep_order.proofs.reachability.dependents.Given as goal
 
 abbrev pub invariant-loop-next : goal.invariant-loop-next

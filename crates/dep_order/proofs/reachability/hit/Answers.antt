@@ -1,8 +1,5 @@
-use Rattle.std.proofs.Common.{get_or, subst, arith, sym}
-use Rattle.std.specs.List.{Contains}
-use Rattle.std.proofs.lemmas.List.Elements.{Contains-get_or}
-use Rattle.dep_order.specs.TopologicalOrder.{Points, IsHit}
-use Rattle.dep_order.proofs.Marks.{of_each}
+use Rattle.std.{proofs.Common.{get_or, subst, arith, sym}, specs.List.{Contains}, proofs.lemmas.List.Elements.{Contains-get_or}}
+use Rattle.dep_order.{specs.TopologicalOrder.{Points, IsHit}, proofs.Marks.{of_each}}
 use Rattle.dep_order.proofs.reachability.hit.Goals as goal
 
 pub bounds-marks-next : goal.bounds-marks-next

@@ -1,8 +1,5 @@
-use Rattle.std.proofs.Common.{◌≡◌, ◌∙◌, sym, ap, subst, Some, IsSome, refl, List, arith, inl, length}
-use Rattle.std.specs.Map.{lookup}
-use Rattle.dep_order.specs.Users.{TakesOneMore}
-use Rattle.dep_order.specs.Room.{IsLarger}
-use Rattle.dep_order.proofs.Noting.{room_here, room_written, same_lists, used_written, written_over}
+use Rattle.std.{proofs.Common.{◌≡◌, ◌∙◌, sym, ap, subst, Some, IsSome, refl, List, arith, inl, length}, specs.Map.{lookup}}
+use Rattle.dep_order.{specs.Users.{TakesOneMore}, specs.Room.{IsLarger}, proofs.Noting.{room_here, room_written, same_lists, used_written, written_over}}
 use Rattle.dep_order.proofs.Roomed.{listed, unlisted}
 use Rattle.dep_order.proofs.room.give_list.Goals as goal
 

@@ -1,6 +1,4 @@
-use Rattle.std.proofs.Common.{List, [], ◌∷◌, arith, length, sym, ap, subst}
-use Rattle.std.specs.List.{Contains}
-use Rattle.std.proofs.lemmas.Bool.{false≢true}
+use Rattle.std.{proofs.Common.{List, [], ◌∷◌, arith, length, sym, ap, subst}, specs.List.{Contains}, proofs.lemmas.Bool.{false≢true}}
 use Rattle.std.proofs.lemmas.List.{length-append}
 use Rattle.dep_order.proofs.Roomed.{was_last, lists_left, asked_last, none_left, nothing_in}
 use Rattle.dep_order.proofs.room.give_lists.Goals as goal

@@ -1,7 +1,6 @@
 use Rattle.std.proofs.Common.{◌≤◌, ◌↔◌, List, length}
 use Rattle.indexmap.specs.IndexMap.{spare}
-use Rattle.dep_order.specs.Users.{Uses, HasNoEmptyBut}
-use Rattle.dep_order.specs.Room.{AreListsFor}
+use Rattle.dep_order.{specs.Users.{Uses, HasNoEmptyBut}, specs.Room.{AreListsFor}}
 use Rattle.dep_order.proofs.room.give_lists.Given as goal
 
 abbrev pub invariant-loop-given : goal.invariant-loop-given

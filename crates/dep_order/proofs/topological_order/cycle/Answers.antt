@@ -1,10 +1,6 @@
-use Rattle.std.proofs.Common.{◌≡◌, ℕ, true, List, length, get_or, subst, arith, sym, ap, drop, ◌<◌, ◌∙◌}
-use Rattle.std.specs.List.{Contains}
-use Rattle.std.proofs.lemmas.List.{length-set, get_or_default, take_rest}
-use Rattle.std.proofs.lemmas.Result.{IfOk-weaker}
-use Rattle.dep_order.specs.TopologicalOrder.{Points, IsUnplaced}
-use Rattle.dep_order.specs.Reachability.{IsCycle}
-use Rattle.dep_order.proofs.Marks.{IsSome-from_none, apart, now_listed}
+use Rattle.std.{proofs.Common.{◌≡◌, ℕ, true, List, length, get_or, subst, arith, sym, ap, drop, ◌<◌, ◌∙◌}, specs.List.{Contains}}
+use Rattle.std.{proofs.lemmas.List.{length-set, get_or_default, take_rest}, proofs.lemmas.Result.{IfOk-weaker}}
+use Rattle.dep_order.{specs.TopologicalOrder.{Points, IsUnplaced}, specs.Reachability.{IsCycle}, proofs.Marks.{IsSome-from_none, apart, now_listed}}
 use Rattle.dep_order.proofs.Chains.{IsChainTo, IsChainTo-push, cycle_from}
 use Rattle.dep_order.proofs.topological_order.cycle.Goals as goal
 

@@ -1,7 +1,5 @@
-use Rattle.std.proofs.Common.{◌≡◌, ℕ, length, count_by, not}
-use Rattle.std.specs.List.{Contains}
-use Rattle.dep_order.specs.TopologicalOrder.{IsUnplaced, IsPlaced, Points}
-use Rattle.dep_order.proofs.Chains.{IsChainTo}
+use Rattle.std.{proofs.Common.{◌≡◌, ℕ, length, count_by, not}, specs.List.{Contains}}
+use Rattle.dep_order.{specs.TopologicalOrder.{IsUnplaced, IsPlaced, Points}, proofs.Chains.{IsChainTo}}
 use Rattle.dep_order.proofs.topological_order.cycle.Given as goal
 
 abbrev pub invariant-loop-seen : goal.invariant-loop-seen

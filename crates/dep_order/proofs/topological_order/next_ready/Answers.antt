@@ -1,9 +1,7 @@
-use Rattle.std.proofs.Common.{◌≡◌, ◌∙◌, ℕ, List, Bool, true, ap, Option, Some, None}
-use Rattle.std.specs.Prelude.{IfSome, is_some, not}
-use Rattle.dep_order.specs.TopologicalOrder.{IsUnplaced, Points}
-use Rattle.dep_order.proofs.Marks.{apart}
-use Rattle.dep_order.proofs.topological_order.next_ready.Goals as goal
+use Rattle.std.{proofs.Common.{◌≡◌, ◌∙◌, ℕ, List, Bool, true, ap, Option, Some, None}, specs.Prelude.{IfSome, is_some, not}}
+use Rattle.dep_order.{specs.TopologicalOrder.{IsUnplaced, Points}, proofs.Marks.{apart}}
 use Rattle.dep_order.proofs.topological_order.next_ready.Goals.{else-not-placed-node-via-then-not-placed-node+else-is_none, else-not-placed-node-via-else-not-placed-node}
+use Rattle.dep_order.proofs.topological_order.next_ready.Goals as goal
 use borrow.Author.Count.{below_more}
 
 one_missing : (graph : List (List ℕ)) (placed : List Bool) (node : ℕ) (found : Option ℕ) → is_some found ≡ true → IfSome found (IsUnplaced placed) → IfSome found (Points graph node)

@@ -1,6 +1,5 @@
 use Rattle.std.proofs.Common.{◌≡◌, ℕ, ◌<◌, slice_index, true, List, length, set, subst, arith, sym, ap, take, nat_eq, Bool, ◌∙◌}
-use Rattle.std.specs.List.{Contains, IsDistinct}
-use Rattle.std.proofs.lemmas.List.{length-set}
+use Rattle.std.{specs.List.{Contains, IsDistinct}, proofs.lemmas.List.{length-set}}
 use Rattle.dep_order.specs.TopologicalOrder.{Points, IsPlaced, IsUnplaced, IsStuck}
 use Rattle.dep_order.proofs.Marks.{none_marked, now_listed, now_marked, still_once, still_after, IsDistinct-none}
 use Rattle.dep_order.proofs.topological_order.order.Goals as goal

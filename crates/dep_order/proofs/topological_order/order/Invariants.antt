@@ -1,5 +1,4 @@
-use Rattle.std.proofs.Common.{◌≡◌, ℕ, ◌<◌, length, take, count_by, not, slice_index, nat_eq}
-use Rattle.std.specs.List.{Contains, IsDistinct}
+use Rattle.std.{proofs.Common.{◌≡◌, ℕ, ◌<◌, length, take, count_by, not, slice_index, nat_eq}, specs.List.{Contains, IsDistinct}}
 use Rattle.dep_order.specs.TopologicalOrder.{IsPlaced, Points}
 use Rattle.dep_order.proofs.topological_order.order.Given as goal
 

@@ -1,9 +1,6 @@
-use Rattle.std.proofs.Common.{◌≡◌, ◌∙◌, inl, inr, List, None, get_or, sym, ap, subst, arith, below_more, ⊎_elim}
-use Rattle.std.specs.List.{Contains}
-use Rattle.std.specs.Map.{keys_of}
+use Rattle.std.{proofs.Common.{◌≡◌, ◌∙◌, inl, inr, List, None, get_or, sym, ap, subst, arith, below_more, ⊎_elim}, specs.List.{Contains}, specs.Map.{keys_of}}
 use Rattle.std.proofs.lemmas.List.{get_or_default}
-use Rattle.dep_order.specs.Users.{Uses, EachFollowsUsers}
-use Rattle.dep_order.proofs.Climbing.{within_first, within_user, reaches_on}
+use Rattle.dep_order.{specs.Users.{Uses, EachFollowsUsers}, proofs.Climbing.{within_first, within_user, reaches_on}}
 use Rattle.dep_order.proofs.Found.{found_closed, found_has, found_kept, found_only, keys_inserted, nothing_more}
 use Rattle.dep_order.proofs.users.+climb.Goals as goal
 

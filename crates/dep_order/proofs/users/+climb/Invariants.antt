@@ -1,8 +1,5 @@
-use Rattle.std.proofs.Common.{◌≡◌, ◌⊎◌, ℕ, ◌<◌, get_or}
-use Rattle.std.specs.List.{Contains}
-use Rattle.std.specs.Map.{keys_of}
-use Rattle.dep_order.specs.Reachability.{Reaches}
-use Rattle.dep_order.specs.Users.{Uses, EachFollowsUsers, HasNothing}
+use Rattle.std.{proofs.Common.{◌≡◌, ◌⊎◌, ℕ, ◌<◌, get_or}, specs.List.{Contains}, specs.Map.{keys_of}}
+use Rattle.dep_order.{specs.Reachability.{Reaches}, specs.Users.{Uses, EachFollowsUsers, HasNothing}}
 use Rattle.dep_order.proofs.users.+climb.Given as goal
 
 abbrev pub decreases-climb : goal.decreases-climb

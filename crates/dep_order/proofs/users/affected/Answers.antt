@@ -1,6 +1,4 @@
-use Rattle.std.proofs.Common.{◌≡◌, ◌∙◌, List, Some, None, ap, sym, ⊎_elim, subst}
-use Rattle.std.specs.List.{Contains}
-use Rattle.std.specs.Map.{keys_of, lookup}
+use Rattle.std.{proofs.Common.{◌≡◌, ◌∙◌, List, Some, None, ap, sym, ⊎_elim, subst}, specs.List.{Contains}, specs.Map.{keys_of, lookup}}
 use Rattle.dep_order.proofs.Following.{contains_none}
 use Rattle.dep_order.proofs.users.affected.Goals as goal
 

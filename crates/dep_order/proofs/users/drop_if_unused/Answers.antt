@@ -1,7 +1,4 @@
-use Rattle.std.proofs.Common.{◌∙◌, List, sym, ap, subst}
-use Rattle.std.specs.Prelude.{◌==◌}
-use Rattle.std.specs.List.{Contains}
-use Rattle.std.proofs.lemmas.Bool.{false≢true}
+use Rattle.std.{proofs.Common.{◌∙◌, List, sym, ap, subst}, specs.Prelude.{◌==◌}, specs.List.{Contains}, proofs.lemmas.Bool.{false≢true}}
 use Rattle.dep_order.proofs.Noting.{some_of, used_kept}
 use Rattle.dep_order.proofs.users.drop_if_unused.Goals as goal
 

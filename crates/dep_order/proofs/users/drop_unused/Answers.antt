@@ -1,5 +1,4 @@
-use Rattle.std.proofs.Common.{◌≡◌, ◌∙◌, ◌+◌, List, [], ◌∷◌, drop, drop-cons, add-one, suc, sym, ap, subst, arith}
-use Rattle.std.proofs.lemmas.List.{drop_all}
+use Rattle.std.{proofs.Common.{◌≡◌, ◌∙◌, ◌+◌, List, [], ◌∷◌, drop, drop-cons, add-one, suc, sym, ap, subst, arith}, proofs.lemmas.List.{drop_all}}
 use Rattle.dep_order.specs.Users.{HasNoEmptyBut}
 use Rattle.dep_order.proofs.users.drop_unused.Goals as goal
 

@@ -1,7 +1,4 @@
-use Rattle.std.proofs.Common.{◌∙◌, sym, subst, arith, below_more}
-use Rattle.std.specs.List.{Contains}
-use Rattle.std.specs.Map.{keys_of}
-use Rattle.std.proofs.lemmas.List.{get_or_default}
+use Rattle.std.{proofs.Common.{◌∙◌, sym, subst, arith, below_more}, specs.List.{Contains}, specs.Map.{keys_of}, proofs.lemmas.List.{get_or_default}}
 use Rattle.dep_order.proofs.users.first_found.Goals as goal
 
 pub returns-then-is_found : goal.returns-then-is_found

@@ -1,6 +1,4 @@
-use Rattle.std.proofs.Common.{ℕ, ◌<◌, get_or}
-use Rattle.std.specs.List.{Contains}
-use Rattle.std.specs.Map.{keys_of}
+use Rattle.std.{proofs.Common.{ℕ, ◌<◌, get_or}, specs.List.{Contains}, specs.Map.{keys_of}}
 use Rattle.dep_order.proofs.users.first_found.Given as goal
 
 abbrev pub invariant-loop-reference : goal.invariant-loop-reference

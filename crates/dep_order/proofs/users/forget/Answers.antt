@@ -1,8 +1,5 @@
-use Rattle.std.proofs.Common.{◌≡◌, sym, ap, subst, Some, IsSome, refl, List, inl, arith}
-use Rattle.std.specs.Prelude.{Vec}
-use Rattle.std.specs.Map.{lookup}
-use Rattle.dep_order.specs.Users.{HasRoomFor, TakesOneMore}
-use Rattle.dep_order.proofs.Noting.{forget_uses, room_kept, used_written}
+use Rattle.std.{proofs.Common.{◌≡◌, sym, ap, subst, Some, IsSome, refl, List, inl, arith}, specs.Prelude.{Vec}, specs.Map.{lookup}}
+use Rattle.dep_order.{specs.Users.{HasRoomFor, TakesOneMore}, proofs.Noting.{forget_uses, room_kept, used_written}}
 use Rattle.dep_order.proofs.users.forget.Goals as goal
 
 pub returns-in-Some-clause-uses : goal.returns-in-Some-clause-uses

@@ -1,6 +1,4 @@
-use Rattle.std.proofs.Common.{◌∙◌, inl, inr, sym}
-use Rattle.std.specs.Map.{keys_of}
-use Rattle.std.proofs.lemmas.Bool.{cases_Bool, false≢true}
+use Rattle.std.{proofs.Common.{◌∙◌, inl, inr, sym}, specs.Map.{keys_of}, proofs.lemmas.Bool.{cases_Bool, false≢true}}
 use Rattle.std.proofs.lemmas.Map.Views.{Contains-from_any, list_any-from_Contains}
 use Rattle.dep_order.proofs.Found.{key_found}
 use Rattle.dep_order.proofs.users.is_found.Goals as goal

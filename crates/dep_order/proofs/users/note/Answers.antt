@@ -1,9 +1,5 @@
-use Rattle.std.proofs.Common.{◌≡◌, ◌∙◌, inr, sym, subst, Some, None, IsSome, refl, []}
-use Rattle.std.specs.Prelude.{Vec}
-use Rattle.std.specs.Map.{lookup}
-use Rattle.dep_order.specs.Users.{IsReady}
-use Rattle.dep_order.proofs.Noting.{note_uses, ready_written, used_written}
-use Rattle.dep_order.proofs.Following.{contains_here}
+use Rattle.std.{proofs.Common.{◌≡◌, ◌∙◌, inr, sym, subst, Some, None, IsSome, refl, []}, specs.Prelude.{Vec}, specs.Map.{lookup}}
+use Rattle.dep_order.{specs.Users.{IsReady}, proofs.Noting.{note_uses, ready_written, used_written}, proofs.Following.{contains_here}}
 use Rattle.dep_order.proofs.users.note.Goals as goal
 
 pub put_last-requires-clause-ready : goal.put_last-requires-clause-ready

@@ -1,10 +1,6 @@
-use Rattle.std.proofs.Common.{◌++◌, refl, inl, inr, List, sym, subst, arith, ⊎_elim}
-use Rattle.std.specs.List.{Contains}
-use Rattle.std.proofs.lemmas.List.{take_all}
+use Rattle.std.{proofs.Common.{◌++◌, refl, inl, inr, List, sym, subst, arith, ⊎_elim}, specs.List.{Contains}, proofs.lemmas.List.{take_all}}
 use Rattle.std.proofs.lemmas.List.Elements.{Contains-append_left, Contains-append_right, Contains-append_cases}
-use Rattle.dep_order.specs.Users.{Uses}
-use Rattle.dep_order.proofs.Noting.{forget_more, note_more}
-use Rattle.dep_order.proofs.Following.{contains_none, contains_one}
+use Rattle.dep_order.{specs.Users.{Uses}, proofs.Noting.{forget_more, note_more}, proofs.Following.{contains_none, contains_one}}
 use Rattle.dep_order.proofs.users.refer.Goals as goal
 
 pub loop-reference-preserved : goal.loop-reference-preserved

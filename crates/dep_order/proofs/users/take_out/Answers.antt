@@ -1,5 +1,4 @@
-use Rattle.std.proofs.Common.{rules}
-use Rattle.std.proofs.lemmas.Fn.{filter_same}
+use Rattle.std.{proofs.Common.{rules}, proofs.lemmas.Fn.{filter_same}}
 use Rattle.dep_order.proofs.users.take_out.Goals as goal
 
 pub returns-clause-nodes : goal.returns-clause-nodes

@@ -1,11 +1,7 @@
 use Rattle.std.proofs.Common.{◌≡◌, ◌∙◌, ℕ, ◌+◌, ◌*◌, ◌<◌, ◌≤◌, ◌∷◌, [], length, set, get_or, pos, ap, sym, subst, arith, rules, to_z, of_z, w64, FitsSigned}
-use Rattle.std.proofs.lemmas.Int.{to_z-of_z}
-use Rattle.std.proofs.lemmas.List.{length-set}
-use Rattle.fold_trees.specs.declared.line.Line.{Line}
-use Rattle.fold_trees.specs.LineTrees.{slot_at, nth_node, slot_of, segment}
-use Rattle.fold_trees.specs.LineBlocks.{line_of, HaveNodes}
-use Rattle.fold_trees.proofs.BlockRows.{slot_row, line_slot, next_slot, node_row}
-use Rattle.fold_trees.proofs.FourRows.{third_row, four_on, others_stay, as_long}
+use Rattle.std.{proofs.lemmas.Int.{to_z-of_z}, proofs.lemmas.List.{length-set}}
+use Rattle.fold_trees.{specs.declared.line.Line.{Line}, specs.LineTrees.{slot_at, nth_node, slot_of, segment}, specs.LineBlocks.{line_of, HaveNodes}}
+use Rattle.fold_trees.{proofs.BlockRows.{slot_row, line_slot, next_slot, node_row}, proofs.FourRows.{third_row, four_on, others_stay, as_long}}
 use Rattle.fold_trees.proofs.Segments.{segment_split}
 use Rattle.fold_trees.proofs.line_block.fours_row.Goals as goal
 

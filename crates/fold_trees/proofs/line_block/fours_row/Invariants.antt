@@ -1,6 +1,5 @@
 use Rattle.std.proofs.Common.{◌≡◌, ℕ, ◌+◌, ◌<◌, ◌≤◌, ◌⊎◌, length, get_or}
-use Rattle.fold_trees.specs.LineTrees.{slot_of, nth_node, node_of, AreFourKept}
-use Rattle.fold_trees.specs.LineBlocks.{line_of}
+use Rattle.fold_trees.{specs.LineTrees.{slot_of, nth_node, node_of, AreFourKept}, specs.LineBlocks.{line_of}}
 use Rattle.fold_trees.proofs.line_block.fours_row.Given as goal
 
 abbrev pub invariant-loop-column : goal.invariant-loop-column

@@ -1,10 +1,7 @@
-use Rattle.std.proofs.Common.{◌≡◌, ◌∙◌, ℕ, ◌+◌, ◌/◌, ◌<◌, ◌++◌, List, ℤ, length, sym, ap, subst, arith, rules}
-use Rattle.std.proofs.lemmas.List.{length-set}
-use Rattle.fold_trees.specs.LineBlocks.{line_of}
-use Rattle.fold_trees.proofs.BlockRows.{told_on, others_on, line_node, node_row, read_before}
-use Rattle.fold_trees.specs.LineTrees.{nth_node, node_of}
-use Rattle.fold_trees.proofs.line_block.halves_row.Goals as goal
+use Rattle.std.{proofs.Common.{◌≡◌, ◌∙◌, ℕ, ◌+◌, ◌/◌, ◌<◌, ◌++◌, List, ℤ, length, sym, ap, subst, arith, rules}, proofs.lemmas.List.{length-set}}
+use Rattle.fold_trees.{specs.LineBlocks.{line_of}, proofs.BlockRows.{told_on, others_on, line_node, node_row, read_before}, specs.LineTrees.{nth_node, node_of}}
 use Rattle.fold_trees.proofs.line_block.halves_row.Given.{Over}
+use Rattle.fold_trees.proofs.line_block.halves_row.Goals as goal
 
 -- the node of the line is one of the list
 inside : (g : Over) (c : goal.After-join g) → c.nth_node-node.result + c.loop-column.column < length c.loop-column.nodes

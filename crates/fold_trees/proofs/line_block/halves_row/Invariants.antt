@@ -1,6 +1,5 @@
 use Rattle.std.proofs.Common.{◌≡◌, ℕ, ◌+◌, ◌/◌, ◌<◌, ◌≤◌, ◌⊎◌, ◌++◌, List, ℤ, length, get_or}
-use Rattle.fold_trees.specs.LineBlocks.{line_of}
-use Rattle.fold_trees.specs.LineTrees.{nth_node, node_of}
+use Rattle.fold_trees.{specs.LineBlocks.{line_of}, specs.LineTrees.{nth_node, node_of}}
 use Rattle.fold_trees.proofs.line_block.halves_row.Given as goal
 
 abbrev pub invariant-loop-column : goal.invariant-loop-column

@@ -1,7 +1,5 @@
 use Rattle.std.proofs.Common.{◌≡◌, ◌∙◌, ◌+◌, ◌-◌, ◌*◌, ◌≤◌, min, sym, ap, subst, arith}
-use Rattle.fold_trees.specs.LineTrees.{slot_of, segment, node_of}
-use Rattle.fold_trees.specs.LineBlocks.{line_of}
-use Rattle.fold_trees.proofs.Segments.{segment_split}
+use Rattle.fold_trees.{specs.LineTrees.{slot_of, segment, node_of}, specs.LineBlocks.{line_of}, proofs.Segments.{segment_split}}
 use Rattle.fold_trees.proofs.BlockParts.{kept_on, rows_outside, quarter, half_told, later_told}
 use Rattle.fold_trees.proofs.line_block.join_row.Goals as goal
 

@@ -1,14 +1,9 @@
-use Rattle.std.proofs.Common.{◌≡◌, ◌∙◌, ◌+◌, ◌-◌, ◌*◌, ◌/◌, ◌%◌, ◌<◌, ◌++◌, List, ℤ, min, length, sym, ap, subst, arith, rules}
-use Rattle.std.proofs.lemmas.Nat.{pow_pos}
+use Rattle.std.{proofs.Common.{◌≡◌, ◌∙◌, ◌+◌, ◌-◌, ◌*◌, ◌/◌, ◌%◌, ◌<◌, ◌++◌, List, ℤ, min, length, sym, ap, subst, arith, rules}, proofs.lemmas.Nat.{pow_pos}}
 use Rattle.std.proofs.lemmas.List.{length-set}
-use Rattle.fold_trees.specs.declared.line.Line.{Line}
-use Rattle.fold_trees.specs.LineTrees.{slot_of, nth_node, segment, numbers_of_block, node_of, ArePartsKeptIn}
-use Rattle.fold_trees.specs.LineBlocks.{line_of}
-use Rattle.fold_trees.proofs.BlockRows.{told_on, others_on, line_node, column_away, node_row}
-use Rattle.fold_trees.proofs.LineParts.{widen_even}
-use Rattle.fold_trees.proofs.BlockParts.{kept_in_first, kept_in_second, kept_in_still}
+use Rattle.fold_trees.{specs.declared.line.Line.{Line}, specs.LineTrees.{slot_of, nth_node, segment, numbers_of_block, node_of, ArePartsKeptIn}}
+use Rattle.fold_trees.{specs.LineBlocks.{line_of}, proofs.BlockRows.{told_on, others_on, line_node, column_away, node_row}, proofs.LineParts.{widen_even}}
+use Rattle.fold_trees.{proofs.BlockParts.{kept_in_first, kept_in_second, kept_in_still}, proofs.line_block.last_row.Given.{Over}}
 use Rattle.fold_trees.proofs.line_block.last_row.Goals as goal
-use Rattle.fold_trees.proofs.line_block.last_row.Given.{Over}
 
 pub part-requires-clause-part : goal.part-requires-clause-part
 part-requires-clause-part g c =

@@ -1,13 +1,9 @@
 use Rattle.std.proofs.Common.{◌≡◌, ◌∙◌, ℕ, suc, ◌+◌, ◌*◌, ◌/◌, ◌^◌, ◌<◌, ◌≤◌, ◌⊎◌, set, get_or, length, sym, ap, subst, arith, inl, inr, refl}
-use Rattle.std.proofs.lemmas.List.{get_or_default}
-use Rattle.std.proofs.lemmas.Nat.{pow_pos}
-use Rattle.fold_trees.specs.LineTrees.{numbers_of_block, node_of, block_up}
-use Rattle.fold_trees.proofs.LineParts.{climb_start, climb_up}
-use Rattle.fold_trees.proofs.LineNodes.{IsStepUp, others_stay, step_up, kept_first, all_kept}
-use Rattle.fold_trees.proofs.LineJoins.{level_below, meeting_near, ends_here}
-use Rattle.fold_trees.proofs.line_tree.put_parts.Given.{Over}
+use Rattle.std.{proofs.lemmas.List.{get_or_default}, proofs.lemmas.Nat.{pow_pos}}
+use Rattle.fold_trees.{specs.LineTrees.{numbers_of_block, node_of, block_up}, proofs.LineParts.{climb_start, climb_up}}
+use Rattle.fold_trees.{proofs.LineNodes.{IsStepUp, others_stay, step_up, kept_first, all_kept}, proofs.LineJoins.{level_below, meeting_near, ends_here}}
+use Rattle.fold_trees.{proofs.line_tree.put_parts.Given.{Over}, proofs.line_tree.put_parts.Goals.{In-loop-width, then-meeting-line, else-meeting-line}}
 use Rattle.fold_trees.proofs.line_tree.put_parts.Goals as goal
-use Rattle.fold_trees.proofs.line_tree.put_parts.Goals.{In-loop-width, then-meeting-line, else-meeting-line}
 
 some_meeting : (g : Over) (c : In-loop-width g) → 1 ≤ (c.loop-width.block / 2 * 2 + 1) * c.loop-width.width
 some_meeting g c =

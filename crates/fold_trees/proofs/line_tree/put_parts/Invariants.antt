@@ -1,7 +1,5 @@
 use Rattle.std.proofs.Common.{◌≡◌, ◌≢◌, ℕ, ℤ, ◌-◌, ◌^◌, ◌<◌, ◌≤◌, length, get_or}
-use Rattle.fold_trees.specs.LineTrees.{nth_node, node_of, ArePartsKeptBeside, AreJoined, block_up}
-use Rattle.fold_trees.proofs.LineParts.{IsClimb}
-use Rattle.fold_trees.proofs.LineNodes.{AreKeptTo}
+use Rattle.fold_trees.{specs.LineTrees.{nth_node, node_of, ArePartsKeptBeside, AreJoined, block_up}, proofs.LineParts.{IsClimb}, proofs.LineNodes.{AreKeptTo}}
 use Rattle.fold_trees.proofs.line_tree.put_parts.Given as goal
 
 abbrev pub invariant-loop-width : goal.invariant-loop-width

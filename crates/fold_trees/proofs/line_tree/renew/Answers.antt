@@ -1,11 +1,9 @@
 use Rattle.std.proofs.Common.{◌≡◌, ◌∙◌, ◌+◌, ◌-◌, ◌*◌, ◌/◌, ◌<◌, ◌≤◌, ◌⊎◌, ◌∷◌, [], set, min, sym, ap, subst, arith, inl, inr, refl, w64, get_or, pos, FitsSigned, rules}
-use Rattle.std.proofs.lemmas.Int.{to_z-of_z}
-use Rattle.std.proofs.lemmas.Nat.{pow_pos}
-use Rattle.fold_trees.specs.LineTrees.{slot_of, segment, node_of}
-use Rattle.fold_trees.proofs.LineParts.{climb_start, climb_up}
+use Rattle.std.{proofs.lemmas.Int.{to_z-of_z}, proofs.lemmas.Nat.{pow_pos}}
+use Rattle.fold_trees.{specs.LineTrees.{slot_of, segment, node_of}, proofs.LineParts.{climb_start, climb_up}}
 use Rattle.fold_trees.proofs.LineNodes.{IsStepUp, others_stay, step_up, kept_first, all_kept, kept_beside}
-use Rattle.fold_trees.proofs.line_tree.renew.Goals as goal
 use Rattle.fold_trees.proofs.line_tree.renew.Goals.{then-joined-eq1, else-joined-eq1}
+use Rattle.fold_trees.proofs.line_tree.renew.Goals as goal
 
 pub loop-width-init : goal.loop-width-init
 loop-width-init g c =

@@ -1,7 +1,5 @@
 use Rattle.std.proofs.Common.{◌≡◌, ◌≢◌, ℕ, ◌-◌, ◌<◌, ◌≤◌, length, get_or}
-use Rattle.fold_trees.specs.LineTrees.{slot_of, nth_node, numbers_of_block, node_of}
-use Rattle.fold_trees.proofs.LineParts.{IsClimb}
-use Rattle.fold_trees.proofs.LineNodes.{AreKeptTo}
+use Rattle.fold_trees.{specs.LineTrees.{slot_of, nth_node, numbers_of_block, node_of}, proofs.LineParts.{IsClimb}, proofs.LineNodes.{AreKeptTo}}
 use Rattle.fold_trees.proofs.line_tree.renew.Given as goal
 
 abbrev pub invariant-loop-width : goal.invariant-loop-width

@@ -1,12 +1,7 @@
-use Rattle.std.proofs.Common.{◌≡◌, ◌∙◌, ℕ, set, refl, to_z, of_z, w64}
-use Rattle.std.proofs.lemmas.Int.{to_z-of_z}
-use Rattle.fold_trees.specs.LineTrees.{slot_of, node_of, replaced}
-use Rattle.fold_trees.proofs.LineParts.{replaced_other}
-use Rattle.fold_trees.proofs.LineNodes.{kept_replaced, kept_alike}
-use Rattle.fold_trees.proofs.TreeWrites.{number_set}
-use Rattle.fold_trees.proofs.line_tree.write.Given.{Over}
+use Rattle.std.{proofs.Common.{◌≡◌, ◌∙◌, ℕ, set, refl, to_z, of_z, w64}, proofs.lemmas.Int.{to_z-of_z}}
+use Rattle.fold_trees.{specs.LineTrees.{slot_of, node_of, replaced}, proofs.LineParts.{replaced_other}, proofs.LineNodes.{kept_replaced, kept_alike}}
+use Rattle.fold_trees.{proofs.TreeWrites.{number_set}, proofs.line_tree.write.Given.{Over}, proofs.line_tree.write.Goals.{After-slot_at}}
 use Rattle.fold_trees.proofs.line_tree.write.Goals as goal
-use Rattle.fold_trees.proofs.line_tree.write.Goals.{After-slot_at}
 
 numbers_put : (g : Over) (c : After-slot_at g) (i : ℕ)
     → slot_of c.args.line (set c.args.numbers.now c.slot_at.result (to_z w64 (of_z w64 c.args.number))) i ≡ replaced (slot_of c.args.line c.args.numbers.now) c.args.place c.args.number i

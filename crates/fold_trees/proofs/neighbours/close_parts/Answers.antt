@@ -1,12 +1,9 @@
 use Rattle.std.proofs.Common.{◌∙◌, ℕ, ℤ, suc, ◌+◌, ◌-◌, ◌*◌, ◌/◌, ◌<◌, length, get_or, set, ap, sym, subst, arith}
-use Rattle.std.proofs.lemmas.List.{length-set, get_or-set_other, get_or_read}
-use Rattle.std.proofs.lemmas.Nat.{pow_pos}
-use Rattle.fold_trees.proofs.LineEnds.{near_node, end_is, first_told, second_told, kept_up, kept_within}
-use Rattle.fold_trees.proofs.PairEnds.{node_is, first_is, second_is}
-use Rattle.fold_trees.proofs.neighbours.close_parts.Goals as goal
-use Rattle.fold_trees.proofs.neighbours.close_parts.Goals.{After-index-nodes-node-in-loop-half}
-use Rattle.fold_trees.proofs.neighbours.close_parts.Given.{Over}
+use Rattle.std.{proofs.lemmas.List.{length-set, get_or-set_other, get_or_read}, proofs.lemmas.Nat.{pow_pos}}
+use Rattle.fold_trees.{proofs.LineEnds.{near_node, end_is, first_told, second_told, kept_up, kept_within}, proofs.PairEnds.{node_is, first_is, second_is}}
+use Rattle.fold_trees.{proofs.neighbours.close_parts.Goals.{After-index-nodes-node-in-loop-half}, proofs.neighbours.close_parts.Given.{Over}}
 use Rattle.fold_trees.specs.LineTrees.{segment, node_of, ArePartsKeptUpTo}
+use Rattle.fold_trees.proofs.neighbours.close_parts.Goals as goal
 
 -- what is read of the earlier half
 earlier : (g : Over) (c : After-index-nodes-node-in-loop-half g) (x : ℕ → ℤ) → ArePartsKeptUpTo g.P.Part.tells c.args.end c.args.width c.args.line.count x (node_of g.P.Part.blank c.args.line c.args.nodes.now)

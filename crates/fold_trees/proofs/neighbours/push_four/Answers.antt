@@ -1,12 +1,9 @@
 use Rattle.std.proofs.Common.{◌≡◌, ◌∙◌, ℕ, ◌+◌, ◌<◌, ◌++◌, ◌∷◌, [], List, length, drop, get_or, ap, sym, subst, arith, rules}
 use Rattle.std.proofs.lemmas.List.{take_at, length-append, get_or_append_left, get_or_push}
-use Rattle.fold_trees.specs.LineTrees.{nth_node, slot_of, segment, node_of, ArePartsKeptIn, ArePartsKeptUpTo}
-use Rattle.fold_trees.proofs.LineEnds.{near_node}
-use Rattle.fold_trees.proofs.Segments.{segment_split}
-use Rattle.fold_trees.proofs.Fours.{four_more}
-use Rattle.fold_trees.proofs.neighbours.push_four.Goals as goal
-use Rattle.fold_trees.proofs.neighbours.push_four.Goals.{After-deref_mut}
+use Rattle.fold_trees.{specs.LineTrees.{nth_node, slot_of, segment, node_of, ArePartsKeptIn, ArePartsKeptUpTo}, proofs.LineEnds.{near_node}}
+use Rattle.fold_trees.{proofs.Segments.{segment_split}, proofs.Fours.{four_more}, proofs.neighbours.push_four.Goals.{After-deref_mut}}
 use Rattle.fold_trees.proofs.neighbours.push_four.Given.{Over}
+use Rattle.fold_trees.proofs.neighbours.push_four.Goals as goal
 
 -- what lies where, of four more nodes
 module _ {P : Type 0} (blank : P) (nodes : List P) (a b c d : P) where

@@ -1,10 +1,8 @@
 use Rattle.std.proofs.Common.{◌≡◌, ◌∙◌, ℕ, ◌+◌, ◌<◌, ◌++◌, ◌∷◌, [], length, drop, get_or, ap, sym, subst, arith, rules}
 use Rattle.std.proofs.lemmas.List.{take_at, length-append, get_or_append_left, get_or_push}
-use Rattle.fold_trees.specs.LineTrees.{slot_of, nth_node, segment, node_of, ArePartsKeptIn, ArePartsKeptUpTo}
-use Rattle.fold_trees.proofs.LineEnds.{near_node, least_more}
+use Rattle.fold_trees.{specs.LineTrees.{slot_of, nth_node, segment, node_of, ArePartsKeptIn, ArePartsKeptUpTo}, proofs.LineEnds.{near_node, least_more}}
+use Rattle.fold_trees.{proofs.neighbours.push_pair.Goals.{After-deref_mut}, proofs.neighbours.push_pair.Given.{Over}}
 use Rattle.fold_trees.proofs.neighbours.push_pair.Goals as goal
-use Rattle.fold_trees.proofs.neighbours.push_pair.Goals.{After-deref_mut}
-use Rattle.fold_trees.proofs.neighbours.push_pair.Given.{Over}
 
 -- the nodes that are pushed
 pushed : (g : Over) (c : After-deref_mut g) → c.deref_mut.result.now ≡ (c.args.nodes.now.items ++ c.two_from-pair.result ∷ []) ++ c.two_from-pair.result ∷ []

@@ -1,7 +1,5 @@
-use Rattle.std.proofs.Common.{◌≡◌, ◌∙◌, ◌+◌, ◌∷◌, [], get_or, pos, ap, subst, arith, rules, to_z, of_z, w64, FitsSigned}
-use Rattle.std.proofs.lemmas.Int.{to_z-of_z}
-use Rattle.fold_trees.specs.LineTrees.{slot_at, slot_of}
-use Rattle.fold_trees.proofs.LineEnds.{near_slot}
+use Rattle.std.{proofs.Common.{◌≡◌, ◌∙◌, ◌+◌, ◌∷◌, [], get_or, pos, ap, subst, arith, rules, to_z, of_z, w64, FitsSigned}, proofs.lemmas.Int.{to_z-of_z}}
+use Rattle.fold_trees.{specs.LineTrees.{slot_at, slot_of}, proofs.LineEnds.{near_slot}}
 use Rattle.fold_trees.proofs.neighbours.two_from.Goals as goal
 
 pub returns : goal.returns

@@ -1,8 +1,6 @@
 use Rattle.std.proofs.Common.{◌≡◌, ◌<◌, ◌≤◌, ◌*◌, ◌/◌, ◌^◌, ◌∙◌, ◌⊎◌, ℕ, length, get_or, rules, sym, subst, arith}
-use Rattle.fold_trees.proofs.BlockLines.{block_count, block_ends, have_slots, have_nodes, block_kept}
-use Rattle.fold_trees.proofs.LineSpots.{lines_are}
-use Rattle.fold_trees.specs.declared.line.Line.{Line}
-use Rattle.fold_trees.specs.LineTrees.{slot_of, node_of, ArePartsKept}
+use Rattle.fold_trees.{proofs.BlockLines.{block_count, block_ends, have_slots, have_nodes, block_kept}, proofs.LineSpots.{lines_are}}
+use Rattle.fold_trees.{specs.declared.line.Line.{Line}, specs.LineTrees.{slot_of, node_of, ArePartsKept}}
 use Rattle.fold_trees.specs.LineBlocks.{line_of, HaveSlots, nodes_end, HaveNodes}
 use Rattle.fold_trees.proofs.part_trees.fill_all.Goals as goal
 

@@ -1,6 +1,5 @@
 use Rattle.std.proofs.Common.{◌≡◌, ℕ, ◌*◌, ◌<◌, ◌≤◌, vec_len, vec_capacity}
-use Rattle.fold_trees.specs.LineTrees.{slot_of, node_of, ArePartsKept, nodes_in_line}
-use Rattle.fold_trees.specs.LineBlocks.{line_at}
+use Rattle.fold_trees.{specs.LineTrees.{slot_of, node_of, ArePartsKept, nodes_in_line}, specs.LineBlocks.{line_at}}
 use Rattle.fold_trees.proofs.part_trees.nodes_of_lines.Given as goal
 
 abbrev pub invariant-loop-line : goal.invariant-loop-line

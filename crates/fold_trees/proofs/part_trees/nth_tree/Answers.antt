@@ -1,7 +1,5 @@
 use Rattle.std.proofs.Common.{◌<◌, ◌^◌, length, rules, sym, subst, arith}
-use Rattle.fold_trees.proofs.LineSpots.{line_fits, in_both}
-use Rattle.fold_trees.specs.declared.line.Line.{Line}
-use Rattle.fold_trees.specs.LineTrees.{IsIn}
+use Rattle.fold_trees.{proofs.LineSpots.{line_fits, in_both}, specs.declared.line.Line.{Line}, specs.LineTrees.{IsIn}}
 use Rattle.fold_trees.proofs.part_trees.nth_tree.Goals as goal
 
 pub nth_line-line-requires-clause-fit : goal.nth_line-line-requires-clause-fit

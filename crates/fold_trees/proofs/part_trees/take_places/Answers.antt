@@ -1,8 +1,5 @@
 use Rattle.std.proofs.Common.{◌∙◌, ◌<◌, ◌^◌, length, rules, sym, subst, arith}
-use Rattle.fold_trees.specs.declared.line.Line.{Line}
-use Rattle.fold_trees.proofs.LongerTrees.{in_block}
-use Rattle.fold_trees.proofs.TreeTaken.{IsTaken, taken_on}
-use Rattle.fold_trees.specs.LineTrees.{IsIn}
+use Rattle.fold_trees.{specs.declared.line.Line.{Line}, proofs.LongerTrees.{in_block}, proofs.TreeTaken.{IsTaken, taken_on}, specs.LineTrees.{IsIn}}
 use Rattle.fold_trees.proofs.part_trees.take_places.Goals as goal
 
 pub take_last-requires-clause-inside : goal.take_last-requires-clause-inside

@@ -1,8 +1,7 @@
 use Rattle.std.proofs.Common.{◌≡◌, ◌∙◌, [], ◌∷◌, sym}
 use Rattle.change_rules.specs.Evaluation.{evaluation}
 use Rattle.index_region.specs.declared.delta.Delta.TheVariants.{Whole}
-use Rattle.formula_core.specs.Rules.{both_rule}
-use Rattle.formula_core.proofs.Meant.{both_meant}
+use Rattle.formula_core.{specs.Rules.{both_rule}, proofs.Meant.{both_meant}}
 use Rattle.formula_core.proofs.application.of_both.Goals as goal
 
 pub returns : goal.returns

@@ -1,8 +1,7 @@
 use Rattle.std.proofs.Common.{◌≡◌, sym, subst, map, IfOk, Ok}
 use Rattle.arrays_core.specs.Arrays.{IsAnswerTo, ArrayValue}
 use Rattle.selection_fns.specs.Index.{index_whole}
-use Rattle.formula_core.specs.Evaluated.{outcome_of, array_in, position_in, positions_in}
-use Rattle.formula_core.specs.Meaning.{indexed}
+use Rattle.formula_core.{specs.Evaluated.{outcome_of, array_in, position_in, positions_in}, specs.Meaning.{indexed}}
 use Rattle.formula_core.proofs.evaluation.apply_index.Goals as goal
 
 pub returns-in-Ok-operand : goal.returns-in-Ok-operand

@@ -1,8 +1,6 @@
 use Rattle.std.proofs.Common.{◌∙◌, ap, sym}
-use Rattle.arrays_core.specs.Arrays.{ArrayValue}
-use Rattle.arrays_core.specs.Outcomes.{given}
-use Rattle.formula_core.specs.Evaluated.{outcome_of}
-use Rattle.formula_core.specs.Meaning.{of_right, applied1}
+use Rattle.arrays_core.{specs.Arrays.{ArrayValue}, specs.Outcomes.{given}}
+use Rattle.formula_core.{specs.Evaluated.{outcome_of}, specs.Meaning.{of_right, applied1}}
 use Rattle.formula_core.proofs.evaluation.apply_monad.Goals as goal
 
 pub returns-in_ok-outcome-in-Ok : goal.returns-in_ok-outcome-in-Ok

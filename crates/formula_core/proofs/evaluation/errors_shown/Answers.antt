@@ -1,5 +1,4 @@
-use Rattle.std.proofs.Common.{◌≡◌, ◌+◌, ◌∙◌, ap, sym, ℕ, List, [], ◌∷◌, ◌++◌, map, take}
-use Rattle.std.proofs.lemmas.List.{take_more, map-append}
+use Rattle.std.{proofs.Common.{◌≡◌, ◌+◌, ◌∙◌, ap, sym, ℕ, List, [], ◌∷◌, ◌++◌, map, take}, proofs.lemmas.List.{take_more, map-append}}
 use Rattle.arrays_core.specs.declared.fault.Fault.{Fault}
 use Rattle.formula_core.specs.Outcomes.{error_in}
 use Rattle.formula_core.proofs.evaluation.errors_shown.Goals as goal

@@ -1,7 +1,5 @@
-use Rattle.std.proofs.Common.{ℕ, List, take}
-use Rattle.std.specs.List.{Contains}
-use Rattle.formula_core.specs.Changes.{at_rest}
-use Rattle.formula_core.specs.Plans.{AreInputs, IsNameSound}
+use Rattle.std.{proofs.Common.{ℕ, List, take}, specs.List.{Contains}}
+use Rattle.formula_core.{specs.Changes.{at_rest}, specs.Plans.{AreInputs, IsNameSound}}
 use Rattle.formula_core.proofs.evaluation.inputs_at_rest.Given as goal
 
 abbrev pub invariant-loop-place : goal.invariant-loop-place

@@ -1,5 +1,4 @@
-use Rattle.std.proofs.Common.{◌≡◌, ◌≤◌, take}
-use Rattle.std.specs.List.{count_by}
+use Rattle.std.{proofs.Common.{◌≡◌, ◌≤◌, take}, specs.List.{count_by}}
 use Rattle.formula_core.specs.Tables.{applies}
 use Rattle.formula_core.proofs.formula.count_operations.Given as goal
 

@@ -1,9 +1,8 @@
 use Rattle.std.proofs.Common.{ap}
 use Rattle.apl_expr.specs.Trees.{tree_of}
-use Rattle.formula_core.specs.declared.kept.Kept.{Kept}
-use Rattle.formula_core.specs.declared.table.Node.TheVariants as node
-use Rattle.formula_core.specs.Holdings.{nodes_of, holding}
+use Rattle.formula_core.{specs.declared.kept.Kept.{Kept}, specs.Holdings.{nodes_of, holding}}
 use Rattle.formula_core.proofs.Rooted.{rooted_node, rooted_literal, rooted_name, nodes_pushed, none_worked_out, new_pushed}
+use Rattle.formula_core.specs.declared.table.Node.TheVariants as node
 use Rattle.formula_core.proofs.formula.lower_whole.Goals as goal
 
 pub returns-in-Node-clause-table : goal.returns-in-Node-clause-table

@@ -1,10 +1,6 @@
-use Rattle.std.proofs.Common.{rules, tests, ◌≡◌, ◌∙◌, sym, refl, ap, List, [], ◌∷◌, true, ◌&&◌, Option, Some, None}
-use Rattle.std.specs.List.{list_all}
-use Rattle.std.specs.Option.{option_map_or}
-use Rattle.std.proofs.lemmas.Iterator.{YieldsList-from_slice}
-use Rattle.std.proofs.lemmas.Iterator.Search.{all_from_yields_List}
-use Rattle.formula_core.specs.declared.input.Input.{Input}
-use Rattle.formula_core.specs.Inputs.{stays, written_inputs}
+use Rattle.std.{proofs.Common.{rules, tests, ◌≡◌, ◌∙◌, sym, refl, ap, List, [], ◌∷◌, true, ◌&&◌, Option, Some, None}, specs.List.{list_all}}
+use Rattle.std.{specs.Option.{option_map_or}, proofs.lemmas.Iterator.{YieldsList-from_slice}, proofs.lemmas.Iterator.Search.{all_from_yields_List}}
+use Rattle.formula_core.{specs.declared.input.Input.{Input}, specs.Inputs.{stays, written_inputs}}
 use Rattle.formula_core.proofs.index_change.all_stay.Goals as goal
 
 -- a position that is not written stays

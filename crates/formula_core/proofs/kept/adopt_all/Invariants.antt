@@ -1,9 +1,6 @@
 use Rattle.std.proofs.Common.{length}
-use Rattle.formula_core.specs.declared.kept.Kept.{Kept}
-use Rattle.formula_core.specs.declared.kept.NodeChange.{NodeChange}
-use Rattle.formula_core.specs.Changes.{each_with}
-use Rattle.formula_core.specs.Holdings.{holding, node_taking, no_change, IsFit}
-use Rattle.formula_core.proofs.Adopted.{IsLeft, no_node}
+use Rattle.formula_core.{specs.declared.kept.Kept.{Kept}, specs.declared.kept.NodeChange.{NodeChange}, specs.Changes.{each_with}}
+use Rattle.formula_core.{specs.Holdings.{holding, node_taking, no_change, IsFit}, proofs.Adopted.{IsLeft, no_node}}
 use Rattle.formula_core.proofs.kept.adopt_all.Given as goal
 
 abbrev pub invariant-loop-changes : goal.invariant-loop-changes

@@ -1,7 +1,6 @@
 use Rattle.std.proofs.Common.{take, map}
 use Rattle.apl_expr.specs.Trees.{position_of}
-use Rattle.formula_core.specs.Holdings.{nodes_of, AreNotWorkedOut}
-use Rattle.formula_core.specs.Tables.{ArePositionsLowered}
+use Rattle.formula_core.{specs.Holdings.{nodes_of, AreNotWorkedOut}, specs.Tables.{ArePositionsLowered}}
 use Rattle.formula_core.proofs.table.+lower.Given as goal
 
 abbrev pub invariant-lower_positions-loop-position : goal.invariant-lower_positions-loop-position

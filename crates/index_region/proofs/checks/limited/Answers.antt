@@ -1,5 +1,4 @@
-use Rattle.std.proofs.Common.{List, ℕ, subst, sym}
-use Rattle.std.proofs.lemmas.Bool.{both_ways}
+use Rattle.std.{proofs.Common.{List, ℕ, subst, sym}, proofs.lemmas.Bool.{both_ways}}
 use Rattle.arrays_core.specs.Shapes.{IsWithinLimits}
 use Rattle.index_region.proofs.Passing.{limited_passes, limited_fails}
 use Rattle.index_region.proofs.checks.limited.Goals as goal

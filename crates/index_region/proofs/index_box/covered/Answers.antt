@@ -1,6 +1,5 @@
 use Rattle.std.proofs.Common.{◌∙◌, ◌++◌, length, drop, take, refl, ap, List, ℕ, ◌+◌, ◌-◌}
-use Rattle.index_region.specs.Boxes.{Interval, cover_between, whole_of}
-use Rattle.index_region.proofs.Boxes.{same_on_axis, differ_on_axis}
+use Rattle.index_region.{specs.Boxes.{Interval, cover_between, whole_of}, proofs.Boxes.{same_on_axis, differ_on_axis}}
 use Rattle.index_region.proofs.index_box.covered.Goals as goal
 
 pub loop-axis-preserved : goal.loop-axis-preserved

@@ -1,8 +1,5 @@
-use Rattle.std.proofs.Common.{List, IsTrue, ◌≡◌, length}
-use Rattle.std.proofs.lemmas.Bool.{and_parts}
-use Rattle.index_region.specs.Boxes.{Interval, is_box}
-use Rattle.index_region.proofs.Boxes.{within-hull_left, within-hull_right, hull_box}
-use Rattle.index_region.proofs.Least.{hull_least}
+use Rattle.std.{proofs.Common.{List, IsTrue, ◌≡◌, length}, proofs.lemmas.Bool.{and_parts}}
+use Rattle.index_region.{specs.Boxes.{Interval, is_box}, proofs.Boxes.{within-hull_left, within-hull_right, hull_box}, proofs.Least.{hull_least}}
 use Rattle.index_region.proofs.index_box.law_of_hulls.Goals as goal
 
 pub returns : goal.returns

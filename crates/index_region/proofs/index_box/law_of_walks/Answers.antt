@@ -1,7 +1,5 @@
 use Rattle.std.proofs.Common.{List}
-use Rattle.index_region.specs.Boxes.{Interval}
-use Rattle.index_region.proofs.Walks.{walk_within, offset_of_walk, offset_below, walk_of_offset}
-use Rattle.index_region.proofs.Ordered.{walk_ascends}
+use Rattle.index_region.{specs.Boxes.{Interval}, proofs.Walks.{walk_within, offset_of_walk, offset_below, walk_of_offset}, proofs.Ordered.{walk_ascends}}
 use Rattle.index_region.proofs.index_box.law_of_walks.Goals as goal
 
 pub returns : goal.returns

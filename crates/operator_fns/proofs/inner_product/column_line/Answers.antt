@@ -1,9 +1,6 @@
-use Rattle.std.proofs.Common.{◌≡◌, ◌≢◌, ◌∙◌, ◌+◌, ◌∷◌, drop, arith}
-use Rattle.std.proofs.lemmas.List.{length-drop}
-use Rattle.arrays_core.specs.Shapes.{size, places_before}
-use Rattle.arrays_core.proofs.Shapes.{as_long}
-use Rattle.operator_fns.specs.InnerProduct.{column_length}
-use Rattle.operator_fns.specs.Laws.InnerPlaces.{column_place}
+use Rattle.std.{proofs.Common.{◌≡◌, ◌≢◌, ◌∙◌, ◌+◌, ◌∷◌, drop, arith}, proofs.lemmas.List.{length-drop}}
+use Rattle.arrays_core.{specs.Shapes.{size, places_before}, proofs.Shapes.{as_long}}
+use Rattle.operator_fns.{specs.InnerProduct.{column_length}, specs.Laws.InnerPlaces.{column_place}}
 use Rattle.operator_fns.proofs.inner_product.column_line.Goals as goal
 
 pub with_axis-first-requires-clause-rank : goal.with_axis-first-requires-clause-rank

@@ -1,6 +1,5 @@
 use Rattle.std.proofs.Common.{◌≡◌, ◌≤◌, length, drop, pos, Ok}
-use Rattle.operator_fns.specs.InnerProduct.{all_or_last_error}
-use Rattle.operator_fns.specs.RowByColumn.{entry, all_met}
+use Rattle.operator_fns.{specs.InnerProduct.{all_or_last_error}, specs.RowByColumn.{entry, all_met}}
 use Rattle.operator_fns.proofs.met_numbers.meet.Given as goal
 
 abbrev pub invariant-loop-place : goal.invariant-loop-place

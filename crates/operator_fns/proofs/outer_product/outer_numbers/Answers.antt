@@ -1,9 +1,7 @@
-use Rattle.std.proofs.Common.{◌≡◌, ◌∙◌, ◌+◌, ap, sym, get_or, map, take, drop, arith, pos, to_z, of_z, w64, SFits, rules}
-use Rattle.std.proofs.lemmas.List.{take_all}
+use Rattle.std.{proofs.Common.{◌≡◌, ◌∙◌, ◌+◌, ap, sym, get_or, map, take, drop, arith, pos, to_z, of_z, w64, SFits, rules}, proofs.lemmas.List.{take_all}}
 use Rattle.std.proofs.lemmas.Int.{to_z-of_z}
 use Rattle.arrays_core.specs.Items.{all_or_first_error}
-use Rattle.operator_fns.specs.OuterResults.{outer_results, with_results}
-use Rattle.operator_fns.proofs.OuterRows.{row_more, rows_left, row_failed, length-outer}
+use Rattle.operator_fns.{specs.OuterResults.{outer_results, with_results}, proofs.OuterRows.{row_more, rows_left, row_failed, length-outer}}
 use Rattle.reduce_fns.proofs.ListResults.{all_then, error_in_front, as_many_as}
 use Rattle.operator_fns.proofs.outer_product.outer_numbers.Goals as goal
 

@@ -1,8 +1,6 @@
 use Rattle.std.proofs.Common.{◌≡◌, ◌∙◌, ◌++◌, ◌∷◌, [], append_assoc, ap, sym, length, get_or, map, arith, Ok, Err, pos, to_z, of_z, w64, SFits, rules}
-use Rattle.std.proofs.lemmas.List.{length-map, get_or-map, take_all}
-use Rattle.std.proofs.lemmas.Int.{to_z-of_z}
-use Rattle.arrays_core.specs.Items.{all_or_first_error, and_then}
-use Rattle.arrays_core.proofs.Order.{front_more, front_error}
+use Rattle.std.{proofs.lemmas.List.{length-map, get_or-map, take_all}, proofs.lemmas.Int.{to_z-of_z}}
+use Rattle.arrays_core.{specs.Items.{all_or_first_error, and_then}, proofs.Order.{front_more, front_error}}
 use Rattle.operator_fns.proofs.OuterRows.{RowTo, left_error}
 use Rattle.operator_fns.proofs.outer_product.push_row.Goals as goal
 

@@ -1,6 +1,5 @@
 use Rattle.std.proofs.Common.{◌≡◌, ◌∙◌, ◌+◌, ◌-◌, ap, sym, arith}
-use Rattle.operator_fns.specs.RowByColumn.{last_error_or}
-use Rattle.operator_fns.proofs.Meetings.{firsts, fine_entry, failed_entry}
+use Rattle.operator_fns.{specs.RowByColumn.{last_error_or}, proofs.Meetings.{firsts, fine_entry, failed_entry}}
 use Rattle.operator_fns.proofs.row_by_column.last_error.Goals as goal
 
 pub returns-in-Err : goal.returns-in-Err

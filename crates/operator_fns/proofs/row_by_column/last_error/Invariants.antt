@@ -1,6 +1,5 @@
 use Rattle.std.proofs.Common.{◌≡◌, ◌≤◌}
-use Rattle.operator_fns.specs.RowByColumn.{last_error_or}
-use Rattle.operator_fns.proofs.Meetings.{firsts}
+use Rattle.operator_fns.{specs.RowByColumn.{last_error_or}, proofs.Meetings.{firsts}}
 use Rattle.operator_fns.proofs.row_by_column.last_error.Given as goal
 
 abbrev pub invariant-loop-place : goal.invariant-loop-place

@@ -1,7 +1,5 @@
-use Rattle.std.proofs.Common.{◌≡◌, ◌∙◌, ◌+◌, ◌-◌, ◌*◌, ◌/◌, ap, sym, drop, take, length, arith}
-use Rattle.std.proofs.lemmas.List.{length-take, length-drop, length-append}
-use Rattle.operator_fns.specs.SmallProducts.{EndsInSums}
-use Rattle.operator_fns.proofs.ProductSums.{parts_add_up, row_more, row_high}
+use Rattle.std.{proofs.Common.{◌≡◌, ◌∙◌, ◌+◌, ◌-◌, ◌*◌, ◌/◌, ap, sym, drop, take, length, arith}, proofs.lemmas.List.{length-take, length-drop, length-append}}
+use Rattle.operator_fns.{specs.SmallProducts.{EndsInSums}, proofs.ProductSums.{parts_add_up, row_more, row_high}}
 use Rattle.operator_fns.proofs.small_products.small_products.Goals as goal
 
 pub push_sums-requires-clause-small : goal.push_sums-requires-clause-small

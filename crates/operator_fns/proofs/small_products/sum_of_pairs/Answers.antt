@@ -1,7 +1,5 @@
-use Rattle.std.proofs.Common.{◌≡◌, ℕ, sym, get_or, length, pos, arith, to_z, of_z, ◌+ℤ◌, ◌*ℤ◌, w64, SFits, rules}
-use Rattle.std.proofs.lemmas.Int.{to_z-of_z}
-use Rattle.operator_fns.specs.SmallProducts.{sum_of_products}
-use Rattle.operator_fns.proofs.ProductSums.{next_sum, small_entries, product_fits, next_fits}
+use Rattle.std.{proofs.Common.{◌≡◌, ℕ, sym, get_or, length, pos, arith, to_z, of_z, ◌+ℤ◌, ◌*ℤ◌, w64, SFits, rules}, proofs.lemmas.Int.{to_z-of_z}}
+use Rattle.operator_fns.{specs.SmallProducts.{sum_of_products}, proofs.ProductSums.{next_sum, small_entries, product_fits, next_fits}}
 use Rattle.operator_fns.proofs.small_products.sum_of_pairs.Goals as goal
 
 pub overflow_mul-sum : goal.overflow_mul-sum

@@ -1,6 +1,5 @@
 use Rattle.std.proofs.Common.{◌≡◌, ◌∙◌, ℕ, ◌+◌, ◌-◌, ◌*◌, ◌<◌, sym, get_or, drop, length, pos, arith, to_z, of_z, w64, SFits, rules}
-use Rattle.std.proofs.lemmas.Int.{to_z-of_z}
-use Rattle.std.proofs.lemmas.List.{length-take, length-drop}
+use Rattle.std.{proofs.lemmas.Int.{to_z-of_z}, proofs.lemmas.List.{length-take, length-drop}}
 use Rattle.operator_fns.proofs.ProductSums.{small_entries, product_fits, next_fits, next_sum, in_rows, row_entry}
 use Rattle.operator_fns.proofs.small_products.sum_rows.Goals as goal
 

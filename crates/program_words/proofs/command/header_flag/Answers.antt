@@ -1,6 +1,5 @@
 use Rattle.std.proofs.Common.{ap, ◌∙◌, codes, Some}
-use Rattle.clap.specs.Words.{Rule, rule_of}
-use Rattle.clap.specs.declared.builder.action.ArgAction.TheVariants.{SetTrue}
+use Rattle.clap.{specs.Words.{Rule, rule_of}, specs.declared.builder.action.ArgAction.TheVariants.{SetTrue}}
 use Rattle.program_words.proofs.command.header_flag.Goals as goal
 
 pub returns-clause-rule : goal.returns-clause-rule

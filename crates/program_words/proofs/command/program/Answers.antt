@@ -1,8 +1,6 @@
-use Rattle.std.proofs.Common.{ap, ◌∙◌}
-use Rattle.std.proofs.lemmas.Result.{IfOk-weaker}
+use Rattle.std.{proofs.Common.{ap, ◌∙◌}, proofs.lemmas.Result.{IfOk-weaker}}
 use Rattle.clap.specs.Simple.{app_of_fields}
-use Rattle.program_words.specs.Program.{aplsheet}
-use Rattle.program_words.proofs.Commands.{command_added}
+use Rattle.program_words.{specs.Program.{aplsheet}, proofs.Commands.{command_added}}
 use Rattle.program_words.proofs.command.program.Goals as goal
 
 pub returns : goal.returns

@@ -1,11 +1,6 @@
-use Rattle.std.proofs.Common.{ap₂, subst, ◌∙◌, List, [], ◌∷◌}
-use Rattle.std.proofs.lemmas.Result.{IfOk-weaker}
-use Rattle.std.specs.Result.{IfOk}
-use Rattle.clap.specs.Simple.{with_rule}
-use Rattle.clap.specs.Words.{AddsArg, AddsInTurn}
-use Rattle.clap.specs.declared.builder.arg.Arg.{Arg}
-use Rattle.program_words.specs.Program.{table_command}
-use Rattle.program_words.proofs.Commands.{AreLocal, words_added}
+use Rattle.std.{proofs.Common.{ap₂, subst, ◌∙◌, List, [], ◌∷◌}, proofs.lemmas.Result.{IfOk-weaker}, specs.Result.{IfOk}}
+use Rattle.clap.{specs.Simple.{with_rule}, specs.Words.{AddsArg, AddsInTurn}, specs.declared.builder.arg.Arg.{Arg}}
+use Rattle.program_words.{specs.Program.{table_command}, proofs.Commands.{AreLocal, words_added}}
 use Rattle.program_words.proofs.command.table_command.Goals as goal
 
 pub returns-clause-app : goal.returns-clause-app

@@ -1,7 +1,5 @@
-use Rattle.std.proofs.Common.{ap, sym, ◌∙◌, is_some, option_map}
-use Rattle.std.specs.Borrow.{Bor}
-use Rattle.clap.specs.Words.{Text, found_of}
-use Rattle.clap.proofs.WalkLemmas.{first_value-rows}
+use Rattle.std.{proofs.Common.{ap, sym, ◌∙◌, is_some, option_map}, specs.Borrow.{Bor}}
+use Rattle.clap.{specs.Words.{Text, found_of}, proofs.WalkLemmas.{first_value-rows}}
 use Rattle.program_words.proofs.Matches.{is_some_text}
 use Rattle.program_words.proofs.reading.required.Goals as goal
 

@@ -1,8 +1,6 @@
 use Rattle.std.proofs.Common.{ap, sym, subst, ◌∙◌, codes, Some}
-use Rattle.clap.specs.Words.{found_of, one_of, rows_of}
-use Rattle.clap.proofs.WalkLemmas.{one_text-rows}
-use Rattle.program_words.specs.Asked.{IsName}
-use Rattle.program_words.proofs.Matches.{flag_set}
+use Rattle.clap.{specs.Words.{found_of, one_of, rows_of}, proofs.WalkLemmas.{one_text-rows}}
+use Rattle.program_words.{specs.Asked.{IsName}, proofs.Matches.{flag_set}}
 use Rattle.program_words.proofs.reading.table_of.Goals as goal
 
 pub returns-clause-ok : goal.returns-clause-ok

@@ -1,10 +1,5 @@
-use Rattle.std.proofs.Common.{refl, sym, ◌∙◌}
-use Rattle.std.proofs.lemmas.Bool.{both_ways, not-true, not-false}
-use Rattle.std.proofs.lemmas.Result.{err_from_is_err_and}
-use Rattle.program_words.specs.Asked.{HasBadName, Means}
-use Rattle.program_words.specs.Matched.{IsWholeTable}
-use Rattle.program_words.proofs.Matches.{sub_none, sub_some}
-use Rattle.program_words.proofs.Refusals.{for_name-weaker}
+use Rattle.std.{proofs.Common.{refl, sym, ◌∙◌}, proofs.lemmas.Bool.{both_ways, not-true, not-false}, proofs.lemmas.Result.{err_from_is_err_and}}
+use Rattle.program_words.{specs.Asked.{HasBadName, Means}, specs.Matched.{IsWholeTable}, proofs.Matches.{sub_none, sub_some}, proofs.Refusals.{for_name-weaker}}
 use Rattle.program_words.proofs.reading.words_of.Goals as goal
 
 pub returns-in_default-clause-ok : goal.returns-in_default-clause-ok

@@ -1,10 +1,7 @@
 use Rattle.std.proofs.Common.{◌≡◌, ◌∙◌, ◌+◌, ◌%◌, ◌/◌, ap, subst, get_or, pos, inl, inr, arith, of_z, w64, SFits, rules}
-use Rattle.std.proofs.lemmas.Bool.{cases_lt, ltb-true}
-use Rattle.std.proofs.lemmas.Int.{to_z-of_z}
-use Rattle.std.proofs.lemmas.List.{get_or_default}
+use Rattle.std.{proofs.lemmas.Bool.{cases_lt, ltb-true}, proofs.lemmas.Int.{to_z-of_z}, proofs.lemmas.List.{get_or_default}}
 use Rattle.std.proofs.lemmas.Nat.{le_or_l, le_or_r}
-use Rattle.reduce_fns.specs.Sum.{IsWithinBound}
-use Rattle.reduce_fns.proofs.WithinBounds.{within_bits}
+use Rattle.reduce_fns.{specs.Sum.{IsWithinBound}, proofs.WithinBounds.{within_bits}}
 use Rattle.reduce_fns.proofs.bounds.are_within.Goals as goal
 
 pub loop-number-preserved : goal.loop-number-preserved

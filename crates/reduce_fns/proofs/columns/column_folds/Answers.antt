@@ -1,8 +1,5 @@
-use Rattle.std.proofs.Common.{◌≡◌, ◌∙◌, ◌+◌, ◌-◌, ◌*◌, ap, sym, drop, take, length, pos, arith, subst}
-use Rattle.std.proofs.lemmas.List.{length-append}
-use Rattle.reduce_fns.specs.Columns.{EndsInFolds}
-use Rattle.reduce_fns.proofs.ColumnFolds.{at_place, block_more, block_high, all_blocks}
-use Rattle.reduce_fns.proofs.Firsts.{all_places}
+use Rattle.std.{proofs.Common.{◌≡◌, ◌∙◌, ◌+◌, ◌-◌, ◌*◌, ap, sym, drop, take, length, pos, arith, subst}, proofs.lemmas.List.{length-append}}
+use Rattle.reduce_fns.{specs.Columns.{EndsInFolds}, proofs.ColumnFolds.{at_place, block_more, block_high, all_blocks}, proofs.Firsts.{all_places}}
 use Rattle.reduce_fns.proofs.columns.column_folds.Goals as goal
 
 pub overflow_mul-size : goal.overflow_mul-size

@@ -1,5 +1,4 @@
-use Rattle.std.proofs.Common.{◌≡◌, ℕ, ◌∙◌, ◌++◌, ◌+◌, ◌-◌, ◌*◌, ap, sym, drop, take, length, arith}
-use Rattle.std.proofs.lemmas.List.{length-drop, take_all}
+use Rattle.std.{proofs.Common.{◌≡◌, ℕ, ◌∙◌, ◌++◌, ◌+◌, ◌-◌, ◌*◌, ap, sym, drop, take, length, arith}, proofs.lemmas.List.{length-drop, take_all}}
 use Rattle.reduce_fns.proofs.WrittenEnds.{back_is, written}
 use Rattle.reduce_fns.proofs.columns.push_folds.Goals as goal
 

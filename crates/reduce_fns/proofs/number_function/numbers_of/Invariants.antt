@@ -1,5 +1,4 @@
-use Rattle.std.proofs.Common.{◌≡◌, take, map, Ok, vec_len}
-use Rattle.std.specs.List.{range_with_len}
+use Rattle.std.{proofs.Common.{◌≡◌, take, map, Ok, vec_len}, specs.List.{range_with_len}}
 use Rattle.arrays_core.specs.Items.{all_or_first_error}
 use Rattle.reduce_fns.proofs.number_function.numbers_of.Given as goal
 

@@ -1,12 +1,7 @@
-use Rattle.std.proofs.Common.{◌≡◌, ◌∙◌, ap, sym, map, Ok}
-use Rattle.std.specs.List.{range_with_len}
-use Rattle.arrays_core.specs.Items.{all_or_first_error}
-use Rattle.arrays_core.specs.Shapes.{size}
-use Rattle.arrays_core.specs.Arrays.{with_items}
-use Rattle.arrays_core.specs.declared.item.ItemType.TheVariants.{Nums}
+use Rattle.std.{proofs.Common.{◌≡◌, ◌∙◌, ap, sym, map, Ok}, specs.List.{range_with_len}}
+use Rattle.arrays_core.{specs.Items.{all_or_first_error}, specs.Shapes.{size}, specs.Arrays.{with_items}, specs.declared.item.ItemType.TheVariants.{Nums}}
 use Rattle.scalar_fns.specs.NumberLists.{number_items}
-use Rattle.reduce_fns.specs.AxisLines.{fold_at}
-use Rattle.reduce_fns.proofs.Placewise.{numbers_collected}
+use Rattle.reduce_fns.{specs.AxisLines.{fold_at}, proofs.Placewise.{numbers_collected}}
 use Rattle.reduce_fns.proofs.reduce.folds_by.Goals as goal
 
 pub returns-in_ok-from_numbers-in-Ok : goal.returns-in_ok-from_numbers-in-Ok

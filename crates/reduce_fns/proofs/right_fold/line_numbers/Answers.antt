@@ -1,14 +1,9 @@
 use Rattle.std.proofs.Common.{pos, ◌≡◌, ◌∙◌, ◌+◌, ◌-◌, ◌≤◌, suc, ap, sym, arith, drop, take, insert, get_or}
-use Rattle.arrays_core.specs.Items.{fill}
-use Rattle.arrays_core.specs.Shapes.{places_before, size}
+use Rattle.arrays_core.{specs.Items.{fill}, specs.Shapes.{places_before, size}}
 use Rattle.index_region.specs.Arguments.{numbers}
-use Rattle.scalar_fns.specs.Folds.{strided}
-use Rattle.scalar_fns.proofs.RightFolds.{take-strided}
-use Rattle.reduce_fns.specs.Lines.{line}
-use Rattle.reduce_fns.specs.Laws.LineIndices.{inside}
-use Rattle.reduce_fns.proofs.Lines.{line-strided, line_high, long_with_axis}
-use Rattle.reduce_fns.proofs.LineNumbers.{numbers_there}
-use Rattle.reduce_fns.proofs.LineNumbers.{as_items}
+use Rattle.scalar_fns.{specs.Folds.{strided}, proofs.RightFolds.{take-strided}}
+use Rattle.reduce_fns.{specs.Lines.{line}, specs.Laws.LineIndices.{inside}, proofs.Lines.{line-strided, line_high, long_with_axis}}
+use Rattle.reduce_fns.proofs.LineNumbers.{numbers_there, as_items}
 use Rattle.reduce_fns.proofs.right_fold.line_numbers.Goals as goal
 
 pub with_axis-first-requires-clause-rank : goal.with_axis-first-requires-clause-rank

@@ -1,5 +1,4 @@
-use Rattle.std.proofs.Common.{rules, ◌≡◌, ◌∙◌, ◌+◌, ◌-◌, ◌*◌, ◌∷◌, [], ◌++◌, pos, ap, sym, get_or, arith, SFits, w64}
-use Rattle.std.proofs.lemmas.Int.{to_z-of_z}
+use Rattle.std.{proofs.Common.{rules, ◌≡◌, ◌∙◌, ◌+◌, ◌-◌, ◌*◌, ◌∷◌, [], ◌++◌, pos, ap, sym, get_or, arith, SFits, w64}, proofs.lemmas.Int.{to_z-of_z}}
 use Rattle.std.proofs.lemmas.List.FromFn.{map-range_with_len_more}
 use Rattle.index_region.specs.Arguments.{numbers}
 use Rattle.reduce_fns.proofs.right_fold.numbers_apart.Goals as goal

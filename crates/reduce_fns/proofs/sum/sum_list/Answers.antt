@@ -1,5 +1,4 @@
-use Rattle.std.proofs.Common.{◌∙◌, ap, sym, Ok, w64, SFits, rules}
-use Rattle.std.proofs.lemmas.Int.{to_z-of_z}
+use Rattle.std.{proofs.Common.{◌∙◌, ap, sym, Ok, w64, SFits, rules}, proofs.lemmas.Int.{to_z-of_z}}
 use Rattle.reduce_fns.proofs.SmallSums.{small_folded}
 use Rattle.reduce_fns.proofs.sum.sum_list.Goals as goal
 

@@ -1,8 +1,6 @@
-use Rattle.std.proofs.Common.{◌≡◌, ◌+◌, ◌+ℤ◌, ap, get_or, pos, arith, drop, to_z, of_z, w64, SFits, rules}
-use Rattle.std.proofs.lemmas.Int.{to_z-of_z, ints}
+use Rattle.std.{proofs.Common.{◌≡◌, ◌+◌, ◌+ℤ◌, ap, get_or, pos, arith, drop, to_z, of_z, w64, SFits, rules}, proofs.lemmas.Int.{to_z-of_z, ints}}
 use Rattle.std.proofs.lemmas.List.{drop_more}
-use Rattle.reduce_fns.specs.Sum.{IsSmall, sum_of}
-use Rattle.reduce_fns.proofs.SmallSums.{fits_between}
+use Rattle.reduce_fns.{specs.Sum.{IsSmall, sum_of}, proofs.SmallSums.{fits_between}}
 use Rattle.reduce_fns.proofs.sum.sum_of_small.Goals as goal
 
 pub loop-number-preserved : goal.loop-number-preserved

@@ -1,10 +1,6 @@
 use Rattle.std.proofs.Common.{◌≡◌, ◌∙◌, List, length, sym, ap, rules}
-use Rattle.arrays_core.specs.Arrays.{ArrayValue}
-use Rattle.arrays_core.specs.declared.item.Item.{Item}
-use Rattle.arrays_core.specs.Growth.{grown_by}
-use Rattle.arrays_core.proofs.Growing.{rank_longer}
-use Rattle.function_names.specs.Axes.{axis_at}
-use Rattle.function_names.specs.declared.scalar.Scalar2.TheVariants.{Plus}
+use Rattle.arrays_core.{specs.Arrays.{ArrayValue}, specs.declared.item.Item.{Item}, specs.Growth.{grown_by}, proofs.Growing.{rank_longer}}
+use Rattle.function_names.{specs.Axes.{axis_at}, specs.declared.scalar.Scalar2.TheVariants.{Plus}}
 use Rattle.sum_rules.specs.LineSums.{SummedValue, grown_sums}
 use Rattle.rule_tests.proofs.line_sums_tests.grow_both.Goals as goal
 

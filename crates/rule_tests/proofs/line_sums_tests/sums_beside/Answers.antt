@@ -1,5 +1,4 @@
-use Rattle.std.proofs.Common.{◌≡◌, ◌∙◌, [], ◌∷◌, ◌++◌, length, ap, rules}
-use Rattle.std.proofs.lemmas.List.{append-nil}
+use Rattle.std.{proofs.Common.{◌≡◌, ◌∙◌, [], ◌∷◌, ◌++◌, length, ap, rules}, proofs.lemmas.List.{append-nil}}
 use Rattle.sum_rules.specs.LineSums.{array_of_shape}
 use Rattle.rule_tests.proofs.TwoLines.{both_long}
 use Rattle.rule_tests.proofs.line_sums_tests.sums_beside.Goals as goal

@@ -1,10 +1,8 @@
-use Rattle.std.proofs.Common.{◌≡◌, sym, subst, rules}
-use Rattle.std.proofs.lemmas.Result.{IfOk-at_ok}
+use Rattle.std.{proofs.Common.{◌≡◌, sym, subst, rules}, proofs.lemmas.Result.{IfOk-at_ok}}
 use Rattle.arrays_core.specs.Arrays.{ArrayValue}
 use Rattle.function_names.specs.declared.along.Along.TheVariants.{Last}
 use Rattle.index_region.specs.Patches.{PatchValue, FitsPatch}
-use Rattle.sum_rules.specs.LineSums.{length_along}
-use Rattle.sum_rules.specs.Totals.{AreAllAsLong, all_trees, StoodFor}
+use Rattle.sum_rules.{specs.LineSums.{length_along}, specs.Totals.{AreAllAsLong, all_trees, StoodFor}}
 use Rattle.rule_tests.proofs.TwoLines.{summed_by_lines}
 use Rattle.rule_tests.proofs.line_sums_tests.sums_by_trees.Goals as goal
 

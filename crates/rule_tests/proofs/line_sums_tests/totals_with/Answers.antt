@@ -1,9 +1,7 @@
 use Rattle.std.proofs.Common.{◌≡◌, ◌∙◌, Some, rules, sym, ap, subst}
 use Rattle.arrays_core.specs.Arrays.{ArrayValue}
 use Rattle.index_region.specs.Patches.{PatchValue, FitsPatch, patched}
-use Rattle.sum_rules.specs.LineSums.{SummedValue, summed}
-use Rattle.sum_rules.specs.Totals.{StoodFor}
-use Rattle.sum_rules.proofs.KeptSums.{stood_for, summed_is}
+use Rattle.sum_rules.{specs.LineSums.{SummedValue, summed}, specs.Totals.{StoodFor}, proofs.KeptSums.{stood_for, summed_is}}
 use Rattle.rule_tests.proofs.line_sums_tests.totals_with.Goals as goal
 
 pub refresh_totals_with_cost-requires-clause-sums : goal.refresh_totals_with_cost-requires-clause-sums

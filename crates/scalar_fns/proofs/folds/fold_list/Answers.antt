@@ -1,8 +1,6 @@
 use Rattle.std.proofs.Common.{◌≡◌, ◌∙◌, ◌+◌, ◌-◌, ap, sym, subst, get_or, pos, length, arith, Ok, Err, drop, to_z, of_z, w64, SFits, rules}
 use Rattle.std.proofs.lemmas.Int.{to_z-of_z}
-use Rattle.scalar_fns.specs.Folds.{folded}
-use Rattle.scalar_fns.proofs.RightFolds.{fold_last, rest_more, error_stands}
-use Rattle.scalar_fns.proofs.Errors.{passed_on}
+use Rattle.scalar_fns.{specs.Folds.{folded}, proofs.RightFolds.{fold_last, rest_more, error_stands}, proofs.Errors.{passed_on}}
 use Rattle.scalar_fns.proofs.folds.fold_list.Goals as goal
 
 pub loop-before-init : goal.loop-before-init

@@ -1,8 +1,6 @@
 use Rattle.std.proofs.Common.{◌≡◌, ◌∙◌, ◌+◌, ◌-◌, ◌*◌, ap, sym, subst, get_or, pos, arith, Ok, Err, drop, take, to_z, of_z, w64, SFits, rules}
 use Rattle.std.proofs.lemmas.Int.{to_z-of_z}
-use Rattle.scalar_fns.specs.Folds.{strided, folded}
-use Rattle.scalar_fns.proofs.RightFolds.{strided_last, strided_more, strided_error, strided_run}
-use Rattle.scalar_fns.proofs.Errors.{passed_on}
+use Rattle.scalar_fns.{specs.Folds.{strided, folded}, proofs.RightFolds.{strided_last, strided_more, strided_error, strided_run}, proofs.Errors.{passed_on}}
 use Rattle.scalar_fns.proofs.folds.fold_numbers.Goals as goal
 
 pub loop-before-init : goal.loop-before-init

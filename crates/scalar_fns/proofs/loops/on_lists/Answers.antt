@@ -1,5 +1,4 @@
-use Rattle.std.proofs.Common.{◌≡◌, get_or, pos, to_z, of_z, w64, SFits, rules}
-use Rattle.std.proofs.lemmas.Int.{to_z-of_z}
+use Rattle.std.{proofs.Common.{◌≡◌, get_or, pos, to_z, of_z, w64, SFits, rules}, proofs.lemmas.Int.{to_z-of_z}}
 use Rattle.scalar_fns.proofs.Lists.{results_of_one_left, results_of_one_right}
 use Rattle.scalar_fns.proofs.loops.on_lists.Goals as goal
 

@@ -1,11 +1,7 @@
-use Rattle.std.proofs.Common.{◌≡◌, ◌∙◌, ◌+◌, ◌++◌, ◌∷◌, [], ap, sym, length, arith, Ok, Err, to_z, of_z, w64, SFits, rules}
-use Rattle.std.proofs.lemmas.List.{take_all}
+use Rattle.std.{proofs.Common.{◌≡◌, ◌∙◌, ◌+◌, ◌++◌, ◌∷◌, [], ap, sym, length, arith, Ok, Err, to_z, of_z, w64, SFits, rules}, proofs.lemmas.List.{take_all}}
 use Rattle.std.proofs.lemmas.Int.{to_z-of_z}
-use Rattle.arrays_core.specs.Items.{all_or_first_error}
-use Rattle.arrays_core.proofs.Order.{front_more, front_error}
-use Rattle.scalar_fns.specs.NumberLists.{results_by}
-use Rattle.scalar_fns.proofs.Errors.{list_error}
-use Rattle.scalar_fns.proofs.Lists.{own_result, places_of_equal, length-results}
+use Rattle.arrays_core.{specs.Items.{all_or_first_error}, proofs.Order.{front_more, front_error}}
+use Rattle.scalar_fns.{specs.NumberLists.{results_by}, proofs.Errors.{list_error}, proofs.Lists.{own_result, places_of_equal, length-results}}
 use Rattle.scalar_fns.proofs.loops.on_pairs.Goals as goal
 
 pub loop-place-preserved : goal.loop-place-preserved

@@ -1,11 +1,8 @@
 use Rattle.std.proofs.Common.{◌≡◌, ◌∙◌, ◌-ℤ◌, ℤ, Err, false, sym, ap, SomeIff, pos, arith, int_lt, to_z, of_z, w64, SFits, int_div, rules}
+use Rattle.std.{specs.Int.{CanDivide, IsNonZero}, proofs.lemmas.Int.{to_z-of_z}}
+use Rattle.scalar_fns.{specs.Numbers.{residue, floor_div, number_or_limit}, proofs.Residues.{whole_quotient}}
+use Rattle.scalar_fns.{proofs.Floors.{not_zero, one_above, held_below, held_ok}, proofs.Signs.{zero_of_bits, some_iff_rest}}
 use mathlib.Core.Bool.{beq}
-use Rattle.std.specs.Int.{CanDivide, IsNonZero}
-use Rattle.std.proofs.lemmas.Int.{to_z-of_z}
-use Rattle.scalar_fns.specs.Numbers.{residue, floor_div, number_or_limit}
-use Rattle.scalar_fns.proofs.Residues.{whole_quotient}
-use Rattle.scalar_fns.proofs.Floors.{not_zero, one_above, held_below, held_ok}
-use Rattle.scalar_fns.proofs.Signs.{zero_of_bits, some_iff_rest}
 use Rattle.scalar_fns.proofs.numbers.floor_quotient.Goals as goal
 
 has_bits : (b : ℤ) → SFits w64 b → (b ≡ pos 0 → ⊥) → IsNonZero w64 b

@@ -1,8 +1,5 @@
-use Rattle.std.proofs.Common.{◌≡◌, ◌∙◌, sym, ap, pos, negsuc, Ok, w64, SFits}
-use Rattle.std.proofs.lemmas.Int.{to_z-of_z}
-use Rattle.scalar_fns.specs.Numbers.{power}
-use Rattle.scalar_fns.proofs.Powers.{power_of_one, power_of_zero_is, even_power, odd_power, far_exponent}
-use Rattle.scalar_fns.proofs.Signs.{by_bits}
+use Rattle.std.{proofs.Common.{◌≡◌, ◌∙◌, sym, ap, pos, negsuc, Ok, w64, SFits}, proofs.lemmas.Int.{to_z-of_z}}
+use Rattle.scalar_fns.{specs.Numbers.{power}, proofs.Powers.{power_of_one, power_of_zero_is, even_power, odd_power, far_exponent}, proofs.Signs.{by_bits}}
 use Rattle.scalar_fns.proofs.numbers.power.Goals as goal
 
 pub returns-then-a-eq1 : goal.returns-then-a-eq1

@@ -1,8 +1,6 @@
-use Rattle.std.proofs.Common.{◌≡◌, [], ◌∷◌, w64, to_z, of_z, SFits, rules}
-use Rattle.std.proofs.lemmas.Int.{to_z-of_z}
+use Rattle.std.{proofs.Common.{◌≡◌, [], ◌∷◌, w64, to_z, of_z, SFits, rules}, proofs.lemmas.Int.{to_z-of_z}}
 use Rattle.arrays_core.specs.Arrays.{scalar_of}
-use Rattle.scalar_fns.proofs.Joint.{IsOfNumbers, plain_arrays}
-use Rattle.scalar_fns.proofs.Scalars.{common_right, of_number}
+use Rattle.scalar_fns.{proofs.Joint.{IsOfNumbers, plain_arrays}, proofs.Scalars.{common_right, of_number}}
 use Rattle.scalar_fns.proofs.scalar_extension.apply_to_right.Goals as goal
 
 pub returns-in-Some : goal.returns-in-Some

@@ -1,6 +1,5 @@
 use Rattle.std.proofs.Common.{◌≡◌, Ok}
-use Rattle.scalar_fns.specs.ScalarExtension.{common}
-use Rattle.scalar_fns.proofs.Joint.{IsOfNumbers, plain_arrays, places_are, both_fit}
+use Rattle.scalar_fns.{specs.ScalarExtension.{common}, proofs.Joint.{IsOfNumbers, plain_arrays, places_are, both_fit}}
 use Rattle.scalar_fns.proofs.scalar_extension.apply_two.Goals as goal
 
 pub apply_to_number_lists-requires-clause-fit : goal.apply_to_number_lists-requires-clause-fit

@@ -1,10 +1,7 @@
 use Rattle.std.proofs.Common.{◌≡◌, ◌∙◌, ℕ, sym, ap, refl, subst, Ok}
-use Rattle.scalar_fns.specs.Characters.{AreTold}
-use Rattle.arrays_core.specs.declared.item.Item.TheVariants.{Char}
-use Rattle.arrays_core.specs.Shapes.{size}
-use Rattle.scalar_fns.specs.Laws.Extension.{common_extends}
-use Rattle.scalar_fns.proofs.Joint.{IsOf, as_long_as}
+use Rattle.scalar_fns.{specs.Characters.{AreTold}, specs.Laws.Extension.{common_extends}, proofs.Joint.{IsOf, as_long_as}}
 use Rattle.scalar_fns.proofs.Equalities.{of_characters, of_other_types}
+use Rattle.arrays_core.{specs.declared.item.Item.TheVariants.{Char}, specs.Shapes.{size}}
 use Rattle.scalar_fns.proofs.scalar_extension.equal_items.Goals as goal
 
 pub returns-in_default : goal.returns-in_default

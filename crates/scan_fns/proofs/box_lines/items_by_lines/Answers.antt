@@ -1,20 +1,13 @@
-use Rattle.std.proofs.Common.{ℕ, List, Option, None, ◌≡◌, ◌∙◌, ◌<◌, ap, sym, subst, get_or, length, inl, inr, arith}
-use Rattle.std.proofs.lemmas.Bool.{cases_lt}
+use Rattle.std.{proofs.Common.{ℕ, List, Option, None, ◌≡◌, ◌∙◌, ◌<◌, ap, sym, subst, get_or, length, inl, inr, arith}, proofs.lemmas.Bool.{cases_lt}}
 use Rattle.std.proofs.lemmas.List.{get_or_default}
-use Rattle.arrays_core.specs.declared.item.ItemType.TheVariants.{Nums}
-use Rattle.arrays_core.specs.declared.item.Kind.{Kind}
-use Rattle.arrays_core.specs.Arrays.{ArrayValue}
-use Rattle.index_region.specs.Boxes.{box_size, walk_at}
-use Rattle.index_region.proofs.Boxes.{fits_length}
-use Rattle.index_region.proofs.Walks.{walk_within, some_place}
+use Rattle.arrays_core.{specs.declared.item.ItemType.TheVariants.{Nums}, specs.declared.item.Kind.{Kind}, specs.Arrays.{ArrayValue}}
+use Rattle.index_region.{specs.Boxes.{box_size, walk_at}, proofs.Boxes.{fits_length}, proofs.Walks.{walk_within, some_place}}
 use Rattle.change_core.proofs.Filling.{few_places, filled_many, place_of, vector_within}
-use Rattle.scan_fns.specs.Scan.{scan_form, scan_item}
-use Rattle.scan_fns.specs.BoxLines.{LineIsIn}
-use Rattle.scan_fns.proofs.OneLine.{on_axis}
+use Rattle.scan_fns.{specs.Scan.{scan_form, scan_item}, specs.BoxLines.{LineIsIn}, proofs.OneLine.{on_axis}}
 use Rattle.scan_fns.proofs.BoxErrors.{IsDone, IsMet, all_fail, done_here, done_still, met_more}
 use Rattle.scan_fns.proofs.BoxTables.{as_long_as, line_begins, table_is, begins_below, begins_first, begins_on_line}
-use Rattle.scan_fns.proofs.box_lines.items_by_lines.Goals as goal
 use Rattle.scan_fns.proofs.box_lines.items_by_lines.Goals.{then-as_slice-axis+in_ok-answer+in_ok-failed, else-as_slice-axis}
+use Rattle.scan_fns.proofs.box_lines.items_by_lines.Goals as goal
 
 pub size-places-requires : goal.size-places-requires
 size-places-requires c =

@@ -1,9 +1,6 @@
 use Rattle.std.proofs.Common.{◌≡◌, ◌<◌, ℕ}
 use Rattle.index_region.specs.Boxes.{box_size, walk_at}
-use Rattle.scan_fns.specs.Scan.{scan_item}
-use Rattle.scan_fns.specs.BoxLines.{FillsBox}
-use Rattle.scan_fns.proofs.BoxTables.{line_begins}
-use Rattle.scan_fns.proofs.BoxErrors.{IsDone, IsMet}
+use Rattle.scan_fns.{specs.Scan.{scan_item}, specs.BoxLines.{FillsBox}, proofs.BoxTables.{line_begins}, proofs.BoxErrors.{IsDone, IsMet}}
 use Rattle.scan_fns.proofs.box_lines.items_by_lines.Given as goal
 
 abbrev pub invariant-loop-place : goal.invariant-loop-place

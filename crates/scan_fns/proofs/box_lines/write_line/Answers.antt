@@ -1,14 +1,9 @@
 use Rattle.std.proofs.Common.{ℕ, ◌≡◌, ◌∙◌, ◌+◌, ◌-◌, ◌<◌, ◌≤◌, true, ap, sym, subst, get_or, length, set, insert, remove, inl, inr, arith, Ok, Err}
 use Rattle.std.proofs.lemmas.Bool.{cases_lt}
 use Rattle.arrays_core.specs.Items.{fill}
-use Rattle.index_region.specs.Boxes.{box_offset, walk_at, is_within}
-use Rattle.index_region.proofs.Boxes.{fits_length}
-use Rattle.index_region.proofs.Walks.{walk_within, offset_of_walk, walk_of_offset}
+use Rattle.index_region.{specs.Boxes.{box_offset, walk_at, is_within}, proofs.Boxes.{fits_length}, proofs.Walks.{walk_within, offset_of_walk, walk_of_offset}}
 use Rattle.change_core.proofs.Filling.{few_places}
-use Rattle.scan_fns.specs.Scan.{scan_item, scan_along}
-use Rattle.scan_fns.proofs.Scanned.{restored}
-use Rattle.scan_fns.specs.BoxLines.{Holds}
-use Rattle.scan_fns.proofs.OneLine.{on_axis}
+use Rattle.scan_fns.{specs.Scan.{scan_item, scan_along}, proofs.Scanned.{restored}, specs.BoxLines.{Holds}, proofs.OneLine.{on_axis}}
 use Rattle.scan_fns.proofs.BoxErrors.{line_fails}
 use Rattle.scan_fns.proofs.BoxTables.{as_long_as, long_removed, within_line, between, holds_there, holds_still, table_still, line_item}
 use Rattle.scan_fns.proofs.box_lines.write_line.Goals as goal

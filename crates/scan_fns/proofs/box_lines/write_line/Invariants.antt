@@ -1,7 +1,6 @@
 use Rattle.std.proofs.Common.{◌<◌, ◌+◌, ℕ, get_or}
 use Rattle.index_region.specs.Boxes.{box_size, walk_at}
-use Rattle.scan_fns.specs.Scan.{scan_item}
-use Rattle.scan_fns.specs.BoxLines.{Holds, IsOnLine, FillsBox}
+use Rattle.scan_fns.{specs.Scan.{scan_item}, specs.BoxLines.{Holds, IsOnLine, FillsBox}}
 use Rattle.scan_fns.proofs.box_lines.write_line.Given as goal
 
 abbrev pub invariant-loop-before : goal.invariant-loop-before

@@ -1,7 +1,5 @@
-use Rattle.std.proofs.Common.{◌≡◌, ◌∙◌, ◌+◌, ◌<◌, ◌%◌, ap, length, vec_len, arith, subst, sym}
-use Rattle.std.proofs.Math.Nat.{add-mod_right, mod-eq_of_lt}
-use Rattle.scan_fns.specs.LinearScan.{left_rule, AreResultsTo}
-use Rattle.scan_fns.proofs.LeftScans.{none_yet, results_end, all_fit}
+use Rattle.std.{proofs.Common.{◌≡◌, ◌∙◌, ◌+◌, ◌<◌, ◌%◌, ap, length, vec_len, arith, subst, sym}, proofs.Math.Nat.{add-mod_right, mod-eq_of_lt}}
+use Rattle.scan_fns.{specs.LinearScan.{left_rule, AreResultsTo}, proofs.LeftScans.{none_yet, results_end, all_fit}}
 use Rattle.scan_fns.proofs.linear_scan.running_beside.Goals as goal
 
 pub loop-results-init : goal.loop-results-init

@@ -1,13 +1,8 @@
 use Rattle.std.proofs.Common.{subst}
 use Rattle.function_names.specs.declared.scalar.Scalar2.TheVariants.{Plus as Sum}
-use Rattle.scalar_fns.specs.Numbers.{dyadic_on_numbers}
-use Rattle.scalar_fns.specs.NumberLists.{IsListAnswerTo}
-use Rattle.scalar_fns.specs.Folds.{folded}
-use Rattle.scan_fns.specs.LinearScan.{scanned}
-use Rattle.reduce_fns.specs.LeftFolds.{folded_left}
-use Rattle.scan_fns.proofs.Errors.{fault_passed}
-use Rattle.reduce_fns.proofs.Endings.{greatest_step, least_step}
-use Rattle.scan_fns.proofs.RunningSums.{greatest_leaves, least_leaves, sums_stay, small_sums}
+use Rattle.scalar_fns.{specs.Numbers.{dyadic_on_numbers}, specs.NumberLists.{IsListAnswerTo}, specs.Folds.{folded}}
+use Rattle.scan_fns.{specs.LinearScan.{scanned}, proofs.Errors.{fault_passed}, proofs.RunningSums.{greatest_leaves, least_leaves, sums_stay, small_sums}}
+use Rattle.reduce_fns.{specs.LeftFolds.{folded_left}, proofs.Endings.{greatest_step, least_step}}
 use Rattle.scan_fns.proofs.linear_scan.running_sums.Goals as goal
 
 pub returns-in_err-running-clause-is : goal.returns-in_err-running-clause-is

@@ -1,9 +1,6 @@
 use Rattle.std.proofs.Common.{◌≡◌, ◌∙◌, Global, Ok, Err, length, sym, subst}
-use Rattle.scalar_fns.specs.Numbers.{dyadic_on_numbers}
-use Rattle.scalar_fns.specs.NumberLists.{IsListAnswerTo}
-use Rattle.scalar_fns.specs.Folds.{folded}
-use Rattle.scan_fns.specs.LinearScan.{scanned}
-use Rattle.scan_fns.proofs.LaterFolds.{one_line, later_folds, later_fault}
+use Rattle.scalar_fns.{specs.Numbers.{dyadic_on_numbers}, specs.NumberLists.{IsListAnswerTo}, specs.Folds.{folded}}
+use Rattle.scan_fns.{specs.LinearScan.{scanned}, proofs.LaterFolds.{one_line, later_folds, later_fault}}
 use Rattle.scan_fns.proofs.number_scan.later_folds.Goals as goal
 
 pub returns-in-Ok : goal.returns-in-Ok

@@ -1,7 +1,5 @@
 use Rattle.std.proofs.Common.{◌≡◌, ◌*◌, ◌%◌, length}
-use Rattle.scan_fns.specs.LinearScan.{AreResultsTo}
-use Rattle.scan_fns.specs.Prefixes.{fold_to}
-use Rattle.scan_fns.proofs.Prefixes.{AreFoldsKept}
+use Rattle.scan_fns.{specs.LinearScan.{AreResultsTo}, specs.Prefixes.{fold_to}, proofs.Prefixes.{AreFoldsKept}}
 use Rattle.scan_fns.proofs.prefix.folds_apart.Given as goal
 
 abbrev pub invariant-loop-place : goal.invariant-loop-place

@@ -1,8 +1,5 @@
-use Rattle.std.proofs.Common.{◌≡◌, ◌∙◌, ◌+◌, ◌<◌, ◌%◌, ap, length, vec_len, arith, subst, sym}
-use Rattle.std.proofs.Math.Nat.{add-mod_right, mod-eq_of_lt}
-use Rattle.scan_fns.specs.LinearScan.{AreResultsTo}
-use Rattle.scan_fns.specs.Prefixes.{fold_to}
-use Rattle.scan_fns.proofs.LeftScans.{none_yet, results_end}
+use Rattle.std.{proofs.Common.{◌≡◌, ◌∙◌, ◌+◌, ◌<◌, ◌%◌, ap, length, vec_len, arith, subst, sym}, proofs.Math.Nat.{add-mod_right, mod-eq_of_lt}}
+use Rattle.scan_fns.{specs.LinearScan.{AreResultsTo}, specs.Prefixes.{fold_to}, proofs.LeftScans.{none_yet, results_end}}
 use Rattle.scan_fns.proofs.prefix.folds_beside.Goals as goal
 
 pub loop-results-init : goal.loop-results-init

@@ -1,6 +1,5 @@
 use Rattle.std.proofs.Common.{◌≡◌, ◌-◌, ◌<◌, ◌≤◌, ◌%◌, length, vec_len}
-use Rattle.scan_fns.specs.LinearScan.{AreResultsTo}
-use Rattle.scan_fns.specs.Prefixes.{fold_to}
+use Rattle.scan_fns.{specs.LinearScan.{AreResultsTo}, specs.Prefixes.{fold_to}}
 use Rattle.scan_fns.proofs.prefix.folds_beside.Given as goal
 
 abbrev pub invariant-loop-results : goal.invariant-loop-results

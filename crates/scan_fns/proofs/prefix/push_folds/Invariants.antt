@@ -1,7 +1,5 @@
 use Rattle.std.proofs.Common.{◌+◌, ◌<◌}
-use Rattle.scan_fns.specs.LinearScan.{AreResultsTo}
-use Rattle.scan_fns.specs.Prefixes.{fold_to}
-use Rattle.scan_fns.proofs.Prefixes.{IsFoldKept}
+use Rattle.scan_fns.{specs.LinearScan.{AreResultsTo}, specs.Prefixes.{fold_to}, proofs.Prefixes.{IsFoldKept}}
 use Rattle.scan_fns.proofs.prefix.push_folds.Given as goal
 
 abbrev pub invariant-loop-place : goal.invariant-loop-place

@@ -1,7 +1,5 @@
 use Rattle.std.proofs.Common.{◌≡◌, ◌+◌, ◌*◌, length}
-use Rattle.scan_fns.specs.LinearScan.{depth}
-use Rattle.scan_fns.specs.Prefixes.{fold_to}
-use Rattle.scan_fns.specs.RecalledScan.{given_at, AreRecalled}
+use Rattle.scan_fns.{specs.LinearScan.{depth}, specs.Prefixes.{fold_to}, specs.RecalledScan.{given_at, AreRecalled}}
 use Rattle.scan_fns.proofs.recalled_scan.recalled_fold.Given as goal
 
 abbrev pub invariant-loop : goal.invariant-loop

@@ -1,13 +1,9 @@
 use Rattle.std.proofs.Common.{◌≡◌, ◌∙◌, ◌<◌, ◌++◌, ◌∷◌, [], ap, sym, length, get_or, map, take, drop, arith, Ok, Err, pos, to_z, of_z, w64, SFits, rules}
-use Rattle.std.specs.List.{range_with_len}
-use Rattle.std.proofs.lemmas.Int.{to_z-of_z}
-use Rattle.std.proofs.Math.Seq.{take-append_seam}
+use Rattle.std.{specs.List.{range_with_len}, proofs.lemmas.Int.{to_z-of_z}, proofs.Math.Seq.{take-append_seam}}
 use Rattle.arrays_core.specs.Items.{all_or_first_error}
-use Rattle.scan_fns.specs.declared.recalled_scan.Recalled.{Recalled}
+use Rattle.scan_fns.{specs.declared.recalled_scan.Recalled.{Recalled}, specs.Prefixes.{fold_to}}
+use Rattle.scan_fns.{proofs.LeftScans.{none_yet, one_more, first_error, results_end}, proofs.RecalledFolds.{next_recalled, result_before}}
 use Rattle.scalar_fns.proofs.Errors.{list_error}
-use Rattle.scan_fns.specs.Prefixes.{fold_to}
-use Rattle.scan_fns.proofs.LeftScans.{none_yet, one_more, first_error, results_end}
-use Rattle.scan_fns.proofs.RecalledFolds.{next_recalled, result_before}
 use Rattle.scan_fns.proofs.recalled_scan.recalled_folds.Goals as goal
 
 pub loop-place-init : goal.loop-place-init

@@ -1,7 +1,5 @@
 use Rattle.std.proofs.Common.{◌≡◌, ◌≤◌, length, vec_len, vec_capacity}
-use Rattle.scan_fns.specs.LinearScan.{AreResultsTo}
-use Rattle.scan_fns.specs.Prefixes.{fold_to}
-use Rattle.scan_fns.specs.RecalledScan.{AreRecalled}
+use Rattle.scan_fns.{specs.LinearScan.{AreResultsTo}, specs.Prefixes.{fold_to}, specs.RecalledScan.{AreRecalled}}
 use Rattle.scan_fns.proofs.recalled_scan.recalled_folds.Given as goal
 
 abbrev pub invariant-loop-place : goal.invariant-loop-place

@@ -1,10 +1,7 @@
 use Rattle.std.proofs.Common.{◌∙◌, ap, sym, Ok, Global}
-use Rattle.arrays_core.specs.declared.item.ItemType.TheVariants.{Nums}
-use Rattle.arrays_core.specs.Arrays.{with_items}
-use Rattle.scalar_fns.specs.Numbers.{dyadic_on_numbers}
-use Rattle.scalar_fns.specs.NumberLists.{number_items}
-use Rattle.scan_fns.specs.LinearScan.{scans_of}
-use Rattle.scan_fns.proofs.Errors.{array_fault}
+use Rattle.arrays_core.{specs.declared.item.ItemType.TheVariants.{Nums}, specs.Arrays.{with_items}}
+use Rattle.scalar_fns.{specs.Numbers.{dyadic_on_numbers}, specs.NumberLists.{number_items}}
+use Rattle.scan_fns.{specs.LinearScan.{scans_of}, proofs.Errors.{array_fault}}
 use Rattle.scan_fns.proofs.scan.scans.Goals as goal
 
 pub returns-in_err-folds : goal.returns-in_err-folds

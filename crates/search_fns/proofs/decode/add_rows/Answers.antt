@@ -1,12 +1,8 @@
 use Rattle.std.proofs.Common.{◌≡◌, ◌∙◌, ◌+◌, ◌-◌, ◌*◌, ap, drop, take, length, pos, Err, arith, rules, to_z, of_z, w64, SFits}
-use Rattle.std.specs.Prelude.{nat_eq, if◌then◌else◌}
-use Rattle.std.proofs.lemmas.Int.{to_z-of_z}
-use Rattle.std.proofs.lemmas.List.{length-replicate}
-use Rattle.arrays_core.specs.declared.item.Kind.TheVariants.{Limit}
-use Rattle.arrays_core.specs.Shapes.{size}
+use Rattle.std.{specs.Prelude.{nat_eq, if◌then◌else◌}, proofs.lemmas.Int.{to_z-of_z}, proofs.lemmas.List.{length-replicate}}
+use Rattle.arrays_core.{specs.declared.item.Kind.TheVariants.{Limit}, specs.Shapes.{size}}
 use Rattle.index_region.specs.Axes.{places_along}
-use Rattle.search_fns.specs.DecodedRows.{HaveOneMore, LeavesNumbers}
-use Rattle.search_fns.proofs.DecodedRows.{row_of, row_ends, has_row, row_further, row_fails}
+use Rattle.search_fns.{specs.DecodedRows.{HaveOneMore, LeavesNumbers}, proofs.DecodedRows.{row_of, row_ends, has_row, row_further, row_fails}}
 use Rattle.search_fns.proofs.decode.add_rows.Goals as goal
 
 pub slice_bounds-add_digits-end : goal.slice_bounds-add_digits-end

@@ -1,11 +1,8 @@
-use Rattle.std.proofs.Common.{◌≡◌, ◌+◌, ◌∙◌, ap, sym, map, Ok, Err, ◌+ℤ◌, ◌*ℤ◌, to_z, of_z, w64, SFits, rules}
-use Rattle.std.specs.List.{range_with_len}
+use Rattle.std.{proofs.Common.{◌≡◌, ◌+◌, ◌∙◌, ap, sym, map, Ok, Err, ◌+ℤ◌, ◌*ℤ◌, to_z, of_z, w64, SFits, rules}, specs.List.{range_with_len}}
 use Rattle.std.proofs.lemmas.Int.{to_z-of_z}
 use Rattle.arrays_core.specs.Items.{and_then}
-use Rattle.scalar_fns.specs.Numbers.{number_or_limit}
-use Rattle.scalar_fns.specs.Items.{number_item}
-use Rattle.search_fns.specs.Decode.{radix_at, digit_at, worth, decoded, decode_item}
-use Rattle.search_fns.proofs.Worths.{digits_after, digit_pair, all_digits, one_more_digit}
+use Rattle.scalar_fns.{specs.Numbers.{number_or_limit}, specs.Items.{number_item}}
+use Rattle.search_fns.{specs.Decode.{radix_at, digit_at, worth, decoded, decode_item}, proofs.Worths.{digits_after, digit_pair, all_digits, one_more_digit}}
 use Rattle.search_fns.proofs.decode.decoded_at.Goals as goal
 
 pub loop-before-init : goal.loop-before-init

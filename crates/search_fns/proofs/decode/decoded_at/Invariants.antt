@@ -1,7 +1,5 @@
-use Rattle.std.proofs.Common.{◌≡◌, map}
-use Rattle.std.specs.List.{range_with_len}
-use Rattle.search_fns.specs.Decode.{worth, decoded}
-use Rattle.search_fns.proofs.Worths.{digits_after, digit_pair}
+use Rattle.std.{proofs.Common.{◌≡◌, map}, specs.List.{range_with_len}}
+use Rattle.search_fns.{specs.Decode.{worth, decoded}, proofs.Worths.{digits_after, digit_pair}}
 use Rattle.search_fns.proofs.decode.decoded_at.Given as goal
 
 abbrev pub invariant-loop-before : goal.invariant-loop-before

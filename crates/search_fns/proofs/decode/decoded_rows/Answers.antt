@@ -1,15 +1,9 @@
 use Rattle.std.proofs.Common.{◌≡◌, ◌∙◌, ap, sym, drop, length, Ok, Err, List, ℕ, ℤ, map, take, ◌++◌, vec_len, rules}
 use Rattle.std.proofs.lemmas.List.{take_at, length-replicate}
-use Rattle.arrays_core.specs.declared.item.Item.TheVariants.{Num}
-use Rattle.arrays_core.specs.declared.item.ItemType.TheVariants.{Nums}
-use Rattle.arrays_core.specs.declared.item.Kind.{Kind}
-use Rattle.arrays_core.specs.declared.item.Kind.TheVariants.{Limit}
-use Rattle.arrays_core.specs.declared.fault.ApplyFault.TheVariants.{Kind as KindFault}
-use Rattle.arrays_core.specs.Shapes.{size}
+use Rattle.arrays_core.{specs.declared.item.Item.TheVariants.{Num}, specs.declared.item.ItemType.TheVariants.{Nums}, specs.declared.item.Kind.{Kind}}
+use Rattle.arrays_core.{specs.declared.item.Kind.TheVariants.{Limit}, specs.declared.fault.ApplyFault.TheVariants.{Kind as KindFault}, specs.Shapes.{size}}
 use Rattle.arrays_core.specs.Arrays.{ArrayValue, collect}
-use Rattle.search_fns.specs.Decode.{decode_item}
-use Rattle.search_fns.specs.DecodedRows.{AreDecoded, HasLimit}
-use Rattle.search_fns.proofs.DecodedRows.{rows_collected, limit_collected}
+use Rattle.search_fns.{specs.Decode.{decode_item}, specs.DecodedRows.{AreDecoded, HasLimit}, proofs.DecodedRows.{rows_collected, limit_collected}}
 use Rattle.search_fns.proofs.decode.decoded_rows.Goals as goal
 
 pub returns-in_err-add_rows : goal.returns-in_err-add_rows

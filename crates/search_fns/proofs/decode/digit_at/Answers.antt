@@ -1,7 +1,5 @@
-use Rattle.std.proofs.Common.{◌≡◌, ◌+◌, ◌≤◌, length, drop, true, ap, rules, arith}
-use Rattle.std.proofs.lemmas.List.{length-drop}
-use Rattle.arrays_core.specs.Shapes.{is_index_of}
-use Rattle.arrays_core.proofs.Shapes.{as_long}
+use Rattle.std.{proofs.Common.{◌≡◌, ◌+◌, ◌≤◌, length, drop, true, ap, rules, arith}, proofs.lemmas.List.{length-drop}}
+use Rattle.arrays_core.{specs.Shapes.{is_index_of}, proofs.Shapes.{as_long}}
 use Rattle.search_fns.proofs.decode.digit_at.Goals as goal
 
 pub append_axes-requires : goal.append_axes-requires

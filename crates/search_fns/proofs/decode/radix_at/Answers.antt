@@ -1,5 +1,4 @@
-use Rattle.std.proofs.Common.{◌≡◌, ◌≢◌, ◌∙◌, to_z, of_z, w64, SFits, arith}
-use Rattle.std.proofs.lemmas.Int.{to_z-of_z}
+use Rattle.std.{proofs.Common.{◌≡◌, ◌≢◌, ◌∙◌, to_z, of_z, w64, SFits, arith}, proofs.lemmas.Int.{to_z-of_z}}
 use Rattle.arrays_core.specs.Shapes.{size}
 use Rattle.search_fns.proofs.Worths.{radix_there}
 use Rattle.search_fns.proofs.decode.radix_at.Goals as goal

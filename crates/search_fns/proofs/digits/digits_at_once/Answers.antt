@@ -1,11 +1,8 @@
 use Rattle.std.proofs.Common.{◌≡◌, ◌∙◌, ◌+◌, ◌-◌, ◌*◌, ◌/◌, ◌++◌, ◌∷◌, [], ap, sym, subst, arith, length, take, drop, slice_index_or, List, Ok}
-use Rattle.arrays_core.specs.Arrays.{ArrayValue}
-use Rattle.arrays_core.specs.Shapes.{size}
+use Rattle.arrays_core.{specs.Arrays.{ArrayValue}, specs.Shapes.{size}}
 use Rattle.index_region.specs.Boxes.{Interval, box_size}
-use Rattle.change_core.proofs.Filling.{few_places, vector_within}
-use Rattle.change_core.specs.Parts.{items_in}
-use Rattle.search_fns.specs.Encode.{encode_item, encode_whole}
-use Rattle.search_fns.specs.Digits.{AreColumns}
+use Rattle.change_core.{proofs.Filling.{few_places, vector_within}, specs.Parts.{items_in}}
+use Rattle.search_fns.{specs.Encode.{encode_item, encode_whole}, specs.Digits.{AreColumns}}
 use Rattle.search_fns.proofs.BoxDigits.{digit_box, columns_in, digits_hold, digits_long, digits_typed}
 use Rattle.search_fns.proofs.digits.digits_at_once.Goals as goal
 

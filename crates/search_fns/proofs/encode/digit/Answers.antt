@@ -1,11 +1,9 @@
 use Rattle.std.proofs.Common.{◌≡◌, ◌∙◌, ◌+◌, ◌-◌, ◌<◌, ap, sym, pos, length, drop, get_or, arith, Ok, Err, to_z, of_z, w64, SFits, rules}
-use Rattle.std.proofs.lemmas.Int.{to_z-of_z}
-use Rattle.std.proofs.lemmas.List.{length-map}
+use Rattle.std.{proofs.lemmas.Int.{to_z-of_z}, proofs.lemmas.List.{length-map}}
 use Rattle.arrays_core.specs.Items.{and_then}
 use Rattle.index_region.specs.Arguments.{numbers, number_of}
 use Rattle.scalar_fns.specs.Numbers.{residue}
-use Rattle.search_fns.specs.Encode.{carried, carried_through}
-use Rattle.search_fns.proofs.Radices.{error_in_front, one_more_radix, zero_in_front, zero_digit}
+use Rattle.search_fns.{specs.Encode.{carried, carried_through}, proofs.Radices.{error_in_front, one_more_radix, zero_in_front, zero_digit}}
 use Rattle.search_fns.proofs.encode.digit.Goals as goal
 
 pub returns-in_err-rest : goal.returns-in_err-rest

@@ -1,12 +1,9 @@
 use Rattle.std.proofs.Common.{◌≡◌, ◌-◌, List, ℕ, true, take, drop, length, get_or, ap, sym, ◌∙◌, to_z, of_z, w64, SFits, arith, rules}
-use Rattle.std.proofs.lemmas.Int.{to_z-of_z}
-use Rattle.std.proofs.lemmas.List.{length-drop, take_all, get_or_default}
-use Rattle.arrays_core.specs.Shapes.{is_index_of}
-use Rattle.arrays_core.specs.Arrays.{item_of}
+use Rattle.std.{proofs.lemmas.Int.{to_z-of_z}, proofs.lemmas.List.{length-drop, take_all, get_or_default}}
+use Rattle.arrays_core.{specs.Shapes.{is_index_of}, specs.Arrays.{item_of}}
 use Rattle.index_region.specs.Arguments.{numbers, number_of}
 use Rattle.scalar_fns.specs.Items.{number_item}
-use Rattle.search_fns.specs.Encode.{digit}
-use Rattle.search_fns.proofs.Radices.{encode_inside, encode_rank, after, in_front}
+use Rattle.search_fns.{specs.Encode.{digit}, proofs.Radices.{encode_inside, encode_rank, after, in_front}}
 use Rattle.search_fns.proofs.encode.digit_at.Goals as goal
 
 the_rest : (index : List ℕ) → take (length index - 1) (drop 1 index) ≡ drop 1 index

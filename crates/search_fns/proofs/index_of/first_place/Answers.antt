@@ -1,5 +1,4 @@
-use Rattle.std.proofs.Common.{◌≡◌, ◌+◌, ◌-◌, ◌≤◌, true, length, get_or, ap, sym, ◌∙◌, arith}
-use Rattle.std.proofs.lemmas.List.Sums.{position_or_len_is}
+use Rattle.std.{proofs.Common.{◌≡◌, ◌+◌, ◌-◌, ◌≤◌, true, length, get_or, ap, sym, ◌∙◌, arith}, proofs.lemmas.List.Sums.{position_or_len_is}}
 use Rattle.arrays_core.specs.Items.{fill}
 use Rattle.search_fns.specs.SameItem.{same_item}
 use Rattle.search_fns.proofs.index_of.first_place.Goals as goal

@@ -1,5 +1,4 @@
-use Rattle.std.proofs.Common.{◌≡◌, add-one, to_z, of_z, w64, SFits, rules}
-use Rattle.std.proofs.lemmas.Int.{to_z-of_z}
+use Rattle.std.{proofs.Common.{◌≡◌, add-one, to_z, of_z, w64, SFits, rules}, proofs.lemmas.Int.{to_z-of_z}}
 use Rattle.search_fns.proofs.Searching.{no_places_as}
 use Rattle.search_fns.proofs.index_of.no_places.Goals as goal
 

@@ -1,6 +1,4 @@
-use Rattle.std.proofs.Common.{◌≡◌, drop}
-use Rattle.std.specs.List.{position_from}
-use Rattle.std.specs.HashMap.{get}
+use Rattle.std.{proofs.Common.{◌≡◌, drop}, specs.List.{position_from}, specs.HashMap.{get}}
 use Rattle.search_fns.proofs.lookup.first_place_table.Given as goal
 
 abbrev pub invariant-loop-place : goal.invariant-loop-place

@@ -1,5 +1,4 @@
-use Rattle.std.proofs.Common.{◌≡◌, suc, pos, map, take}
-use Rattle.std.specs.List.{position_or_len}
+use Rattle.std.{proofs.Common.{◌≡◌, suc, pos, map, take}, specs.List.{position_or_len}}
 use Rattle.search_fns.proofs.lookup.first_places.Given as goal
 
 abbrev pub invariant-loop-item : goal.invariant-loop-item

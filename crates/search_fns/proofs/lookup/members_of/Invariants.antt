@@ -1,5 +1,4 @@
-use Rattle.std.proofs.Common.{◌≡◌, map, take}
-use Rattle.std.specs.List.{list_any}
+use Rattle.std.{proofs.Common.{◌≡◌, map, take}, specs.List.{list_any}}
 use Rattle.scalar_fns.specs.Numbers.{truth}
 use Rattle.search_fns.proofs.lookup.members_of.Given as goal
 

@@ -1,5 +1,4 @@
-use Rattle.search_fns.specs.SameItem.{same_item}
-use Rattle.search_fns.proofs.Searching.{found_if_any}
+use Rattle.search_fns.{specs.SameItem.{same_item}, proofs.Searching.{found_if_any}}
 use Rattle.search_fns.proofs.member.is_member.Goals as goal
 
 pub returns : goal.returns

@@ -1,9 +1,6 @@
-use Rattle.std.proofs.Common.{◌≡◌, ◌∙◌, sym, ap, get_or, pos, Err, arith, rules, to_z, of_z, w64, SFits}
-use Rattle.std.proofs.lemmas.Int.{to_z-of_z}
-use Rattle.arrays_core.specs.declared.item.Kind.{Kind}
-use Rattle.arrays_core.specs.declared.item.Kind.TheVariants.{Limit}
-use Rattle.search_fns.specs.DecodedRows.{with_one_more}
-use Rattle.search_fns.proofs.DecodeErrors.{limit_of, one_more_limited}
+use Rattle.std.{proofs.Common.{◌≡◌, ◌∙◌, sym, ap, get_or, pos, Err, arith, rules, to_z, of_z, w64, SFits}, proofs.lemmas.Int.{to_z-of_z}}
+use Rattle.arrays_core.{specs.declared.item.Kind.{Kind}, specs.declared.item.Kind.TheVariants.{Limit}}
+use Rattle.search_fns.{specs.DecodedRows.{with_one_more}, proofs.DecodeErrors.{limit_of, one_more_limited}}
 use Rattle.search_fns.proofs.more_digits.add_digits.Goals as goal
 
 pub returns-in_err-numbers-clause-beyond : goal.returns-in_err-numbers-clause-beyond

@@ -1,5 +1,4 @@
-use Rattle.std.proofs.Common.{w64}
-use Rattle.std.proofs.lemmas.Int.{to_z-of_z}
+use Rattle.std.{proofs.Common.{w64}, proofs.lemmas.Int.{to_z-of_z}}
 use Rattle.search_fns.proofs.more_digits.one_more.Goals as goal
 
 pub overflow_mul-result : goal.overflow_mul-result

@@ -1,6 +1,4 @@
-use Rattle.std.proofs.Common.{rules, ◌≡◌, ◌++◌, arith}
-use Rattle.std.proofs.lemmas.Grind.{common_steps}
-use Rattle.std.specs.Prelude.{IfOk, take}
+use Rattle.std.{proofs.Common.{rules, ◌≡◌, ◌++◌, arith}, proofs.lemmas.Grind.{common_steps}, specs.Prelude.{IfOk, take}}
 use Rattle.selection_fns.proofs.Positions.{written_axes}
 use Rattle.selection_fns.proofs.index.+append_positions.Goals as goal
 

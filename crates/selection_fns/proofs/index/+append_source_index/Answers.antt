@@ -1,7 +1,5 @@
-use Rattle.std.proofs.Common.{rules, ◌≡◌, ◌<◌, ◌+◌, length, drop, arith}
-use Rattle.std.proofs.lemmas.List.{length_push, length-drop}
-use Rattle.selection_fns.proofs.Positions.{split_written, split_empty, written_step, tail_of}
-use Rattle.selection_fns.proofs.SourcePlaces.{written_inside}
+use Rattle.std.{proofs.Common.{rules, ◌≡◌, ◌<◌, ◌+◌, length, drop, arith}, proofs.lemmas.List.{length_push, length-drop}}
+use Rattle.selection_fns.{proofs.Positions.{split_written, split_empty, written_step, tail_of}, proofs.SourcePlaces.{written_inside}}
 use Rattle.selection_fns.proofs.index.+append_source_index.Goals as goal
 
 pub prove-unreachable-requires : goal.prove-unreachable-requires

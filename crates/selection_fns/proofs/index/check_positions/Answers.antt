@@ -1,7 +1,5 @@
-use Rattle.std.proofs.Common.{rules, refl, ◌≡◌, false, true}
-use Rattle.std.specs.List.{list_all}
-use Rattle.selection_fns.specs.Index.{written_positions, are_numbers, are_on}
-use Rattle.selection_fns.proofs.Indexed.{ranks_do_agree, ranks_do_not_agree}
+use Rattle.std.{proofs.Common.{rules, refl, ◌≡◌, false, true}, specs.List.{list_all}}
+use Rattle.selection_fns.{specs.Index.{written_positions, are_numbers, are_on}, proofs.Indexed.{ranks_do_agree, ranks_do_not_agree}}
 use Rattle.selection_fns.proofs.index.check_positions.Goals as goal
 
 pub returns-then-written-axes-clause-failed : goal.returns-then-written-axes-clause-failed

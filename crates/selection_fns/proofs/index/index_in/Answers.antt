@@ -1,6 +1,5 @@
 use Rattle.std.proofs.Common.{rules}
-use Rattle.arrays_core.specs.Shapes.{places_before}
-use Rattle.arrays_core.specs.Items.{fill}
+use Rattle.arrays_core.{specs.Shapes.{places_before}, specs.Items.{fill}}
 use Rattle.selection_fns.proofs.Positions.{place_within, fill_within}
 use Rattle.selection_fns.proofs.index.index_in.Goals as goal
 

@@ -1,5 +1,4 @@
-use Rattle.std.proofs.Common.{ap, sym, ◌∙◌}
-use Rattle.std.specs.List.{list_all}
+use Rattle.std.{proofs.Common.{ap, sym, ◌∙◌}, specs.List.{list_all}}
 use Rattle.index_region.proofs.Numbers.{numbers_read}
 use Rattle.selection_fns.specs.Index.{is_on_axis}
 use Rattle.selection_fns.proofs.index.is_on.Goals as goal

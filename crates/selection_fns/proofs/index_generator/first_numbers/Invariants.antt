@@ -1,5 +1,4 @@
-use Rattle.std.proofs.Common.{◌≡◌, ◌≤◌, ◌+◌, map, pos, vec_len, vec_capacity}
-use Rattle.std.specs.List.{range_with_len}
+use Rattle.std.{proofs.Common.{◌≡◌, ◌≤◌, ◌+◌, map, pos, vec_len, vec_capacity}, specs.List.{range_with_len}}
 use Rattle.selection_fns.proofs.index_generator.first_numbers.Given as goal
 
 abbrev pub invariant-loop-k : goal.invariant-loop-k

@@ -1,8 +1,6 @@
-use Rattle.std.proofs.Common.{◌≡◌, ◌-◌, ◌<◌, ◌∙◌, ap, sym, subst, length, take, drop, arith, rules}
-use Rattle.std.proofs.lemmas.Result.{IfOk-weaker}
+use Rattle.std.{proofs.Common.{◌≡◌, ◌-◌, ◌<◌, ◌∙◌, ap, sym, subst, length, take, drop, arith, rules}, proofs.lemmas.Result.{IfOk-weaker}}
 use Rattle.arrays_core.specs.Shapes.{size}
-use Rattle.selection_fns.specs.Index.{written_positions}
-use Rattle.selection_fns.specs.IndexPlaces.{sums, all_places, ArePlacesOf}
+use Rattle.selection_fns.{specs.Index.{written_positions}, specs.IndexPlaces.{sums, all_places, ArePlacesOf}}
 use Rattle.selection_fns.proofs.IndexPlaces.{empty_rest, empty_more, empty_last, written_rest, written_some, written_more, sum_within}
 use Rattle.selection_fns.proofs.Positions.{tail_of}
 use Rattle.selection_fns.proofs.index_places.+places_of.Goals as goal

@@ -1,6 +1,4 @@
-use Rattle.std.proofs.Common.{◌≡◌, ◌-◌, ◌*◌, subst, sym, map, unsigned_abs}
-use Rattle.std.specs.Prelude.{IsTrue, IfOk}
-use Rattle.std.specs.List.{list_all}
+use Rattle.std.{proofs.Common.{◌≡◌, ◌-◌, ◌*◌, subst, sym, map, unsigned_abs}, specs.Prelude.{IsTrue, IfOk}, specs.List.{list_all}}
 use Rattle.index_region.proofs.Numbers.{numbers_read}
 use Rattle.selection_fns.specs.Index.{is_on_axis}
 use Rattle.selection_fns.proofs.index_places.position_offsets.Goals as goal

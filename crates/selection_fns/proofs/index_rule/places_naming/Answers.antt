@@ -1,15 +1,11 @@
 use Rattle.std.proofs.Common.{rules, ◌≡◌, ◌∙◌, ◌+◌, ◌-◌, ◌<◌, ℕ, List, true, false, length, get_or, pos, unsigned_abs, ap, sym, subst, arith, Some, to_z, of_z, w64, SFits}
-use Rattle.std.specs.Prelude.{IfSome}
-use Rattle.std.proofs.lemmas.Int.{to_z-of_z}
-use Rattle.arrays_core.specs.Arrays.{item_of}
-use Rattle.arrays_core.specs.Shapes.{size, index_after}
-use Rattle.index_region.specs.Arguments.{numbers}
-use Rattle.index_region.specs.Boxes.{cover}
+use Rattle.std.{specs.Prelude.{IfSome}, proofs.lemmas.Int.{to_z-of_z}}
+use Rattle.arrays_core.{specs.Arrays.{item_of}, specs.Shapes.{size, index_after}}
+use Rattle.index_region.{specs.Arguments.{numbers}, specs.Boxes.{cover}}
 use Rattle.change_core.specs.Places.{lies_in}
-use Rattle.selection_fns.specs.Index.{place_named}
-use Rattle.selection_fns.proofs.ResultAxes.{length-cover_one, named_at, one_more_hit, one_more_miss}
-use Rattle.selection_fns.proofs.index_rule.places_naming.Goals as goal
+use Rattle.selection_fns.{specs.Index.{place_named}, proofs.ResultAxes.{length-cover_one, named_at, one_more_hit, one_more_miss}}
 use Rattle.selection_fns.proofs.index_rule.places_naming.Goals.{then-names_place_of, else-names_place_of}
+use Rattle.selection_fns.proofs.index_rule.places_naming.Goals as goal
 
 pub with_place-requires : goal.with_place-requires
 with_place-requires c =

@@ -1,5 +1,4 @@
-use Rattle.std.proofs.Common.{◌≡◌, length}
-use Rattle.std.specs.Prelude.{IfSome}
+use Rattle.std.{proofs.Common.{◌≡◌, length}, specs.Prelude.{IfSome}}
 use Rattle.arrays_core.specs.Arrays.{item_of}
 use Rattle.change_core.specs.Places.{lies_in}
 use Rattle.selection_fns.specs.Index.{least_box, place_named}

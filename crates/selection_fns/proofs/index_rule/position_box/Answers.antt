@@ -1,8 +1,6 @@
-use Rattle.std.proofs.Common.{rules, ◌≡◌, ◌∙◌, ◌+◌, ◌-◌, ◌++◌, List, length, take, drop, ap, sym, arith, Some, append_assoc}
-use Rattle.std.proofs.lemmas.List.{take_all}
+use Rattle.std.{proofs.Common.{rules, ◌≡◌, ◌∙◌, ◌+◌, ◌-◌, ◌++◌, List, length, take, drop, ap, sym, arith, Some, append_assoc}, proofs.lemmas.List.{take_all}}
 use Rattle.index_region.specs.Boxes.{Interval, whole_of}
-use Rattle.selection_fns.specs.Index.{written_positions}
-use Rattle.selection_fns.specs.PositionAxes.{axes_before}
+use Rattle.selection_fns.{specs.Index.{written_positions}, specs.PositionAxes.{axes_before}}
 use Rattle.selection_fns.proofs.ResultAxes.{axes_within, fits_at_length, parts_long, position_at}
 use Rattle.selection_fns.proofs.index_rule.position_box.Goals as goal
 

@@ -1,10 +1,8 @@
-use Rattle.std.proofs.Common.{◌≡◌, ◌<◌, ◌++◌, ◌∷◌, [], ◌∙◌, ap, sym, length, get_or, pos, unsigned_abs, arith, w64, to_z, of_z}
-use Rattle.std.proofs.lemmas.Int.{ints}
+use Rattle.std.{proofs.Common.{◌≡◌, ◌<◌, ◌++◌, ◌∷◌, [], ◌∙◌, ap, sym, length, get_or, pos, unsigned_abs, arith, w64, to_z, of_z}, proofs.lemmas.Int.{ints}}
 use Rattle.std.proofs.lemmas.List.{length_push, same_from_push}
-use Rattle.selection_fns.proofs.Copies.{mask_count}
-use Rattle.selection_fns.proofs.KeptNumbers.{one_of_bit, one_kept, not_kept, kept_fit}
-use Rattle.selection_fns.proofs.kept.kept_numbers.Goals as goal
+use Rattle.selection_fns.{proofs.Copies.{mask_count}, proofs.KeptNumbers.{one_of_bit, one_kept, not_kept, kept_fit}}
 use Rattle.selection_fns.proofs.kept.kept_numbers.Goals.{then-counts-place-eq0, else-counts-place-eq0}
+use Rattle.selection_fns.proofs.kept.kept_numbers.Goals as goal
 
 pub loop-place-preserved : goal.loop-place-preserved
 loop-place-preserved c =

@@ -1,5 +1,4 @@
-use Rattle.std.proofs.Common.{◌≡◌, ◌<◌, ◌≤◌, ◌∙◌, ap, sym, subst, length, get_or, map, pos, unsigned_abs, arith, w64, to_z, of_z}
-use Rattle.std.proofs.lemmas.Int.{ints}
+use Rattle.std.{proofs.Common.{◌≡◌, ◌<◌, ◌≤◌, ◌∙◌, ap, sym, subst, length, get_or, map, pos, unsigned_abs, arith, w64, to_z, of_z}, proofs.lemmas.Int.{ints}}
 use Rattle.std.proofs.lemmas.List.{length-map, get_or-map, length-set}
 use Rattle.selection_fns.proofs.Copies.{copies_fit, mask_count, mask_step}
 use Rattle.selection_fns.proofs.replicate.before_copies_of_mask.Goals as goal

@@ -1,5 +1,4 @@
-use Rattle.std.proofs.Common.{◌<◌, ℕ, sym, subst, replicate, arith}
-use Rattle.std.proofs.lemmas.List.{length-replicate, get_or-replicate}
+use Rattle.std.{proofs.Common.{◌<◌, ℕ, sym, subst, replicate, arith}, proofs.lemmas.List.{length-replicate, get_or-replicate}}
 use Rattle.selection_fns.proofs.Copies.{one_place_more, one_count_fits, one_count_ends}
 use Rattle.selection_fns.proofs.replicate.before_copies_of_one_count.Goals as goal
 

@@ -1,9 +1,6 @@
-use Rattle.std.proofs.Common.{◌≡◌, true, ◌∙◌, subst, rules, sym}
-use Rattle.std.specs.List.{list_all}
-use Rattle.index_region.specs.Arguments.{numbers}
-use Rattle.index_region.proofs.Numbers.{numbers_read}
-use Rattle.selection_fns.specs.Replicate.{is_bit}
-use Rattle.selection_fns.proofs.Copies.{mask_bits}
+use Rattle.std.{proofs.Common.{◌≡◌, true, ◌∙◌, subst, rules, sym}, specs.List.{list_all}}
+use Rattle.index_region.{specs.Arguments.{numbers}, proofs.Numbers.{numbers_read}}
+use Rattle.selection_fns.{specs.Replicate.{is_bit}, proofs.Copies.{mask_bits}}
 use Rattle.selection_fns.proofs.replicate.before_each_copy.Goals as goal
 
 pub before_copies_of_list-requires-clause-mask : goal.before_copies_of_list-requires-clause-mask

@@ -1,5 +1,4 @@
-use Rattle.std.proofs.Common.{rules, refl, ◌≡◌, true, length}
-use Rattle.std.specs.Prelude.{nat_eq, ◌||◌}
+use Rattle.std.{proofs.Common.{rules, refl, ◌≡◌, true, length}, specs.Prelude.{nat_eq, ◌||◌}}
 use Rattle.index_region.specs.Arguments.{is_list, has_one_item, counts_as_numbers, none_negative, numbers}
 use Rattle.selection_fns.proofs.replicate.check_counts.Goals as goal
 

@@ -1,8 +1,6 @@
-use Rattle.std.proofs.Common.{arith}
-use Rattle.std.specs.Prelude.{sum}
+use Rattle.std.{proofs.Common.{arith}, specs.Prelude.{sum}}
 use Rattle.index_region.specs.Axes.{places_along}
-use Rattle.selection_fns.specs.Replicate.{times}
-use Rattle.selection_fns.specs.Laws.CopiedPlaces.{is_copied}
+use Rattle.selection_fns.{specs.Replicate.{times}, specs.Laws.CopiedPlaces.{is_copied}}
 use Rattle.selection_fns.proofs.replicate.copied_index.Goals as goal
 
 pub shape_of-at-requires : goal.shape_of-at-requires

@@ -1,6 +1,4 @@
-use Rattle.std.proofs.Common.{◌≡◌, true, ◌∙◌, ap, sym}
-use Rattle.std.specs.Prelude.{not}
-use Rattle.std.specs.Option.{is_some}
+use Rattle.std.{proofs.Common.{◌≡◌, true, ◌∙◌, ap, sym}, specs.Prelude.{not}, specs.Option.{is_some}}
 use Rattle.index_region.specs.Arguments.{numbers}
 use Rattle.selection_fns.proofs.Copies.{mask_bits, mask_from_0}
 use Rattle.selection_fns.proofs.replicate.has_negative.Goals as goal

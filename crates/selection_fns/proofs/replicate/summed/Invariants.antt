@@ -1,5 +1,4 @@
-use Rattle.std.proofs.Common.{◌≡◌, ◌+◌, ◌≤◌, map, drop, unsigned_abs}
-use Rattle.std.specs.Prelude.{sum}
+use Rattle.std.{proofs.Common.{◌≡◌, ◌+◌, ◌≤◌, map, drop, unsigned_abs}, specs.Prelude.{sum}}
 use Rattle.index_region.specs.Arguments.{numbers}
 use Rattle.selection_fns.proofs.replicate.summed.Given as goal
 

@@ -1,5 +1,4 @@
-use Rattle.std.proofs.Common.{◌≡◌, ◌+◌, ◌≤◌, map, drop, unsigned_abs}
-use Rattle.std.specs.Prelude.{sum}
+use Rattle.std.{proofs.Common.{◌≡◌, ◌+◌, ◌≤◌, map, drop, unsigned_abs}, specs.Prelude.{sum}}
 use Rattle.selection_fns.proofs.replicate.summed_list.Given as goal
 
 abbrev pub invariant-loop-count : goal.invariant-loop-count

@@ -1,11 +1,7 @@
-use Rattle.std.proofs.Common.{rules, ◌≡◌, ◌<◌, ℕ, length, get_or, ap, ◌∙◌, arith}
-use Rattle.std.specs.Prelude.{max}
-use Rattle.std.proofs.lemmas.List.{get_or_default}
+use Rattle.std.{proofs.Common.{rules, ◌≡◌, ◌<◌, ℕ, length, get_or, ap, ◌∙◌, arith}, specs.Prelude.{max}, proofs.lemmas.List.{get_or_default}}
 use Rattle.function_names.specs.Axes.{axis_at}
-use Rattle.index_region.specs.Axes.{places_along}
-use Rattle.index_region.proofs.Boxes.{fits_length}
-use Rattle.selection_fns.proofs.Copied.{copied_along}
-use Rattle.selection_fns.proofs.Intervals.{interval_on}
+use Rattle.index_region.{specs.Axes.{places_along}, proofs.Boxes.{fits_length}}
+use Rattle.selection_fns.{proofs.Copied.{copied_along}, proofs.Intervals.{interval_on}}
 use Rattle.selection_fns.proofs.replicate_rule.copied_box.Goals as goal
 
 pub bounds-shape-axis : goal.bounds-shape-axis

@@ -1,7 +1,6 @@
 use Rattle.std.proofs.Common.{rules, ◌≡◌, get_or, map, unsigned_abs, arith}
 use Rattle.index_region.specs.Arguments.{numbers}
-use Rattle.selection_fns.proofs.Copies.{count_step}
-use Rattle.selection_fns.proofs.Repeated.{sum_within}
+use Rattle.selection_fns.{proofs.Copies.{count_step}, proofs.Repeated.{sum_within}}
 use Rattle.selection_fns.proofs.replicate_rule.copies_of_counts.Goals as goal
 
 pub overflow_cast-copies : goal.overflow_cast-copies

@@ -1,6 +1,5 @@
 use Rattle.std.proofs.Common.{◌≡◌, arith, Ok}
-use Rattle.index_region.specs.Checks.{whole}
-use Rattle.index_region.proofs.Walks.{some_place}
+use Rattle.index_region.{specs.Checks.{whole}, proofs.Walks.{some_place}}
 use Rattle.change_core.proofs.Filling.{few_places}
 use Rattle.selection_fns.proofs.WholeItems.{box_items}
 use Rattle.selection_fns.proofs.whole_box.items_of_whole.Goals as goal

@@ -1,7 +1,5 @@
-use Rattle.std.proofs.Common.{◌<◌, ◌≤◌, arith, length, refl, ◌∙◌}
-use Rattle.std.proofs.lemmas.Result.{IfOk-weaker}
-use Rattle.sheet_cli.specs.Lines.{longest_line, strip_cr}
-use Rattle.sheet_cli.proofs.AnswerLemmas.{answered_too_long, answered_not_text, answered_text}
+use Rattle.std.{proofs.Common.{◌<◌, ◌≤◌, arith, length, refl, ◌∙◌}, proofs.lemmas.Result.{IfOk-weaker}}
+use Rattle.sheet_cli.{specs.Lines.{longest_line, strip_cr}, proofs.AnswerLemmas.{answered_too_long, answered_not_text, answered_text}}
 use Rattle.sheet_cli.proofs.answer.answer.Goals as goal
 
 pub returns-then-line-gt-LONGEST_LINE-clause-ok : goal.returns-then-line-gt-LONGEST_LINE-clause-ok

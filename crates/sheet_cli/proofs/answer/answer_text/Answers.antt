@@ -1,8 +1,5 @@
-use Rattle.std.proofs.Common.{◌∙◌, Err, ap, refl, subst}
-use Rattle.std.specs.Str.{chars}
-use Rattle.std.proofs.lemmas.Result.{IfOk-weaker}
-use Rattle.apl_expr.specs.Answers.{IsAnswered, put_in}
-use Rattle.apl_expr.specs.declared.fault.LineFault.{LineFault}
+use Rattle.std.{proofs.Common.{◌∙◌, Err, ap, refl, subst}, specs.Str.{chars}, proofs.lemmas.Result.{IfOk-weaker}}
+use Rattle.apl_expr.{specs.Answers.{IsAnswered, put_in}, specs.declared.fault.LineFault.{LineFault}}
 use Rattle.sheet_cli.proofs.EditLemmas.{answered_no_line, answered_too_large, answered_carried_out}
 use Rattle.sheet_cli.proofs.answer.answer_text.Goals as goal
 

@@ -1,8 +1,5 @@
-use Rattle.std.proofs.Common.{rules, SFits, w64}
-use Rattle.std.proofs.lemmas.Int.{to_z-of_z}
-use Rattle.std.proofs.lemmas.Result.{IfOk-weaker}
-use Rattle.sheet_cli.proofs.EditLemmas.{change_carried_out, opening_carried_out, asked_of}
-use Rattle.sheet_cli.proofs.OneEvent.{plain_edited}
+use Rattle.std.{proofs.Common.{rules, SFits, w64}, proofs.lemmas.Int.{to_z-of_z}, proofs.lemmas.Result.{IfOk-weaker}}
+use Rattle.sheet_cli.{proofs.EditLemmas.{change_carried_out, opening_carried_out, asked_of}, proofs.OneEvent.{plain_edited}}
 use Rattle.sheet_cli.proofs.answer.carry_out.Goals as goal
 
 pub returns-in-Change-clause-ok : goal.returns-in-Change-clause-ok

@@ -1,8 +1,5 @@
-use Rattle.std.proofs.Common.{◌<◌, [], length, arith, sym}
-use Rattle.std.proofs.lemmas.Bool.{eqb-true, eqb-false}
-use Rattle.std.proofs.lemmas.Result.{on_ok_weaker, on_err_weaker}
-use Rattle.sheet_cli.proofs.Devices.{Appends-none}
-use Rattle.sheet_cli.proofs.RunLemmas.{Finishes-none, Finishes-line, StopsAtEnd-line}
+use Rattle.std.{proofs.Common.{◌<◌, [], length, arith, sym}, proofs.lemmas.Bool.{eqb-true, eqb-false}, proofs.lemmas.Result.{on_ok_weaker, on_err_weaker}}
+use Rattle.sheet_cli.{proofs.Devices.{Appends-none}, proofs.RunLemmas.{Finishes-none, Finishes-line, StopsAtEnd-line}}
 use Rattle.sheet_cli.proofs.run_loop.answer_last.Goals as goal
 
 pub returns-then-is_empty-clause-ok : goal.returns-then-is_empty-clause-ok

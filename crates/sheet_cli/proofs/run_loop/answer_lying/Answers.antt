@@ -1,7 +1,5 @@
-use Rattle.std.proofs.Common.{◌≡◌, [], ◌∷◌, ◌++◌, List, ℕ, take, sym, ap, ◌∙◌}
-use Rattle.std.proofs.lemmas.Result.{on_ok_weaker, on_err_weaker}
-use Rattle.sheet_cli.specs.Progress.{most_kept}
-use Rattle.sheet_cli.proofs.RunLemmas.{Feeds-piece, Feeds-line, Feeds-more, StopsIn-line, StopsIn-more}
+use Rattle.std.{proofs.Common.{◌≡◌, [], ◌∷◌, ◌++◌, List, ℕ, take, sym, ap, ◌∙◌}, proofs.lemmas.Result.{on_ok_weaker, on_err_weaker}}
+use Rattle.sheet_cli.{specs.Progress.{most_kept}, proofs.RunLemmas.{Feeds-piece, Feeds-line, Feeds-more, StopsIn-line, StopsIn-more}}
 use Rattle.sheet_cli.proofs.run_loop.answer_lying.Goals as goal
 
 pub returns-clause-ok : goal.returns-clause-ok

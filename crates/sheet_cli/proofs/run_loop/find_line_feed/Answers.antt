@@ -1,7 +1,5 @@
-use Rattle.std.proofs.Common.{arith, refl}
-use Rattle.std.proofs.lemmas.Bool.{ne_eqb}
-use Rattle.sheet_cli.specs.Lines.{ended_lines}
-use Rattle.sheet_cli.proofs.Cuts.{ended_lines-step}
+use Rattle.std.{proofs.Common.{arith, refl}, proofs.lemmas.Bool.{ne_eqb}}
+use Rattle.sheet_cli.{specs.Lines.{ended_lines}, proofs.Cuts.{ended_lines-step}}
 use Rattle.sheet_cli.proofs.run_loop.find_line_feed.Goals as goal
 
 pub loop-i-init : goal.loop-i-init

@@ -1,5 +1,4 @@
-use Rattle.sheet_cli.proofs.Devices.{Appends-keeps}
-use Rattle.sheet_cli.proofs.RunLemmas.{StopsAtEnd-flush, OnErr-from, OnOk-from}
+use Rattle.sheet_cli.{proofs.Devices.{Appends-keeps}, proofs.RunLemmas.{StopsAtEnd-flush, OnErr-from, OnOk-from}}
 use Rattle.sheet_cli.proofs.run_loop.finish.Goals as goal
 
 pub returns-clause-ok : goal.returns-clause-ok

@@ -1,5 +1,4 @@
-use Rattle.std.proofs.Common.{◌++◌, take, drop, append_assoc}
-use Rattle.std.proofs.lemmas.List.{take_rest, take-append-drop}
+use Rattle.std.{proofs.Common.{◌++◌, take, drop, append_assoc}, proofs.lemmas.List.{take_rest, take-append-drop}}
 use Rattle.sheet_cli.proofs.Devices.{Appends-more}
 use Rattle.sheet_cli.proofs.run_loop.put_all.Goals as goal
 

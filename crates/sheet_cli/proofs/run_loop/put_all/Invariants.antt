@@ -1,5 +1,4 @@
-use Rattle.std.proofs.Common.{◌≡◌, ℕ, List, ◌++◌, length}
-use Rattle.std.specs.Io.KnownBytes.{Appends}
+use Rattle.std.{proofs.Common.{◌≡◌, ℕ, List, ◌++◌, length}, specs.Io.KnownBytes.{Appends}}
 use Rattle.sheet_cli.proofs.run_loop.put_all.Given as goal
 
 abbrev pub invariant-loop-rest : goal.invariant-loop-rest

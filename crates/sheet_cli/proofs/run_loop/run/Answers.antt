@@ -1,6 +1,4 @@
-use Rattle.std.proofs.Common.{◌≡◌, ◌<◌, ◌∙◌, inl, inr, arith, length, take}
-use Rattle.std.proofs.lemmas.List.{length-take-le, length-take}
-use Rattle.std.proofs.Math.Bool.{or-true}
+use Rattle.std.{proofs.Common.{◌≡◌, ◌<◌, ◌∙◌, inl, inr, arith, length, take}, proofs.lemmas.List.{length-take-le, length-take}, proofs.Math.Bool.{or-true}}
 use Rattle.sheet_cli.proofs.Devices.{Keeps-same, Consumes-zero}
 use Rattle.sheet_cli.proofs.RunLemmas.{IsRunning-start, IsRunning-more, Completes-from, BreaksOff-from, IsCut-midway, IsCut-end}
 use Rattle.sheet_cli.proofs.run_loop.run.Goals as goal

@@ -1,7 +1,5 @@
 use Rattle.std.proofs.Common.{◌-◌}
-use Rattle.sheet_cli.specs.Answer.{state_of}
-use Rattle.sheet_cli.specs.Progress.{standing}
-use Rattle.sheet_cli.proofs.RunLemmas.{IsRunning}
+use Rattle.sheet_cli.{specs.Answer.{state_of}, specs.Progress.{standing}, proofs.RunLemmas.{IsRunning}}
 use Rattle.sheet_cli.proofs.run_loop.run.Given as goal
 
 abbrev pub invariant-loop-bytes_read : goal.invariant-loop-bytes_read

@@ -1,7 +1,5 @@
-use Rattle.std.proofs.Common.{◌≡◌, ◌+◌, ◌≤◌, ◌++◌, ℕ, List, length}
-use Rattle.std.specs.Io.KnownBytes.{Appends}
-use Rattle.sheet_cli.specs.Answer.{state_of}
-use Rattle.sheet_cli.specs.Progress.{standing, Feeds}
+use Rattle.std.{proofs.Common.{◌≡◌, ◌+◌, ◌≤◌, ◌++◌, ℕ, List, length}, specs.Io.KnownBytes.{Appends}}
+use Rattle.sheet_cli.{specs.Answer.{state_of}, specs.Progress.{standing, Feeds}}
 use Rattle.sheet_cli.proofs.run_loop.take_bytes.Given as goal
 
 abbrev pub invariant-loop-rest : goal.invariant-loop-rest

@@ -1,7 +1,5 @@
-use Rattle.std.proofs.Common.{◌∙◌, sym, ap, Err}
-use Rattle.std.proofs.lemmas.Result.{err_from_is_err_and}
-use Rattle.sheet_cli.specs.Answer.{state_of}
-use Rattle.sheet_cli.proofs.ProgramLemmas.{state-at-first, lines-fault}
+use Rattle.std.{proofs.Common.{◌∙◌, sym, ap, Err}, proofs.lemmas.Result.{err_from_is_err_and}}
+use Rattle.sheet_cli.{specs.Answer.{state_of}, proofs.ProgramLemmas.{state-at-first, lines-fault}}
 use Rattle.sheet_cli.proofs.whole_program.answer_lines.Goals as goal
 
 pub returns-in_err-run : goal.returns-in_err-run

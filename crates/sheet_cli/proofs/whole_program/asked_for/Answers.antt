@@ -1,7 +1,5 @@
-use Rattle.std.proofs.Common.{refl}
-use Rattle.std.proofs.lemmas.Result.{err_from_is_err_and}
-use Rattle.sheet_cli.specs.Programs.{no_memory, no_text}
-use Rattle.sheet_cli.proofs.ProgramLemmas.{refused-words}
+use Rattle.std.{proofs.Common.{refl}, proofs.lemmas.Result.{err_from_is_err_and}}
+use Rattle.sheet_cli.{specs.Programs.{no_memory, no_text}, proofs.ProgramLemmas.{refused-words}}
 use Rattle.sheet_cli.proofs.whole_program.asked_for.Goals as goal
 
 pub returns-in-Err-NoMemory-clause-err : goal.returns-in-Err-NoMemory-clause-err

@@ -1,5 +1,4 @@
-use Rattle.std.proofs.Common.{sym}
-use Rattle.std.proofs.lemmas.Result.{err_from_is_err_and}
+use Rattle.std.{proofs.Common.{sym}, proofs.lemmas.Result.{err_from_is_err_and}}
 use Rattle.sheet_cli.proofs.ProgramLemmas.{begins-bare, begins-with-table, fails-to-begin, put-alone}
 use Rattle.sheet_cli.proofs.whole_program.first_sheet.Goals as goal
 

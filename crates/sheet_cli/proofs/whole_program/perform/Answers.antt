@@ -1,5 +1,4 @@
-use Rattle.std.proofs.Common.{refl}
-use Rattle.std.proofs.lemmas.Result.{err_from_is_err_and}
+use Rattle.std.{proofs.Common.{refl}, proofs.lemmas.Result.{err_from_is_err_and}}
 use Rattle.sheet_cli.specs.Programs.{bad_words, no_table, no_script, of_script, of_input}
 use Rattle.sheet_cli.proofs.whole_program.perform.Goals as goal
 

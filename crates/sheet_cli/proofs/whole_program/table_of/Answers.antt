@@ -1,5 +1,4 @@
-use Rattle.std.proofs.Common.{ap, Err}
-use Rattle.std.proofs.lemmas.Result.{err_from_is_err_and}
+use Rattle.std.{proofs.Common.{ap, Err}, proofs.lemmas.Result.{err_from_is_err_and}}
 use Rattle.sheet_cli.proofs.ProgramLemmas.{unread-gives-none}
 use Rattle.sheet_cli.proofs.whole_program.table_of.Goals as goal
 

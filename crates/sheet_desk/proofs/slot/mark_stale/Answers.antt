@@ -1,9 +1,6 @@
-use Rattle.std.proofs.Common.{set, None, Some, ap, ◌∙◌}
-use Rattle.std.specs.Option.{option_map}
-use Rattle.sheet_desk.specs.Held.{marked}
-use Rattle.sheet_desk.proofs.Marking.{one_more}
+use Rattle.std.{proofs.Common.{set, None, Some, ap, ◌∙◌}, specs.Option.{option_map}}
+use Rattle.sheet_desk.{specs.Held.{marked}, proofs.Marking.{one_more}, proofs.slot.mark_stale.Goals.{in-Some, in_default}}
 use Rattle.sheet_desk.proofs.slot.mark_stale.Goals as goal
-use Rattle.sheet_desk.proofs.slot.mark_stale.Goals.{in-Some, in_default}
 
 pub loop-held-preserved : goal.loop-held-preserved
 loop-held-preserved c =

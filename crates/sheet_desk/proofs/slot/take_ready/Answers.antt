@@ -1,11 +1,6 @@
-use Rattle.std.proofs.Common.{◌≡◌, List, Option, Some, Result, IfOk, ◌∙◌, ap, sym, subst}
-use Rattle.std.specs.Option.{ok_or}
-use Rattle.std.proofs.lemmas.List.{get_or_default}
-use Rattle.sheet_recalc.specs.declared.refusal.Refusal.{Refusal}
-use Rattle.sheet_recalc.specs.declared.refusal.Refusal.TheVariants.{NoSlot}
-use Rattle.sheet_desk.specs.Slots.{slot_in}
-use Rattle.sheet_desk.proofs.Slotted.{slot_there}
-use Rattle.sheet_desk.specs.declared.slot.Slot.{Slot}
+use Rattle.std.{proofs.Common.{◌≡◌, List, Option, Some, Result, IfOk, ◌∙◌, ap, sym, subst}, specs.Option.{ok_or}, proofs.lemmas.List.{get_or_default}}
+use Rattle.sheet_recalc.{specs.declared.refusal.Refusal.{Refusal}, specs.declared.refusal.Refusal.TheVariants.{NoSlot}}
+use Rattle.sheet_desk.{specs.Slots.{slot_in}, proofs.Slotted.{slot_there}, specs.declared.slot.Slot.{Slot}}
 use Rattle.sheet_desk.proofs.slot.take_ready.Goals as goal
 
 pub returns-in-Some-3-clause-ok : goal.returns-in-Some-3-clause-ok

@@ -1,13 +1,7 @@
-use Rattle.std.proofs.Common.{◌≡◌, ◌∙◌, sym, ap, subst, Option, Some, None, Err}
-use Rattle.std.specs.Option.{option_map}
-use Rattle.std.proofs.lemmas.Result.{IfErr-weaker}
+use Rattle.std.{proofs.Common.{◌≡◌, ◌∙◌, sym, ap, subst, Option, Some, None, Err}, specs.Option.{option_map}, proofs.lemmas.Result.{IfErr-weaker}}
 use Rattle.apl_expr.specs.Trees.{literal_of}
-use Rattle.sheet_recalc.specs.Names.{Binding, Data, binding}
-use Rattle.sheet_recalc.specs.Entries.{names_of, binding_of}
-use Rattle.sheet_recalc.specs.Cells.{cell_put, IsDataAnswer}
-use Rattle.sheet_recalc.specs.declared.entry.Entry.{Entry}
-use Rattle.sheet_recalc.proofs.Asked.{if_ok_both}
-use Rattle.sheet_recalc.proofs.Live.{binding_of_name}
+use Rattle.sheet_recalc.{specs.Names.{Binding, Data, binding}, specs.Entries.{names_of, binding_of}, specs.Cells.{cell_put, IsDataAnswer}}
+use Rattle.sheet_recalc.{specs.declared.entry.Entry.{Entry}, proofs.Asked.{if_ok_both}, proofs.Live.{binding_of_name}}
 use Rattle.sheet_recalc.proofs.cell.cell_patch.Goals as goal
 
 pub returns-in-None-clause-refused : goal.returns-in-None-clause-refused

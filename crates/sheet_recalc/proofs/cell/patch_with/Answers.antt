@@ -1,11 +1,9 @@
-use Rattle.std.proofs.Common.{◌≡◌, ◌∙◌, rules, sym, ap, subst, Ok}
+use Rattle.std.{proofs.Common.{◌≡◌, ◌∙◌, rules, sym, ap, subst, Ok}, proofs.lemmas.Bool.{not-false}}
 use Rattle.apl_expr.specs.Trees.{literal_of}
 use Rattle.index_region.specs.Patches.{PatchValue, FitsPatch, patched}
-use denote.Enum.Bare.{same_true}
 use Rattle.arrays_core.specs.contracts.item.ItemType.{the_type}
-use Rattle.std.proofs.lemmas.Bool.{not-false}
-use Rattle.sheet_recalc.specs.Cells.{literal_items}
-use Rattle.sheet_recalc.proofs.CellPatches.{item_is_put, fits_one}
+use Rattle.sheet_recalc.{specs.Cells.{literal_items}, proofs.CellPatches.{item_is_put, fits_one}}
+use denote.Enum.Bare.{same_true}
 use Rattle.sheet_recalc.proofs.cell.patch_with.Goals as goal
 
 pub returns-clause-put : goal.returns-clause-put

@@ -1,6 +1,5 @@
 use Rattle.std.proofs.Common.{◌∙◌, refl, arith}
-use Rattle.sheet_recalc.specs.Entries.{names_of}
-use Rattle.sheet_recalc.proofs.Live.{taken_first, taken_next, current_at_end, nothing_at_end}
+use Rattle.sheet_recalc.{specs.Entries.{names_of}, proofs.Live.{taken_first, taken_next, current_at_end, nothing_at_end}}
 use Rattle.sheet_recalc.proofs.commit.adopt_all.Goals as goal
 
 pub loop-place-init : goal.loop-place-init

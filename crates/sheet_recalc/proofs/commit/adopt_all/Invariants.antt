@@ -1,7 +1,5 @@
-use Rattle.std.proofs.Common.{◌≡◌}
-use Rattle.std.specs.Map.{keys_of}
-use Rattle.sheet_recalc.specs.Entries.{names_of}
-use Rattle.sheet_recalc.proofs.Live.{AreTaken}
+use Rattle.std.{proofs.Common.{◌≡◌}, specs.Map.{keys_of}}
+use Rattle.sheet_recalc.{specs.Entries.{names_of}, proofs.Live.{AreTaken}}
 use Rattle.sheet_recalc.proofs.commit.adopt_all.Given as goal
 
 abbrev pub invariant-loop-place : goal.invariant-loop-place

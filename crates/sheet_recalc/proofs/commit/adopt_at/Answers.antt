@@ -1,14 +1,8 @@
-use Rattle.std.proofs.Common.{◌≡◌, ◌∙◌, ℕ, List, [], cond, Option, Some, None, get_or, slice_get, sym, ap}
-use Rattle.std.specs.Str.{bytes_eq}
-use Rattle.std.specs.Map.{keys_of, values_of}
-use Rattle.std.specs.Option.{unwrap_or, option_map}
-use Rattle.std.proofs.lemmas.Option.{slice_get-map}
-use Rattle.indexmap.specs.IndexMap.{IndexMap, IsUnique, get, set_value_at}
-use Rattle.indexmap.proofs.CallerLemmas.{keys-with_value_at, updates-with_value_at}
+use Rattle.std.{proofs.Common.{◌≡◌, ◌∙◌, ℕ, List, [], cond, Option, Some, None, get_or, slice_get, sym, ap}, specs.Str.{bytes_eq}}
+use Rattle.std.{specs.Map.{keys_of, values_of}, specs.Option.{unwrap_or, option_map}, proofs.lemmas.Option.{slice_get-map}}
+use Rattle.indexmap.{specs.IndexMap.{IndexMap, IsUnique, get, set_value_at}, proofs.CallerLemmas.{keys-with_value_at, updates-with_value_at}}
 use Rattle.formula_core.specs.Plans.{PlanValue}
-use Rattle.sheet_recalc.specs.Live.{plan_in}
-use Rattle.sheet_recalc.proofs.NameEquality.{names_equal}
-use Rattle.sheet_recalc.proofs.Entered.{name_at}
+use Rattle.sheet_recalc.{specs.Live.{plan_in}, proofs.NameEquality.{names_equal}, proofs.Entered.{name_at}}
 use Rattle.sheet_recalc.proofs.Live.{put_beside, adopting_same, adopting_either}
 use Rattle.sheet_recalc.proofs.commit.adopt_at.Goals as goal
 

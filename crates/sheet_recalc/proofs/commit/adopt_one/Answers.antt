@@ -1,14 +1,7 @@
-use Rattle.std.proofs.Common.{◌≡◌, ◌∙◌, ℕ, List, Some, None, cond, slice_get, sym, ap, subst}
-use Rattle.std.specs.Str.{bytes_eq}
-use Rattle.std.specs.Map.{lookup, values_of}
-use Rattle.std.specs.Option.{option_map}
-use Rattle.std.proofs.lemmas.Option.{slice_get-map}
-use Rattle.indexmap.specs.IndexMap.{set_value_at}
-use Rattle.indexmap.proofs.CallerLemmas.{updates-with_value_at}
-use Rattle.sheet_recalc.specs.Entries.{names_of, adopting}
-use Rattle.sheet_recalc.specs.Live.{CanAdopt}
-use Rattle.sheet_recalc.specs.declared.entry.Entry.{Entry}
-use Rattle.sheet_recalc.proofs.NameEquality.{names_equal}
+use Rattle.std.{proofs.Common.{◌≡◌, ◌∙◌, ℕ, List, Some, None, cond, slice_get, sym, ap, subst}, specs.Str.{bytes_eq}, specs.Map.{lookup, values_of}}
+use Rattle.std.{specs.Option.{option_map}, proofs.lemmas.Option.{slice_get-map}}
+use Rattle.indexmap.{specs.IndexMap.{set_value_at}, proofs.CallerLemmas.{updates-with_value_at}}
+use Rattle.sheet_recalc.{specs.Entries.{names_of, adopting}, specs.Live.{CanAdopt}, specs.declared.entry.Entry.{Entry}, proofs.NameEquality.{names_equal}}
 use Rattle.sheet_recalc.proofs.Live.{names_of_adopting, names_of_adopting_at}
 use Rattle.sheet_recalc.proofs.commit.adopt_one.Goals as goal
 

@@ -1,12 +1,6 @@
-use Rattle.std.proofs.Common.{sym, ap, subst, List, ℕ, inr, ⊎_elim}
-use Rattle.std.specs.Str.{bytes_eq}
-use Rattle.dep_order.specs.Users.{HasNoEmptyBut}
-use Rattle.dep_order.specs.Room.{AreListsFor}
-use Rattle.dep_order.proofs.Following.{contains_none}
-use Rattle.sheet_recalc.specs.Names.{Names, put, referred}
-use Rattle.sheet_recalc.specs.Entries.{names_of, binding_of}
-use Rattle.sheet_recalc.specs.Live.{TellsUsers}
-use Rattle.sheet_recalc.specs.declared.entry.Entry.{Entry}
+use Rattle.std.{proofs.Common.{sym, ap, subst, List, ℕ, inr, ⊎_elim}, specs.Str.{bytes_eq}}
+use Rattle.dep_order.{specs.Users.{HasNoEmptyBut}, specs.Room.{AreListsFor}, proofs.Following.{contains_none}}
+use Rattle.sheet_recalc.{specs.Names.{Names, put, referred}, specs.Entries.{names_of, binding_of}, specs.Live.{TellsUsers}, specs.declared.entry.Entry.{Entry}}
 use Rattle.sheet_recalc.proofs.commit.commit_brought.Goals as goal
 
 pub commit-requires-clause-tells : goal.commit-requires-clause-tells

@@ -1,11 +1,6 @@
-use Rattle.std.proofs.Common.{◌≡◌, ◌∙◌, sym, ap, subst, None, List, ℕ, inl, inr, ⊎_elim}
-use Rattle.std.specs.List.{Contains}
-use Rattle.sheet_recalc.specs.Names.{without, referred_by}
-use Rattle.sheet_recalc.specs.Entries.{names_of}
-use Rattle.sheet_recalc.specs.Live.{IsAdopting, plan_in}
-use Rattle.sheet_recalc.proofs.Live.{adopting_removed}
-use Rattle.sheet_recalc.proofs.Removing.{others, removed_others, names_of_others}
-use Rattle.sheet_recalc.proofs.Rebound.{table_after}
+use Rattle.std.{proofs.Common.{◌≡◌, ◌∙◌, sym, ap, subst, None, List, ℕ, inl, inr, ⊎_elim}, specs.List.{Contains}}
+use Rattle.sheet_recalc.{specs.Names.{without, referred_by}, specs.Entries.{names_of}, specs.Live.{IsAdopting, plan_in}, proofs.Live.{adopting_removed}}
+use Rattle.sheet_recalc.{proofs.Removing.{others, removed_others, names_of_others}, proofs.Rebound.{table_after}}
 use Rattle.sheet_recalc.proofs.commit.commit_removal.Goals as goal
 
 pub adopt_all-requires : goal.adopt_all-requires

@@ -1,8 +1,6 @@
 use Rattle.std.proofs.Common.{sym, subst, inr, ⊎_elim}
 use Rattle.dep_order.proofs.Following.{contains_none}
-use Rattle.sheet_recalc.specs.Names.{referred}
-use Rattle.sheet_recalc.specs.Entries.{binding_of}
-use Rattle.sheet_recalc.specs.Pending.{Brings}
+use Rattle.sheet_recalc.{specs.Names.{referred}, specs.Entries.{binding_of}, specs.Pending.{Brings}}
 use Rattle.sheet_recalc.proofs.commit.commit_with.Goals as goal
 
 pub commit_brought-requires-clause-brings : goal.commit_brought-requires-clause-brings

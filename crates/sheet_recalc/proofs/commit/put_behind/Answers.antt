@@ -1,11 +1,7 @@
-use Rattle.std.proofs.Common.{◌≡◌, ◌∙◌, sym, ap, Some, IsSome, refl, subst}
-use Rattle.std.specs.Str.{bytes_eq}
-use Rattle.std.specs.Map.{lookup, set_value}
+use Rattle.std.{proofs.Common.{◌≡◌, ◌∙◌, sym, ap, Some, IsSome, refl, subst}, specs.Str.{bytes_eq}, specs.Map.{lookup, set_value}}
 use Rattle.arrays_core.specs.Growth.{grown_by}
-use Rattle.sheet_recalc.specs.Entries.{FitsBehind, grown_entry}
-use Rattle.sheet_recalc.specs.declared.entry.Entry.{Entry}
+use Rattle.sheet_recalc.{specs.Entries.{FitsBehind, grown_entry}, specs.declared.entry.Entry.{Entry}, proofs.Live.{set_is_put}}
 use Rattle.sheet_recalc.specs.declared.entry.Entry.TheVariants as entry
-use Rattle.sheet_recalc.proofs.Live.{set_is_put}
 use Rattle.sheet_recalc.proofs.commit.put_behind.Goals as goal
 
 pub grow-requires : goal.grow-requires

@@ -1,9 +1,5 @@
-use Rattle.std.proofs.Common.{◌∙◌, sym, ap, Option, []}
-use Rattle.std.specs.Option.{option_map, option_map_or}
-use Rattle.sheet_recalc.specs.Names.{Binding, referred}
-use Rattle.sheet_recalc.specs.Entries.{binding_of}
-use Rattle.sheet_recalc.specs.declared.entry.Entry.{Entry}
-use Rattle.sheet_recalc.proofs.Live.{binding_of_name}
+use Rattle.std.{proofs.Common.{◌∙◌, sym, ap, Option, []}, specs.Option.{option_map, option_map_or}}
+use Rattle.sheet_recalc.{specs.Names.{Binding, referred}, specs.Entries.{binding_of}, specs.declared.entry.Entry.{Entry}, proofs.Live.{binding_of_name}}
 use Rattle.sheet_recalc.proofs.commit.references_of.Goals as goal
 
 pub returns-in-Some : goal.returns-in-Some

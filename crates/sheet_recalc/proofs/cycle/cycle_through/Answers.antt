@@ -1,9 +1,6 @@
-use Rattle.std.proofs.Common.{◌∙◌, List, [], ◌∷◌, ◌++◌, ℕ, ap, arith}
+use Rattle.std.{proofs.Common.{◌∙◌, List, [], ◌∷◌, ◌++◌, ℕ, ap, arith}, specs.Map.{keys_of}}
 use Rattle.dep_order.proofs.Climbing.{chain_join}
-use Rattle.std.specs.Map.{keys_of}
-use Rattle.sheet_recalc.specs.Names.{Refers}
-use Rattle.sheet_recalc.specs.ProposedSheet.{outline_of, proposed_names}
-use Rattle.sheet_recalc.proofs.Cycles.{number_within}
+use Rattle.sheet_recalc.{specs.Names.{Refers}, specs.ProposedSheet.{outline_of, proposed_names}, proofs.Cycles.{number_within}}
 use Rattle.sheet_recalc.proofs.cycle.cycle_through.Goals as goal
 
 pub loop-next-smaller : goal.loop-next-smaller

@@ -1,10 +1,6 @@
-use Rattle.std.proofs.Common.{◌≡◌, ◌-◌, ℕ, List, ◌∷◌, length}
-use Rattle.std.specs.Str.{bytes_eq}
-use Rattle.std.specs.List.{Contains, position_or_len}
+use Rattle.std.{proofs.Common.{◌≡◌, ◌-◌, ℕ, List, ◌∷◌, length}, specs.Str.{bytes_eq}, specs.List.{Contains, position_or_len}, specs.Map.{keys_of}}
 use Rattle.dep_order.specs.Reachability.{Chain}
-use Rattle.std.specs.Map.{keys_of}
-use Rattle.sheet_recalc.specs.Names.{Refers}
-use Rattle.sheet_recalc.specs.ProposedSheet.{outline_of, proposed_names}
+use Rattle.sheet_recalc.{specs.Names.{Refers}, specs.ProposedSheet.{outline_of, proposed_names}}
 use Rattle.sheet_recalc.proofs.cycle.cycle_through.Given as goal
 
 abbrev pub invariant-loop-next : goal.invariant-loop-next

@@ -1,8 +1,5 @@
-use Rattle.std.proofs.Common.{ℕ, List, sym, subst}
-use Rattle.std.specs.List.{Contains}
-use Rattle.std.specs.Map.{keys_of}
-use Rattle.sheet_recalc.specs.ProposedSheet.{outline_of, proposed_names}
-use Rattle.sheet_recalc.proofs.Cycles.{goes_on, goes_down}
+use Rattle.std.{proofs.Common.{ℕ, List, sym, subst}, specs.List.{Contains}, specs.Map.{keys_of}}
+use Rattle.sheet_recalc.{specs.ProposedSheet.{outline_of, proposed_names}, proofs.Cycles.{goes_on, goes_down}}
 use Rattle.sheet_recalc.proofs.Rebound.{referred_refers, refers_referred}
 use Rattle.sheet_recalc.proofs.cycle.step_from.Goals as goal
 

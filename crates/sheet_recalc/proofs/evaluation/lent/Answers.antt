@@ -1,9 +1,5 @@
-use Rattle.std.proofs.Common.{◌∙◌, Err, sym, ap, length}
-use Rattle.std.specs.Option.{option_map}
-use Rattle.sheet_recalc.specs.Entries.{names_of, binding_of}
-use Rattle.sheet_recalc.proofs.Live.{right_shows, binding_of_name}
-use Rattle.sheet_recalc.proofs.Scratch.{val_absent}
-use Rattle.sheet_recalc.specs.Meaning.{val}
+use Rattle.std.{proofs.Common.{◌∙◌, Err, sym, ap, length}, specs.Option.{option_map}}
+use Rattle.sheet_recalc.{specs.Entries.{names_of, binding_of}, proofs.Live.{right_shows, binding_of_name}, proofs.Scratch.{val_absent}, specs.Meaning.{val}}
 use Rattle.sheet_recalc.proofs.evaluation.lent.Goals as goal
 
 pub returns-in-Some : goal.returns-in-Some

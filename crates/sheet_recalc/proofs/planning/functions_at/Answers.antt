@@ -1,7 +1,5 @@
 use Rattle.std.proofs.Common.{◌∙◌, sym, ap}
-use Rattle.sheet_recalc.specs.Planning.{functions_at}
-use Rattle.sheet_recalc.specs.ProposedSheet.{outline_of}
-use Rattle.sheet_recalc.proofs.Entered.{name_at}
+use Rattle.sheet_recalc.{specs.Planning.{functions_at}, specs.ProposedSheet.{outline_of}, proofs.Entered.{name_at}}
 use Rattle.sheet_recalc.proofs.planning.functions_at.Goals as goal
 
 pub returns-in-Some : goal.returns-in-Some

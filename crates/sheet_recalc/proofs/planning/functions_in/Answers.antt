@@ -1,11 +1,6 @@
-use Rattle.std.proofs.Common.{◌<◌, ◌∙◌, [], length, ap, arith}
-use Rattle.std.specs.List.{sum_by}
-use Rattle.std.specs.Map.{keys_of}
-use Rattle.std.proofs.lemmas.List.{take_all}
+use Rattle.std.{proofs.Common.{◌<◌, ◌∙◌, [], length, ap, arith}, specs.List.{sum_by}, specs.Map.{keys_of}, proofs.lemmas.List.{take_all}}
 use Rattle.std.proofs.lemmas.List.Sums.{sum_by_more}
-use Rattle.sheet_recalc.specs.Planning.{functions_at}
-use Rattle.sheet_recalc.specs.ProposedSheet.{outline_of}
-use Rattle.sheet_recalc.proofs.Forward.{keys_long}
+use Rattle.sheet_recalc.{specs.Planning.{functions_at}, specs.ProposedSheet.{outline_of}, proofs.Forward.{keys_long}}
 use Rattle.sheet_recalc.proofs.planning.functions_in.Goals as goal
 
 pub loop-place-preserved : goal.loop-place-preserved

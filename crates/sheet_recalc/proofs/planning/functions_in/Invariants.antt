@@ -1,8 +1,5 @@
-use Rattle.std.proofs.Common.{◌≡◌, ◌≤◌, ◌*◌, take}
-use Rattle.std.specs.List.{sum_by}
-use Rattle.std.specs.Map.{keys_of}
-use Rattle.sheet_recalc.specs.Planning.{functions_at}
-use Rattle.sheet_recalc.specs.ProposedSheet.{outline_of}
+use Rattle.std.{proofs.Common.{◌≡◌, ◌≤◌, ◌*◌, take}, specs.List.{sum_by}, specs.Map.{keys_of}}
+use Rattle.sheet_recalc.{specs.Planning.{functions_at}, specs.ProposedSheet.{outline_of}}
 use Rattle.sheet_recalc.proofs.planning.functions_in.Given as goal
 
 abbrev pub invariant-loop-place : goal.invariant-loop-place

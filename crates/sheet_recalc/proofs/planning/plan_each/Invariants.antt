@@ -1,8 +1,6 @@
-use Rattle.std.proofs.Common.{◌≡◌, ℕ, Some, [], get_or, IfSome}
-use Rattle.std.specs.Map.{keys_of}
-use Rattle.sheet_recalc.specs.ProposedSheet.{outline_of, entry_of}
+use Rattle.std.{proofs.Common.{◌≡◌, ℕ, Some, [], get_or, IfSome}, specs.Map.{keys_of}}
+use Rattle.sheet_recalc.{specs.ProposedSheet.{outline_of, entry_of}, specs.Planning.{IsPlanning}}
 use Rattle.sheet_recalc.specs.declared.entry.Entry.TheVariants as entry
-use Rattle.sheet_recalc.specs.Planning.{IsPlanning}
 use Rattle.sheet_recalc.proofs.planning.plan_each.Given as goal
 
 abbrev pub invariant-loop-name : goal.invariant-loop-name

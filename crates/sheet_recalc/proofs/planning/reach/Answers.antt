@@ -1,9 +1,5 @@
-use Rattle.std.proofs.Common.{ℕ, List, arith}
-use Rattle.std.proofs.lemmas.List.{length-map}
-use Rattle.sheet_recalc.specs.Names.{Binding}
-use Rattle.sheet_recalc.specs.Entries.{names_of, binding_of}
-use Rattle.sheet_recalc.specs.declared.entry.Entry.{Entry}
-use Rattle.sheet_recalc.proofs.NameEquality.{equal-true}
+use Rattle.std.{proofs.Common.{ℕ, List, arith}, proofs.lemmas.List.{length-map}}
+use Rattle.sheet_recalc.{specs.Names.{Binding}, specs.Entries.{names_of, binding_of}, specs.declared.entry.Entry.{Entry}, proofs.NameEquality.{equal-true}}
 use Rattle.sheet_recalc.proofs.Keeping.{within, name_order}
 use Rattle.sheet_recalc.proofs.planning.reach.Goals as goal
 

@@ -1,6 +1,5 @@
 use Rattle.std.proofs.Common.{◌≡◌, ℕ, false}
-use Rattle.sheet_recalc.specs.ProposedSheet.{outline_of}
-use Rattle.sheet_recalc.specs.Planning.{IsOnTheWay}
+use Rattle.sheet_recalc.{specs.ProposedSheet.{outline_of}, specs.Planning.{IsOnTheWay}}
 use Rattle.sheet_recalc.proofs.planning.settle.Given as goal
 
 abbrev pub invariant-loop-name : goal.invariant-loop-name

@@ -1,5 +1,4 @@
-use Rattle.sheet_recalc.specs.ProposedSheet.{outline_of, proposed_change}
-use Rattle.sheet_recalc.proofs.Asked.{on_ok_map}
+use Rattle.sheet_recalc.{specs.ProposedSheet.{outline_of, proposed_change}, proofs.Asked.{on_ok_map}}
 use Rattle.sheet_recalc.proofs.planning.whole_plan.Goals as goal
 
 pub returns-in-len1-clause-all : goal.returns-in-len1-clause-all

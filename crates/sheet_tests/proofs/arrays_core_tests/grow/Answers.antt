@@ -1,6 +1,5 @@
 use Rattle.std.proofs.Common.{◌∙◌, sym, ap, subst}
-use Rattle.arrays_core.specs.Growth.{IsRoomFor}
-use Rattle.arrays_core.specs.Shapes.{size}
+use Rattle.arrays_core.{specs.Growth.{IsRoomFor}, specs.Shapes.{size}}
 use Rattle.sheet_tests.proofs.arrays_core_tests.grow.Goals as goal
 
 pub grow-requires-clause-room : goal.grow-requires-clause-room

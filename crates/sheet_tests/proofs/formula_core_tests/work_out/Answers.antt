@@ -1,5 +1,4 @@
-use Rattle.std.proofs.Common.{◌≡◌, ◌∙◌, Ok, refl, sym, ap}
-use Rattle.std.proofs.lemmas.Bool.{false≢true}
+use Rattle.std.{proofs.Common.{◌≡◌, ◌∙◌, Ok, refl, sym, ap}, proofs.lemmas.Bool.{false≢true}}
 use Rattle.arrays_core.specs.Arrays.{ArrayValue}
 use Rattle.index_region.specs.declared.delta.Delta.TheVariants.{Same}
 use Rattle.sheet_tests.proofs.OneName.{one_change, told_of_one, held_of_one}

@@ -1,7 +1,5 @@
-use Rattle.std.proofs.Common.{◌+◌, ◌<◌, ap, ◌∙◌, ◌++◌, arith}
-use Rattle.std.proofs.lemmas.Result.{on_ok_weaker}
-use Rattle.structural_fns.specs.Catenate.{in_side_of_row}
-use Rattle.structural_fns.proofs.JoinedRows.{some_items, first_least, side_inside, side_items}
+use Rattle.std.{proofs.Common.{◌+◌, ◌<◌, ap, ◌∙◌, ◌++◌, arith}, proofs.lemmas.Result.{on_ok_weaker}}
+use Rattle.structural_fns.{specs.Catenate.{in_side_of_row}, proofs.JoinedRows.{some_items, first_least, side_inside, side_items}}
 use Rattle.structural_fns.proofs.catenate.extend_side.Goals as goal
 
 pub overflow_sub-second : goal.overflow_sub-second

@@ -1,9 +1,6 @@
-use Rattle.std.proofs.Common.{◌≡◌, ◌+◌, ◌-◌, ℤ, ap, get_or, pos, ◌∙◌, append_assoc, arith, w64, to_z, of_z}
-use Rattle.std.proofs.lemmas.Int.{ints}
+use Rattle.std.{proofs.Common.{◌≡◌, ◌+◌, ◌-◌, ℤ, ap, get_or, pos, ◌∙◌, append_assoc, arith, w64, to_z, of_z}, proofs.lemmas.Int.{ints}}
 use Rattle.index_region.specs.Arguments.{numbers}
-use Rattle.structural_fns.proofs.Counting.{numbers_long}
-use Rattle.structural_fns.specs.Drop.{kept}
-use Rattle.structural_fns.proofs.Moved.{kept_more}
+use Rattle.structural_fns.{proofs.Counting.{numbers_long}, specs.Drop.{kept}, proofs.Moved.{kept_more}}
 use Rattle.structural_fns.proofs.drop_places.kept_box.Goals as goal
 
 pub loop-k-preserved : goal.loop-k-preserved

@@ -2,8 +2,7 @@ use Rattle.std.proofs.Common.{◌≡◌, ◌+◌, ◌-◌, ◌≤◌, ap, sym, �
 use Rattle.std.proofs.lemmas.Int.{ints}
 use Rattle.arrays_core.specs.Shapes.{size}
 use Rattle.index_region.specs.Arguments.{numbers}
-use Rattle.structural_fns.specs.Drop.{kept_place, drop_whole}
-use Rattle.structural_fns.proofs.VectorRuns.{first_kept, kept_run, run_answer}
+use Rattle.structural_fns.{specs.Drop.{kept_place, drop_whole}, proofs.VectorRuns.{first_kept, kept_run, run_answer}}
 use Rattle.structural_fns.proofs.drop_places.kept_run.Goals as goal
 
 pub returns-then-kept-eq0 : goal.returns-then-kept-eq0

@@ -1,5 +1,4 @@
-use Rattle.std.proofs.Common.{◌≡◌, ◌+◌, ◌-◌, ℕ, ◌∙◌, sym, ap, arith, pos, get_or, unsigned_abs, to_z, of_z, w64}
-use Rattle.std.proofs.lemmas.Int.{ints}
+use Rattle.std.{proofs.Common.{◌≡◌, ◌+◌, ◌-◌, ℕ, ◌∙◌, sym, ap, arith, pos, get_or, unsigned_abs, to_z, of_z, w64}, proofs.lemmas.Int.{ints}}
 use Rattle.std.proofs.Math.ListN.{get_or-map}
 use Rattle.index_region.specs.Arguments.{numbers}
 use Rattle.structural_fns.specs.DyadicTranspose.{axes_to}

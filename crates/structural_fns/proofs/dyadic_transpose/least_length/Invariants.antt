@@ -1,6 +1,5 @@
 use Rattle.std.proofs.Common.{◌≡◌, drop}
-use Rattle.structural_fns.specs.DyadicTranspose.{axes_to, lengths_at, least_of}
-use Rattle.structural_fns.specs.LeastLength.{least_with}
+use Rattle.structural_fns.{specs.DyadicTranspose.{axes_to, lengths_at, least_of}, specs.LeastLength.{least_with}}
 use Rattle.structural_fns.proofs.dyadic_transpose.least_length.Given as goal
 
 abbrev pub invariant-loop-place : goal.invariant-loop-place

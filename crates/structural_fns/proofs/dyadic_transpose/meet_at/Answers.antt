@@ -1,6 +1,5 @@
 use Rattle.std.proofs.Common.{◌≡◌, suc, ◌-◌, ◌<◌, ◌∙◌, sym, arith, length}
-use Rattle.structural_fns.specs.DyadicTranspose.{axes_from_zero}
-use Rattle.structural_fns.proofs.Meets.{axes_long, meet_past}
+use Rattle.structural_fns.{specs.DyadicTranspose.{axes_from_zero}, proofs.Meets.{axes_long, meet_past}}
 use Rattle.structural_fns.proofs.dyadic_transpose.meet_at.Goals as goal
 
 pub loop-from-preserved : goal.loop-from-preserved

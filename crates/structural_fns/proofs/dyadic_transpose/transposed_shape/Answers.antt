@@ -1,8 +1,5 @@
-use Rattle.std.proofs.Common.{◌≡◌, ◌+◌, ◌∙◌, arith, append_assoc}
-use Rattle.std.proofs.lemmas.List.{length_push}
-use Rattle.std.proofs.lemmas.List.FromFn.{length-map-range_with_len}
-use Rattle.structural_fns.specs.DyadicTranspose.{axes_to, greatest_of, least_of, lengths_at, transposed_shape}
-use Rattle.structural_fns.proofs.Counting.{too_many}
+use Rattle.std.{proofs.Common.{◌≡◌, ◌+◌, ◌∙◌, arith, append_assoc}, proofs.lemmas.List.{length_push}, proofs.lemmas.List.FromFn.{length-map-range_with_len}}
+use Rattle.structural_fns.{specs.DyadicTranspose.{axes_to, greatest_of, least_of, lengths_at, transposed_shape}, proofs.Counting.{too_many}}
 use Rattle.structural_fns.proofs.Entries.{range_more}
 use Rattle.structural_fns.proofs.dyadic_transpose.transposed_shape.Goals as goal
 

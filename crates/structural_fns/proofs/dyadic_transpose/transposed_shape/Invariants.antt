@@ -1,5 +1,4 @@
-use Rattle.std.proofs.Common.{◌≡◌, ◌++◌, ◌-◌, ◌+◌, length, map}
-use Rattle.std.specs.List.{range_with_len}
+use Rattle.std.{proofs.Common.{◌≡◌, ◌++◌, ◌-◌, ◌+◌, length, map}, specs.List.{range_with_len}}
 use Rattle.structural_fns.specs.DyadicTranspose.{axes_to, lengths_at, least_of, transposed_shape}
 use Rattle.structural_fns.proofs.dyadic_transpose.transposed_shape.Given as goal
 

@@ -1,5 +1,4 @@
-use Rattle.std.proofs.Common.{◌≡◌, ◌+◌, ◌-◌, ◌*◌, ◌<◌, ap, ◌∙◌, length, get_or, ◌++◌, arith}
-use Rattle.std.proofs.lemmas.Result.{on_ok_weaker}
+use Rattle.std.{proofs.Common.{◌≡◌, ◌+◌, ◌-◌, ◌*◌, ◌<◌, ap, ◌∙◌, length, get_or, ◌++◌, arith}, proofs.lemmas.Result.{on_ok_weaker}}
 use Rattle.arrays_core.specs.Items.{fill}
 use Rattle.structural_fns.proofs.SteppedRows.{listed_same}
 use Rattle.structural_fns.proofs.even_steps.extend_evenly.Goals as goal

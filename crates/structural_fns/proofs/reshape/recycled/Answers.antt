@@ -1,9 +1,6 @@
-use Rattle.std.proofs.lemmas.Result.{IfOk-weaker}
-use Rattle.std.proofs.Common.{◌≡◌, ◌%◌, ◌∙◌, ap, length, get_or, arith}
+use Rattle.std.{proofs.lemmas.Result.{IfOk-weaker}, proofs.Common.{◌≡◌, ◌%◌, ◌∙◌, ap, length, get_or, arith}}
 use Rattle.std.proofs.lemmas.List.FromFn.{length-map-range_with_len}
-use Rattle.arrays_core.specs.Items.{fill}
-use Rattle.arrays_core.specs.Building.{listed}
-use Rattle.arrays_core.specs.Shapes.{size}
+use Rattle.arrays_core.{specs.Items.{fill}, specs.Building.{listed}, specs.Shapes.{size}}
 use Rattle.structural_fns.proofs.Runs.{built_long, all_built}
 use Rattle.structural_fns.proofs.reshape.recycled.Goals as goal
 

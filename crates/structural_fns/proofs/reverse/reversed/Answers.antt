@@ -1,6 +1,5 @@
 use Rattle.std.proofs.Common.{rules, ◌<◌, length, arith}
-use Rattle.arrays_core.proofs.Shapes.{as_long, head_at}
-use Rattle.arrays_core.proofs.NextIndex.{drop_inside}
+use Rattle.arrays_core.{proofs.Shapes.{as_long, head_at}, proofs.NextIndex.{drop_inside}}
 use Rattle.structural_fns.proofs.reverse.reversed.Goals as goal
 
 pub shape_of-at-requires : goal.shape_of-at-requires

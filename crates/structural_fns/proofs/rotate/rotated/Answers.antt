@@ -1,11 +1,8 @@
-use Rattle.std.proofs.Common.{rules, ◌≡◌, ◌<◌, ◌++◌, List, ℕ, length, set, get_or, take, drop, ◌∙◌, arith, to_z, of_z, w64}
-use Rattle.std.proofs.lemmas.Int.{to_z-of_z}
-use Rattle.std.proofs.lemmas.Grind.{get_or_default_zero}
-use Rattle.std.proofs.lemmas.List.{length-set, take_at}
+use Rattle.std.{proofs.Common.{rules, ◌≡◌, ◌<◌, ◌++◌, List, ℕ, length, set, get_or, take, drop, ◌∙◌, arith, to_z, of_z, w64}, proofs.lemmas.Int.{to_z-of_z}}
+use Rattle.std.{proofs.lemmas.Grind.{get_or_default_zero}, proofs.lemmas.List.{length-set, take_at}}
 use Rattle.index_region.specs.Axes.{places_along}
 use Rattle.structural_fns.specs.Rotate.{rotated_place}
-use Rattle.arrays_core.proofs.Shapes.{as_long, head_at}
-use Rattle.arrays_core.proofs.NextIndex.{drop_inside}
+use Rattle.arrays_core.{proofs.Shapes.{as_long, head_at}, proofs.NextIndex.{drop_inside}}
 use Rattle.structural_fns.proofs.rotate.rotated.Goals as goal
 
 pub shape_of-at-requires : goal.shape_of-at-requires

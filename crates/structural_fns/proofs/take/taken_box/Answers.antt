@@ -1,9 +1,6 @@
-use Rattle.std.proofs.Common.{◌≡◌, ◌+◌, ◌-◌, ℤ, ap, get_or, pos, ◌∙◌, append_assoc, arith, w64, to_z, of_z}
-use Rattle.std.proofs.lemmas.Int.{ints}
+use Rattle.std.{proofs.Common.{◌≡◌, ◌+◌, ◌-◌, ℤ, ap, get_or, pos, ◌∙◌, append_assoc, arith, w64, to_z, of_z}, proofs.lemmas.Int.{ints}}
 use Rattle.index_region.specs.Arguments.{numbers}
-use Rattle.structural_fns.proofs.Counting.{numbers_long}
-use Rattle.structural_fns.specs.Take.{taken}
-use Rattle.structural_fns.proofs.Moved.{taken_more, interval_on, fits_long}
+use Rattle.structural_fns.{proofs.Counting.{numbers_long}, specs.Take.{taken}, proofs.Moved.{taken_more, interval_on, fits_long}}
 use Rattle.structural_fns.proofs.take.taken_box.Goals as goal
 
 pub taken_interval-first-requires-clause-order : goal.taken_interval-first-requires-clause-order

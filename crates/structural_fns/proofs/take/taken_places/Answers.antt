@@ -1,9 +1,7 @@
 use Rattle.std.proofs.Common.{◌≡◌, ◌+◌, ◌-◌, ◌≤◌, ap, get_or, pos, subst, sym, ◌∙◌, append_assoc, unsigned_abs, arith, w64, to_z, of_z}
-use Rattle.std.proofs.lemmas.Int.{ints}
-use Rattle.std.proofs.lemmas.List.{length_push}
+use Rattle.std.{proofs.lemmas.Int.{ints}, proofs.lemmas.List.{length_push}}
 use Rattle.index_region.specs.Arguments.{numbers}
-use Rattle.structural_fns.specs.Take.{taken_place}
-use Rattle.structural_fns.proofs.Counting.{numbers_long, count_at, taken_more}
+use Rattle.structural_fns.{specs.Take.{taken_place}, proofs.Counting.{numbers_long, count_at, taken_more}}
 use Rattle.structural_fns.proofs.take.taken_places.Goals as goal
 
 pub bounds-index-k : goal.bounds-index-k

@@ -1,8 +1,6 @@
-use Rattle.std.proofs.Common.{◌≡◌, ◌-◌, ap, ◌∙◌, arith, length, get_or, pos, w64, to_z, of_z}
-use Rattle.std.proofs.lemmas.Int.{ints}
+use Rattle.std.{proofs.Common.{◌≡◌, ◌-◌, ap, ◌∙◌, arith, length, get_or, pos, w64, to_z, of_z}, proofs.lemmas.Int.{ints}}
 use Rattle.index_region.specs.Arguments.{numbers}
-use Rattle.structural_fns.specs.Take.{taken_place, take_whole}
-use Rattle.structural_fns.proofs.VectorRuns.{taken_run, run_answer}
+use Rattle.structural_fns.{specs.Take.{taken_place, take_whole}, proofs.VectorRuns.{taken_run, run_answer}}
 use Rattle.structural_fns.proofs.take.taken_run.Goals as goal
 
 pub returns : goal.returns

@@ -1,22 +1,13 @@
 use Rattle.std.proofs.Common.{◌≡◌, ◌∙◌, ℕ, List, [], ◌∷◌, length, remove, sym, ap, subst, arith, Ok, Err, Some}
-use Rattle.arrays_core.specs.Arrays.{ArrayValue}
-use Rattle.arrays_core.specs.Outcomes.{given}
-use Rattle.arrays_core.specs.Shapes.{size}
+use Rattle.arrays_core.{specs.Arrays.{ArrayValue}, specs.Outcomes.{given}, specs.Shapes.{size}}
 use Rattle.function_names.specs.Axes.{axis_at}
-use Rattle.index_region.specs.declared.delta.Delta.TheVariants.{Whole}
-use Rattle.index_region.specs.Checks.{form_of}
-use Rattle.reduce_fns.specs.Reduce.{reduce_form}
-use Rattle.reduce_fns.specs.Laws.ReducedShapes.{reduce_facts}
-use Rattle.change_core.specs.RuleModels.{form_size}
-use Rattle.change_core.specs.declared.reach.Reach.TheVariants.{Inside}
-use Rattle.change_core.specs.Reaches.{reach_of}
-use Rattle.sum_rules.specs.Totals.{total_rule, box_of_lines}
-use Rattle.sum_rules.proofs.ChangedTotals.{reach_is, reached_box, whole_now}
-use Rattle.sum_rules.proofs.Outcomes.{outcome_given}
-use Rattle.sum_rules.proofs.KeptLines.{some_lines}
-use Rattle.sum_rules.proofs.after_error.change_after_error.Goals as goal
-use Rattle.sum_rules.proofs.after_error.change_after_error.Goals.{After-shape-axes}
+use Rattle.index_region.{specs.declared.delta.Delta.TheVariants.{Whole}, specs.Checks.{form_of}}
+use Rattle.reduce_fns.{specs.Reduce.{reduce_form}, specs.Laws.ReducedShapes.{reduce_facts}}
+use Rattle.change_core.{specs.RuleModels.{form_size}, specs.declared.reach.Reach.TheVariants.{Inside}, specs.Reaches.{reach_of}}
+use Rattle.sum_rules.{specs.Totals.{total_rule, box_of_lines}, proofs.ChangedTotals.{reach_is, reached_box, whole_now}, proofs.Outcomes.{outcome_given}}
+use Rattle.sum_rules.{proofs.KeptLines.{some_lines}, proofs.after_error.change_after_error.Goals.{After-shape-axes}}
 use Rattle.sum_rules.proofs.after_error.change_after_error.Given.{Over}
+use Rattle.sum_rules.proofs.after_error.change_after_error.Goals as goal
 
 -- the lines of the box that changed
 lines_are : (g : Over) (c : After-shape-axes g) → c.in-Inside.lines ≡ box_of_lines (axis_at (length c.shape-axes.result.now.items) c.args.fold.along) c.args.patch.now.region

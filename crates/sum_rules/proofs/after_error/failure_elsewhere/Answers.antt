@@ -1,18 +1,12 @@
 use Rattle.std.proofs.Common.{◌≡◌, ◌∙◌, ◌+◌, ◌-◌, ◌<◌, true, ℕ, ℤ, List, length, map, remove, Err, refl, ap, sym, subst, arith}
-use Rattle.arrays_core.specs.declared.item.Item.TheVariants.{Num}
-use Rattle.arrays_core.specs.Shapes.{is_index_of, index_after, size, places_before}
+use Rattle.arrays_core.{specs.declared.item.Item.TheVariants.{Num}, specs.Shapes.{is_index_of, index_after, size, places_before}}
 use Rattle.arrays_core.proofs.Order.{index_after-within, places_before-index_after}
 use Rattle.function_names.specs.Axes.{axis_at}
-use Rattle.index_region.specs.Boxes.{is_within}
-use Rattle.index_region.specs.Patches.{patched}
+use Rattle.index_region.{specs.Boxes.{is_within}, specs.Patches.{patched}, proofs.Patched.{patched_sound}}
 use Rattle.reduce_fns.specs.Reduce.{reduce_item}
-use Rattle.scalar_fns.specs.Items.{number_item}
-use Rattle.index_region.proofs.Patched.{patched_sound}
-use Rattle.scalar_fns.specs.RightFold.{fold_right}
+use Rattle.scalar_fns.{specs.Items.{number_item}, specs.RightFold.{fold_right}}
 use Rattle.fold_trees.specs.ArrayLines.{numbers_of_line}
-use Rattle.sum_rules.specs.LineSums.{array_of_shape}
-use Rattle.sum_rules.proofs.KeptLines.{kept_total, line_below}
-use Rattle.sum_rules.proofs.Failures.{one_decides}
+use Rattle.sum_rules.{specs.LineSums.{array_of_shape}, proofs.KeptLines.{kept_total, line_below}, proofs.Failures.{one_decides}}
 use Rattle.sum_rules.proofs.after_error.failure_elsewhere.Goals as goal
 
 pub total-requires : goal.total-requires

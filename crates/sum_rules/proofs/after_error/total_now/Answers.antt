@@ -1,18 +1,13 @@
 use Rattle.std.proofs.Common.{◌≡◌, ◌∙◌, true, ℕ, ℤ, map, List, length, get_or, remove, insert, ap, sym, arith}
 use Rattle.function_names.specs.Axes.{axis_at}
-use Rattle.index_region.specs.Boxes.{is_within}
-use Rattle.index_region.specs.Patches.{patched}
-use Rattle.index_region.proofs.Boxes.{fits_length}
+use Rattle.index_region.{specs.Boxes.{is_within}, specs.Patches.{patched}, proofs.Boxes.{fits_length}}
 use Rattle.arrays_core.specs.declared.item.Item.TheVariants.{Num}
 use Rattle.scalar_fns.specs.RightFold.{fold_right}
 use Rattle.fold_trees.specs.ArrayLines.{numbers_of_line}
-use Rattle.reduce_fns.specs.Reduce.{reduce_item}
-use Rattle.reduce_fns.proofs.Lines.{long_with_axis, remove_inserted}
-use Rattle.sum_rules.specs.LineSums.{array_of_shape}
-use Rattle.sum_rules.proofs.KeptLines.{kept_total, line_below, within_one}
+use Rattle.reduce_fns.{specs.Reduce.{reduce_item}, proofs.Lines.{long_with_axis, remove_inserted}}
+use Rattle.sum_rules.{specs.LineSums.{array_of_shape}, proofs.KeptLines.{kept_total, line_below, within_one}}
+use Rattle.sum_rules.{proofs.after_error.total_now.Goals.{After-as_slice-then-contains}, proofs.after_error.total_now.Given.{Over}}
 use Rattle.sum_rules.proofs.after_error.total_now.Goals as goal
-use Rattle.sum_rules.proofs.after_error.total_now.Goals.{After-as_slice-then-contains}
-use Rattle.sum_rules.proofs.after_error.total_now.Given.{Over}
 
 -- the index list of the new number
 place_is : (g : Over) (c : After-as_slice-then-contains g) → c.as_slice-then-contains.result.now

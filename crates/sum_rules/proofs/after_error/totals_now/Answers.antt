@@ -1,26 +1,17 @@
 use Rattle.std.proofs.Common.{◌≡◌, ◌∙◌, ◌<◌, ◌≤◌, ◌+◌, ◌-◌, true, ℕ, List, take, length, refl, ap, sym, subst, arith, inl, inr, Ok, Err}
-use Rattle.std.proofs.lemmas.Bool.{cases_Bool}
-use Rattle.std.proofs.lemmas.List.{length-replicate}
-use Rattle.arrays_core.specs.declared.item.ItemType.TheVariants.{Nums}
-use Rattle.arrays_core.specs.Arrays.{ArrayValue, with_items}
-use Rattle.arrays_core.specs.Items.{fill}
-use Rattle.arrays_core.specs.Shapes.{is_index_of, size, index_after, places_before}
-use Rattle.arrays_core.proofs.Order.{index_after-within, places_before-index_after}
+use Rattle.std.{proofs.lemmas.Bool.{cases_Bool}, proofs.lemmas.List.{length-replicate}}
+use Rattle.arrays_core.{specs.declared.item.ItemType.TheVariants.{Nums}, specs.Arrays.{ArrayValue, with_items}, specs.Items.{fill}}
+use Rattle.arrays_core.{specs.Shapes.{is_index_of, size, index_after, places_before}, proofs.Order.{index_after-within, places_before-index_after}}
 use Rattle.function_names.specs.Axes.{axis_at}
-use Rattle.index_region.specs.Boxes.{box_size, fits, is_within, walk_at, whole_of}
-use Rattle.index_region.specs.Patches.{patched}
+use Rattle.index_region.{specs.Boxes.{box_size, fits, is_within, walk_at, whole_of}, specs.Patches.{patched}}
 use Rattle.reduce_fns.specs.Reduce.{reduce_item}
-use Rattle.change_core.specs.Meters.{ticked}
-use Rattle.change_core.proofs.Filling.{all_filled, as_many_written, nothing_filled, one_filled, one_more_tick}
+use Rattle.change_core.{specs.Meters.{ticked}, proofs.Filling.{all_filled, as_many_written, nothing_filled, one_filled, one_more_tick}}
 use Rattle.change_core.proofs.Walking.{rest_err, walk-whole}
-use Rattle.sum_rules.specs.LineSums.{array_of_shape, length_along}
-use Rattle.sum_rules.specs.Totals.{AreJoinsFrom, AreJoinsWithin, box_of_lines}
-use Rattle.sum_rules.proofs.ChangedLines.{as_many_lines, fits_axes}
-use Rattle.sum_rules.proofs.KeptLines.{items_walked, some_lines}
+use Rattle.sum_rules.{specs.LineSums.{array_of_shape, length_along}, specs.Totals.{AreJoinsFrom, AreJoinsWithin, box_of_lines}}
+use Rattle.sum_rules.{proofs.ChangedLines.{as_many_lines, fits_axes}, proofs.KeptLines.{items_walked, some_lines}}
 use Rattle.sum_rules.proofs.PassedLines.{Passed, none_passed, over_one, over_other, most_passed, all_passed}
+use Rattle.sum_rules.{proofs.after_error.totals_now.Goals.{After-total_now}, proofs.after_error.totals_now.Given.{Over}}
 use Rattle.sum_rules.proofs.after_error.totals_now.Goals as goal
-use Rattle.sum_rules.proofs.after_error.totals_now.Goals.{After-total_now}
-use Rattle.sum_rules.proofs.after_error.totals_now.Given.{Over}
 
 pub total_now-requires-clause-index : goal.total_now-requires-clause-index
 total_now-requires-clause-index g c =

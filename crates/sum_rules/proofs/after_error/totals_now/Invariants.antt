@@ -1,17 +1,10 @@
-use Rattle.std.proofs.Common.{◌≡◌, ◌≤◌, ◌<◌, ◌+◌, ℕ, take, length, map}
-use Rattle.std.specs.List.{range_with_len}
-use Rattle.arrays_core.specs.declared.item.ItemType.TheVariants.{Nums}
-use Rattle.arrays_core.specs.Shapes.{size}
+use Rattle.std.{proofs.Common.{◌≡◌, ◌≤◌, ◌<◌, ◌+◌, ℕ, take, length, map}, specs.List.{range_with_len}}
+use Rattle.arrays_core.{specs.declared.item.ItemType.TheVariants.{Nums}, specs.Shapes.{size}}
 use Rattle.function_names.specs.Axes.{axis_at}
-use Rattle.index_region.specs.Boxes.{walk_at, whole_of}
-use Rattle.index_region.specs.Patches.{patched}
+use Rattle.index_region.{specs.Boxes.{walk_at, whole_of}, specs.Patches.{patched}}
 use Rattle.reduce_fns.specs.Reduce.{reduce_item}
-use Rattle.change_core.specs.Meters.{ticked}
-use Rattle.change_core.proofs.Collected.{collected}
-use Rattle.change_core.proofs.Walking.{prepend, rest_from}
-use Rattle.sum_rules.specs.LineSums.{array_of_shape, length_along}
-use Rattle.sum_rules.specs.Totals.{box_of_lines}
-use Rattle.sum_rules.proofs.PassedLines.{Passed}
+use Rattle.change_core.{specs.Meters.{ticked}, proofs.Collected.{collected}, proofs.Walking.{prepend, rest_from}}
+use Rattle.sum_rules.{specs.LineSums.{array_of_shape, length_along}, specs.Totals.{box_of_lines}, proofs.PassedLines.{Passed}}
 use Rattle.sum_rules.proofs.after_error.totals_now.Given as goal
 
 abbrev pub invariant-loop-line : goal.invariant-loop-line

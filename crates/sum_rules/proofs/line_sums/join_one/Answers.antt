@@ -1,12 +1,8 @@
-use Rattle.std.proofs.Common.{◌≡◌, ◌<◌, ◌∙◌, ℕ, List, set, Bool, true, get_or, sym, ap, subst, arith, rules, w64, SFits}
-use Rattle.std.proofs.lemmas.Int.{to_z-of_z}
-use Rattle.arrays_core.specs.Items.{fill, type_of}
-use Rattle.arrays_core.specs.Shapes.{is_index_of, places_before}
-use Rattle.index_region.specs.Boxes.{Interval, box_size, box_offset, fits, is_within, walk_at}
-use Rattle.index_region.proofs.Patched.{box_within_size, fits_within}
+use Rattle.std.{proofs.Common.{◌≡◌, ◌<◌, ◌∙◌, ℕ, List, set, Bool, true, get_or, sym, ap, subst, arith, rules, w64, SFits}, proofs.lemmas.Int.{to_z-of_z}}
+use Rattle.arrays_core.{specs.Items.{fill, type_of}, specs.Shapes.{is_index_of, places_before}}
+use Rattle.index_region.{specs.Boxes.{Interval, box_size, box_offset, fits, is_within, walk_at}, proofs.Patched.{box_within_size, fits_within}}
 use Rattle.index_region.proofs.Walks.{offset_of_walk, some_place, walk_within}
-use Rattle.sum_rules.specs.LineSums.{array_of_shape}
-use Rattle.sum_rules.proofs.JoinedPatches.{one_written}
+use Rattle.sum_rules.{specs.LineSums.{array_of_shape}, proofs.JoinedPatches.{one_written}}
 use Rattle.sum_rules.proofs.line_sums.join_one.Goals as goal
 
 inside : {region r : List Interval} {shape axes : List ℕ} {lies : Bool} → r ≡ region → axes ≡ shape → lies ≡ fits r axes → lies ≡ true → fits region shape ≡ true

@@ -1,6 +1,4 @@
-use Rattle.std.proofs.Common.{◌≡◌, ◌∙◌, ℤ, map, ap, rules, of_z, to_z, w64, SFits}
-use Rattle.std.proofs.lemmas.Int.{to_z-of_z}
-use Rattle.std.proofs.lemmas.List.{map-set}
+use Rattle.std.{proofs.Common.{◌≡◌, ◌∙◌, ℤ, map, ap, rules, of_z, to_z, w64, SFits}, proofs.lemmas.Int.{to_z-of_z}, proofs.lemmas.List.{map-set}}
 use Rattle.arrays_core.specs.declared.item.Item.TheVariants.{Num}
 use Rattle.fold_trees.specs.FoldTrees.{FoldsValue}
 use Rattle.sum_rules.proofs.line_sums.set_item.Goals as goal

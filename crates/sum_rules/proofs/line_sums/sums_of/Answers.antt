@@ -1,11 +1,7 @@
-use Rattle.std.proofs.Common.{◌≡◌, ◌∙◌, ◌%◌, ◌*◌, ℕ, ℤ, List, length, sym, ap}
-use Rattle.std.proofs.lemmas.List.{length-map}
-use Rattle.arrays_core.specs.declared.item.Item.TheVariants.{Num}
-use Rattle.arrays_core.specs.Shapes.{size}
+use Rattle.std.{proofs.Common.{◌≡◌, ◌∙◌, ◌%◌, ◌*◌, ℕ, ℤ, List, length, sym, ap}, proofs.lemmas.List.{length-map}}
+use Rattle.arrays_core.{specs.declared.item.Item.TheVariants.{Num}, specs.Shapes.{size}}
 use Rattle.function_names.specs.Axes.{axis_at}
-use Rattle.sum_rules.specs.LineSums.{line_length, line_step}
-use Rattle.sum_rules.proofs.KeptSums.{kept_parts}
-use Rattle.sum_rules.proofs.Lines.{whole_lines}
+use Rattle.sum_rules.{specs.LineSums.{line_length, line_step}, proofs.KeptSums.{kept_parts}, proofs.Lines.{whole_lines}}
 use Rattle.sum_rules.proofs.line_sums.sums_of.Goals as goal
 
 pub build-requires-clause-whole : goal.build-requires-clause-whole

@@ -1,15 +1,8 @@
-use Rattle.std.proofs.Common.{◌≡◌, ◌∙◌, ◌<◌, ◌+◌, ℕ, ℤ, List, get_or, set, map, sym, ap, arith, refl, subst}
-use Rattle.std.proofs.lemmas.List.{length-map}
-use Rattle.arrays_core.specs.declared.item.Item.{Item}
-use Rattle.arrays_core.specs.declared.item.Item.TheVariants.{Num}
-use Rattle.arrays_core.specs.declared.item.ItemType.TheVariants.{Nums}
-use Rattle.arrays_core.specs.Arrays.{IsArray}
-use Rattle.arrays_core.specs.Items.{fill}
-use Rattle.arrays_core.specs.Shapes.{is_index_of, places_before}
-use Rattle.index_region.specs.Boxes.{Interval, box_size, box_offset, is_within, walk_at}
-use Rattle.index_region.specs.Patches.{patched}
-use Rattle.index_region.proofs.Patched.{box_within_size, fits_within, patched_sound}
-use Rattle.index_region.proofs.Walks.{offset_of_walk, some_place, walk_within}
+use Rattle.std.{proofs.Common.{◌≡◌, ◌∙◌, ◌<◌, ◌+◌, ℕ, ℤ, List, get_or, set, map, sym, ap, arith, refl, subst}, proofs.lemmas.List.{length-map}}
+use Rattle.arrays_core.{specs.declared.item.Item.{Item}, specs.declared.item.Item.TheVariants.{Num}, specs.declared.item.ItemType.TheVariants.{Nums}}
+use Rattle.arrays_core.{specs.Arrays.{IsArray}, specs.Items.{fill}, specs.Shapes.{is_index_of, places_before}}
+use Rattle.index_region.{specs.Boxes.{Interval, box_size, box_offset, is_within, walk_at}, specs.Patches.{patched}}
+use Rattle.index_region.{proofs.Patched.{box_within_size, fits_within, patched_sound}, proofs.Walks.{offset_of_walk, some_place, walk_within}}
 use Rattle.index_region.proofs.Written.{IsWritten, written_none, written_more, written_all}
 use Rattle.sum_rules.specs.LineSums.{array_of_shape}
 use Rattle.sum_rules.proofs.line_sums.write_into.Goals as goal

@@ -1,6 +1,5 @@
 use Rattle.std.proofs.Common.{◌≡◌, ◌<◌}
-use Rattle.index_region.specs.Boxes.{box_size, walk_at}
-use Rattle.index_region.proofs.Written.{IsWritten}
+use Rattle.index_region.{specs.Boxes.{box_size, walk_at}, proofs.Written.{IsWritten}}
 use Rattle.sum_rules.specs.LineSums.{array_of_shape}
 use Rattle.sum_rules.proofs.line_sums.write_into.Given as goal
 

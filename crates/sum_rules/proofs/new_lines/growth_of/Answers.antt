@@ -1,9 +1,6 @@
 use Rattle.std.proofs.Common.{◌≡◌, ◌∙◌, ◌+◌, ◌-◌, ◌%◌, ◌*◌, ◌<◌, max, length, drop, sym, ap, subst, arith}
 use Rattle.arrays_core.specs.Shapes.{size}
-use Rattle.sum_rules.specs.LineSums.{line_length}
-use Rattle.sum_rules.proofs.Lines.{some_step}
-use Rattle.sum_rules.proofs.MoreLines.{whole_below}
-use Rattle.sum_rules.proofs.MorePlaces.{few_with_place}
+use Rattle.sum_rules.{specs.LineSums.{line_length}, proofs.Lines.{some_step}, proofs.MoreLines.{whole_below}, proofs.MorePlaces.{few_with_place}}
 use Rattle.sum_rules.proofs.new_lines.growth_of.Goals as goal
 
 pub build-requires-clause-few : goal.build-requires-clause-few

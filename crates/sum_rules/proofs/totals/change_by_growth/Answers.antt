@@ -1,16 +1,11 @@
 use Rattle.std.proofs.Common.{◌≡◌, ◌∙◌, ℤ, map, sym, ap, subst, arith, Ok}
-use Rattle.arrays_core.specs.declared.item.Item.TheVariants.{Num}
-use Rattle.arrays_core.specs.declared.item.ItemType.TheVariants.{Nums}
-use Rattle.arrays_core.specs.Arrays.{ArrayValue, with_items}
-use Rattle.arrays_core.specs.Items.{all_or_first_error}
+use Rattle.arrays_core.{specs.declared.item.Item.TheVariants.{Num}, specs.declared.item.ItemType.TheVariants.{Nums}, specs.Arrays.{ArrayValue, with_items}}
+use Rattle.arrays_core.{specs.Items.{all_or_first_error}, specs.Outcomes.{given}}
 use Rattle.function_names.specs.declared.scalar.Scalar2.{Scalar2}
-use Rattle.index_region.specs.declared.delta.Delta.TheVariants.{Whole}
-use Rattle.index_region.specs.Checks.{form_of}
+use Rattle.index_region.{specs.declared.delta.Delta.TheVariants.{Whole}, specs.Checks.{form_of}}
 use Rattle.reduce_fns.specs.Reduce.{reduce_form, reduce_whole}
 use Rattle.change_core.specs.RuleModels.{form_size}
-use Rattle.arrays_core.specs.Outcomes.{given}
-use Rattle.sum_rules.specs.Totals.{longer_totals}
-use Rattle.sum_rules.proofs.LongerTotals.{as_many_numbers, joins_within, lines_are, places_are, whole_is}
+use Rattle.sum_rules.{specs.Totals.{longer_totals}, proofs.LongerTotals.{as_many_numbers, joins_within, lines_are, places_are, whole_is}}
 use Rattle.sum_rules.proofs.Outcomes.{outcome_given}
 use Rattle.sum_rules.proofs.totals.change_by_growth.Goals as goal
 

@@ -1,14 +1,10 @@
 use Rattle.std.proofs.Common.{◌≡◌, ◌∙◌, sym, ap, subst, arith, [], ◌∷◌, Ok, Some}
 use Rattle.arrays_core.specs.Arrays.{ArrayValue}
-use Rattle.index_region.specs.Checks.{form_of}
-use Rattle.index_region.specs.Boxes.{box_size}
+use Rattle.index_region.{specs.Checks.{form_of}, specs.Boxes.{box_size}}
 use Rattle.reduce_fns.specs.Reduce.{reduce_form}
-use Rattle.change_core.specs.declared.reach.Reach.TheVariants.{Inside, Unmoved}
-use Rattle.change_core.specs.Reaches.{reach_of}
-use Rattle.change_core.specs.Meters.{ticked}
+use Rattle.change_core.{specs.declared.reach.Reach.TheVariants.{Inside, Unmoved}, specs.Reaches.{reach_of}, specs.Meters.{ticked}}
 use Rattle.change_rules.specs.Nodes.{reached_cost, size_in}
-use Rattle.sum_rules.specs.Totals.{total_rule}
-use Rattle.sum_rules.proofs.ChangedTotals.{few_lines, reached_box, reached_size, some_reached}
+use Rattle.sum_rules.{specs.Totals.{total_rule}, proofs.ChangedTotals.{few_lines, reached_box, reached_size, some_reached}}
 use Rattle.sum_rules.proofs.totals.change_by_trees.Goals as goal
 
 pub size-cost-requires : goal.size-cost-requires

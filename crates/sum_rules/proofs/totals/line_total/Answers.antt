@@ -3,9 +3,7 @@ use Rattle.arrays_core.specs.Shapes.{places_before}
 use Rattle.function_names.specs.Axes.{axis_at}
 use Rattle.index_region.proofs.Patched.{fits_within}
 use Rattle.change_core.specs.Meters.{MeterValue}
-use Rattle.sum_rules.specs.LineSums.{array_of_shape, length_along}
-use Rattle.sum_rules.proofs.KeptSums.{along_axis}
-use Rattle.sum_rules.proofs.ChangedLines.{place_on, total_on}
+use Rattle.sum_rules.{specs.LineSums.{array_of_shape, length_along}, proofs.KeptSums.{along_axis}, proofs.ChangedLines.{place_on, total_on}}
 use Rattle.sum_rules.proofs.totals.line_total.Goals as goal
 
 pub places_before-place-requires-clause-in_range : goal.places_before-place-requires-clause-in_range

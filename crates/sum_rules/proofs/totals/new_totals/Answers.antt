@@ -1,18 +1,12 @@
-use Rattle.std.proofs.Common.{◌≡◌, refl, ◌∙◌, ◌<◌, ◌+◌, ◌*◌, ◌≤◌, ℕ, List, length, remove, take, sym, ap, arith, subst}
-use Rattle.std.proofs.Math.Nat.{mul-le-mul_right}
+use Rattle.std.{proofs.Common.{◌≡◌, refl, ◌∙◌, ◌<◌, ◌+◌, ◌*◌, ◌≤◌, ℕ, List, length, remove, take, sym, ap, arith, subst}, proofs.Math.Nat.{mul-le-mul_right}}
 use Rattle.arrays_core.specs.Arrays.{ArrayValue}
 use Rattle.function_names.specs.Axes.{axis_at}
-use Rattle.index_region.specs.Boxes.{Interval, box_size, is_within, walk_at}
-use Rattle.index_region.specs.Patches.{patched}
-use Rattle.index_region.proofs.Walks.{some_place, walk_within}
+use Rattle.index_region.{specs.Boxes.{Interval, box_size, is_within, walk_at}, specs.Patches.{patched}, proofs.Walks.{some_place, walk_within}}
 use Rattle.reduce_fns.specs.Reduce.{reduce_item}
-use Rattle.change_core.specs.Meters.{ticked}
-use Rattle.change_core.proofs.Collected.{items_are}
+use Rattle.change_core.{specs.Meters.{ticked}, proofs.Collected.{items_are}}
 use Rattle.change_core.proofs.Filling.{all_filled, as_many_written, few_places, filled_many, nothing_filled, one_filled, one_more_tick, vector_within}
 use Rattle.change_core.proofs.Walking.{rest_err}
-use Rattle.sum_rules.specs.LineSums.{array_of_shape}
-use Rattle.sum_rules.specs.Totals.{box_of_lines}
-use Rattle.sum_rules.proofs.ChangedLines.{as_many_lines, line_there}
+use Rattle.sum_rules.{specs.LineSums.{array_of_shape}, specs.Totals.{box_of_lines}, proofs.ChangedLines.{as_many_lines, line_there}}
 use Rattle.sum_rules.proofs.totals.new_totals.Goals as goal
 
 pub size-lines-requires : goal.size-lines-requires

@@ -1,17 +1,11 @@
 use Rattle.std.proofs.Common.{◌∙◌, Err, ap, sym, subst, arith}
-use Rattle.arrays_core.specs.declared.fault.Fault.{Fault}
-use Rattle.arrays_core.specs.declared.item.ItemType.TheVariants.{Nums}
-use Rattle.change_rules.proofs.Items.{as_many as one_item_a_place}
-use Rattle.change_rules.specs.Nodes.{patch_delta}
-use Rattle.index_region.specs.declared.delta.Delta.TheVariants.{Whole}
+use Rattle.arrays_core.{specs.declared.fault.Fault.{Fault}, specs.declared.item.ItemType.TheVariants.{Nums}}
+use Rattle.change_rules.{proofs.Items.{as_many as one_item_a_place}, specs.Nodes.{patch_delta}}
+use Rattle.index_region.{specs.declared.delta.Delta.TheVariants.{Whole}, specs.Boxes.{box_size}}
 use Rattle.reduce_fns.specs.Reduce.{reduce_item}
-use Rattle.index_region.specs.Boxes.{box_size}
-use Rattle.change_core.specs.Meters.{ticked}
-use Rattle.change_core.proofs.Filling.{few_places}
-use Rattle.sum_rules.specs.LineSums.{length_along}
-use Rattle.sum_rules.specs.Totals.{AreJoinsFrom, AreJoinsWithin}
-use Rattle.sum_rules.proofs.ChangedTotals.{as_many_lines_now, items_now, one_place}
-use Rattle.sum_rules.proofs.Outcomes.{array_given, error_given}
+use Rattle.change_core.{specs.Meters.{ticked}, proofs.Filling.{few_places}}
+use Rattle.sum_rules.{specs.LineSums.{length_along}, specs.Totals.{AreJoinsFrom, AreJoinsWithin}}
+use Rattle.sum_rules.{proofs.ChangedTotals.{as_many_lines_now, items_now, one_place}, proofs.Outcomes.{array_given, error_given}}
 use Rattle.sum_rules.proofs.totals.patch_of.Goals as goal
 
 pub size-requires : goal.size-requires

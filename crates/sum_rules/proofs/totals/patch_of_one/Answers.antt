@@ -1,10 +1,7 @@
 use Rattle.std.proofs.Common.{◌∙◌, Ok, Err, List, [], ◌∷◌, ap, sym, arith}
-use Rattle.arrays_core.specs.declared.fault.Fault.{Fault}
-use Rattle.arrays_core.specs.declared.item.ItemType.{ItemType}
-use Rattle.arrays_core.specs.declared.item.ItemType.TheVariants.{Nums}
+use Rattle.arrays_core.{specs.declared.fault.Fault.{Fault}, specs.declared.item.ItemType.{ItemType}, specs.declared.item.ItemType.TheVariants.{Nums}}
 use Rattle.change_core.proofs.Filling.{few_places}
-use Rattle.index_region.specs.Boxes.{Interval, box_size, is_within, walk_at}
-use Rattle.index_region.proofs.Walks.{some_place, walk_within}
+use Rattle.index_region.{specs.Boxes.{Interval, box_size, is_within, walk_at}, proofs.Walks.{some_place, walk_within}}
 use Rattle.index_region.specs.declared.delta.Delta.TheVariants.{Patch, Whole}
 use Rattle.change_rules.specs.Nodes.{patch_delta}
 use Rattle.sum_rules.proofs.ChangedTotals.{one_total}

@@ -1,11 +1,8 @@
 use Rattle.std.proofs.Common.{◌≡◌, ◌∙◌, ◌-◌, ℕ, List, length, ap, sym, subst, arith}
-use Rattle.function_names.specs.Axes.{axis_at}
-use Rattle.function_names.specs.declared.along.Along.TheVariants.{Last}
-use Rattle.sum_rules.specs.LineSums.{length_along}
-use Rattle.sum_rules.specs.Totals.{AreAllAsLong}
-use Rattle.sum_rules.proofs.Lines.{some_in_line}
-use Rattle.sum_rules.proofs.totals.refresh_sums.Goals as goal
+use Rattle.function_names.{specs.Axes.{axis_at}, specs.declared.along.Along.TheVariants.{Last}}
+use Rattle.sum_rules.{specs.LineSums.{length_along}, specs.Totals.{AreAllAsLong}, proofs.Lines.{some_in_line}}
 use Rattle.sum_rules.proofs.totals.refresh_sums.Goals.{in-Patch, in-Grown}
+use Rattle.sum_rules.proofs.totals.refresh_sums.Goals as goal
 
 pub overflow_sub-count : goal.overflow_sub-count
 overflow_sub-count c =

@@ -1,18 +1,12 @@
-use Rattle.std.proofs.Common.{◌≡◌, ℕ, List, [], ◌∷◌, length, false, ◌∙◌, refl, ap, sym, subst}
-use Rattle.std.proofs.lemmas.Bool.{ne_eqb}
-use Rattle.arrays_core.proofs.Growing.{rank_longer}
+use Rattle.std.{proofs.Common.{◌≡◌, ℕ, List, [], ◌∷◌, length, false, ◌∙◌, refl, ap, sym, subst}, proofs.lemmas.Bool.{ne_eqb}}
+use Rattle.arrays_core.{proofs.Growing.{rank_longer}, specs.Arrays.{ArrayValue}}
 use Rattle.change_core.proofs.Covers.{covers, reaches_inside}
-use Rattle.change_rules.specs.Currency.{BringsUpToDate, IsRight}
-use Rattle.change_rules.specs.Nodes.{views, moved}
-use Rattle.change_rules.proofs.NodeRight.{brings_up_to_date}
+use Rattle.change_rules.{specs.Currency.{BringsUpToDate, IsRight}, specs.Nodes.{views, moved}, proofs.NodeRight.{brings_up_to_date}}
 use Rattle.change_rules.proofs.Right.{answered, node_is_right}
-use Rattle.reduce_fns.specs.Laws.LinesGrowth.{reduce_growing}
-use Rattle.reduce_fns.specs.Laws.Reduce.{reduce_tight}
-use Rattle.sum_rules.specs.Totals.{total_rule, is_by_trees, is_narrow, is_one_a_line}
-use Rattle.function_names.specs.Axes.{is_axis, axis_at}
-use Rattle.arrays_core.specs.Arrays.{ArrayValue}
-use Rattle.sum_rules.proofs.ChangedTotals.{delta_is, folded, not_patched}
+use Rattle.reduce_fns.{specs.Laws.LinesGrowth.{reduce_growing}, specs.Laws.Reduce.{reduce_tight}}
+use Rattle.sum_rules.{specs.Totals.{total_rule, is_by_trees, is_narrow, is_one_a_line}, proofs.ChangedTotals.{delta_is, folded, not_patched}}
 use Rattle.sum_rules.proofs.totals.refresh_totals_with_cost.Goals.{in-Patch+else-is_one_a_line, in_default, in-Grown+else-axis_at-eq0, in_default-delta}
+use Rattle.function_names.specs.Axes.{is_axis, axis_at}
 use Rattle.sum_rules.proofs.totals.refresh_totals_with_cost.Goals as goal
 
 pub returns-then-is_ok-clause-right : goal.returns-then-is_ok-clause-right

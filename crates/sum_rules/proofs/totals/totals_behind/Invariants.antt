@@ -1,10 +1,7 @@
 use Rattle.std.proofs.Common.{◌≡◌, ◌≤◌, ◌<◌, ◌+◌, take, length}
 use Rattle.arrays_core.specs.declared.item.ItemType.TheVariants.{Nums}
-use Rattle.change_core.specs.Meters.{ticked}
-use Rattle.change_core.proofs.Collected.{collected}
-use Rattle.change_core.proofs.Walking.{prepend, rest_from}
-use Rattle.sum_rules.specs.Totals.{longer_totals}
-use Rattle.sum_rules.proofs.LongerTotals.{longer_total}
+use Rattle.change_core.{specs.Meters.{ticked}, proofs.Collected.{collected}, proofs.Walking.{prepend, rest_from}}
+use Rattle.sum_rules.{specs.Totals.{longer_totals}, proofs.LongerTotals.{longer_total}}
 use Rattle.sum_rules.proofs.totals.totals_behind.Given as goal
 
 abbrev pub invariant-loop-line : goal.invariant-loop-line

@@ -1,11 +1,8 @@
 use Rattle.std.proofs.Common.{◌≡◌, ◌≤◌, ◌<◌, ◌+◌, take, length}
 use Rattle.arrays_core.specs.declared.item.ItemType.TheVariants.{Nums}
 use Rattle.fold_trees.specs.ArrayLines.{line_count}
-use Rattle.change_core.specs.Meters.{ticked}
-use Rattle.change_core.proofs.Collected.{collected}
-use Rattle.change_core.proofs.Walking.{prepend, rest_from}
-use Rattle.sum_rules.specs.Totals.{all_totals}
-use Rattle.sum_rules.proofs.WholeTotals.{total_of_line}
+use Rattle.change_core.{specs.Meters.{ticked}, proofs.Collected.{collected}, proofs.Walking.{prepend, rest_from}}
+use Rattle.sum_rules.{specs.Totals.{all_totals}, proofs.WholeTotals.{total_of_line}}
 use Rattle.sum_rules.proofs.whole_totals.totals_of_all.Given as goal
 
 abbrev pub invariant-loop-line : goal.invariant-loop-line

@@ -1,15 +1,10 @@
 use Rattle.std.proofs.Common.{◌≡◌, ◌∙◌, sym, ap, subst, Ok}
-use Rattle.arrays_core.specs.declared.item.ItemType.TheVariants.{Nums}
-use Rattle.arrays_core.specs.Arrays.{ArrayValue, with_items}
-use Rattle.arrays_core.specs.Items.{all_or_first_error}
-use Rattle.function_names.specs.declared.scalar.Scalar2.{Scalar2}
-use Rattle.index_region.specs.declared.delta.Delta.TheVariants.{Whole}
-use Rattle.index_region.specs.Checks.{form_of}
-use Rattle.reduce_fns.specs.Reduce.{reduce_form, reduce_whole}
+use Rattle.arrays_core.{specs.declared.item.ItemType.TheVariants.{Nums}, specs.Arrays.{ArrayValue, with_items}, specs.Items.{all_or_first_error}}
 use Rattle.arrays_core.specs.Outcomes.{given}
-use Rattle.sum_rules.specs.Totals.{all_totals}
-use Rattle.sum_rules.proofs.Outcomes.{outcome_given}
-use Rattle.sum_rules.proofs.WholeTotals.{function_is, places_are, some_lines, whole_is}
+use Rattle.function_names.specs.declared.scalar.Scalar2.{Scalar2}
+use Rattle.index_region.{specs.declared.delta.Delta.TheVariants.{Whole}, specs.Checks.{form_of}}
+use Rattle.reduce_fns.specs.Reduce.{reduce_form, reduce_whole}
+use Rattle.sum_rules.{specs.Totals.{all_totals}, proofs.Outcomes.{outcome_given}, proofs.WholeTotals.{function_is, places_are, some_lines, whole_is}}
 use Rattle.sum_rules.proofs.whole_totals.totals_read.Goals as goal
 
 pub totals_of_all-requires-clause-places : goal.totals_of_all-requires-clause-places

@@ -1,6 +1,4 @@
-use Rattle.std.proofs.Common.{List, ℕ, Result, Ok, Err, subst, sym, rules}
-use Rattle.std.specs.Result.{IsOk, MatchResult}
-use Rattle.std.specs.Str.{IsUtf8}
+use Rattle.std.{proofs.Common.{List, ℕ, Result, Ok, Err, subst, sym, rules}, specs.Result.{IsOk, MatchResult}, specs.Str.{IsUtf8}}
 use Rattle.std.proofs.lemmas.Str.{IsUtf8-from_is_utf8}
 use Rattle.apl_tokens.proofs.name.Name.text.Goals as goal
 

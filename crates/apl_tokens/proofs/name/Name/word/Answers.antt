@@ -1,6 +1,5 @@
 use Rattle.std.proofs.Common.{refl, ◌≡◌, ℕ, ◌+◌, List, get_or, ◌∙◌, ap, sym}
-use Rattle.apl_tokens.specs.Words.{eight_bytes}
-use Rattle.apl_tokens.proofs.Words.{padded}
+use Rattle.apl_tokens.{specs.Words.{eight_bytes}, proofs.Words.{padded}}
 use Rattle.apl_tokens.proofs.name.Name.word.Goals as goal
 
 pub returns : goal.returns

@@ -1,6 +1,4 @@
-use Rattle.std.proofs.Common.{arith, refl, ◌≡◌, suc, ◌+◌, [], ◌∷◌, ap, ◌∙◌, sym}
-use Rattle.std.specs.Hash.{fed_then, le_bytes}
-use Rattle.std.specs.List.{fold}
+use Rattle.std.{proofs.Common.{arith, refl, ◌≡◌, suc, ◌+◌, [], ◌∷◌, ap, ◌∙◌, sym}, specs.Hash.{fed_then, le_bytes}, specs.List.{fold}}
 use Rattle.apl_tokens.specs.Words.{first_words, word_at, count_of_words}
 use Rattle.apl_tokens.proofs.name.NameHash.hash.Goals as goal
 

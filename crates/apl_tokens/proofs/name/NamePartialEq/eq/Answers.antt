@@ -1,7 +1,5 @@
-use Rattle.std.proofs.Common.{arith, ◌≡◌, length, ap, ◌∙◌, sym, length-take-le}
-use Rattle.std.specs.Int.{w64, to_le_bytes}
-use Rattle.apl_tokens.specs.Words.{word_at}
-use Rattle.apl_tokens.proofs.Words.{same_words, same_answer, other_answer, one_number, one_more}
+use Rattle.std.{proofs.Common.{arith, ◌≡◌, length, ap, ◌∙◌, sym, length-take-le}, specs.Int.{w64, to_le_bytes}}
+use Rattle.apl_tokens.{specs.Words.{word_at}, proofs.Words.{same_words, same_answer, other_answer, one_number, one_more}}
 use Rattle.apl_tokens.proofs.name.NamePartialEq.eq.Goals as goal
 
 pub returns : goal.returns

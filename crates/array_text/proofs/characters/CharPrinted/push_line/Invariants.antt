@@ -1,5 +1,4 @@
-use Rattle.std.proofs.Common.{◌≡◌, ◌++◌, take}
-use Rattle.std.specs.Prelude.{encode_utf8_all, string_bytes}
+use Rattle.std.{proofs.Common.{◌≡◌, ◌++◌, take}, specs.Prelude.{encode_utf8_all, string_bytes}}
 use Rattle.array_text.proofs.characters.CharPrinted.push_line.Given as goal
 
 abbrev pub invariant-loop-character : goal.invariant-loop-character

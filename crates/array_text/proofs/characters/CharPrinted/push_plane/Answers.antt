@@ -1,8 +1,5 @@
-use Rattle.std.proofs.Common.{◌++◌, ◌∙◌, ◌*◌, ap, ℕ, take, drop, arith}
-use Rattle.std.specs.Prelude.{string_bytes}
-use Rattle.std.specs.List.{flat_map, range_with_len}
-use Rattle.array_text.specs.Text.{character_line, character_plane, part_of}
-use Rattle.array_text.proofs.Writing.{grown, flat_map-range_step, all_done, part_width}
+use Rattle.std.{proofs.Common.{◌++◌, ◌∙◌, ◌*◌, ap, ℕ, take, drop, arith}, specs.Prelude.{string_bytes}, specs.List.{flat_map, range_with_len}}
+use Rattle.array_text.{specs.Text.{character_line, character_plane, part_of}, proofs.Writing.{grown, flat_map-range_step, all_done, part_width}}
 use Rattle.array_text.proofs.characters.CharPrinted.push_plane.Goals as goal
 
 pub loop-row-preserved : goal.loop-row-preserved

@@ -1,6 +1,4 @@
-use Rattle.std.proofs.Common.{◌≡◌, ◌++◌, take}
-use Rattle.std.specs.Prelude.{string_bytes}
-use Rattle.std.specs.List.{join_by}
+use Rattle.std.{proofs.Common.{◌≡◌, ◌++◌, take}, specs.Prelude.{string_bytes}, specs.List.{join_by}}
 use Rattle.array_text.specs.Text.{number_text, between_numbers}
 use Rattle.array_text.proofs.numbers.I64Printed.push_line.Given as goal
 

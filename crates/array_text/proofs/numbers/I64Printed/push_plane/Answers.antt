@@ -1,8 +1,5 @@
-use Rattle.std.proofs.Common.{◌≡◌, ◌++◌, ◌∙◌, ◌*◌, ◌+◌, ◌≤◌, sym, ap, ℕ, List, ℤ, length, take, drop, arith}
-use Rattle.std.specs.Prelude.{string_bytes}
-use Rattle.std.specs.List.{flat_map, range_with_len}
-use Rattle.std.proofs.lemmas.List.{length-take-le, length-drop}
-use Rattle.std.proofs.Math.Nat.{mul-le-mul_right}
+use Rattle.std.{proofs.Common.{◌≡◌, ◌++◌, ◌∙◌, ◌*◌, ◌+◌, ◌≤◌, sym, ap, ℕ, List, ℤ, length, take, drop, arith}, specs.Prelude.{string_bytes}}
+use Rattle.std.{specs.List.{flat_map, range_with_len}, proofs.lemmas.List.{length-take-le, length-drop}, proofs.Math.Nat.{mul-le-mul_right}}
 use Rattle.std.proofs.lemmas.List.FromFn.{length-map-range_with_len}
 use Rattle.array_text.specs.Text.{number_row, column_width, column_widths, number_plane, part_of}
 use Rattle.array_text.proofs.Writing.{grown, flat_map-range_step, all_done, part_width}

@@ -1,6 +1,4 @@
-use Rattle.std.proofs.Common.{◌≡◌, ◌++◌}
-use Rattle.std.specs.Prelude.{string_bytes}
-use Rattle.std.specs.List.{flat_map, range_with_len}
+use Rattle.std.{proofs.Common.{◌≡◌, ◌++◌}, specs.Prelude.{string_bytes}, specs.List.{flat_map, range_with_len}}
 use Rattle.array_text.specs.Text.{number_row, column_widths, part_of}
 use Rattle.array_text.proofs.numbers.I64Printed.push_plane.Given as goal
 

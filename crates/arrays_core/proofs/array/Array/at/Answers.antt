@@ -1,6 +1,5 @@
 use Rattle.std.proofs.Common.{rules, ◌≡◌, ◌-◌, ◌∙◌, ap, true, Some, get_or}
-use Rattle.arrays_core.specs.Items.{fill}
-use Rattle.arrays_core.specs.Shapes.{is_index_of, places_before}
+use Rattle.arrays_core.{specs.Items.{fill}, specs.Shapes.{is_index_of, places_before}}
 use Rattle.arrays_core.proofs.array.Array.at.Goals as goal
 
 pub returns-then-is_index_of-clause-is : goal.returns-then-is_index_of-clause-is

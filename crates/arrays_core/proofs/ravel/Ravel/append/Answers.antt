@@ -1,8 +1,6 @@
 use Rattle.std.proofs.Common.{◌≡◌, ap, sym, ◌∙◌}
-use Rattle.arrays_core.specs.declared.item.ItemType.TheVariants.{Nums, Chars}
-use Rattle.arrays_core.specs.Ravels.{lent_type, ravel_items, ravel_type}
-use Rattle.arrays_core.proofs.Growing.{nothing_behind}
-use Rattle.arrays_core.proofs.Sound.{one_type}
+use Rattle.arrays_core.{specs.declared.item.ItemType.TheVariants.{Nums, Chars}, specs.Ravels.{lent_type, ravel_items, ravel_type}}
+use Rattle.arrays_core.{proofs.Growing.{nothing_behind}, proofs.Sound.{one_type}}
 use Rattle.arrays_core.proofs.ravel.Ravel.append.Goals as goal
 
 pub returns-in_default-clause-items : goal.returns-in_default-clause-items

@@ -1,9 +1,6 @@
-use Rattle.std.proofs.Common.{◌≡◌, ◌∙◌, ◌+◌, ◌-◌, ℕ, List, map, take, drop, refl, sym, ap, arith}
-use Rattle.std.specs.Prelude.{ℤ}
-use Rattle.std.proofs.lemmas.List.{take-map, drop-map}
-use Rattle.arrays_core.specs.declared.item.Item.TheVariants.{Num, Char}
+use Rattle.std.{proofs.Common.{◌≡◌, ◌∙◌, ◌+◌, ◌-◌, ℕ, List, map, take, drop, refl, sym, ap, arith}, specs.Prelude.{ℤ}, proofs.lemmas.List.{take-map, drop-map}}
 use Rattle.std.proofs.lemmas.Result.{IfOk-weaker}
-use Rattle.arrays_core.specs.Ravels.{lent_items}
+use Rattle.arrays_core.{specs.declared.item.Item.TheVariants.{Num, Char}, specs.Ravels.{lent_items}}
 use Rattle.arrays_core.proofs.ravel.Ravel.part.Goals as goal
 
 -- a part of a list, item by item

@@ -1,7 +1,5 @@
-use Rattle.std.proofs.Common.{ℕ, List, map, pos, ap, ◌∙◌}
-use Rattle.std.specs.Prelude.{ℤ}
-use Rattle.arrays_core.specs.declared.item.Item.TheVariants.{Num, Char}
-use Rattle.arrays_core.proofs.Picks.{picked_map}
+use Rattle.std.{proofs.Common.{ℕ, List, map, pos, ap, ◌∙◌}, specs.Prelude.{ℤ}}
+use Rattle.arrays_core.{specs.declared.item.Item.TheVariants.{Num, Char}, proofs.Picks.{picked_map}}
 use Rattle.arrays_core.proofs.ravel.Ravel.picked.Goals as goal
 
 pub returns-in_ok-picked-in-Nums-clause-items : goal.returns-in_ok-picked-in-Nums-clause-items

@@ -1,8 +1,5 @@
-use Rattle.std.proofs.Common.{◌≡◌, length, to_z, of_z, w64, refl, ap, arith, rules, SFits}
-use Rattle.std.proofs.lemmas.Int.{to_z-of_z}
-use Rattle.std.proofs.lemmas.List.{map-set}
-use Rattle.arrays_core.specs.declared.item.Item.TheVariants.{Num, Char}
-use Rattle.arrays_core.specs.Ravels.{ravel_items}
+use Rattle.std.{proofs.Common.{◌≡◌, length, to_z, of_z, w64, refl, ap, arith, rules, SFits}, proofs.lemmas.Int.{to_z-of_z}, proofs.lemmas.List.{map-set}}
+use Rattle.arrays_core.{specs.declared.item.Item.TheVariants.{Num, Char}, specs.Ravels.{ravel_items}}
 use Rattle.arrays_core.proofs.ravel.Ravel.write.Goals as goal
 
 pub returns-in-Num-clause-items : goal.returns-in-Num-clause-items

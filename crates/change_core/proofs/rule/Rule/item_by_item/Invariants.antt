@@ -1,8 +1,6 @@
 use Rattle.std.proofs.Common.{◌≡◌, ◌≤◌, ◌<◌, ◌+◌, take, length}
 use Rattle.index_region.specs.Boxes.{box_size, walk_at}
-use Rattle.change_core.proofs.Collected.{along, collected}
-use Rattle.change_core.specs.Meters.{ticked}
-use Rattle.change_core.proofs.Walking.{prepend, rest_from}
+use Rattle.change_core.{proofs.Collected.{along, collected}, specs.Meters.{ticked}, proofs.Walking.{prepend, rest_from}}
 use Rattle.change_core.proofs.rule.Rule.item_by_item.Given as goal
 
 abbrev pub invariant-loop-place : goal.invariant-loop-place

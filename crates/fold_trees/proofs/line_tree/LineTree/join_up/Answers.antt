@@ -1,6 +1,5 @@
 use Rattle.std.proofs.Common.{◌≡◌, ◌∙◌, suc, ◌-◌, ◌*◌, ◌/◌, ◌^◌, ◌∷◌, [], length, min, sym, ap, subst, arith, inl, inr, refl, to_z, of_z, w64}
-use Rattle.std.proofs.lemmas.Int.{to_z-of_z}
-use Rattle.std.proofs.lemmas.List.{length-append}
+use Rattle.std.{proofs.lemmas.Int.{to_z-of_z}, proofs.lemmas.List.{length-append}}
 use Rattle.fold_trees.specs.LineTrees.{slot_of, replaced, segment, numbers_of_block, block_up, AreJoined}
 use Rattle.fold_trees.proofs.LineParts.{climb_start, climb_up, level_up, climb_end, levels_within, replaced_here, other_half_same, even_block}
 use Rattle.fold_trees.proofs.LineJoins.{AreTold, told_more}

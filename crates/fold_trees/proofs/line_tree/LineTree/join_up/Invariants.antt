@@ -1,7 +1,5 @@
 use Rattle.std.proofs.Common.{◌≡◌, ◌+◌, ◌-◌, ◌*◌, ◌^◌, ◌<◌, ◌≤◌, ◌⊎◌, length}
-use Rattle.fold_trees.specs.LineTrees.{slot_of, replaced, numbers_of_block, block_up}
-use Rattle.fold_trees.proofs.LineParts.{IsClimb}
-use Rattle.fold_trees.proofs.LineJoins.{AreTold}
+use Rattle.fold_trees.{specs.LineTrees.{slot_of, replaced, numbers_of_block, block_up}, proofs.LineParts.{IsClimb}, proofs.LineJoins.{AreTold}}
 use Rattle.fold_trees.proofs.line_tree.LineTree.join_up.Given as goal
 
 abbrev pub invariant-loop-width : goal.invariant-loop-width

@@ -1,6 +1,5 @@
 use Rattle.std.proofs.Common.{◌≡◌, ◌∙◌, ◌+◌, ◌-◌, ◌*◌, ◌/◌, ◌%◌, ◌<◌, min, ap, subst, arith}
-use Rattle.fold_trees.specs.LineTrees.{slot_of, segment, numbers_of_block}
-use Rattle.fold_trees.proofs.LineParts.{odd_block, even_block, widen_odd, widen_even, widen_alone}
+use Rattle.fold_trees.{specs.LineTrees.{slot_of, segment, numbers_of_block}, proofs.LineParts.{odd_block, even_block, widen_odd, widen_even, widen_alone}}
 use Rattle.fold_trees.proofs.Segments.{segment_same}
 use Rattle.fold_trees.proofs.line_tree.LineTree.widened.Goals as goal
 

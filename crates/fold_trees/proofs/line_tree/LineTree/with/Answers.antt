@@ -1,5 +1,4 @@
-use Rattle.std.proofs.Common.{◌≡◌, ◌∙◌, suc, ◌-◌, ◌*◌, ◌∷◌, [], min, sym, ap, subst, arith, inl, inr, refl, to_z, of_z, w64}
-use Rattle.std.proofs.lemmas.Int.{to_z-of_z}
+use Rattle.std.{proofs.Common.{◌≡◌, ◌∙◌, suc, ◌-◌, ◌*◌, ◌∷◌, [], min, sym, ap, subst, arith, inl, inr, refl, to_z, of_z, w64}, proofs.lemmas.Int.{to_z-of_z}}
 use Rattle.fold_trees.specs.LineTrees.{slot_of, replaced, segment}
 use Rattle.fold_trees.proofs.LineParts.{climb_start, climb_up, level_up, climb_end, levels_within, replaced_here, other_half_same, even_block}
 use Rattle.fold_trees.proofs.line_tree.LineTree.with.Goals as goal

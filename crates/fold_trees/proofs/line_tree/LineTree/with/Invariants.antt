@@ -1,6 +1,5 @@
 use Rattle.std.proofs.Common.{◌≡◌, ◌+◌, ◌-◌, ◌*◌, ◌<◌, ◌≤◌, ◌⊎◌}
-use Rattle.fold_trees.specs.LineTrees.{slot_of, replaced, numbers_of_block}
-use Rattle.fold_trees.proofs.LineParts.{IsClimb}
+use Rattle.fold_trees.{specs.LineTrees.{slot_of, replaced, numbers_of_block}, proofs.LineParts.{IsClimb}}
 use Rattle.fold_trees.proofs.line_tree.LineTree.with.Given as goal
 
 abbrev pub invariant-loop-width : goal.invariant-loop-width

@@ -1,5 +1,4 @@
-use Rattle.std.proofs.Common.{◌≡◌, ◌∷◌, [], subst, to_z, of_z, w64}
-use Rattle.std.proofs.lemmas.Int.{to_z-of_z}
+use Rattle.std.{proofs.Common.{◌≡◌, ◌∷◌, [], subst, to_z, of_z, w64}, proofs.lemmas.Int.{to_z-of_z}}
 use Rattle.fold_trees.proofs.part.Part.two.Goals as goal
 
 pub returns : goal.returns

@@ -1,8 +1,6 @@
 use Rattle.std.proofs.Common.{◌<◌, ◌^◌, ◌≡◌, ◌+◌, ◌*◌, ◌/◌, ℕ, length, refl, sym, ap, subst, arith, vec_capacity}
 use Rattle.arrays_core.specs.Growth.{HasRoom}
-use Rattle.fold_trees.specs.ArrayLines.{TreesValue, line_count}
-use Rattle.fold_trees.proofs.MoreLines.{few_in_all}
-use Rattle.fold_trees.specs.LineTrees.{nodes_in_line}
+use Rattle.fold_trees.{specs.ArrayLines.{TreesValue, line_count}, proofs.MoreLines.{few_in_all}, specs.LineTrees.{nodes_in_line}}
 use Rattle.fold_trees.proofs.part_trees.NewParts.build.Goals as goal
 
 pub invariant_of-result : goal.invariant_of-result

@@ -1,13 +1,8 @@
 use Rattle.std.proofs.Common.{◌≡◌, ◌∙◌, ℕ, ◌+◌, ◌*◌, ◌/◌, ◌<◌, ◌^◌, ◌++◌, ℤ, List, length, sym, ap, subst, arith, vec_capacity}
 use Rattle.arrays_core.specs.Growth.{HasRoom}
-use Rattle.fold_trees.specs.ArrayLines.{TreesValue, NewTreesValue, line_count}
-use Rattle.fold_trees.specs.PartTrees.{AreLineTrees}
-use Rattle.fold_trees.proofs.LineSpots.{all_slots, fewer_nodes}
-use Rattle.fold_trees.proofs.MoreLines.{in_all}
-use Rattle.fold_trees.proofs.MoreTrees.{more_trees}
-use Rattle.fold_trees.proofs.part_trees.PartTrees.grow.Given.{Over}
-use Rattle.fold_trees.proofs.part_trees.PartTrees.grow.Goals.{After-trees}
-use Rattle.fold_trees.specs.LineTrees.{nodes_in_line}
+use Rattle.fold_trees.{specs.ArrayLines.{TreesValue, NewTreesValue, line_count}, specs.PartTrees.{AreLineTrees}, proofs.LineSpots.{all_slots, fewer_nodes}}
+use Rattle.fold_trees.{proofs.MoreLines.{in_all}, proofs.MoreTrees.{more_trees}, proofs.part_trees.PartTrees.grow.Given.{Over}}
+use Rattle.fold_trees.{proofs.part_trees.PartTrees.grow.Goals.{After-trees}, specs.LineTrees.{nodes_in_line}}
 use Rattle.fold_trees.proofs.part_trees.PartTrees.grow.Goals as goal
 
 -- ---- the new lines are as long as the old ones, their neighbours as far apart, and the room is for them

@@ -1,15 +1,8 @@
-use Rattle.std.proofs.Common.{◌≡◌, ◌∙◌, ◌/◌, ◌%◌, ◌<◌, ℤ, List, length, ap, sym, subst, arith, w64}
-use Rattle.std.proofs.lemmas.Int.{to_z-of_z}
-use Rattle.fold_trees.specs.ArrayLines.{TreesValue, line_through, numbers_through, with_number}
-use Rattle.fold_trees.proofs.LinePlaces.{line_within}
-use Rattle.fold_trees.specs.declared.line.Line.{Line}
-use Rattle.fold_trees.specs.LineTrees.{slot_of, replaced, segment}
-use Rattle.fold_trees.specs.FoldTrees.{IsReductionBy}
-use Rattle.fold_trees.proofs.TreeFolds.{line_with, reduction_of}
-use Rattle.fold_trees.proofs.Segments.{long_segment}
-use Rattle.fold_trees.proofs.part_trees.PartTrees.join.Given.{Over}
-use Rattle.fold_trees.proofs.part_trees.PartTrees.join.Goals.{After-self}
-use Rattle.fold_trees.specs.LineBlocks.{line_at}
+use Rattle.std.{proofs.Common.{◌≡◌, ◌∙◌, ◌/◌, ◌%◌, ◌<◌, ℤ, List, length, ap, sym, subst, arith, w64}, proofs.lemmas.Int.{to_z-of_z}}
+use Rattle.fold_trees.{specs.ArrayLines.{TreesValue, line_through, numbers_through, with_number}, proofs.LinePlaces.{line_within}}
+use Rattle.fold_trees.{specs.declared.line.Line.{Line}, specs.LineTrees.{slot_of, replaced, segment}, specs.FoldTrees.{IsReductionBy}}
+use Rattle.fold_trees.{proofs.TreeFolds.{line_with, reduction_of}, proofs.Segments.{long_segment}, proofs.part_trees.PartTrees.join.Given.{Over}}
+use Rattle.fold_trees.{proofs.part_trees.PartTrees.join.Goals.{After-self}, specs.LineBlocks.{line_at}}
 use Rattle.fold_trees.proofs.part_trees.PartTrees.join.Goals as goal
 
 is_inside : (g : Over) (c : After-self g) → c.args.place < length c.self.inside.numbers.items

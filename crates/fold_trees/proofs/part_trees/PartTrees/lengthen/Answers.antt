@@ -1,13 +1,9 @@
-use Rattle.std.proofs.Common.{◌≡◌, ◌∙◌, ◌+◌, ◌-◌, ◌*◌, ◌++◌, ℤ, List, length, sym, ap, subst, arith, vec_capacity}
-use Rattle.std.proofs.lemmas.List.{with_items_is}
+use Rattle.std.{proofs.Common.{◌≡◌, ◌∙◌, ◌+◌, ◌-◌, ◌*◌, ◌++◌, ℤ, List, length, sym, ap, subst, arith, vec_capacity}, proofs.lemmas.List.{with_items_is}}
 use Rattle.arrays_core.specs.Growth.{IsRoomy, HasRoom}
-use Rattle.fold_trees.specs.ArrayLines.{TreesValue, NewPlacesValue}
-use Rattle.fold_trees.specs.PartTrees.{AreLineTrees, ArePartTrees}
+use Rattle.fold_trees.{specs.ArrayLines.{TreesValue, NewPlacesValue}, specs.PartTrees.{AreLineTrees, ArePartTrees}}
 use Rattle.fold_trees.specs.LineTrees.{slot_of, shorter, node_of, ArePartsKept, nodes_in_line}
-use Rattle.fold_trees.proofs.LongerTrees.{all_long, held_nodes, kept_without, longer_trees, nodes_long}
-use Rattle.fold_trees.proofs.part_trees.PartTrees.lengthen.Given.{Over}
-use Rattle.fold_trees.proofs.part_trees.PartTrees.lengthen.Goals.{After-more, After-deref_mut}
-use Rattle.fold_trees.specs.LineBlocks.{line_at}
+use Rattle.fold_trees.{proofs.LongerTrees.{all_long, held_nodes, kept_without, longer_trees, nodes_long}, proofs.part_trees.PartTrees.lengthen.Given.{Over}}
+use Rattle.fold_trees.{proofs.part_trees.PartTrees.lengthen.Goals.{After-more, After-deref_mut}, specs.LineBlocks.{line_at}}
 use Rattle.fold_trees.proofs.part_trees.PartTrees.lengthen.Goals as goal
 
 -- ---- the numbers are those of one more place of each line, and the room is for them

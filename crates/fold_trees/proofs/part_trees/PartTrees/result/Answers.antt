@@ -1,10 +1,6 @@
 use Rattle.std.proofs.Common.{◌≡◌, ◌∙◌, ◌<◌, ℕ, ℤ, List, length, subst, arith}
-use Rattle.fold_trees.specs.ArrayLines.{TreesValue, numbers_of_line}
-use Rattle.fold_trees.specs.declared.line.Line.{Line}
-use Rattle.fold_trees.specs.LineTrees.{slot_of, segment}
-use Rattle.fold_trees.specs.FoldTrees.{IsReductionBy}
-use Rattle.fold_trees.proofs.TreeFolds.{reduction_of}
-use Rattle.fold_trees.proofs.Segments.{listed_segment, long_segment}
+use Rattle.fold_trees.{specs.ArrayLines.{TreesValue, numbers_of_line}, specs.declared.line.Line.{Line}, specs.LineTrees.{slot_of, segment}}
+use Rattle.fold_trees.{specs.FoldTrees.{IsReductionBy}, proofs.TreeFolds.{reduction_of}, proofs.Segments.{listed_segment, long_segment}}
 use Rattle.fold_trees.specs.LineBlocks.{line_at}
 use Rattle.fold_trees.proofs.part_trees.PartTrees.result.Goals as goal
 

@@ -1,12 +1,7 @@
-use Rattle.std.proofs.Common.{◌≡◌, ◌∙◌, ◌+◌, ◌/◌, ◌<◌, ◌++◌, ◌∷◌, [], ℤ, List, length, ap, subst, arith, w64}
-use Rattle.std.proofs.lemmas.Int.{to_z-of_z}
+use Rattle.std.{proofs.Common.{◌≡◌, ◌∙◌, ◌+◌, ◌/◌, ◌<◌, ◌++◌, ◌∷◌, [], ℤ, List, length, ap, subst, arith, w64}, proofs.lemmas.Int.{to_z-of_z}}
 use Rattle.std.proofs.lemmas.List.{length-append}
-use Rattle.fold_trees.specs.ArrayLines.{TreesValue, line_count, numbers_of_line}
-use Rattle.fold_trees.specs.declared.line.Line.{Line}
-use Rattle.fold_trees.specs.LineTrees.{slot_of, segment}
-use Rattle.fold_trees.specs.FoldTrees.{IsReductionBy}
-use Rattle.fold_trees.proofs.TreeFolds.{reduction_of}
-use Rattle.fold_trees.proofs.Segments.{listed_segment, long_segment}
+use Rattle.fold_trees.{specs.ArrayLines.{TreesValue, line_count, numbers_of_line}, specs.declared.line.Line.{Line}, specs.LineTrees.{slot_of, segment}}
+use Rattle.fold_trees.{specs.FoldTrees.{IsReductionBy}, proofs.TreeFolds.{reduction_of}, proofs.Segments.{listed_segment, long_segment}}
 use Rattle.fold_trees.specs.LineBlocks.{line_at}
 use Rattle.fold_trees.proofs.part_trees.PartTrees.result_behind.Goals as goal
 

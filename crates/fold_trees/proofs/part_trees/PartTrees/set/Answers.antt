@@ -1,17 +1,10 @@
 use Rattle.std.proofs.Common.{rules, ◌^◌, ◌≡◌, ◌∙◌, ◌+◌, ◌*◌, ◌/◌, ◌%◌, ◌<◌, ℤ, List, length, sym, ap, subst, arith, vec_capacity, IfSome, to_z, of_z, w64}
-use Rattle.std.proofs.lemmas.Int.{to_z-of_z}
-use Rattle.std.proofs.lemmas.List.{with_items_is}
-use Rattle.std.specs.Vec.{with_items}
+use Rattle.std.{proofs.lemmas.Int.{to_z-of_z}, proofs.lemmas.List.{with_items_is}, specs.Vec.{with_items}}
 use Rattle.arrays_core.specs.Growth.{IsRoomy}
-use Rattle.fold_trees.specs.ArrayLines.{TreesValue, line_through, with_number}
-use Rattle.fold_trees.proofs.LinePlaces.{line_within}
-use Rattle.fold_trees.proofs.LineSpots.{line_fits, in_both}
-use Rattle.fold_trees.specs.declared.line.Line.{Line}
-use Rattle.fold_trees.specs.LineTrees.{slot_of, replaced, IsIn, node_of, ArePartsKept, AreJoined}
-use Rattle.fold_trees.specs.PartTrees.{ArePartTrees, AreJoinedFor}
-use Rattle.fold_trees.proofs.TreeWrites.{IsWritten, written_numbers, written_trees}
-use Rattle.fold_trees.proofs.part_trees.PartTrees.set.Given.{Over}
-use Rattle.fold_trees.proofs.part_trees.PartTrees.set.Goals.{After-self, After-nth_line-line, After-write}
+use Rattle.fold_trees.{specs.ArrayLines.{TreesValue, line_through, with_number}, proofs.LinePlaces.{line_within}, proofs.LineSpots.{line_fits, in_both}}
+use Rattle.fold_trees.{specs.declared.line.Line.{Line}, specs.LineTrees.{slot_of, replaced, IsIn, node_of, ArePartsKept, AreJoined}}
+use Rattle.fold_trees.{specs.PartTrees.{ArePartTrees, AreJoinedFor}, proofs.TreeWrites.{IsWritten, written_numbers, written_trees}}
+use Rattle.fold_trees.{proofs.part_trees.PartTrees.set.Given.{Over}, proofs.part_trees.PartTrees.set.Goals.{After-self, After-nth_line-line, After-write}}
 use Rattle.fold_trees.specs.LineBlocks.{line_at}
 use Rattle.fold_trees.proofs.part_trees.PartTrees.set.Goals as goal
 

@@ -1,5 +1,4 @@
-use Rattle.std.proofs.Common.{arith, inl}
-use Rattle.std.proofs.lemmas.Int.{ints}
+use Rattle.std.{proofs.Common.{arith, inl}, proofs.lemmas.Int.{ints}}
 use Rattle.fold_trees.proofs.JoinedProducts.{products_eq}
 use Rattle.fold_trees.proofs.product.Product.of_narrow.Goals as goal
 

@@ -1,8 +1,6 @@
-use Rattle.std.proofs.Common.{◌≡◌, sym, subst, true}
-use Rattle.std.proofs.lemmas.List.Elements.{All-append}
+use Rattle.std.{proofs.Common.{◌≡◌, sym, subst, true}, proofs.lemmas.List.Elements.{All-append}}
 use Rattle.scalar_fns.specs.Numbers.{is_number}
-use Rattle.fold_trees.specs.Products.{TellsProducts, products_of}
-use Rattle.fold_trees.proofs.JoinedProducts.{products_append}
+use Rattle.fold_trees.{specs.Products.{TellsProducts, products_of}, proofs.JoinedProducts.{products_append}}
 use Rattle.fold_trees.proofs.product.ProductPart.join.Goals as goal
 
 pub returns : goal.returns

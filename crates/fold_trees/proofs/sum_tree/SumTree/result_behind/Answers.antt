@@ -1,8 +1,6 @@
-use Rattle.std.proofs.Common.{◌∙◌, ◌<◌, ◌++◌, ◌∷◌, [], ℤ, List, length, rules, sym, subst, to_z, of_z, w64}
-use Rattle.std.proofs.lemmas.Int.{to_z-of_z}
+use Rattle.std.{proofs.Common.{◌∙◌, ◌<◌, ◌++◌, ◌∷◌, [], ℤ, List, length, rules, sym, subst, to_z, of_z, w64}, proofs.lemmas.Int.{to_z-of_z}}
 use Rattle.function_names.specs.declared.scalar.Scalar2.TheVariants.{Plus}
-use Rattle.fold_trees.specs.FoldTrees.{IsReductionBy}
-use Rattle.fold_trees.proofs.OneLine.{numbers_of_one}
+use Rattle.fold_trees.{specs.FoldTrees.{IsReductionBy}, proofs.OneLine.{numbers_of_one}}
 use Rattle.fold_trees.proofs.sum_tree.SumTree.result_behind.Goals as goal
 
 pub returns : goal.returns

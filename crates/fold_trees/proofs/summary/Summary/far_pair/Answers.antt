@@ -1,7 +1,5 @@
-use Rattle.std.proofs.Common.{◌≡◌, sym, subst, List, [], ◌∷◌, ℤ, to_z, of_z, w64}
-use Rattle.std.proofs.lemmas.Int.{to_z-of_z}
-use Rattle.fold_trees.specs.Sums.{IsSummaryOf, sums_of}
-use Rattle.fold_trees.proofs.JoinedSums.{sums_append}
+use Rattle.std.{proofs.Common.{◌≡◌, sym, subst, List, [], ◌∷◌, ℤ, to_z, of_z, w64}, proofs.lemmas.Int.{to_z-of_z}}
+use Rattle.fold_trees.{specs.Sums.{IsSummaryOf, sums_of}, proofs.JoinedSums.{sums_append}}
 use Rattle.fold_trees.proofs.summary.Summary.far_pair.Goals as goal
 
 pub returns : goal.returns

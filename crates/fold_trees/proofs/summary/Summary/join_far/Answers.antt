@@ -1,8 +1,5 @@
-use Rattle.std.proofs.Common.{◌≡◌, sym, subst, arith, to_z, of_z, ◌+ℤ◌}
-use Rattle.std.specs.Int.{w128}
-use Rattle.std.proofs.lemmas.Int.{ints, clamps}
-use Rattle.fold_trees.specs.Sums.{IsOrdered, IsSummaryOf, told_sums, join}
-use Rattle.fold_trees.proofs.JoinedSums.{sums_eq, ordered_join, tells_join}
+use Rattle.std.{proofs.Common.{◌≡◌, sym, subst, arith, to_z, of_z, ◌+ℤ◌}, specs.Int.{w128}, proofs.lemmas.Int.{ints, clamps}}
+use Rattle.fold_trees.{specs.Sums.{IsOrdered, IsSummaryOf, told_sums, join}, proofs.JoinedSums.{sums_eq, ordered_join, tells_join}}
 use Rattle.fold_trees.proofs.summary.Summary.join_far.Goals as goal
 
 -- what is worked out is the join of what the two tell

@@ -1,5 +1,4 @@
-use Rattle.std.proofs.Common.{arith}
-use Rattle.std.proofs.lemmas.Int.{ints, clamps}
+use Rattle.std.{proofs.Common.{arith}, proofs.lemmas.Int.{ints, clamps}}
 use Rattle.fold_trees.proofs.JoinedSums.{sums_eq}
 use Rattle.fold_trees.proofs.summary.Summary.join_near.Goals as goal
 

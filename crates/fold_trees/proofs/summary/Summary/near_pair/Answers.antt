@@ -1,8 +1,6 @@
 use Rattle.std.proofs.Common.{◌≡◌, ◌∙◌, ◌+◌, ◌^◌, ◌<◌, ◌≤◌, [], ◌∷◌, ℤ, subst, arith, rules, pos, ◌+ℤ◌, to_z, of_z, w64, unsigned_abs, FitsSigned}
-use Rattle.std.specs.Int.{int_min, int_max}
-use Rattle.std.proofs.lemmas.Int.{ints, clamps, to_z-of_z, fits_signed_from_abs}
-use Rattle.fold_trees.specs.Sums.{IsSummaryOf, sums_of}
-use Rattle.fold_trees.proofs.JoinedSums.{sums_eq}
+use Rattle.std.{specs.Int.{int_min, int_max}, proofs.lemmas.Int.{ints, clamps, to_z-of_z, fits_signed_from_abs}}
+use Rattle.fold_trees.{specs.Sums.{IsSummaryOf, sums_of}, proofs.JoinedSums.{sums_eq}}
 use Rattle.fold_trees.proofs.summary.Summary.near_pair.Goals as goal
 
 -- numbers that are near add up within 64 bits

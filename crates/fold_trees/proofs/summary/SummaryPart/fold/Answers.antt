@@ -1,6 +1,5 @@
 use Rattle.std.proofs.Common.{◌∙◌}
-use Rattle.fold_trees.specs.Sums.{sums_of}
-use Rattle.fold_trees.proofs.SumEndings.{some_folded}
+use Rattle.fold_trees.{specs.Sums.{sums_of}, proofs.SumEndings.{some_folded}}
 use Rattle.fold_trees.proofs.summary.SummaryPart.fold.Goals as goal
 
 pub returns : goal.returns

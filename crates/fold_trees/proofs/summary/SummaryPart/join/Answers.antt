@@ -1,8 +1,6 @@
-use Rattle.std.proofs.Common.{◌≡◌, sym, subst, true}
-use Rattle.std.proofs.lemmas.List.Elements.{All-append}
+use Rattle.std.{proofs.Common.{◌≡◌, sym, subst, true}, proofs.lemmas.List.Elements.{All-append}}
 use Rattle.scalar_fns.specs.Numbers.{is_number}
-use Rattle.fold_trees.specs.Sums.{IsSummaryOf, sums_of}
-use Rattle.fold_trees.proofs.JoinedSums.{sums_append}
+use Rattle.fold_trees.{specs.Sums.{IsSummaryOf, sums_of}, proofs.JoinedSums.{sums_append}}
 use Rattle.fold_trees.proofs.summary.SummaryPart.join.Goals as goal
 
 pub returns : goal.returns

@@ -1,9 +1,5 @@
-use Rattle.std.proofs.Common.{◌∙◌, List, ap}
-use Rattle.std.specs.List.{count_by}
-use Rattle.formula_core.specs.declared.kept.Kept.{Kept}
-use Rattle.formula_core.specs.Tables.{applies}
-use Rattle.formula_core.specs.Formulas.{FormulaValue, operations}
-use Rattle.formula_core.proofs.Rooted.{operations_counted}
+use Rattle.std.{proofs.Common.{◌∙◌, List, ap}, specs.List.{count_by}}
+use Rattle.formula_core.{specs.declared.kept.Kept.{Kept}, specs.Tables.{applies}, specs.Formulas.{FormulaValue, operations}, proofs.Rooted.{operations_counted}}
 use Rattle.formula_core.proofs.formula.Formula.all_operations.Goals as goal
 
 pub returns : goal.returns

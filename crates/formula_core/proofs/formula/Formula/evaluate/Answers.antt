@@ -1,8 +1,6 @@
 use Rattle.std.proofs.Common.{ap, ◌∙◌}
-use Rattle.formula_core.specs.Formulas.{FormulaValue}
-use Rattle.formula_core.specs.Meaning.{eval}
+use Rattle.formula_core.{specs.Formulas.{FormulaValue}, specs.Meaning.{eval}, proofs.AtRest.{planned_result}}
 use Rattle.apl_expr.specs.Trees.{Tree}
-use Rattle.formula_core.proofs.AtRest.{planned_result}
 use Rattle.formula_core.proofs.formula.Formula.evaluate.Goals as goal
 
 pub returns-in-Ok-clause-value : goal.returns-in-Ok-clause-value

@@ -1,9 +1,5 @@
-use Rattle.std.proofs.Common.{◌∙◌, List, ap, sym, refl, length, arith}
-use Rattle.std.proofs.lemmas.Option.{IfSome_then}
-use Rattle.formula_core.specs.declared.kept.Kept.{Kept}
-use Rattle.formula_core.specs.Formulas.{FormulaValue}
-use Rattle.formula_core.specs.Meaning.{names_in}
-use Rattle.formula_core.specs.Tables.{subtrees}
+use Rattle.std.{proofs.Common.{◌∙◌, List, ap, sym, refl, length, arith}, proofs.lemmas.Option.{IfSome_then}}
+use Rattle.formula_core.{specs.declared.kept.Kept.{Kept}, specs.Formulas.{FormulaValue}, specs.Meaning.{names_in}, specs.Tables.{subtrees}}
 use Rattle.formula_core.proofs.Planned.{counted, staged_by, stepped_by}
 use Rattle.formula_core.proofs.formula.Formula.next_place.Goals as goal
 

@@ -1,8 +1,5 @@
-use Rattle.std.proofs.Common.{map}
-use Rattle.std.specs.Option.{option_map}
-use Rattle.formula_core.specs.Rules.{with_change}
-use Rattle.formula_core.specs.Tables.{tree_of_operand}
-use Rattle.formula_core.proofs.Stepping.{index_step}
+use Rattle.std.{proofs.Common.{map}, specs.Option.{option_map}}
+use Rattle.formula_core.{specs.Rules.{with_change}, specs.Tables.{tree_of_operand}, proofs.Stepping.{index_step}}
 use Rattle.formula_core.proofs.stage.Stage.change_of_indexed.Goals as goal
 
 pub returns-clause-step : goal.returns-clause-step

@@ -1,7 +1,5 @@
-use Rattle.std.proofs.Common.{length, get_or}
-use Rattle.std.proofs.lemmas.List.{get_or_default}
-use Rattle.formula_core.proofs.Places.{of_four, held_result, next_place}
-use Rattle.formula_core.proofs.Planned.{next_node}
+use Rattle.std.{proofs.Common.{length, get_or}, proofs.lemmas.List.{get_or_default}}
+use Rattle.formula_core.{proofs.Places.{of_four, held_result, next_place}, proofs.Planned.{next_node}}
 use Rattle.formula_core.proofs.stage.Stage.next_place.Goals as goal
 
 pub place_of-requires-clause-node : goal.place_of-requires-clause-node

@@ -1,17 +1,13 @@
-use Rattle.std.proofs.Common.{◌∙◌, Ok, sym, subst, ap}
-use Rattle.std.proofs.lemmas.Option.{IfSome_then}
+use Rattle.std.{proofs.Common.{◌∙◌, Ok, sym, subst, ap}, proofs.lemmas.Option.{IfSome_then}}
+use Rattle.apl_expr.{specs.declared.functions.Function1.{Function1}, specs.declared.functions.Function2.{Function2}}
+use Rattle.change_rules.specs.Nodes.{delta_of_place}
+use Rattle.formula_core.{specs.declared.table.Node.{Node}, specs.Tables.{tree_of_node, tree_of_operand}, specs.Stages.{IsStep}}
+use Rattle.formula_core.proofs.Stepping.{monad_step, dyad_step}
 use Rattle.apl_expr.specs.declared.expr.Monadic.TheVariants as monadic
 use Rattle.apl_expr.specs.declared.expr.Dyadic.TheVariants as dyadic
-use Rattle.apl_expr.specs.declared.functions.Function1.{Function1}
 use Rattle.apl_expr.specs.declared.functions.Function1.TheVariants as function1
-use Rattle.apl_expr.specs.declared.functions.Function2.{Function2}
 use Rattle.apl_expr.specs.declared.functions.Function2.TheVariants as function2
-use Rattle.change_rules.specs.Nodes.{delta_of_place}
-use Rattle.formula_core.specs.declared.table.Node.{Node}
 use Rattle.formula_core.specs.declared.table.Node.TheVariants as node
-use Rattle.formula_core.specs.Tables.{tree_of_node, tree_of_operand}
-use Rattle.formula_core.specs.Stages.{IsStep}
-use Rattle.formula_core.proofs.Stepping.{monad_step, dyad_step}
 use Rattle.formula_core.proofs.stage.Stage.place_of.Goals as goal
 
 pub returns-in-Some-clause-step : goal.returns-in-Some-clause-step

@@ -1,14 +1,7 @@
-use Rattle.std.proofs.Common.{◌+◌, ◌∙◌, List, map, take, Option, Some, None, sym, subst}
-use Rattle.std.specs.Option.{option_map}
-use Rattle.std.proofs.lemmas.List.{get_or_default}
-use Rattle.formula_core.specs.declared.input.Input.{Input}
-use Rattle.formula_core.specs.Inputs.{AllHaveFit}
-use Rattle.formula_core.specs.Stages.{GiveTheirTrees}
-use Rattle.formula_core.specs.Tables.{tree_of_operand}
-use Rattle.formula_core.proofs.Steps.{operand_within, position_ready}
-use Rattle.formula_core.proofs.Stepping.{fit_more}
+use Rattle.std.{proofs.Common.{◌+◌, ◌∙◌, List, map, take, Option, Some, None, sym, subst}, specs.Option.{option_map}, proofs.lemmas.List.{get_or_default}}
+use Rattle.formula_core.{specs.declared.input.Input.{Input}, specs.Inputs.{AllHaveFit}, specs.Stages.{GiveTheirTrees}, specs.Tables.{tree_of_operand}}
+use Rattle.formula_core.{proofs.Steps.{operand_within, position_ready}, proofs.Stepping.{fit_more}, proofs.stage.Stage.positions.Goals.{in-Some, in-None}}
 use Rattle.formula_core.proofs.stage.Stage.positions.Goals as goal
-use Rattle.formula_core.proofs.stage.Stage.positions.Goals.{in-Some, in-None}
 
 pub argument-requires-clause-within : goal.argument-requires-clause-within
 argument-requires-clause-within c =

@@ -1,10 +1,6 @@
-use Rattle.std.proofs.Common.{ℕ, List, map, take}
-use Rattle.std.specs.Option.{option_map}
+use Rattle.std.{proofs.Common.{ℕ, List, map, take}, specs.Option.{option_map}}
 use Rattle.apl_expr.specs.Trees.{Tree}
-use Rattle.formula_core.specs.Changes.{NamesChange}
-use Rattle.formula_core.specs.Inputs.{AllHaveFit}
-use Rattle.formula_core.specs.Stages.{IsStaged, GiveTheirTrees}
-use Rattle.formula_core.specs.Tables.{tree_of_operand}
+use Rattle.formula_core.{specs.Changes.{NamesChange}, specs.Inputs.{AllHaveFit}, specs.Stages.{IsStaged, GiveTheirTrees}, specs.Tables.{tree_of_operand}}
 use Rattle.formula_core.proofs.stage.Stage.positions.Given as goal
 
 abbrev pub invariant-loop-argument : goal.invariant-loop-argument

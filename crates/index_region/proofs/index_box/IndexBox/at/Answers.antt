@@ -1,7 +1,5 @@
-use Rattle.std.proofs.Common.{◌≡◌, ◌∙◌, List, ap, arith, length, subst, sym, take, true}
-use Rattle.std.proofs.lemmas.List.{length-map, length-take-le, take_all}
-use Rattle.index_region.specs.Boxes.{Interval, is_box}
-use Rattle.index_region.proofs.OnePlace.{one_place, one_place_box, as_long}
+use Rattle.std.{proofs.Common.{◌≡◌, ◌∙◌, List, ap, arith, length, subst, sym, take, true}, proofs.lemmas.List.{length-map, length-take-le, take_all}}
+use Rattle.index_region.{specs.Boxes.{Interval, is_box}, proofs.OnePlace.{one_place, one_place_box, as_long}}
 use Rattle.index_region.proofs.index_box.IndexBox.at.Goals as goal
 
 pub push-requires : goal.push-requires

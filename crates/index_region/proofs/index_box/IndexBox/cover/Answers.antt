@@ -1,6 +1,5 @@
 use Rattle.std.proofs.Common.{◌≡◌, ◌-◌, true, List, arith, rules, subst, sym}
-use Rattle.index_region.specs.Boxes.{Interval, is_box, cover}
-use Rattle.index_region.proofs.Boxes.{fits_box, fits-cover, length-index_after}
+use Rattle.index_region.{specs.Boxes.{Interval, is_box, cover}, proofs.Boxes.{fits_box, fits-cover, length-index_after}}
 use Rattle.index_region.proofs.index_box.IndexBox.cover.Goals as goal
 
 pub covered-requires-clause-from : goal.covered-requires-clause-from

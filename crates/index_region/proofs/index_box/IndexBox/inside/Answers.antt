@@ -1,6 +1,5 @@
 use Rattle.std.proofs.Common.{◌≡◌, true, false, List, rules, subst, sym}
-use Rattle.index_region.specs.Boxes.{Interval, is_box, is_empty, met}
-use Rattle.index_region.proofs.Boxes.{met_box}
+use Rattle.index_region.{specs.Boxes.{Interval, is_box, is_empty, met}, proofs.Boxes.{met_box}}
 use Rattle.index_region.proofs.index_box.IndexBox.inside.Goals as goal
 
 pub invariant_of-result : goal.invariant_of-result

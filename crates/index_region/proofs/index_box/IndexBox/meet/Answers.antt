@@ -1,6 +1,5 @@
 use Rattle.std.proofs.Common.{◌≡◌, true, false, List, rules, subst, sym}
-use Rattle.index_region.specs.Boxes.{Interval, is_box, is_empty, meet_of}
-use Rattle.index_region.proofs.Boxes.{meet_box}
+use Rattle.index_region.{specs.Boxes.{Interval, is_box, is_empty, meet_of}, proofs.Boxes.{meet_box}}
 use Rattle.index_region.proofs.index_box.IndexBox.meet.Goals as goal
 
 pub invariant_of-result : goal.invariant_of-result

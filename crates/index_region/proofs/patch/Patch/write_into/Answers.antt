@@ -1,14 +1,9 @@
 use Rattle.std.proofs.Common.{◌≡◌, ◌∙◌, ◌<◌, ◌+◌, ◌-◌, ℕ, get_or, set, List, sym, ap, arith, subst}
-use Rattle.arrays_core.specs.Arrays.{ArrayValue}
-use Rattle.arrays_core.specs.Shapes.{is_index_of, places_before}
-use Rattle.arrays_core.specs.Items.{fill}
-use Rattle.index_region.specs.Boxes.{Interval, box_size, walk_at}
-use Rattle.index_region.specs.Patches.{PatchValue}
-use Rattle.index_region.proofs.Walks.{walk_within, some_place}
-use Rattle.index_region.proofs.Patched.{fits_within}
-use Rattle.index_region.proofs.Written.{IsWritten, written_none, written_more, written_all}
-use Rattle.index_region.proofs.patch.Patch.write_into.Goals as goal
+use Rattle.arrays_core.{specs.Arrays.{ArrayValue}, specs.Shapes.{is_index_of, places_before}, specs.Items.{fill}}
+use Rattle.index_region.{specs.Boxes.{Interval, box_size, walk_at}, specs.Patches.{PatchValue}, proofs.Walks.{walk_within, some_place}}
+use Rattle.index_region.{proofs.Patched.{fits_within}, proofs.Written.{IsWritten, written_none, written_more, written_all}}
 use Rattle.index_region.proofs.patch.Patch.write_into.Goals.{then-before-items, else-before-items}
+use Rattle.index_region.proofs.patch.Patch.write_into.Goals as goal
 
 pub loop-before-init : goal.loop-before-init
 loop-before-init c = record {

@@ -1,6 +1,4 @@
-use Rattle.std.proofs.Common.{◌∙◌, ◌-◌, ◌<◌, pos, length, ap, sym, arith, rules, w64, SFits}
-use Rattle.std.proofs.lemmas.Int.{to_z-of_z}
-use Rattle.std.proofs.lemmas.List.{get_or-map}
+use Rattle.std.{proofs.Common.{◌∙◌, ◌-◌, ◌<◌, pos, length, ap, sym, arith, rules, w64, SFits}, proofs.lemmas.Int.{to_z-of_z}, proofs.lemmas.List.{get_or-map}}
 use Rattle.index_region.specs.Arguments.{number_of}
 use Rattle.index_region.proofs.seen.Seen.number.Goals as goal
 

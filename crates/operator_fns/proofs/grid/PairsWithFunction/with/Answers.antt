@@ -1,11 +1,7 @@
-use Rattle.std.proofs.Common.{◌∙◌, ℕ, ap, subst, map}
-use Rattle.std.specs.List.{range_with_len}
-use Rattle.arrays_core.specs.Items.{all_or_first_error}
-use Rattle.arrays_core.specs.Shapes.{size}
-use Rattle.arrays_core.specs.Arrays.{with_items, IsAnswerTo}
+use Rattle.std.{proofs.Common.{◌∙◌, ℕ, ap, subst, map}, specs.List.{range_with_len}}
+use Rattle.arrays_core.{specs.Items.{all_or_first_error}, specs.Shapes.{size}, specs.Arrays.{with_items, IsAnswerTo}}
 use Rattle.arrays_core.specs.declared.item.ItemType.TheVariants.{Nums}
-use Rattle.scalar_fns.specs.Numbers.{dyadic_on_numbers}
-use Rattle.scalar_fns.specs.NumberLists.{number_items}
+use Rattle.scalar_fns.{specs.Numbers.{dyadic_on_numbers}, specs.NumberLists.{number_items}}
 use Rattle.operator_fns.specs.RowByColumn.{cell}
 use Rattle.reduce_fns.proofs.Placewise.{numbers_collected}
 use Rattle.operator_fns.proofs.grid.PairsWithFunction.with.Goals as goal

@@ -1,13 +1,8 @@
 use Rattle.std.proofs.Common.{◌∙◌, ap, sym, take, drop, arith}
 use Rattle.arrays_core.specs.Items.{fill, and_then}
-use Rattle.scalar_fns.specs.Items.{dyadic_on_items}
-use Rattle.operator_fns.specs.InnerProduct.{row_rank, all_or_last_error}
-use Rattle.scalar_fns.specs.RightFold.{fold_right}
-use Rattle.operator_fns.specs.RowByColumn.{entry, all_met}
-use Rattle.operator_fns.proofs.Joined.{long_enough}
-use Rattle.operator_fns.proofs.Meetings.{length-met}
-use Rattle.operator_fns.specs.Laws.InnerPlaces.{passed_inner}
-use Rattle.operator_fns.proofs.Inners.{products_met, fold_of_some}
+use Rattle.scalar_fns.{specs.Items.{dyadic_on_items}, specs.RightFold.{fold_right}}
+use Rattle.operator_fns.{specs.InnerProduct.{row_rank, all_or_last_error}, specs.RowByColumn.{entry, all_met}, proofs.Joined.{long_enough}}
+use Rattle.operator_fns.{proofs.Meetings.{length-met}, specs.Laws.InnerPlaces.{passed_inner}, proofs.Inners.{products_met, fold_of_some}}
 use Rattle.operator_fns.proofs.inner_product.Inner.folded_at.Goals as goal
 
 pub split_at-requires : goal.split_at-requires

@@ -1,9 +1,7 @@
 use Rattle.std.proofs.Common.{sym, subst, length}
-use Rattle.arrays_core.specs.Shapes.{size}
-use Rattle.arrays_core.specs.Arrays.{IsAnswerTo}
+use Rattle.arrays_core.{specs.Shapes.{size}, specs.Arrays.{IsAnswerTo}}
 use Rattle.index_region.specs.Checks.{form_of, Form}
-use Rattle.operator_fns.specs.RowByColumn.{IsGridOf}
-use Rattle.operator_fns.proofs.Grids.{inner_grid, inner_of_numbers}
+use Rattle.operator_fns.{specs.RowByColumn.{IsGridOf}, proofs.Grids.{inner_grid, inner_of_numbers}}
 use Rattle.operator_fns.proofs.inner_product.Inner.of_numbers.Goals as goal
 
 pub grid_products-requires-clause-fits : goal.grid_products-requires-clause-fits

@@ -1,9 +1,6 @@
 use Rattle.std.proofs.Common.{◌∙◌, ap, subst, ◌++◌}
-use Rattle.arrays_core.specs.declared.item.ItemType.TheVariants.{Nums}
-use Rattle.arrays_core.specs.Arrays.{IsAnswerTo}
-use Rattle.arrays_core.specs.Shapes.{size}
-use Rattle.index_region.specs.Checks.{form_of, Form}
-use Rattle.index_region.proofs.Passing.{limited_gives}
+use Rattle.arrays_core.{specs.declared.item.ItemType.TheVariants.{Nums}, specs.Arrays.{IsAnswerTo}, specs.Shapes.{size}}
+use Rattle.index_region.{specs.Checks.{form_of, Form}, proofs.Passing.{limited_gives}}
 use Rattle.operator_fns.proofs.Outers.{outer_places, outer_of_numbers}
 use Rattle.operator_fns.proofs.outer_product.Outer.of_numbers.Goals as goal
 

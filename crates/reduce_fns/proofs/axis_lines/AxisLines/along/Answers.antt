@@ -1,8 +1,6 @@
-use Rattle.std.proofs.Common.{◌≡◌, ◌∙◌, ◌<◌, ◌+◌, ◌*◌, ◌/◌, ◌%◌, suc, refl, ap, sym, length, get_or, drop, remove, arith}
-use Rattle.std.proofs.lemmas.List.{length-map}
+use Rattle.std.{proofs.Common.{◌≡◌, ◌∙◌, ◌<◌, ◌+◌, ◌*◌, ◌/◌, ◌%◌, suc, refl, ap, sym, length, get_or, drop, remove, arith}, proofs.lemmas.List.{length-map}}
 use Rattle.std.proofs.Math.Nat.{mul-div_cancel}
-use Rattle.arrays_core.specs.declared.item.Item.TheVariants.{Num}
-use Rattle.arrays_core.specs.Shapes.{size}
+use Rattle.arrays_core.{specs.declared.item.Item.TheVariants.{Num}, specs.Shapes.{size}}
 use Rattle.reduce_fns.proofs.Reduced.{lines_whole, some_lines}
 use Rattle.reduce_fns.proofs.axis_lines.AxisLines.along.Goals as goal
 

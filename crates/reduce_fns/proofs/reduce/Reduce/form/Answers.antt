@@ -1,8 +1,7 @@
 use Rattle.std.proofs.Common.{rules, ◌≡◌, ◌∙◌, true, length, remove, ap, sym, subst}
 use Rattle.arrays_core.specs.declared.item.Kind.TheVariants.{Axis}
-use Rattle.index_region.specs.Checks.{check, limited}
+use Rattle.index_region.{specs.Checks.{check, limited}, specs.Answers.{IsFormAnswerTo}}
 use Rattle.function_names.specs.Axes.{is_axis, axis_at}
-use Rattle.index_region.specs.Answers.{IsFormAnswerTo}
 use Rattle.reduce_fns.specs.Reduce.{reduce_type, reduce_form}
 use Rattle.reduce_fns.proofs.reduce.Reduce.form.Goals as goal
 

@@ -1,10 +1,7 @@
-use Rattle.std.proofs.Common.{rules, ◌≡◌, ◌∙◌, ◌+◌, ◌<◌, suc, ap, sym, length, drop, remove, map, arith}
-use Rattle.std.proofs.lemmas.List.{length-map}
-use Rattle.arrays_core.specs.declared.item.Item.TheVariants.{Num}
-use Rattle.arrays_core.specs.Shapes.{size}
+use Rattle.std.{proofs.Common.{rules, ◌≡◌, ◌∙◌, ◌+◌, ◌<◌, suc, ap, sym, length, drop, remove, map, arith}, proofs.lemmas.List.{length-map}}
+use Rattle.arrays_core.{specs.declared.item.Item.TheVariants.{Num}, specs.Shapes.{size}}
 use Rattle.function_names.specs.Axes.{axis_at}
-use Rattle.reduce_fns.specs.Laws.ReducedShapes.{reduce_facts}
-use Rattle.reduce_fns.proofs.Reduced.{reduced_whole}
+use Rattle.reduce_fns.{specs.Laws.ReducedShapes.{reduce_facts}, proofs.Reduced.{reduced_whole}}
 use Rattle.reduce_fns.proofs.reduce.Reduce.of_numbers.Goals as goal
 
 pub folds-requires-clause-shaped : goal.folds-requires-clause-shaped

@@ -1,5 +1,4 @@
-use Rattle.std.proofs.Common.{w64}
-use Rattle.std.proofs.lemmas.Int.{to_z-of_z}
+use Rattle.std.{proofs.Common.{w64}, proofs.lemmas.Int.{to_z-of_z}}
 use Rattle.scalar_fns.proofs.Signs.{magnitude_fits}
 use Rattle.scalar_fns.proofs.kernels.MagnitudeOneNumber.at.Goals as goal
 

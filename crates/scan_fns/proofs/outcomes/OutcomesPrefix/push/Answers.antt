@@ -1,5 +1,4 @@
-use Rattle.std.proofs.Common.{◌≡◌, to_z, of_z, w64, SFits, rules}
-use Rattle.std.proofs.lemmas.Int.{to_z-of_z}
+use Rattle.std.{proofs.Common.{◌≡◌, to_z, of_z, w64, SFits, rules}, proofs.lemmas.Int.{to_z-of_z}}
 use Rattle.scan_fns.proofs.NextOutcomes.{first_outcome, next_outcome}
 use Rattle.scan_fns.proofs.outcomes.OutcomesPrefix.push.Goals as goal
 

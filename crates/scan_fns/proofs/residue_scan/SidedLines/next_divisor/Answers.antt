@@ -1,7 +1,5 @@
-use Rattle.std.proofs.Common.{◌≡◌, ◌∙◌, ◌<◌, ap, sym, get_or, length, arith, pos, to_z, of_z, w64, SFits, rules, Some, IfSome}
-use Rattle.std.proofs.lemmas.Int.{to_z-of_z}
-use Rattle.scan_fns.specs.ResidueScan.{extent_at, from, AreTheSame}
-use Rattle.scan_fns.proofs.Divisors.{passes, leads_on, nearer}
+use Rattle.std.{proofs.Common.{◌≡◌, ◌∙◌, ◌<◌, ap, sym, get_or, length, arith, pos, to_z, of_z, w64, SFits, rules, Some, IfSome}, proofs.lemmas.Int.{to_z-of_z}}
+use Rattle.scan_fns.{specs.ResidueScan.{extent_at, from, AreTheSame}, proofs.Divisors.{passes, leads_on, nearer}}
 use Rattle.scan_fns.proofs.residue_scan.SidedLines.next_divisor.Goals as goal
 
 pub returns : goal.returns

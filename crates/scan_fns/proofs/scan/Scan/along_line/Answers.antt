@@ -1,18 +1,11 @@
 use Rattle.std.proofs.Common.{rules, ◌≡◌, ◌∙◌, ◌+◌, ◌-◌, ◌<◌, ◌≤◌, ◌∷◌, [], ap, sym, subst, get_or, length, map, take, remove, arith, IfSome, Result}
 use Rattle.std.proofs.lemmas.List.{get_or_default}
-use Rattle.arrays_core.specs.declared.item.Item.TheVariants.{Num}
-use Rattle.arrays_core.specs.declared.item.ItemType.TheVariants.{Nums}
-use Rattle.arrays_core.specs.declared.item.Kind.{Kind}
-use Rattle.arrays_core.specs.Arrays.{ArrayValue, IsAnswerTo, with_items}
-use Rattle.arrays_core.proofs.Shapes.{as_long}
-use Rattle.scalar_fns.specs.Numbers.{dyadic_on_numbers}
-use Rattle.scalar_fns.specs.NumberLists.{number_items}
+use Rattle.arrays_core.{specs.declared.item.Item.TheVariants.{Num}, specs.declared.item.ItemType.TheVariants.{Nums}, specs.declared.item.Kind.{Kind}}
+use Rattle.arrays_core.{specs.Arrays.{ArrayValue, IsAnswerTo, with_items}, proofs.Shapes.{as_long}}
+use Rattle.scalar_fns.{specs.Numbers.{dyadic_on_numbers}, specs.NumberLists.{number_items}}
 use Rattle.function_names.specs.Axes.{axis_at}
-use Rattle.scan_fns.specs.LinearScan.{folds_from}
+use Rattle.scan_fns.{specs.LinearScan.{folds_from}, specs.Laws.ScannedPlaces.{at_axis}, proofs.Scanned.{scan_place}, proofs.ScannedLine.{along_is, as_many}}
 use Rattle.reduce_fns.specs.Lines.{line}
-use Rattle.scan_fns.specs.Laws.ScannedPlaces.{at_axis}
-use Rattle.scan_fns.proofs.Scanned.{scan_place}
-use Rattle.scan_fns.proofs.ScannedLine.{along_is, as_many}
 use Rattle.scan_fns.proofs.scan.Scan.along_line.Goals as goal
 
 pub without_axis-others-requires-clause-rank : goal.without_axis-others-requires-clause-rank

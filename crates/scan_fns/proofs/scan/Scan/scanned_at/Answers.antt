@@ -1,11 +1,9 @@
-use Rattle.std.proofs.Common.{rules, ◌≡◌, ◌∙◌, ◌<◌, ap, sym, subst, get_or, length, take, remove, arith}
-use Rattle.std.proofs.lemmas.List.{get_or_default}
+use Rattle.std.{proofs.Common.{rules, ◌≡◌, ◌∙◌, ◌<◌, ap, sym, subst, get_or, length, take, remove, arith}, proofs.lemmas.List.{get_or_default}}
 use Rattle.arrays_core.proofs.Shapes.{as_long}
 use Rattle.function_names.specs.Axes.{axis_at}
 use Rattle.scalar_fns.specs.RightFold.{fold_right}
 use Rattle.reduce_fns.specs.Lines.{line}
-use Rattle.scan_fns.specs.Laws.ScannedPlaces.{at_axis}
-use Rattle.scan_fns.proofs.Scanned.{scan_place, scan_typed}
+use Rattle.scan_fns.{specs.Laws.ScannedPlaces.{at_axis}, proofs.Scanned.{scan_place, scan_typed}}
 use Rattle.scan_fns.proofs.scan.Scan.scanned_at.Goals as goal
 
 pub without_axis-others-requires-clause-rank : goal.without_axis-others-requires-clause-rank

@@ -1,18 +1,11 @@
 use Rattle.std.proofs.Common.{rules, refl, ℕ, List, ◌≡◌, ◌∙◌, ◌<◌, ◌≤◌, ◌∷◌, [], ap, sym, subst, get_or, length, arith, IfSome, Result}
-use Rattle.arrays_core.specs.declared.item.ItemType.TheVariants.{Nums}
-use Rattle.arrays_core.specs.declared.item.ItemType.{ItemType}
-use Rattle.arrays_core.specs.declared.item.Item.{Item}
-use Rattle.arrays_core.specs.declared.item.Kind.{Kind}
-use Rattle.arrays_core.specs.Arrays.{ArrayValue}
-use Rattle.index_region.specs.ArgumentLists.{of_one_argument}
-use Rattle.function_names.specs.Axes.{axis_at}
-use Rattle.index_region.specs.Boxes.{box_size, interval_length, walk_at}
-use Rattle.index_region.proofs.Boxes.{fits_length}
+use Rattle.arrays_core.{specs.declared.item.ItemType.TheVariants.{Nums}, specs.declared.item.ItemType.{ItemType}, specs.declared.item.Item.{Item}}
+use Rattle.arrays_core.{specs.declared.item.Kind.{Kind}, specs.Arrays.{ArrayValue}}
+use Rattle.index_region.{specs.ArgumentLists.{of_one_argument}, specs.Boxes.{box_size, interval_length, walk_at}, proofs.Boxes.{fits_length}}
 use Rattle.index_region.proofs.Walks.{some_place}
-use Rattle.change_core.specs.Parts.{HoldsItems, items_in}
-use Rattle.change_core.proofs.Filling.{few_places, place_of}
-use Rattle.scan_fns.specs.Scan.{scan_form, scan_item, scan_along}
-use Rattle.scan_fns.specs.Laws.ScannedPlaces.{scan_facts}
+use Rattle.function_names.specs.Axes.{axis_at}
+use Rattle.change_core.{specs.Parts.{HoldsItems, items_in}, proofs.Filling.{few_places, place_of}}
+use Rattle.scan_fns.{specs.Scan.{scan_form, scan_item, scan_along}, specs.Laws.ScannedPlaces.{scan_facts}}
 use Rattle.scan_fns.proofs.OneLine.{only_argument, as_one, on_axis, walk_first, scanned_items, holds_line}
 use Rattle.scan_fns.proofs.scan.ScanAnnounced.items_at_once.Goals as goal
 

@@ -1,7 +1,6 @@
 use Rattle.std.proofs.Common.{subst}
 use Rattle.arrays_core.specs.Arrays.{IsAnswerTo}
-use Rattle.selection_fns.specs.Index.{index_form, index_item}
-use Rattle.selection_fns.proofs.Indexed.{whole_of_positions}
+use Rattle.selection_fns.{specs.Index.{index_form, index_item}, proofs.Indexed.{whole_of_positions}}
 use Rattle.selection_fns.proofs.index.Index.apply.Goals as goal
 
 pub returns-then-has_long_rows : goal.returns-then-has_long_rows

@@ -1,11 +1,7 @@
 use Rattle.std.proofs.Common.{◌≡◌, ℕ, List, ◌∙◌, Ok, ap, sym, subst, replicate, map, get_or, arith}
-use Rattle.arrays_core.specs.declared.item.Item.{Item}
-use Rattle.arrays_core.specs.declared.item.ItemType.{ItemType}
-use Rattle.arrays_core.specs.Arrays.{ArrayValue}
-use Rattle.arrays_core.specs.Items.{fill}
+use Rattle.arrays_core.{specs.declared.item.Item.{Item}, specs.declared.item.ItemType.{ItemType}, specs.Arrays.{ArrayValue}, specs.Items.{fill}}
 use Rattle.arrays_core.specs.Shapes.{size}
-use Rattle.selection_fns.specs.Index.{written_positions}
-use Rattle.selection_fns.specs.IndexPlaces.{all_places, ArePlacesOf}
+use Rattle.selection_fns.{specs.Index.{written_positions}, specs.IndexPlaces.{all_places, ArePlacesOf}}
 use Rattle.selection_fns.proofs.IndexPlaces.{index_gives, no_places, picked_places, places_inside}
 use Rattle.selection_fns.proofs.index.Index.at_places.Goals as goal
 

@@ -1,8 +1,6 @@
 use Rattle.std.proofs.Common.{◌≡◌, ◌+◌, ◌++◌, ◌∷◌, [], arith}
-use Rattle.arrays_core.specs.Shapes.{places_before}
-use Rattle.arrays_core.proofs.Shapes.{as_long}
-use Rattle.selection_fns.specs.Index.{written_positions, source_index}
-use Rattle.selection_fns.proofs.IndexedRows.{last_index_below}
+use Rattle.arrays_core.{specs.Shapes.{places_before}, proofs.Shapes.{as_long}}
+use Rattle.selection_fns.{specs.Index.{written_positions, source_index}, proofs.IndexedRows.{last_index_below}}
 use Rattle.selection_fns.proofs.index.Index.places_before_row.Goals as goal
 
 pub overflow_sub-result-2 : goal.overflow_sub-result-2

@@ -1,10 +1,7 @@
 use Rattle.std.proofs.Common.{◌≡◌, ℕ, ◌+◌, ◌-◌, ◌∙◌, ap, sym, arith, refl, Ok, ◌++◌, ◌∷◌, [], List, get_or}
-use Rattle.arrays_core.specs.Items.{fill}
-use Rattle.arrays_core.specs.Shapes.{places_before}
-use Rattle.arrays_core.proofs.Rows.{with_row_none, with_row_more}
+use Rattle.arrays_core.{specs.Items.{fill}, specs.Shapes.{places_before}, proofs.Rows.{with_row_none, with_row_more}}
 use Rattle.index_region.specs.Sources.{Place, item_from}
-use Rattle.selection_fns.specs.Index.{written_positions, source_index, index_item}
-use Rattle.selection_fns.proofs.IndexedRows.{item_there, row_typed}
+use Rattle.selection_fns.{specs.Index.{written_positions, source_index, index_item}, proofs.IndexedRows.{item_there, row_typed}}
 use Rattle.selection_fns.proofs.index.Index.push_row.Goals as goal
 
 pub loop-before-init : goal.loop-before-init

@@ -1,8 +1,5 @@
-use Rattle.std.proofs.Common.{◌≡◌, sym, subst, ◌+◌, ◌-◌, ◌++◌, ◌∷◌, [], Ok, drop, get_or, pos, unsigned_abs, arith}
-use Rattle.std.proofs.lemmas.Result.{on_ok_weaker}
-use Rattle.arrays_core.specs.Building.{with_row}
-use Rattle.arrays_core.specs.Items.{fill}
-use Rattle.arrays_core.proofs.Rows.{row_put}
+use Rattle.std.{proofs.Common.{◌≡◌, sym, subst, ◌+◌, ◌-◌, ◌++◌, ◌∷◌, [], Ok, drop, get_or, pos, unsigned_abs, arith}, proofs.lemmas.Result.{on_ok_weaker}}
+use Rattle.arrays_core.{specs.Building.{with_row}, specs.Items.{fill}, proofs.Rows.{row_put}}
 use Rattle.selection_fns.specs.Index.{written_positions, of_array_and_positions, index_item}
 use Rattle.selection_fns.proofs.IndexedRows.{row_of_index, last_empty, last_written, run_item, run_inside, index_low, index_high, index_given, own_places, own_few}
 use Rattle.selection_fns.proofs.Positions.{tail_of}

@@ -1,9 +1,7 @@
-use Rattle.std.proofs.Common.{◌≡◌, get_or, map, pos, ap, sym, subst, ◌∙◌}
-use Rattle.std.specs.List.{range_with_len}
+use Rattle.std.{proofs.Common.{◌≡◌, get_or, map, pos, ap, sym, subst, ◌∙◌}, specs.List.{range_with_len}}
 use Rattle.arrays_core.specs.Arrays.{IsAnswerTo, vector_of}
 use Rattle.index_region.specs.ArgumentLists.{of_one_argument}
-use Rattle.selection_fns.specs.IndexGenerator.{generator_whole}
-use Rattle.selection_fns.proofs.Generated.{generated}
+use Rattle.selection_fns.{specs.IndexGenerator.{generator_whole}, proofs.Generated.{generated}}
 use Rattle.selection_fns.proofs.index_generator.IndexGenerator.apply.Goals as goal
 
 pub returns : goal.returns

@@ -1,5 +1,4 @@
-use Rattle.std.proofs.Common.{rules, ◌≡◌, pos}
-use Rattle.std.specs.Prelude.{get_or}
+use Rattle.std.{proofs.Common.{rules, ◌≡◌, pos}, specs.Prelude.{get_or}}
 use Rattle.selection_fns.proofs.Generated.{has_index}
 use Rattle.selection_fns.proofs.index_generator.IndexGeneratorPrimitive.item_at.Goals as goal
 

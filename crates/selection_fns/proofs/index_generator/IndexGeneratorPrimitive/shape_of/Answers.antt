@@ -1,5 +1,4 @@
-use Rattle.std.proofs.Common.{◌≡◌, true, arith}
-use Rattle.std.proofs.lemmas.Grind.{common_steps}
+use Rattle.std.{proofs.Common.{◌≡◌, true, arith}, proofs.lemmas.Grind.{common_steps}}
 use Rattle.index_region.specs.Arguments.{counts_as_numbers}
 use Rattle.selection_fns.proofs.index_generator.IndexGeneratorPrimitive.shape_of.Goals as goal
 

@@ -1,7 +1,6 @@
 use Rattle.std.proofs.Common.{◌≡◌, ℕ, ◌+◌, ◌<◌, ◌++◌, ◌∙◌, ap, subst, length, map, get_or, arith}
 use Rattle.arrays_core.specs.Items.{fill}
-use Rattle.selection_fns.specs.IndexPlaces.{row_places}
-use Rattle.selection_fns.proofs.PlaceSums.{sums_below, some_first, picked_more}
+use Rattle.selection_fns.{specs.IndexPlaces.{row_places}, proofs.PlaceSums.{sums_below, some_first, picked_more}}
 use Rattle.selection_fns.proofs.index_places.Places.extend.Goals as goal
 
 pub extend-requires-clause-begins : goal.extend-requires-clause-begins

@@ -1,5 +1,4 @@
-use Rattle.std.proofs.Common.{◌≡◌, ℕ, ◌+◌, ◌<◌, ◌∙◌, ap, sym, subst, length, get_or, rules}
-use Rattle.std.specs.List.{range_with_len}
+use Rattle.std.{proofs.Common.{◌≡◌, ℕ, ◌+◌, ◌<◌, ◌∙◌, ap, sym, subst, length, get_or, rules}, specs.List.{range_with_len}}
 use Rattle.selection_fns.specs.IndexPlaces.{sums, row_places, all_places}
 use Rattle.selection_fns.proofs.PlaceSums.{sums_first, sums_sums, sums_turned, heads_few, heads_fit, first_alone}
 use Rattle.selection_fns.proofs.index_places.Places.moved.Goals as goal

@@ -1,9 +1,6 @@
-use Rattle.std.proofs.Common.{◌≡◌, ◌+◌, ◌<◌, ◌∙◌, ap, sym, subst, length, map, get_or, pos, arith}
-use Rattle.std.proofs.lemmas.List.{length-map}
+use Rattle.std.{proofs.Common.{◌≡◌, ◌+◌, ◌<◌, ◌∙◌, ap, sym, subst, length, map, get_or, pos, arith}, proofs.lemmas.List.{length-map}}
 use Rattle.arrays_core.specs.declared.item.Item.TheVariants.{Num}
-use Rattle.selection_fns.specs.IndexPlaces.{sums, row_places}
-use Rattle.selection_fns.proofs.PlaceSums.{length-sums, sums_below}
-use Rattle.selection_fns.proofs.NumbersAt.{items_at}
+use Rattle.selection_fns.{specs.IndexPlaces.{sums, row_places}, proofs.PlaceSums.{length-sums, sums_below}, proofs.NumbersAt.{items_at}}
 use Rattle.selection_fns.proofs.index_places.Places.numbers.Goals as goal
 
 pub numbers_at-requires-clause-few : goal.numbers_at-requires-clause-few

@@ -1,8 +1,6 @@
-use Rattle.std.proofs.Common.{◌≡◌, ℕ, ◌+◌, ◌<◌, ◌++◌, ◌∙◌, ap, sym, subst, length, map, get_or}
-use Rattle.std.specs.Prelude.{OnOk}
+use Rattle.std.{proofs.Common.{◌≡◌, ℕ, ◌+◌, ◌<◌, ◌++◌, ◌∙◌, ap, sym, subst, length, map, get_or}, specs.Prelude.{OnOk}}
 use Rattle.arrays_core.specs.Items.{fill}
-use Rattle.selection_fns.specs.IndexPlaces.{row_places}
-use Rattle.selection_fns.proofs.PlaceSums.{run_inside, listed_map}
+use Rattle.selection_fns.{specs.IndexPlaces.{row_places}, proofs.PlaceSums.{run_inside, listed_map}}
 use Rattle.selection_fns.proofs.index_places.Row.extend.Goals as goal
 
 pub extend_run-requires-clause-inside : goal.extend_run-requires-clause-inside

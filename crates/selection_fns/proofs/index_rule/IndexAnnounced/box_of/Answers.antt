@@ -1,5 +1,4 @@
-use Rattle.selection_fns.proofs.Positions.{tail_of}
-use Rattle.selection_fns.proofs.ResultAxes.{has_axes}
+use Rattle.selection_fns.{proofs.Positions.{tail_of}, proofs.ResultAxes.{has_axes}}
 use Rattle.selection_fns.proofs.index_rule.IndexAnnounced.box_of.Goals as goal
 
 pub indexed_box-requires-clause-one_an_axis : goal.indexed_box-requires-clause-one_an_axis

@@ -1,13 +1,8 @@
-use Rattle.std.proofs.Common.{rules, ℕ, ◌≡◌, ◌+◌, ◌<◌, length, get_or, subst, sym, ap, ◌∙◌, arith}
+use Rattle.std.{proofs.Common.{rules, ℕ, ◌≡◌, ◌+◌, ◌<◌, length, get_or, subst, sym, ap, ◌∙◌, arith}, specs.Prelude.{sum}}
 use Rattle.function_names.specs.Axes.{axis_at}
-use Rattle.index_region.specs.Axes.{places_along}
-use Rattle.std.specs.Prelude.{sum}
-use Rattle.selection_fns.specs.Replicate.{times, copied_place}
-use Rattle.selection_fns.proofs.Copies.{copy_facts, copy_source}
-use Rattle.selection_fns.proofs.SourcePlaces.{replicate_inside}
-use Rattle.index_region.specs.Answers.{IsPlaceOf}
+use Rattle.index_region.{specs.Axes.{places_along}, specs.Answers.{IsPlaceOf}, specs.Sources.{Place}}
+use Rattle.selection_fns.{specs.Replicate.{times, copied_place}, proofs.Copies.{copy_facts, copy_source}, proofs.SourcePlaces.{replicate_inside}}
 use Rattle.selection_fns.proofs.replicate.CopyFunction.index_of.Goals as goal
-use Rattle.index_region.specs.Sources.{Place}
 
 pub index_of_copy-requires-clause-rank : goal.index_of_copy-requires-clause-rank
 index_of_copy-requires-clause-rank c =

@@ -1,7 +1,5 @@
 use Rattle.std.proofs.Common.{◌≡◌, ◌+◌, ◌-◌, ◌<◌, ap, ◌∙◌, length, get_or, arith, Ok, ◌++◌, ◌∷◌, []}
-use Rattle.arrays_core.specs.Items.{fill}
-use Rattle.arrays_core.specs.Shapes.{places_before}
-use Rattle.arrays_core.proofs.Rows.{row_put}
+use Rattle.arrays_core.{specs.Items.{fill}, specs.Shapes.{places_before}, proofs.Rows.{row_put}}
 use Rattle.function_names.specs.Axes.{axis_at}
 use Rattle.selection_fns.specs.Replicate.{replicate_item}
 use Rattle.selection_fns.proofs.CopiedRows.{IsCopyRow, copied, first_copied, before_last, other_item, other_fits, as_many, first_before, last_item, last_fits}

@@ -1,12 +1,8 @@
-use Rattle.std.proofs.Common.{rules, ◌≡◌, ◌<◌, Result, true, length, ap, subst, sym, ◌∙◌}
-use Rattle.std.specs.Prelude.{max, sum}
+use Rattle.std.{proofs.Common.{rules, ◌≡◌, ◌<◌, Result, true, length, ap, subst, sym, ◌∙◌}, specs.Prelude.{max, sum}}
 use Rattle.arrays_core.specs.declared.item.Kind.{Kind}
-use Rattle.index_region.specs.Checks.{Form, limited}
+use Rattle.index_region.{specs.Checks.{Form, limited}, specs.Axes.{places_along}, specs.Answers.{IsFormAnswerTo}}
 use Rattle.function_names.specs.Axes.{is_axis, axis_at}
-use Rattle.index_region.specs.Axes.{places_along}
-use Rattle.index_region.specs.Answers.{IsFormAnswerTo}
-use Rattle.selection_fns.specs.Replicate.{times, counts_checked, replicated_shape}
-use Rattle.selection_fns.proofs.Copies.{replicate_limited, replicate_beyond}
+use Rattle.selection_fns.{specs.Replicate.{times, counts_checked, replicated_shape}, proofs.Copies.{replicate_limited, replicate_beyond}}
 use Rattle.selection_fns.proofs.replicate.Replicate.checked.Goals as goal
 
 pub returns-in_err-copied : goal.returns-in_err-copied

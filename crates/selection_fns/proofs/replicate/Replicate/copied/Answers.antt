@@ -1,16 +1,10 @@
-use Rattle.std.proofs.Common.{rules, ℕ, List, All, Ok, map, ◌≡◌, ◌+◌, ◌<◌, ◌≤◌, length, get_or, subst, sym, ap, ◌∙◌, arith}
-use Rattle.std.specs.Prelude.{max, sum}
-use Rattle.arrays_core.specs.declared.item.ItemType.{ItemType}
-use Rattle.arrays_core.specs.Items.{fill}
-use Rattle.arrays_core.specs.Arrays.{ArrayValue}
+use Rattle.std.{proofs.Common.{rules, ℕ, List, All, Ok, map, ◌≡◌, ◌+◌, ◌<◌, ◌≤◌, length, get_or, subst, sym, ap, ◌∙◌, arith}, specs.Prelude.{max, sum}}
+use Rattle.arrays_core.{specs.declared.item.ItemType.{ItemType}, specs.Items.{fill}, specs.Arrays.{ArrayValue}}
 use Rattle.function_names.specs.Axes.{axis_at}
-use Rattle.index_region.specs.Axes.{places_along}
-use Rattle.selection_fns.specs.Replicate.{times, copied_place, replicate_form}
-use Rattle.selection_fns.proofs.Picked.{picked_long, picked_copies}
-use Rattle.selection_fns.specs.Laws.CopiedPlaces.{replicate_gives, exchanged_there}
-use Rattle.selection_fns.proofs.Copies.{copies_within}
+use Rattle.index_region.{specs.Axes.{places_along}, specs.Checks.{form_of}}
+use Rattle.selection_fns.{specs.Replicate.{times, copied_place, replicate_form}, proofs.Picked.{picked_long, picked_copies}}
+use Rattle.selection_fns.{specs.Laws.CopiedPlaces.{replicate_gives, exchanged_there}, proofs.Copies.{copies_within}}
 use Rattle.selection_fns.proofs.replicate.Replicate.copied.Goals as goal
-use Rattle.index_region.specs.Checks.{form_of}
 
 pub bounds-deref-axis : goal.bounds-deref-axis
 bounds-deref-axis c =

@@ -1,12 +1,7 @@
-use Rattle.std.proofs.Common.{◌≡◌, Ok, false, nat_eq, length, ap, sym, subst, ◌∙◌, arith, rules}
-use Rattle.std.proofs.lemmas.Bool.Decides.{nat_tests}
-use Rattle.arrays_core.specs.Arrays.{ArrayValue}
-use Rattle.arrays_core.specs.Shapes.{size}
-use Rattle.index_region.specs.Arguments.{numbers}
-use Rattle.index_region.proofs.Numbers.{numbers_read}
-use Rattle.selection_fns.specs.Replicate.{IsMask}
-use Rattle.selection_fns.specs.Kept.{AreKept}
-use Rattle.selection_fns.proofs.KeptNumbers.{kept_copies, kept_long}
+use Rattle.std.{proofs.Common.{◌≡◌, Ok, false, nat_eq, length, ap, sym, subst, ◌∙◌, arith, rules}, proofs.lemmas.Bool.Decides.{nat_tests}}
+use Rattle.arrays_core.{specs.Arrays.{ArrayValue}, specs.Shapes.{size}}
+use Rattle.index_region.{specs.Arguments.{numbers}, proofs.Numbers.{numbers_read}}
+use Rattle.selection_fns.{specs.Replicate.{IsMask}, specs.Kept.{AreKept}, proofs.KeptNumbers.{kept_copies, kept_long}}
 use Rattle.selection_fns.proofs.replicate.Replicate.kept.Goals as goal
 
 pub kept_numbers-requires-clause-mask : goal.kept_numbers-requires-clause-mask

@@ -1,10 +1,7 @@
-use Rattle.std.proofs.Common.{rules, ◌≡◌, ◌<◌, length, ap, ◌∙◌}
-use Rattle.selection_fns.specs.Replicate.{replicate_source}
+use Rattle.std.{proofs.Common.{rules, ◌≡◌, ◌<◌, length, ap, ◌∙◌}, specs.Prelude.{max}}
+use Rattle.selection_fns.{specs.Replicate.{replicate_source}, proofs.Copies.{replicated_inside}, proofs.SourcePlaces.{replicate_inside}}
 use Rattle.index_region.specs.Sources.{Place}
-use Rattle.std.specs.Prelude.{max}
 use Rattle.function_names.specs.Axes.{axis_at}
-use Rattle.selection_fns.proofs.Copies.{replicated_inside}
-use Rattle.selection_fns.proofs.SourcePlaces.{replicate_inside}
 use Rattle.selection_fns.proofs.replicate.Replicate.source.Goals as goal
 
 pub copied_index-at-requires-clause-inside : goal.copied_index-at-requires-clause-inside

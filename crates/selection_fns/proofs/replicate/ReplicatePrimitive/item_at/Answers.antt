@@ -1,9 +1,6 @@
 use Rattle.std.proofs.Common.{sym, subst, ◌∙◌}
-use Rattle.index_region.specs.ArgumentLists.{of_two_arguments}
-use Rattle.index_region.specs.Answers.{HasTypeOf}
-use Rattle.index_region.proofs.Passing.{two_arguments}
-use Rattle.selection_fns.specs.Replicate.{replicate_form}
-use Rattle.selection_fns.proofs.Copies.{replicate_typed}
+use Rattle.index_region.{specs.ArgumentLists.{of_two_arguments}, specs.Answers.{HasTypeOf}, proofs.Passing.{two_arguments}}
+use Rattle.selection_fns.{specs.Replicate.{replicate_form}, proofs.Copies.{replicate_typed}}
 use Rattle.selection_fns.proofs.replicate.ReplicatePrimitive.item_at.Goals as goal
 
 pub returns-clause-typed : goal.returns-clause-typed

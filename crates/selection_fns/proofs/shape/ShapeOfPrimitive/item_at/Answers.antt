@@ -1,5 +1,4 @@
-use Rattle.std.proofs.Common.{rules, ◌≡◌, ◌∙◌, ap, pos, ◌-◌}
-use Rattle.std.specs.Prelude.{get_or}
+use Rattle.std.{proofs.Common.{rules, ◌≡◌, ◌∙◌, ap, pos, ◌-◌}, specs.Prelude.{get_or}}
 use Rattle.selection_fns.proofs.shape.ShapeOfPrimitive.item_at.Goals as goal
 
 pub returns-clause-is : goal.returns-clause-is

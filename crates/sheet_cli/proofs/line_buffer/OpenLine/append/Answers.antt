@@ -1,8 +1,5 @@
-use Rattle.std.proofs.Common.{◌≡◌, ◌≤◌, ◌-◌, length, take, min, arith, ◌∙◌}
-use Rattle.std.specs.Result.{IsOk}
-use Rattle.std.proofs.lemmas.List.{length-take}
-use Rattle.sheet_cli.specs.Progress.{most_kept}
-use Rattle.sheet_cli.proofs.Cuts.{take-room, appended}
+use Rattle.std.{proofs.Common.{◌≡◌, ◌≤◌, ◌-◌, length, take, min, arith, ◌∙◌}, specs.Result.{IsOk}, proofs.lemmas.List.{length-take}}
+use Rattle.sheet_cli.{specs.Progress.{most_kept}, proofs.Cuts.{take-room, appended}}
 use Rattle.sheet_cli.proofs.line_buffer.OpenLine.append.Goals as goal
 
 pub returns : goal.returns

@@ -1,10 +1,7 @@
-use Rattle.std.proofs.Common.{◌≡◌, ◌<◌, [], ◌∷◌, List, ◌++◌, map, length, refl, sym, subst, arith}
-use Rattle.std.proofs.lemmas.List.{append-nil}
+use Rattle.std.{proofs.Common.{◌≡◌, ◌<◌, [], ◌∷◌, List, ◌++◌, map, length, refl, sym, subst, arith}, proofs.lemmas.List.{append-nil}}
 use Rattle.std.proofs.lemmas.Bool.{false≢true}
-use Rattle.sheet_desk.specs.declared.event.Event.{Event}
+use Rattle.sheet_desk.{specs.declared.event.Event.{Event}, specs.Desk.{Answer, AreEvents}, specs.Asked.{event_of, answer_of}}
 use Rattle.sheet_desk.specs.declared.event.Answer as told
-use Rattle.sheet_desk.specs.Desk.{Answer, AreEvents}
-use Rattle.sheet_desk.specs.Asked.{event_of, answer_of}
 use Rattle.sheet_desk.proofs.desk.Desk.apply_all.Goals as goal
 
 none_left : (xs : List Event) → (0 < length xs → ⊥) → xs ≡ []

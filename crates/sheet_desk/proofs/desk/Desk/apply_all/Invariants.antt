@@ -1,6 +1,5 @@
 use Rattle.std.proofs.Common.{◌≤◌, ◌+◌, ◌++◌, List, map, length, vec_len, vec_capacity}
-use Rattle.sheet_desk.specs.Desk.{DeskValue, Answer, AreEvents}
-use Rattle.sheet_desk.specs.Asked.{event_of, answer_of}
+use Rattle.sheet_desk.{specs.Desk.{DeskValue, Answer, AreEvents}, specs.Asked.{event_of, answer_of}}
 use Rattle.sheet_desk.proofs.desk.Desk.apply_all.Given as goal
 
 -- whatever the rest is answered, all of it is answered so

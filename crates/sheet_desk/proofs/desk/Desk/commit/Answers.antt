@@ -1,23 +1,12 @@
-use Rattle.std.proofs.Common.{◌≡◌, ℤ, length, false, List, map, Option, None, Some, Result, Err, inl, sym, subst, ap, ◌∙◌}
-use Rattle.std.specs.Option.{option_map}
-use Rattle.std.proofs.lemmas.Int.{to_z-of_z}
+use Rattle.std.{proofs.Common.{◌≡◌, ℤ, length, false, List, map, Option, None, Some, Result, Err, inl, sym, subst, ap, ◌∙◌}, specs.Option.{option_map}}
+use Rattle.std.{proofs.lemmas.Int.{to_z-of_z}, proofs.lemmas.Result.{err_from_is_err_and}}
+use Rattle.sheet_recalc.{specs.Names.{SheetValue}, specs.Changes.{Accepts}, specs.Costs.{HasCost, HasTicks}, specs.History.{change_of}}
+use Rattle.sheet_recalc.{specs.Pending.{IsPendingOn}, specs.declared.refusal.Refusal.{Refusal}}
+use Rattle.sheet_desk.{specs.Slots.{slot_in, with_slot}, specs.Desk.{DeskValue, Commit, IsEvent, stale, commit_refusal}, specs.Asked.{done_answer}}
+use Rattle.sheet_desk.{specs.Held.{slot_value_of, slot_values_of, marked, IsOpenOn, AreOpenOn}, proofs.Slotted.{seen, seen_in_desk, put_in_desk}}
+use Rattle.sheet_desk.{proofs.Staling.{all_in, length-with_slot, marked_seen, open_marked}, proofs.Spent.{spent_within}, specs.declared.slot.Slot.{Slot}}
 use mir.Syntax.{w64}
 use mir.Val.{to_z, of_z, SFits}
-use Rattle.std.proofs.lemmas.Result.{err_from_is_err_and}
-use Rattle.sheet_recalc.specs.Names.{SheetValue}
-use Rattle.sheet_recalc.specs.Changes.{Accepts}
-use Rattle.sheet_recalc.specs.Costs.{HasCost, HasTicks}
-use Rattle.sheet_recalc.specs.History.{change_of}
-use Rattle.sheet_recalc.specs.Pending.{IsPendingOn}
-use Rattle.sheet_recalc.specs.declared.refusal.Refusal.{Refusal}
-use Rattle.sheet_desk.specs.Slots.{slot_in, with_slot}
-use Rattle.sheet_desk.specs.Desk.{DeskValue, Commit, IsEvent, stale, commit_refusal}
-use Rattle.sheet_desk.specs.Asked.{done_answer}
-use Rattle.sheet_desk.specs.Held.{slot_value_of, slot_values_of, marked, IsOpenOn, AreOpenOn}
-use Rattle.sheet_desk.proofs.Slotted.{seen, seen_in_desk, put_in_desk}
-use Rattle.sheet_desk.proofs.Staling.{all_in, length-with_slot, marked_seen, open_marked}
-use Rattle.sheet_desk.proofs.Spent.{spent_within}
-use Rattle.sheet_desk.specs.declared.slot.Slot.{Slot}
 use Rattle.sheet_desk.proofs.desk.Desk.commit.Goals as goal
 
 -- the number of the call is the number

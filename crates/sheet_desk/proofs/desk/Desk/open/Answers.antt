@@ -1,17 +1,10 @@
-use Rattle.std.proofs.Common.{◌≤◌, ℕ, false, Option, None, Some, Result, Err, inl, inr, refl, sym, subst, ap, ◌∙◌}
-use Rattle.std.proofs.lemmas.Result.{err_from_is_err_and}
-use Rattle.sheet_recalc.specs.Changes.{Accepts, Refuses}
-use Rattle.sheet_recalc.specs.Costs.{expression_cost}
-use Rattle.sheet_recalc.specs.History.{change_of}
-use Rattle.sheet_recalc.specs.Pending.{steps_left}
+use Rattle.std.{proofs.Common.{◌≤◌, ℕ, false, Option, None, Some, Result, Err, inl, inr, refl, sym, subst, ap, ◌∙◌}, proofs.lemmas.Result.{err_from_is_err_and}}
+use Rattle.sheet_recalc.{specs.Changes.{Accepts, Refuses}, specs.Costs.{expression_cost}, specs.History.{change_of}, specs.Pending.{steps_left}}
 use Rattle.sheet_recalc.specs.declared.refusal.Refusal.{Refusal}
-use Rattle.sheet_desk.specs.Desk.{DeskValue, Open, IsEvent, open_refusal}
-use Rattle.sheet_desk.specs.declared.slot.Slot.{Slot}
-use Rattle.sheet_desk.specs.Asked.{count_answer}
-use Rattle.sheet_desk.proofs.Slotted.{IsPlaced, none_seen, held_seen, put_seen, is_there, is_not_there}
-use Rattle.sheet_desk.proofs.Staling.{open_put}
-use Rattle.sheet_desk.proofs.desk.Desk.open.Goals as goal
+use Rattle.sheet_desk.{specs.Desk.{DeskValue, Open, IsEvent, open_refusal}, specs.declared.slot.Slot.{Slot}, specs.Asked.{count_answer}}
+use Rattle.sheet_desk.{proofs.Slotted.{IsPlaced, none_seen, held_seen, put_seen, is_there, is_not_there}, proofs.Staling.{open_put}}
 use Rattle.sheet_desk.proofs.desk.Desk.open.Goals.{In-Some}
+use Rattle.sheet_desk.proofs.desk.Desk.open.Goals as goal
 
 -- the place of the number
 placed : (c : In-Some) → IsPlaced c.self.inside.sheet c.self.inside.slots c.args.number c.args.self.now c.in-Some.place

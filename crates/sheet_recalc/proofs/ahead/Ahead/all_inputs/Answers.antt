@@ -1,11 +1,6 @@
-use Rattle.std.proofs.Common.{◌≡◌, ◌+◌, ◌∙◌, ap, sym, subst, ℕ, List, [], ◌∷◌, ◌++◌, take}
-use Rattle.std.specs.List.{Contains}
-use Rattle.std.proofs.lemmas.List.{take_more}
-use Rattle.formula_core.specs.declared.input.Input.{Input}
-use Rattle.formula_core.specs.Changes.{IsNameChanged}
-use Rattle.formula_core.specs.Plans.{AreInputs, IsNameSound}
-use Rattle.sheet_recalc.specs.ProposedSheet.{outline_of, proposed_change}
-use Rattle.sheet_recalc.proofs.PlannedNames.{inputs_more, all_more}
+use Rattle.std.{proofs.Common.{◌≡◌, ◌+◌, ◌∙◌, ap, sym, subst, ℕ, List, [], ◌∷◌, ◌++◌, take}, specs.List.{Contains}, proofs.lemmas.List.{take_more}}
+use Rattle.formula_core.{specs.declared.input.Input.{Input}, specs.Changes.{IsNameChanged}, specs.Plans.{AreInputs, IsNameSound}}
+use Rattle.sheet_recalc.{specs.ProposedSheet.{outline_of, proposed_change}, proofs.PlannedNames.{inputs_more, all_more}}
 use Rattle.sheet_recalc.proofs.ahead.Ahead.all_inputs.Goals as goal
 
 pub loop-reference-preserved : goal.loop-reference-preserved

@@ -1,8 +1,6 @@
 use Rattle.std.proofs.Common.{[], ◌∷◌, sym}
-use Rattle.formula_core.specs.Changes.{IsNameChanged}
-use Rattle.formula_core.specs.Plans.{IsNameSound}
-use Rattle.sheet_recalc.specs.ProposedSheet.{outline_of, proposed_change}
-use Rattle.sheet_recalc.proofs.PlannedNames.{formula_told, of_one}
+use Rattle.formula_core.{specs.Changes.{IsNameChanged}, specs.Plans.{IsNameSound}}
+use Rattle.sheet_recalc.{specs.ProposedSheet.{outline_of, proposed_change}, proofs.PlannedNames.{formula_told, of_one}}
 use Rattle.sheet_recalc.proofs.ahead.Ahead.input_of_one.Goals as goal
 
 pub returns : goal.returns

@@ -1,7 +1,5 @@
-use Rattle.std.proofs.Common.{Result, Ok, Err, IfOk, List, ℕ, subst}
-use Rattle.std.specs.List.{Contains}
-use Rattle.sheet_recalc.specs.ProposedSheet.{outline_of}
-use Rattle.sheet_recalc.proofs.PlannedNames.{formula_told}
+use Rattle.std.{proofs.Common.{Result, Ok, Err, IfOk, List, ℕ, subst}, specs.List.{Contains}}
+use Rattle.sheet_recalc.{specs.ProposedSheet.{outline_of}, proofs.PlannedNames.{formula_told}}
 use Rattle.sheet_recalc.proofs.ahead.Ahead.inputs_of.Goals as goal
 
 if_ok_all : {T E : Type 0} (r : Result T E) (P Q R S : T → Type 0) → ((t : T) → P t → Q t → R t → S t) → IfOk r P → IfOk r Q → IfOk r R → IfOk r S

@@ -1,10 +1,7 @@
-use Rattle.std.proofs.Common.{ℕ, List, [], ◌∷◌, sym, subst}
-use Rattle.std.specs.List.{Contains}
+use Rattle.std.{proofs.Common.{ℕ, List, [], ◌∷◌, sym, subst}, specs.List.{Contains}}
 use Rattle.dep_order.proofs.Following.{contains_here, contains_there}
-use Rattle.formula_core.specs.Changes.{IsNameChanged}
-use Rattle.formula_core.specs.Plans.{IsNameSound}
-use Rattle.sheet_recalc.specs.ProposedSheet.{outline_of, proposed_change}
-use Rattle.sheet_recalc.proofs.PlannedNames.{formula_told, of_two}
+use Rattle.formula_core.{specs.Changes.{IsNameChanged}, specs.Plans.{IsNameSound}}
+use Rattle.sheet_recalc.{specs.ProposedSheet.{outline_of, proposed_change}, proofs.PlannedNames.{formula_told, of_two}}
 use Rattle.sheet_recalc.proofs.ahead.Ahead.inputs_of_two.Goals as goal
 
 pub input_of-requires-2-clause-done : goal.input_of-requires-2-clause-done

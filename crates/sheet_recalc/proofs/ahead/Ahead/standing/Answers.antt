@@ -1,16 +1,9 @@
-use Rattle.std.proofs.Common.{◌∙◌, sym, subst, IfOk}
-use Rattle.std.proofs.lemmas.Bool.{false≢true}
-use Rattle.arrays_core.specs.Arrays.{IsArray}
-use Rattle.formula_core.specs.Changes.{FitsIn}
-use Rattle.arrays_core.specs.Outcomes.{Outcome}
-use Rattle.formula_core.specs.Outcomes.{read}
+use Rattle.std.{proofs.Common.{◌∙◌, sym, subst, IfOk}, proofs.lemmas.Bool.{false≢true}}
+use Rattle.arrays_core.{specs.Arrays.{IsArray}, specs.Outcomes.{Outcome}}
+use Rattle.formula_core.{specs.Changes.{FitsIn}, specs.Outcomes.{read}}
 use Rattle.index_region.specs.declared.delta.Delta.{Delta}
-use Rattle.sheet_recalc.specs.Entries.{names_of}
-use Rattle.sheet_recalc.specs.Meaning.{val}
-use Rattle.sheet_recalc.specs.ProposedSheet.{outline_of}
-use Rattle.sheet_recalc.specs.Planning.{IsUntouched}
-use Rattle.sheet_recalc.proofs.NameEquality.{equal-same}
-use Rattle.sheet_recalc.proofs.PlannedNames.{rest_input, untouched_input, untouched_changed, untouched_sound}
+use Rattle.sheet_recalc.{specs.Entries.{names_of}, specs.Meaning.{val}, specs.ProposedSheet.{outline_of}, specs.Planning.{IsUntouched}}
+use Rattle.sheet_recalc.{proofs.NameEquality.{equal-same}, proofs.PlannedNames.{rest_input, untouched_input, untouched_changed, untouched_sound}}
 use Rattle.sheet_recalc.proofs.ahead.Ahead.standing.Goals as goal
 
 pub lent-requires : goal.lent-requires

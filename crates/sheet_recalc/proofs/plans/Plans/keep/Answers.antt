@@ -1,10 +1,6 @@
-use Rattle.std.proofs.Common.{◌-◌, ◌∙◌, cond, Some, sym, ap, arith}
-use Rattle.std.specs.Str.{bytes_eq}
+use Rattle.std.{proofs.Common.{◌-◌, ◌∙◌, cond, Some, sym, ap, arith}, specs.Str.{bytes_eq}}
 use Rattle.indexmap.proofs.CallerLemmas.{keys-with_value_at, updates-with_value_at}
-use Rattle.sheet_recalc.specs.Live.{plan_in}
-use Rattle.sheet_recalc.proofs.NameEquality.{names_equal}
-use Rattle.sheet_recalc.proofs.Live.{put_beside}
-use Rattle.sheet_recalc.proofs.Entered.{entry_at, name_at}
+use Rattle.sheet_recalc.{specs.Live.{plan_in}, proofs.NameEquality.{names_equal}, proofs.Live.{put_beside}, proofs.Entered.{entry_at, name_at}}
 use Rattle.sheet_recalc.proofs.plans.Plans.keep.Goals as goal
 
 pub returns-in-Some-clause-keys : goal.returns-in-Some-clause-keys

@@ -1,8 +1,6 @@
-use Rattle.std.proofs.Common.{◌≡◌, ◌∙◌, List, ℕ, sym, subst}
-use Rattle.std.specs.Map.{keys_of}
+use Rattle.std.{proofs.Common.{◌≡◌, ◌∙◌, List, ℕ, sym, subst}, specs.Map.{keys_of}}
 use Rattle.dep_order.specs.Users.{EndsWith}
-use Rattle.sheet_recalc.proofs.Live.{ends_with_last}
-use Rattle.sheet_recalc.proofs.NameEquality.{equal-true}
+use Rattle.sheet_recalc.{proofs.Live.{ends_with_last}, proofs.NameEquality.{equal-true}}
 use Rattle.sheet_recalc.proofs.plans.Plans.keep_reach.Goals as goal
 
 pub returns-then-of_edit : goal.returns-then-of_edit

@@ -1,6 +1,5 @@
 use Rattle.std.proofs.Common.{◌≤◌, ◌+◌, ◌++◌, List, Result, map, length, vec_len, vec_capacity}
-use Rattle.sheet_recalc.specs.declared.refusal.Refusal.{Refusal}
-use Rattle.sheet_recalc.specs.History.{SheetState, Run, change_of, sheet_state_of}
+use Rattle.sheet_recalc.{specs.declared.refusal.Refusal.{Refusal}, specs.History.{SheetState, Run, change_of, sheet_state_of}}
 use Rattle.sheet_recalc.proofs.sheet.Sheet.apply_all.Given as goal
 
 -- whatever the rest is answered, all of it is a run

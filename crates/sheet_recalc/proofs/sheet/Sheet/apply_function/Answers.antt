@@ -1,12 +1,6 @@
-use Rattle.std.proofs.Common.{◌≡◌, ◌+◌, ◌≤◌, ℕ, sym, ap, subst, arith, not, true, false}
-use Rattle.std.proofs.lemmas.Bool.{false≢true}
-use Rattle.sheet_recalc.specs.Names.{SheetValue}
-use Rattle.sheet_recalc.specs.Tables.{Tables}
-use Rattle.sheet_recalc.specs.Planning.{IsProposed, IsOnTheWay}
-use Rattle.sheet_recalc.specs.Costs.{IsNodeCost}
-use Rattle.sheet_recalc.specs.ProposedSheet.{proposed_change}
-use Rattle.sheet_recalc.specs.Pending.{outline_for, names_after, IsPendingOn}
-use Rattle.sheet_recalc.specs.declared.pending.Pending.{Pending}
+use Rattle.std.{proofs.Common.{◌≡◌, ◌+◌, ◌≤◌, ℕ, sym, ap, subst, arith, not, true, false}, proofs.lemmas.Bool.{false≢true}}
+use Rattle.sheet_recalc.{specs.Names.{SheetValue}, specs.Tables.{Tables}, specs.Planning.{IsProposed, IsOnTheWay}, specs.Costs.{IsNodeCost}}
+use Rattle.sheet_recalc.{specs.ProposedSheet.{proposed_change}, specs.Pending.{outline_for, names_after, IsPendingOn}, specs.declared.pending.Pending.{Pending}}
 use Rattle.sheet_recalc.proofs.Stepped.{pending_on}
 use Rattle.sheet_recalc.proofs.sheet.Sheet.apply_function.Goals as goal
 

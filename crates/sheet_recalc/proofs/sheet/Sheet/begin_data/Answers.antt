@@ -1,15 +1,10 @@
-use Rattle.std.proofs.Common.{◌≡◌, ◌∙◌, ap, subst, true}
-use Rattle.std.proofs.lemmas.Result.{IfErr-weaker, err_from_is_err_and}
+use Rattle.std.{proofs.Common.{◌≡◌, ◌∙◌, ap, subst, true}, proofs.lemmas.Result.{IfErr-weaker, err_from_is_err_and}}
 use Rattle.apl_expr.specs.Trees.{tree_of}
 use Rattle.change_core.specs.Meters.{ticked, MeterValue}
 use Rattle.index_region.specs.declared.delta.Delta.{Delta}
 use Rattle.formula_core.specs.Plans.{tree_cost}
-use Rattle.sheet_recalc.specs.Costs.{names_at_rest}
-use Rattle.sheet_recalc.specs.ProposedSheet.{names_with}
-use Rattle.sheet_recalc.specs.Changes.{CannotBecome}
-use Rattle.sheet_recalc.specs.Pending.{IsProposedOn}
-use Rattle.sheet_recalc.specs.declared.proposal.Proposal.TheVariants.{Data}
-use Rattle.sheet_recalc.proofs.Asked.{if_ok_map, data_pending}
+use Rattle.sheet_recalc.{specs.Costs.{names_at_rest}, specs.ProposedSheet.{names_with}, specs.Changes.{CannotBecome}, specs.Pending.{IsProposedOn}}
+use Rattle.sheet_recalc.{specs.declared.proposal.Proposal.TheVariants.{Data}, proofs.Asked.{if_ok_map, data_pending}}
 use Rattle.sheet_recalc.proofs.Refused.{refused_put, refused_data}
 use Rattle.sheet_recalc.proofs.sheet.Sheet.begin_data.Goals as goal
 

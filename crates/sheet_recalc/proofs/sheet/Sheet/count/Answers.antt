@@ -1,14 +1,6 @@
-use Rattle.std.proofs.Common.{◌≡◌, ◌∙◌, ◌+◌, sym, ap, subst, false, true, arith}
-use Rattle.std.specs.Prelude.{if◌then◌else◌}
-use Rattle.std.specs.List.{sum_by}
-use Rattle.std.specs.Map.{keys_of}
-use Rattle.sheet_recalc.specs.Names.{SheetValue}
-use Rattle.sheet_recalc.specs.Tables.{Tables}
-use Rattle.sheet_recalc.specs.Planning.{IsOnTheWay, functions_at}
-use Rattle.sheet_recalc.specs.Costs.{AreAllThatReach}
-use Rattle.sheet_recalc.specs.Pending.{outline_for, names_after}
-use Rattle.sheet_recalc.proofs.Forward.{counted_way}
-use Rattle.sheet_recalc.proofs.Stepped.{of_laid_out}
+use Rattle.std.{proofs.Common.{◌≡◌, ◌∙◌, ◌+◌, sym, ap, subst, false, true, arith}, specs.Prelude.{if◌then◌else◌}, specs.List.{sum_by}, specs.Map.{keys_of}}
+use Rattle.sheet_recalc.{specs.Names.{SheetValue}, specs.Tables.{Tables}, specs.Planning.{IsOnTheWay, functions_at}, specs.Costs.{AreAllThatReach}}
+use Rattle.sheet_recalc.{specs.Pending.{outline_for, names_after}, proofs.Forward.{counted_way}, proofs.Stepped.{of_laid_out}}
 use Rattle.sheet_recalc.proofs.sheet.Sheet.count.Goals as goal
 
 pub settle-requires-clause-way : goal.settle-requires-clause-way

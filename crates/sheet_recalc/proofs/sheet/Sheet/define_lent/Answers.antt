@@ -1,11 +1,7 @@
-use Rattle.std.proofs.Common.{ap, subst}
-use Rattle.std.proofs.lemmas.Result.{IfErr-weaker}
+use Rattle.std.{proofs.Common.{ap, subst}, proofs.lemmas.Result.{IfErr-weaker}}
 use Rattle.apl_expr.specs.Trees.{Tree, tree_of}
 use Rattle.formula_core.specs.Formulas.{FormulaValue}
-use Rattle.sheet_recalc.specs.Names.{Formula}
-use Rattle.sheet_recalc.specs.Changes.{Define, CannotPut}
-use Rattle.sheet_recalc.proofs.Refused.{refused_define}
-use Rattle.sheet_recalc.proofs.Asked.{on_ok_map, define_pending}
+use Rattle.sheet_recalc.{specs.Names.{Formula}, specs.Changes.{Define, CannotPut}, proofs.Refused.{refused_define}, proofs.Asked.{on_ok_map, define_pending}}
 use Rattle.sheet_recalc.proofs.sheet.Sheet.define_lent.Goals as goal
 
 pub returns-clause-ok : goal.returns-clause-ok

@@ -1,5 +1,4 @@
-use Rattle.std.proofs.Common.{arith}
-use Rattle.std.proofs.lemmas.Bool.{false≢true}
+use Rattle.std.{proofs.Common.{arith}, proofs.lemmas.Bool.{false≢true}}
 use Rattle.sheet_recalc.proofs.Live.{live_empty}
 use Rattle.sheet_recalc.proofs.sheet.Sheet.new.Goals as goal
 

@@ -1,9 +1,5 @@
-use Rattle.std.proofs.Common.{◌+◌, ◌≤◌, sym, ap, subst, arith, not, true, false}
-use Rattle.std.proofs.lemmas.Bool.{false≢true}
-use Rattle.sheet_recalc.specs.Names.{SheetValue}
-use Rattle.sheet_recalc.specs.Tables.{Tables}
-use Rattle.sheet_recalc.specs.Planning.{IsProposed, IsOnTheWay}
-use Rattle.sheet_recalc.specs.Pending.{outline_for}
+use Rattle.std.{proofs.Common.{◌+◌, ◌≤◌, sym, ap, subst, arith, not, true, false}, proofs.lemmas.Bool.{false≢true}}
+use Rattle.sheet_recalc.{specs.Names.{SheetValue}, specs.Tables.{Tables}, specs.Planning.{IsProposed, IsOnTheWay}, specs.Pending.{outline_for}}
 use Rattle.sheet_recalc.proofs.Stepped.{pending_on, step_cost}
 use Rattle.sheet_recalc.proofs.sheet.Sheet.plan_ahead.Goals as goal
 

@@ -1,13 +1,6 @@
-use Rattle.std.proofs.Common.{◌∙◌, refl, sym, ap, subst, false}
-use Rattle.std.proofs.lemmas.Result.{err_from_is_err_and}
-use Rattle.sheet_recalc.specs.Names.{SheetValue}
-use Rattle.sheet_recalc.specs.Tables.{Tables}
-use Rattle.sheet_recalc.specs.Changes.{CannotBecome}
-use Rattle.sheet_recalc.specs.Planning.{IsProposalAt}
-use Rattle.sheet_recalc.specs.ProposedSheet.{names_with}
-use Rattle.sheet_recalc.specs.Pending.{IsProposedOn}
-use Rattle.sheet_recalc.specs.declared.pending.Pending.{Pending}
-use Rattle.sheet_recalc.proofs.Making.{laid_out}
+use Rattle.std.{proofs.Common.{◌∙◌, refl, sym, ap, subst, false}, proofs.lemmas.Result.{err_from_is_err_and}}
+use Rattle.sheet_recalc.{specs.Names.{SheetValue}, specs.Tables.{Tables}, specs.Changes.{CannotBecome}, specs.Planning.{IsProposalAt}}
+use Rattle.sheet_recalc.{specs.ProposedSheet.{names_with}, specs.Pending.{IsProposedOn}, specs.declared.pending.Pending.{Pending}, proofs.Making.{laid_out}}
 use Rattle.sheet_recalc.proofs.sheet.Sheet.propose.Goals as goal
 
 pub begun-requires-clause-proposal : goal.begun-requires-clause-proposal

@@ -1,6 +1,5 @@
 use Rattle.std.proofs.Common.{◌≡◌, ◌∙◌, None, IsSome, refl, sym, subst}
-use Rattle.sheet_recalc.specs.Names.{SheetValue, binding}
-use Rattle.sheet_recalc.proofs.Live.{present_name, absent_name}
+use Rattle.sheet_recalc.{specs.Names.{SheetValue, binding}, proofs.Live.{present_name, absent_name}}
 use Rattle.sheet_recalc.proofs.sheet.Sheet.removal_of.Goals as goal
 
 pub returns-then-not-contains_key-clause-refused :

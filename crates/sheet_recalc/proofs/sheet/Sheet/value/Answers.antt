@@ -1,9 +1,5 @@
 use Rattle.std.proofs.Common.{◌∙◌, ap, subst, Some, None, is_some, if◌then◌else◌}
-use Rattle.sheet_recalc.specs.Names.{binding}
-use Rattle.sheet_recalc.specs.Meaning.{val, IsOnlySolution}
-use Rattle.sheet_recalc.specs.Entries.{names_of}
-use Rattle.sheet_recalc.specs.Names.{SheetValue}
-use Rattle.sheet_recalc.proofs.Live.{value_is}
+use Rattle.sheet_recalc.{specs.Names.{binding, SheetValue}, specs.Meaning.{val, IsOnlySolution}, specs.Entries.{names_of}, proofs.Live.{value_is}}
 use Rattle.sheet_recalc.proofs.Solution.{only_solution}
 use Rattle.sheet_recalc.proofs.sheet.Sheet.value.Goals as goal
 

@@ -1,14 +1,9 @@
-use Rattle.std.proofs.Common.{◌≡◌, Ok, ap, sym, ◌∙◌, subst}
-use Rattle.std.proofs.lemmas.Bool.{eqb-true, and_parts}
+use Rattle.std.{proofs.Common.{◌≡◌, Ok, ap, sym, ◌∙◌, subst}, proofs.lemmas.Bool.{eqb-true, and_parts}}
 use Rattle.arrays_core.specs.Arrays.{IsAnswerTo}
 use Rattle.function_names.specs.Axes.{is_axis, axis_at}
-use Rattle.index_region.specs.ArgumentLists.{of_two_arguments}
-use Rattle.index_region.proofs.Arguments.{whole_of_two}
-use Rattle.index_region.proofs.Passing.{two_arguments}
-use Rattle.structural_fns.specs.Catenate.{joined_rank, catenate_form, catenate_item, catenate_whole}
-use Rattle.structural_fns.proofs.JoinedRuns.{joined_runs}
+use Rattle.index_region.{specs.ArgumentLists.{of_two_arguments}, proofs.Arguments.{whole_of_two}, proofs.Passing.{two_arguments}, specs.Checks.{form_of}}
+use Rattle.structural_fns.{specs.Catenate.{joined_rank, catenate_form, catenate_item, catenate_whole}, proofs.JoinedRuns.{joined_runs}}
 use Rattle.structural_fns.proofs.catenate.Catenate.apply.Goals as goal
-use Rattle.index_region.specs.Checks.{form_of}
 
 pub joined_runs-requires-clause-one_item_a_place : goal.joined_runs-requires-clause-one_item_a_place
 joined_runs-requires-clause-one_item_a_place c =

@@ -1,8 +1,6 @@
 use Rattle.std.proofs.Common.{◌≡◌, ◌<◌, ◌∙◌, sym, ap, subst, arith}
 use Rattle.function_names.specs.Axes.{axis_at}
-use Rattle.structural_fns.specs.Catenate.{joined_rank}
-use Rattle.structural_fns.proofs.Sides.{join_long}
-use Rattle.structural_fns.proofs.SidePlaces.{JoinFacts, join_facts}
+use Rattle.structural_fns.{specs.Catenate.{joined_rank}, proofs.Sides.{join_long}, proofs.SidePlaces.{JoinFacts, join_facts}}
 use Rattle.structural_fns.proofs.catenate.Catenate.source.Goals as goal
 
 pub bounds-index-axis : goal.bounds-index-axis

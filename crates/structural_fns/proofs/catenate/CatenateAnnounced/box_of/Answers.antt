@@ -1,14 +1,10 @@
 use Rattle.std.proofs.Common.{◌≡◌, ℕ, List, length, get_or, subst, sym, ap, ◌∙◌, arith}
 use Rattle.arrays_core.specs.Arrays.{ArrayValue}
-use Rattle.function_names.specs.declared.along.Along.{Along}
-use Rattle.index_region.specs.ArgumentLists.{of_two_arguments}
-use Rattle.index_region.proofs.Passing.{two_arguments}
-use Rattle.change_core.specs.RuleModels.{HasShape}
-use Rattle.function_names.specs.Axes.{axis_at}
-use Rattle.change_core.specs.Sourced.{left_used, right_used}
+use Rattle.function_names.{specs.declared.along.Along.{Along}, specs.Axes.{axis_at}}
+use Rattle.index_region.{specs.ArgumentLists.{of_two_arguments}, proofs.Passing.{two_arguments}}
+use Rattle.change_core.{specs.RuleModels.{HasShape}, specs.Sourced.{left_used, right_used}}
 use Rattle.structural_fns.specs.Catenate.{joined_places, catenate_form, catenate_source, side_box, catenate_left_box, catenate_right_box}
-use Rattle.structural_fns.specs.Laws.JoinedAxes.{JoinedFacts, joined_facts}
-use Rattle.structural_fns.proofs.Calls.{form_of_two, box_of_right}
+use Rattle.structural_fns.{specs.Laws.JoinedAxes.{JoinedFacts, joined_facts}, proofs.Calls.{form_of_two, box_of_right}}
 use Rattle.structural_fns.proofs.catenate.CatenateAnnounced.box_of.Goals as goal
 
 facts : (along : Along) (args : List ArrayValue) (a b : ArrayValue) (shape : List ℕ) → length args ≡ 2 → a ≡ get_or args 0 a → b ≡ get_or args 1 b

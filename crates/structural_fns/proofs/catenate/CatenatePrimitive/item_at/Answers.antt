@@ -1,9 +1,6 @@
 use Rattle.std.proofs.Common.{sym, subst, ◌∙◌}
-use Rattle.index_region.specs.ArgumentLists.{of_two_arguments}
-use Rattle.index_region.specs.Answers.{IsPlaceOf, HasTypeOf}
-use Rattle.index_region.proofs.Passing.{two_arguments}
-use Rattle.structural_fns.specs.Catenate.{catenate_form}
-use Rattle.structural_fns.proofs.Sides.{join_types, join_typed, right_typed}
+use Rattle.index_region.{specs.ArgumentLists.{of_two_arguments}, specs.Answers.{IsPlaceOf, HasTypeOf}, proofs.Passing.{two_arguments}}
+use Rattle.structural_fns.{specs.Catenate.{catenate_form}, proofs.Sides.{join_types, join_typed, right_typed}}
 use Rattle.structural_fns.proofs.catenate.CatenatePrimitive.item_at.Goals as goal
 
 pub item_from-requires-clause-right_typed : goal.item_from-requires-clause-right_typed

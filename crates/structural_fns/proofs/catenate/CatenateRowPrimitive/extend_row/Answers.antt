@@ -1,12 +1,9 @@
-use Rattle.std.proofs.Common.{◌≡◌, ◌<◌, ap, sym, subst, ◌∙◌, length, Ok, ◌++◌, ◌∷◌, [], arith}
-use Rattle.std.proofs.lemmas.Result.{on_ok_weaker}
+use Rattle.std.{proofs.Common.{◌≡◌, ◌<◌, ap, sym, subst, ◌∙◌, length, Ok, ◌++◌, ◌∷◌, [], arith}, proofs.lemmas.Result.{on_ok_weaker}}
 use Rattle.std.proofs.lemmas.List.{get_or_append_left}
 use Rattle.arrays_core.specs.Building.{with_row}
 use Rattle.function_names.specs.Axes.{axis_at}
-use Rattle.index_region.specs.ArgumentLists.{of_two_arguments}
-use Rattle.index_region.proofs.Passing.{two_arguments}
-use Rattle.structural_fns.specs.Catenate.{joined_rank, joined_places, catenate_item}
-use Rattle.structural_fns.proofs.SteppedRows.{at_end}
+use Rattle.index_region.{specs.ArgumentLists.{of_two_arguments}, proofs.Passing.{two_arguments}}
+use Rattle.structural_fns.{specs.Catenate.{joined_rank, joined_places, catenate_item}, proofs.SteppedRows.{at_end}}
 use Rattle.structural_fns.proofs.JoinedRows.{axis_below, places_within, left_inside, right_inside, left_is_typed, right_is_typed, row_of_both, row_of_left, row_of_right}
 use Rattle.structural_fns.proofs.catenate.CatenateRowPrimitive.extend_row.Goals as goal
 

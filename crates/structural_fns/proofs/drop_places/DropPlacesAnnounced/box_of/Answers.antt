@@ -1,14 +1,9 @@
 use Rattle.std.proofs.Common.{◌≡◌, ◌≤◌, List, ℕ, ◌∷◌, [], length, sym, arith}
 use Rattle.arrays_core.specs.Arrays.{ArrayValue}
-use Rattle.index_region.specs.Arguments.{numbers}
-use Rattle.index_region.specs.ArgumentLists.{of_two_arguments}
-use Rattle.index_region.proofs.Passing.{two_arguments}
+use Rattle.index_region.{specs.Arguments.{numbers}, specs.ArgumentLists.{of_two_arguments}, proofs.Passing.{two_arguments}}
 use Rattle.change_core.specs.RuleModels.{HasShape}
-use Rattle.structural_fns.specs.AxisCounts.{counted_shape}
-use Rattle.structural_fns.specs.Drop.{drop_form, dropped_shape}
-use Rattle.structural_fns.proofs.Counting.{dropped_long}
-use Rattle.structural_fns.specs.Laws.CountedAxes.{counted_facts}
-use Rattle.structural_fns.proofs.Calls.{form_of_two}
+use Rattle.structural_fns.{specs.AxisCounts.{counted_shape}, specs.Drop.{drop_form, dropped_shape}, proofs.Counting.{dropped_long}}
+use Rattle.structural_fns.{specs.Laws.CountedAxes.{counted_facts}, proofs.Calls.{form_of_two}}
 use Rattle.structural_fns.proofs.drop_places.DropPlacesAnnounced.box_of.Goals as goal
 
 -- there are as many counts as axes, and at most four

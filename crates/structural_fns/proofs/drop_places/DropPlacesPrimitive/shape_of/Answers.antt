@@ -1,8 +1,6 @@
 use Rattle.std.proofs.Common.{◌<◌, length, arith}
 use Rattle.index_region.specs.Arguments.{numbers}
-use Rattle.structural_fns.specs.AxisCounts.{counted_shape}
-use Rattle.structural_fns.specs.Drop.{dropped_shape}
-use Rattle.structural_fns.proofs.Counting.{too_many, dropped_long, numbers_long}
+use Rattle.structural_fns.{specs.AxisCounts.{counted_shape}, specs.Drop.{dropped_shape}, proofs.Counting.{too_many, dropped_long, numbers_long}}
 use Rattle.structural_fns.proofs.drop_places.DropPlacesPrimitive.shape_of.Goals as goal
 
 pub returns-then-places-gt-MOST_AXES : goal.returns-then-places-gt-MOST_AXES

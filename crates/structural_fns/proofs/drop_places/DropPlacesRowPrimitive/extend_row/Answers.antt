@@ -1,15 +1,7 @@
-use Rattle.std.proofs.Common.{◌≡◌, ◌+◌, ◌-◌, ap, sym, subst, ◌∙◌, get_or, arith, Ok, ◌++◌, ◌∷◌, []}
-use Rattle.std.proofs.lemmas.Result.{on_ok_weaker}
-use Rattle.arrays_core.specs.Building.{with_row}
-use Rattle.arrays_core.specs.Items.{fill}
-use Rattle.arrays_core.specs.Shapes.{places_before}
-use Rattle.arrays_core.proofs.Rows.{row_put}
-use Rattle.index_region.specs.ArgumentLists.{of_two_arguments}
-use Rattle.index_region.specs.Arguments.{numbers}
-use Rattle.index_region.proofs.Passing.{two_arguments}
-use Rattle.structural_fns.specs.AxisCounts.{uncounted}
-use Rattle.structural_fns.specs.Drop.{drop_item, kept_places}
-use Rattle.structural_fns.proofs.DroppedRows.{left_item, left_fits}
+use Rattle.std.{proofs.Common.{◌≡◌, ◌+◌, ◌-◌, ap, sym, subst, ◌∙◌, get_or, arith, Ok, ◌++◌, ◌∷◌, []}, proofs.lemmas.Result.{on_ok_weaker}}
+use Rattle.arrays_core.{specs.Building.{with_row}, specs.Items.{fill}, specs.Shapes.{places_before}, proofs.Rows.{row_put}}
+use Rattle.index_region.{specs.ArgumentLists.{of_two_arguments}, specs.Arguments.{numbers}, proofs.Passing.{two_arguments}}
+use Rattle.structural_fns.{specs.AxisCounts.{uncounted}, specs.Drop.{drop_item, kept_places}, proofs.DroppedRows.{left_item, left_fits}}
 use Rattle.structural_fns.proofs.drop_places.DropPlacesRowPrimitive.extend_row.Goals as goal
 
 pub extend_run-requires-clause-inside : goal.extend_run-requires-clause-inside

@@ -1,6 +1,5 @@
 use Rattle.std.proofs.Common.{arith}
-use Rattle.structural_fns.proofs.Entries.{entries_long}
-use Rattle.structural_fns.proofs.SourcePlaces.{gathered_inside}
+use Rattle.structural_fns.{proofs.Entries.{entries_long}, proofs.SourcePlaces.{gathered_inside}}
 use Rattle.structural_fns.proofs.dyadic_transpose.DyadicTranspose.source.Goals as goal
 
 pub gathered-at-requires : goal.gathered-at-requires

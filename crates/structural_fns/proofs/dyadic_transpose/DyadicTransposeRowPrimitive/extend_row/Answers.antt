@@ -1,8 +1,6 @@
-use Rattle.std.proofs.Common.{◌≡◌, ap, sym, subst, ◌∙◌, Ok, ◌++◌, ◌∷◌, []}
-use Rattle.std.proofs.lemmas.Result.{on_ok_weaker}
+use Rattle.std.{proofs.Common.{◌≡◌, ap, sym, subst, ◌∙◌, Ok, ◌++◌, ◌∷◌, []}, proofs.lemmas.Result.{on_ok_weaker}}
 use Rattle.arrays_core.specs.Building.{with_row}
-use Rattle.index_region.specs.ArgumentLists.{of_two_arguments}
-use Rattle.index_region.proofs.Passing.{two_arguments}
+use Rattle.index_region.{specs.ArgumentLists.{of_two_arguments}, proofs.Passing.{two_arguments}}
 use Rattle.structural_fns.specs.DyadicTranspose.{axes_to, transpose_by_form, transpose_by_item}
 use Rattle.structural_fns.proofs.SteppedRows.{row_some, first_before, transposed_by_steps, transposed_by_items}
 use Rattle.structural_fns.proofs.dyadic_transpose.DyadicTransposeRowPrimitive.extend_row.Goals as goal

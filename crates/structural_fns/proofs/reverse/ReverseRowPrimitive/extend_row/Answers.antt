@@ -1,15 +1,8 @@
-use Rattle.std.proofs.Common.{◌≡◌, ◌+◌, ◌-◌, ◌<◌, ap, sym, subst, ◌∙◌, get_or, length, arith, Ok, ◌++◌, ◌∷◌, []}
-use Rattle.std.proofs.lemmas.Result.{on_ok_weaker}
-use Rattle.arrays_core.specs.Building.{with_row}
-use Rattle.arrays_core.specs.Items.{fill}
-use Rattle.arrays_core.specs.Shapes.{places_before}
-use Rattle.arrays_core.proofs.Rows.{row_put}
-use Rattle.index_region.specs.Answers.{IsRowIn}
-use Rattle.index_region.specs.ArgumentLists.{of_one_argument}
+use Rattle.std.{proofs.Common.{◌≡◌, ◌+◌, ◌-◌, ◌<◌, ap, sym, subst, ◌∙◌, get_or, length, arith, Ok, ◌++◌, ◌∷◌, []}, proofs.lemmas.Result.{on_ok_weaker}}
+use Rattle.arrays_core.{specs.Building.{with_row}, specs.Items.{fill}, specs.Shapes.{places_before}, proofs.Rows.{row_put}}
+use Rattle.index_region.{specs.Answers.{IsRowIn}, specs.ArgumentLists.{of_one_argument}, proofs.Passing.{one_argument}}
 use Rattle.function_names.specs.Axes.{axis_at}
-use Rattle.index_region.proofs.Passing.{one_argument}
-use Rattle.structural_fns.specs.Reverse.{reverse_form, reverse_item}
-use Rattle.structural_fns.proofs.ReversedRows.{at_index, below_last, last_item, last_low, other_item, other_fits}
+use Rattle.structural_fns.{specs.Reverse.{reverse_form, reverse_item}, proofs.ReversedRows.{at_index, below_last, last_item, last_low, other_item, other_fits}}
 use Rattle.structural_fns.proofs.reverse.ReverseRowPrimitive.extend_row.Goals as goal
 
 pub extend_back-requires-clause-low : goal.extend_back-requires-clause-low

@@ -1,9 +1,6 @@
 use Rattle.std.proofs.Common.{◌≡◌, ◌+◌, ◌-◌, ap, ◌∙◌, get_or, arith, Ok, ◌++◌, ◌∷◌, []}
-use Rattle.arrays_core.specs.Items.{fill}
-use Rattle.arrays_core.specs.Shapes.{places_before}
-use Rattle.arrays_core.proofs.Rows.{row_put}
-use Rattle.structural_fns.specs.Rotate.{rotate_item}
-use Rattle.structural_fns.proofs.RotatedRows.{passed_row, at_index, other_item, other_fits}
+use Rattle.arrays_core.{specs.Items.{fill}, specs.Shapes.{places_before}, proofs.Rows.{row_put}}
+use Rattle.structural_fns.{specs.Rotate.{rotate_item}, proofs.RotatedRows.{passed_row, at_index, other_item, other_fits}}
 use Rattle.structural_fns.proofs.rotate.Rotate.extend_across.Goals as goal
 
 pub extend_run-requires-clause-typed : goal.extend_run-requires-clause-typed

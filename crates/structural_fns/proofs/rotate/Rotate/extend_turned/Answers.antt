@@ -1,8 +1,5 @@
 use Rattle.std.proofs.Common.{◌≡◌, ℕ, ◌+◌, ◌-◌, ◌<◌, ap, sym, ◌∙◌, get_or, length, arith, Ok, ◌++◌, ◌∷◌, []}
-use Rattle.arrays_core.specs.Building.{with_row}
-use Rattle.arrays_core.specs.Items.{fill}
-use Rattle.arrays_core.specs.Shapes.{places_before}
-use Rattle.arrays_core.proofs.Rows.{row_put_more, with_row_none, with_row_more}
+use Rattle.arrays_core.{specs.Building.{with_row}, specs.Items.{fill}, specs.Shapes.{places_before}, proofs.Rows.{row_put_more, with_row_none, with_row_more}}
 use Rattle.structural_fns.specs.Rotate.{rotate_item}
 use Rattle.structural_fns.proofs.RotatedRows.{passed_row, at_index, at_last, from, from_low, from_high, end_item, end_fits, begin_item, begin_there}
 use Rattle.index_region.proofs.RowIndices.{get_last}

@@ -1,8 +1,6 @@
 use Rattle.std.proofs.Common.{◌≡◌, ℕ, ◌+◌, ◌-◌, ◌∙◌, ap, sym, arith, refl, Ok, ◌++◌, ◌∷◌, []}
-use Rattle.arrays_core.specs.Shapes.{places_before}
-use Rattle.arrays_core.proofs.Rows.{with_row_none, with_row_more}
-use Rattle.structural_fns.specs.Rotate.{rotate_item}
-use Rattle.structural_fns.proofs.RotatedRows.{passed_row, item_at, at_index}
+use Rattle.arrays_core.{specs.Shapes.{places_before}, proofs.Rows.{with_row_none, with_row_more}}
+use Rattle.structural_fns.{specs.Rotate.{rotate_item}, proofs.RotatedRows.{passed_row, item_at, at_index}}
 use Rattle.structural_fns.proofs.rotate.Rotate.push_row.Goals as goal
 
 pub loop-before-init : goal.loop-before-init

@@ -1,9 +1,6 @@
 use Rattle.std.proofs.Common.{sym, subst, ◌∙◌}
-use Rattle.index_region.specs.ArgumentLists.{of_two_arguments}
-use Rattle.index_region.specs.Answers.{HasTypeOf}
-use Rattle.index_region.proofs.Passing.{two_arguments}
-use Rattle.structural_fns.specs.Rotate.{rotate_form}
-use Rattle.structural_fns.proofs.Turning.{rotation_typed}
+use Rattle.index_region.{specs.ArgumentLists.{of_two_arguments}, specs.Answers.{HasTypeOf}, proofs.Passing.{two_arguments}}
+use Rattle.structural_fns.{specs.Rotate.{rotate_form}, proofs.Turning.{rotation_typed}}
 use Rattle.structural_fns.proofs.rotate.RotatePrimitive.item_at.Goals as goal
 
 pub returns-clause-typed : goal.returns-clause-typed

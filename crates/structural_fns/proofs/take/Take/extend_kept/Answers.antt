@@ -1,11 +1,7 @@
-use Rattle.std.proofs.Common.{◌≡◌, ℕ, ◌+◌, ◌-◌, ◌<◌, ap, sym, ◌∙◌, get_or, arith, Ok, ◌++◌, ◌∷◌, []}
-use Rattle.std.proofs.lemmas.Result.{on_ok_weaker}
-use Rattle.arrays_core.specs.Items.{fill}
-use Rattle.arrays_core.specs.Shapes.{places_before}
-use Rattle.arrays_core.proofs.Rows.{with_row_none, with_row_more}
+use Rattle.std.{proofs.Common.{◌≡◌, ℕ, ◌+◌, ◌-◌, ◌<◌, ap, sym, ◌∙◌, get_or, arith, Ok, ◌++◌, ◌∷◌, []}, proofs.lemmas.Result.{on_ok_weaker}}
+use Rattle.arrays_core.{specs.Items.{fill}, specs.Shapes.{places_before}, proofs.Rows.{with_row_none, with_row_more}}
 use Rattle.index_region.specs.Sources.{Place, Fill}
-use Rattle.structural_fns.specs.AxisCounts.{uncounted}
-use Rattle.structural_fns.specs.Take.{take_item, take_source}
+use Rattle.structural_fns.{specs.AxisCounts.{uncounted}, specs.Take.{take_item, take_source}}
 use Rattle.structural_fns.proofs.TakenRows.{source_there, no_source_there, taken_long, at_index, kept_item, kept_fill, kept_inside, first_place}
 use Rattle.structural_fns.proofs.take.Take.extend_kept.Goals as goal
 

@@ -1,7 +1,6 @@
 use Rattle.std.proofs.Common.{◌≡◌, true, sym, ◌∙◌}
 use Rattle.arrays_core.specs.Shapes.{is_index_of}
-use Rattle.structural_fns.specs.AxisCounts.{counted_shape}
-use Rattle.structural_fns.proofs.SourcePlaces.{uncounted_inside}
+use Rattle.structural_fns.{specs.AxisCounts.{counted_shape}, proofs.SourcePlaces.{uncounted_inside}}
 use Rattle.structural_fns.proofs.take.Take.source.Goals as goal
 
 pub returns-clause-inside : goal.returns-clause-inside

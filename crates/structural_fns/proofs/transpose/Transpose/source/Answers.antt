@@ -1,7 +1,5 @@
-use Rattle.std.proofs.Common.{◌≡◌, true, rules, length, reverse, arith}
-use Rattle.std.proofs.lemmas.List.{length-reverse}
-use Rattle.arrays_core.specs.Shapes.{is_index_of}
-use Rattle.arrays_core.proofs.Shapes.{as_long}
+use Rattle.std.{proofs.Common.{◌≡◌, true, rules, length, reverse, arith}, proofs.lemmas.List.{length-reverse}}
+use Rattle.arrays_core.{specs.Shapes.{is_index_of}, proofs.Shapes.{as_long}}
 use Rattle.structural_fns.proofs.SourcePlaces.{transpose_inside}
 use Rattle.structural_fns.proofs.transpose.Transpose.source.Goals as goal
 

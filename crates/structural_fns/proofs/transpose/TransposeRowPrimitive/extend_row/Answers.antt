@@ -1,9 +1,6 @@
 use Rattle.std.proofs.Common.{◌≡◌, ℕ, ◌+◌, ◌-◌, ◌*◌, List, ap, sym, subst, ◌∙◌, length, length-drop, get_or, take, drop, reverse, arith, Ok, ◌++◌, ◌∷◌, []}
-use Rattle.std.proofs.lemmas.Result.{on_ok_weaker}
-use Rattle.std.proofs.lemmas.List.{take_all}
-use Rattle.arrays_core.specs.Building.{listed, with_row}
-use Rattle.arrays_core.specs.Items.{fill}
-use Rattle.arrays_core.specs.Shapes.{size, places_before}
+use Rattle.std.{proofs.lemmas.Result.{on_ok_weaker}, proofs.lemmas.List.{take_all}}
+use Rattle.arrays_core.{specs.Building.{listed, with_row}, specs.Items.{fill}, specs.Shapes.{size, places_before}}
 use Rattle.index_region.specs.ArgumentLists.{of_one_argument}
 use Rattle.structural_fns.specs.Transpose.{transpose_form, transpose_item}
 use Rattle.structural_fns.proofs.SteppedRows.{row_some, one_argument, transposed_row, transposed_steps, transposed_items, fewer_axes}

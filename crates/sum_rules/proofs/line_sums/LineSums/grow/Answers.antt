@@ -1,9 +1,7 @@
 use Rattle.std.proofs.Common.{◌≡◌, ◌∙◌, ℤ, List, ap, sym, subst}
-use Rattle.arrays_core.specs.Arrays.{ArrayValue}
-use Rattle.arrays_core.specs.Growth.{one_longer}
+use Rattle.arrays_core.{specs.Arrays.{ArrayValue}, specs.Growth.{one_longer}}
 use Rattle.fold_trees.specs.FoldTrees.{FoldsValue}
-use Rattle.sum_rules.specs.declared.line_sums.Lines.{Lines}
-use Rattle.sum_rules.specs.LineSums.{SummedValue, array_of_shape, grown_sums, StandFor}
+use Rattle.sum_rules.{specs.declared.line_sums.Lines.{Lines}, specs.LineSums.{SummedValue, array_of_shape, grown_sums, StandFor}}
 use Rattle.sum_rules.specs.NewLines.{NewLinesValue, lines_behind, new_numbers, trees_grown, AreNewLinesOf, FitsSums}
 use Rattle.sum_rules.proofs.Grown.{array_grown, fits_trees, function_stays, held, numbers_grown, stands}
 use Rattle.sum_rules.proofs.line_sums.LineSums.grow.Goals as goal

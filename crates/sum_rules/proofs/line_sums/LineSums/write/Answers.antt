@@ -1,6 +1,5 @@
 use Rattle.std.proofs.Common.{◌∙◌, ap}
-use Rattle.sum_rules.specs.declared.line_sums.Lines.{Lines}
-use Rattle.sum_rules.specs.LineSums.{SummedValue, array_of_shape, patched_sums}
+use Rattle.sum_rules.{specs.declared.line_sums.Lines.{Lines}, specs.LineSums.{SummedValue, array_of_shape, patched_sums}}
 use Rattle.sum_rules.proofs.line_sums.LineSums.write.Goals as goal
 
 pub returns : goal.returns

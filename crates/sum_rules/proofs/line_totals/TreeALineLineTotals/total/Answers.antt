@@ -1,5 +1,4 @@
-use Rattle.std.proofs.Common.{◌≡◌, [], ℤ, List, get_or, sym, subst, arith}
-use Rattle.std.proofs.lemmas.List.{get_or_default}
+use Rattle.std.{proofs.Common.{◌≡◌, [], ℤ, List, get_or, sym, subst, arith}, proofs.lemmas.List.{get_or_default}}
 use Rattle.fold_trees.specs.FoldTrees.{IsReductionBy}
 use Rattle.function_names.specs.declared.scalar.Scalar2.TheVariants.{Plus}
 use Rattle.sum_rules.proofs.TreeLines.{line_below, line_told}

@@ -1,5 +1,4 @@
-use Rattle.std.proofs.Common.{◌≡◌, ◌++◌, ◌∷◌, [], ℤ, List, get_or, sym, subst, arith, of_z, to_z, w64}
-use Rattle.std.proofs.lemmas.Int.{to_z-of_z}
+use Rattle.std.{proofs.Common.{◌≡◌, ◌++◌, ◌∷◌, [], ℤ, List, get_or, sym, subst, arith, of_z, to_z, w64}, proofs.lemmas.Int.{to_z-of_z}}
 use Rattle.std.proofs.lemmas.List.{get_or_default}
 use Rattle.fold_trees.specs.FoldTrees.{IsReductionBy}
 use Rattle.function_names.specs.declared.scalar.Scalar2.TheVariants.{Plus}

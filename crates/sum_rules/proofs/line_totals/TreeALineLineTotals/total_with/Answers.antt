@@ -1,8 +1,5 @@
-use Rattle.std.proofs.Common.{◌≡◌, ◌-◌, ◌/◌, ◌%◌, ◌<◌, ℤ, List, [], length, get_or, set, sym, subst, arith, of_z, to_z, w64}
-use Rattle.std.proofs.lemmas.Int.{to_z-of_z}
-use Rattle.std.proofs.lemmas.List.{get_or_default}
-use Rattle.std.proofs.lemmas.List.Elements.{All-get_or}
-use Rattle.std.proofs.lemmas.Nat.{mod_below}
+use Rattle.std.{proofs.Common.{◌≡◌, ◌-◌, ◌/◌, ◌%◌, ◌<◌, ℤ, List, [], length, get_or, set, sym, subst, arith, of_z, to_z, w64}, proofs.lemmas.Int.{to_z-of_z}}
+use Rattle.std.{proofs.lemmas.List.{get_or_default}, proofs.lemmas.List.Elements.{All-get_or}, proofs.lemmas.Nat.{mod_below}}
 use Rattle.fold_trees.specs.FoldTrees.{IsReductionBy, IsWithinDigitsOf}
 use Rattle.function_names.specs.declared.scalar.Scalar2.TheVariants.{Plus}
 use Rattle.sum_rules.proofs.TreeLines.{line_there, through_line}
