@@ -1,7 +1,7 @@
 -- The products of endings join as their lists do, and so does what is kept of them.
 use Rattle.std.{proofs.Common.{◌≡◌, ap, sym, subst, ◌∙◌, arith, inl, inr, List, [], ◌∷◌, ◌++◌, ◌^◌, ℤ, pos, ◌*ℤ◌, ◌⊎◌}, specs.Int.{int_min, int_max}}
 use Rattle.std.proofs.lemmas.Int.{ints, clamps, by_lt_z}
-use Rattle.scalar_fns.proofs.Products.{times_assoc}
+use Rattle.item_fns.proofs.Products.{times_assoc}
 use Rattle.fold_trees.specs.declared.product.Product.{Product}
 use Rattle.fold_trees.specs.Products.{Products, products_of_none, before, products_of, joined_products, AreOrdered, AreFar, kept_products, TellsProducts}
 use Rattle.fold_trees.proofs.Multiples.{between, bounds_times, stretched}

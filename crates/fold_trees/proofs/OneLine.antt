@@ -1,7 +1,7 @@
 -- The numbers of a list that is one line.
 use Rattle.std.{proofs.Common.{◌≡◌, ◌∙◌, ℕ, ◌+◌, ◌*◌, ◌/◌, ◌%◌, ◌<◌, ℤ, pos, length, set, ap, sym, arith}, proofs.lemmas.List.{length-set, take_all}}
 use Rattle.std.proofs.Math.Nat.{div-eq_of_lt}
-use Rattle.scalar_fns.{specs.Folds.{strided, line_start}, proofs.RightFolds.{strided_run}}
+use Rattle.item_fns.{specs.Folds.{strided, line_start}, proofs.RightFolds.{strided_run}}
 use Rattle.fold_trees.{specs.ArrayLines.{TreesValue, line_through, numbers_of_line, numbers_through, with_number}, specs.PartTrees.{IsOneLine}}
 
 pub numbers_of_one : (t : TreesValue) → IsOneLine t → 0 < length t.numbers → numbers_of_line t 0 ≡ t.numbers

@@ -4,7 +4,7 @@ use Rattle.std.{specs.Int.{int_max}, specs.List.{All}, proofs.lemmas.Int.{ints, 
 use Rattle.std.proofs.lemmas.Bool.{and_from, and_parts, cases_Bool, cond-true, cond-false}
 use Rattle.arrays_core.{specs.declared.item.Kind.TheVariants.{Limit}, specs.Items.{and_then}}
 use Rattle.function_names.specs.declared.scalar.Scalar2.TheVariants.{Times}
-use Rattle.scalar_fns.{specs.Numbers.{dyadic_on_numbers, number_or_limit, is_number}, specs.Folds.{folded}, proofs.Within.{Within, in_64_bits, is_in_64_bits}}
+use Rattle.item_fns.{specs.Numbers.{dyadic_on_numbers, number_or_limit, is_number}, specs.Folds.{folded}, proofs.Within.{Within, in_64_bits, is_in_64_bits}}
 use Rattle.fold_trees.{specs.Products.{Products, products_of_none, before, products_of, product_told}, proofs.JoinedProducts.{ordered_of}}
 use Rattle.fold_trees.proofs.Bounds.{one_more}
 

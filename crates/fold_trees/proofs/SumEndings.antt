@@ -4,7 +4,7 @@ use Rattle.std.{specs.Int.{int_max, int_min}, specs.List.{All}, proofs.lemmas.In
 use Rattle.std.proofs.lemmas.Bool.{and_from, cond-true}
 use Rattle.arrays_core.{specs.declared.item.Kind.TheVariants.{Limit}, specs.Items.{and_then}}
 use Rattle.function_names.specs.declared.scalar.Scalar2.TheVariants.{Plus}
-use Rattle.scalar_fns.{specs.Numbers.{dyadic_on_numbers, number_or_limit, is_number}, specs.Folds.{folded}, proofs.Within.{in_64_bits, is_in_64_bits}}
+use Rattle.item_fns.{specs.Numbers.{dyadic_on_numbers, number_or_limit, is_number}, specs.Folds.{folded}, proofs.Within.{in_64_bits, is_in_64_bits}}
 use Rattle.fold_trees.{specs.Sums.{sums_of, sum_told}, proofs.Bounds.{one_more}, proofs.JoinedSums.{ordered_of}}
 
 then_plus : (p : Bool) (z t : ℤ) → and_then (if p then Ok t else Err Limit) (λ v. number_or_limit (z +ℤ v))

@@ -3,7 +3,7 @@ use Rattle.std.{proofs.Common.{◌≡◌, ◌∙◌, ℕ, ◌/◌, ◌%◌, ◌<
 use Rattle.std.proofs.lemmas.List.{get_or-set_same, get_or-set_other}
 use Rattle.arrays_core.specs.declared.item.Kind.{Kind}
 use Rattle.function_names.specs.declared.scalar.Scalar2.{Scalar2}
-use Rattle.scalar_fns.{specs.Folds.{folded}, specs.Items.{number_item}, specs.Numbers.{dyadic_on_numbers}, proofs.ItemFolds.{number_items_folded}}
+use Rattle.item_fns.{specs.Folds.{folded}, specs.Items.{number_item}, specs.Numbers.{dyadic_on_numbers}, proofs.ItemFolds.{number_items_folded}}
 use Rattle.fold_trees.{specs.ArrayLines.{line_through, numbers_through, with_number}, specs.PartTrees.{AreLines}}
 use Rattle.fold_trees.{proofs.LineParts.{replaced_here, replaced_other}, proofs.LinePlaces.{place_spot, spot_place}}
 use Rattle.fold_trees.{specs.LineTrees.{slot_at, slot_of, replaced, segment}, specs.FoldTrees.{IsReductionBy}, proofs.Segments.{segment_same, listed_segment}}

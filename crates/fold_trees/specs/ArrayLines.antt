@@ -1,6 +1,6 @@
 -- The lines of an array along one axis.
 use Rattle.std.specs.Prelude.{◌≡◌, ℕ, ◌+◌, ◌*◌, ◌/◌, ◌%◌, ℤ, pos, List, ◌++◌, length, set}
-use Rattle.scalar_fns.specs.Folds.{strided, line_start}
+use Rattle.item_fns.specs.Folds.{strided, line_start}
 
 -- the length of the lines, the step from one number of a line to the next, and all numbers in the order of the array
 pub record TreesValue : Type 0 where

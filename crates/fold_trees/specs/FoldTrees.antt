@@ -1,7 +1,7 @@
 -- The trees of the lines of an array that are folded by one of several functions.
 use Rattle.std.specs.Prelude.{◌≡◌, ℕ, ◌^◌, ◌<◌, ◌≤◌, Bool, true, false, ℤ, List, map, Result}
 use Rattle.arrays_core.{specs.declared.item.Item.TheVariants.{Num}, specs.declared.item.Kind.{Kind}}
-use Rattle.scalar_fns.{specs.Items.{number_item}, specs.RightFold.{fold_right}}
+use Rattle.item_fns.{specs.Items.{number_item}, specs.RightFold.{fold_right}}
 use Rattle.function_names.{specs.declared.scalar.Scalar2.{Scalar2}, specs.declared.scalar.Scalar2.TheVariants.{Plus, Times, Maximum, Minimum, And, Or}}
 use Rattle.fold_trees.specs.ArrayLines.{TreesValue, NewTreesValue, NewPlacesValue, FitBehind, FitNext}
 

@@ -1,6 +1,6 @@
 -- Blocks of interleaved lines: as many lines as the step.
 use Rattle.std.specs.Prelude.{◌≡◌, ℕ, ◌+◌, ◌*◌, ◌/◌, ◌%◌, ◌^◌, ◌<◌, ◌≤◌, ◌⊎◌, ℤ, List, length}
-use Rattle.scalar_fns.specs.Folds.{line_start}
+use Rattle.item_fns.specs.Folds.{line_start}
 use Rattle.fold_trees.{specs.declared.line.Line.{Line}, specs.LineTrees.{slot_of, nodes_in_line, node_of, IsKept, ArePartsKept}}
 
 -- a line of a block, by the first line of the block and an offset

@@ -2,7 +2,7 @@
 use Rattle.std.specs.Prelude.{◌≡◌, ◌<◌, ℤ, List, [], ◌∷◌, length, Result, Ok, ◌⊎◌}
 use Rattle.arrays_core.{specs.declared.item.Kind.{Kind}, specs.Items.{and_then}}
 use Rattle.function_names.specs.declared.scalar.Scalar2.{Scalar2}
-use Rattle.scalar_fns.{specs.Numbers.{dyadic_on_numbers, as_truth, truth}, specs.Folds.{folded}}
+use Rattle.item_fns.{specs.Numbers.{dyadic_on_numbers, as_truth, truth}, specs.Folds.{folded}}
 
 -- it is the fold of a list
 abbrev pub IsFold : Scalar2 → ℤ → List ℤ → Type 0

@@ -2,7 +2,7 @@
 use Rattle.std.specs.Prelude.{◌≡◌, ◌^◌, true, ℤ, pos, ◌+ℤ◌, ◌-ℤ◌, ◌≤ℤ◌, neg_ℤ, List, [], ◌∷◌, ◌&&◌, if◌then◌else◌, Result, Ok, Err, ◌⊎◌}
 use Rattle.std.{specs.Int.{int_max, int_min}, specs.List.{All}}
 use Rattle.arrays_core.{specs.declared.item.Kind.{Kind}, specs.declared.item.Kind.TheVariants.{Limit}}
-use Rattle.scalar_fns.specs.Numbers.{is_number}
+use Rattle.item_fns.specs.Numbers.{is_number}
 use Rattle.fold_trees.specs.declared.summary.Summary.{Summary}
 
 -- ---- the sums of the endings of a list, that of no numbers among them

@@ -12,7 +12,7 @@ use crate::product::Product;
 use crate::summary::Summary;
 use crate::truths::{AllTrue, AnyTrue};
 use arrays_core::Kind;
-use scalar_fns::Scalar2;
+use item_fns::Scalar2;
 use std::alloc::{AllocError, Global};
 use std::cell::Cell;
 use std::marker::Model;

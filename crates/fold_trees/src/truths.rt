@@ -6,7 +6,7 @@ ghost use Rattle.fold_trees.specs.Parts.{IsTruthFold, truth_value};
 
 use crate::part::Part;
 use arrays_core::Kind;
-use scalar_fns::kernels::{And, Or, TwoNumbers};
+use item_fns::kernels::{And, Or, TwoNumbers};
 
 /// A number that is no truth value.
 const NO_TRUTH: i64 = 2;

@@ -6,8 +6,9 @@ use Rattle.arrays_core.{specs.declared.item.Kind.TheVariants.{Length}, specs.Ite
 use Rattle.arrays_core.{specs.Shapes.{size, is_index_of, index_after, places_before}, specs.Arrays.{ArrayValue, collect}}
 use Rattle.arrays_core.{proofs.Shapes.{places_below, factor_le}, proofs.Order.{places_before-index_after, index_after-within}}
 use Rattle.function_names.specs.declared.scalar.Scalar2.{Scalar2}
-use Rattle.scalar_fns.{specs.Numbers.{dyadic_on_numbers}, specs.Items.{dyadic_on_items, number_item}, specs.NumberLists.{number_items}}
-use Rattle.scalar_fns.{specs.ScalarExtension.{extended}, specs.Folds.{folded}, proofs.ItemFolds.{folded_numbers}, specs.RightFold.{fold_right}}
+use Rattle.item_fns.{specs.Numbers.{dyadic_on_numbers}, specs.Items.{dyadic_on_items, number_item}, specs.NumberLists.{number_items}, specs.Folds.{folded}}
+use Rattle.item_fns.{proofs.ItemFolds.{folded_numbers}, specs.RightFold.{fold_right}}
+use Rattle.scalar_fns.specs.ScalarExtension.{extended}
 use Rattle.index_region.{specs.Checks.{form_of, Form, whole, limited}, specs.Arguments.{has_one_item}, proofs.Passing.{gives, limited_gives}}
 use Rattle.operator_fns.specs.InnerProduct.{row_rank, row_length, column_length, inner_length, inner_form, inner_item, inner_whole, all_or_last_error}
 use Rattle.operator_fns.specs.RowByColumn.{entry, all_met, folded_all, row_at, column_at, cell, IsGridOf, grid_of}

@@ -3,8 +3,8 @@ use Rattle.std.proofs.Common.{◌≡◌, ℕ, ◌+◌, ◌<◌, List, [], ◌∷
 use Rattle.std.{specs.List.{range_with_len}, proofs.lemmas.List.{ext_get_or}, proofs.lemmas.List.FromFn.{length-map-range_with_len, get_or-map-range_with_len}}
 use Rattle.arrays_core.{specs.declared.item.Item.{Item}, specs.declared.item.Kind.{Kind}, specs.Items.{and_then}, specs.Arrays.{ArrayValue}}
 use Rattle.function_names.specs.declared.scalar.Scalar2.{Scalar2}
-use Rattle.scalar_fns.{specs.Items.{dyadic_on_items}, specs.ScalarExtension.{extended}, specs.Folds.{folded}, specs.RightFold.{fold_right}}
-use Rattle.scalar_fns.proofs.ItemFolds.{some_folded}
+use Rattle.scalar_fns.specs.ScalarExtension.{extended}
+use Rattle.item_fns.{specs.Items.{dyadic_on_items}, specs.Folds.{folded}, specs.RightFold.{fold_right}, proofs.ItemFolds.{some_folded}}
 use Rattle.operator_fns.{specs.InnerProduct.{row_rank, inner_length, inner_item, all_or_last_error, products}, specs.RowByColumn.{all_met, folded_all}}
 use Rattle.operator_fns.proofs.Meetings.{length-met, met_at}
 

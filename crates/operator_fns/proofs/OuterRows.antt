@@ -6,7 +6,7 @@ use Rattle.std.{proofs.lemmas.List.FromFn.{length-map-range_with_len, get_or-map
 use Rattle.std.{proofs.lemmas.Nat.{div-add-mod'}, proofs.Math.Nat.{mod-lt, div-lt_iff_lt-mul}, specs.Result.{IsErr, IsErrAnd}}
 use Rattle.arrays_core.{specs.declared.item.Kind.{Kind}, specs.declared.fault.ApplyFault.{ApplyFault}}
 use Rattle.arrays_core.{specs.declared.fault.ApplyFault.TheVariants.{Kind as KindFault, NoMemory}, specs.Items.{all_or_first_error}}
-use Rattle.scalar_fns.specs.NumberLists.{IsListAnswerTo}
+use Rattle.item_fns.specs.NumberLists.{IsListAnswerTo}
 use Rattle.operator_fns.specs.OuterResults.{outer_results, LeavesOrFails}
 
 -- the first results of a list stand after some numbers

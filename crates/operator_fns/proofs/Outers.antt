@@ -5,7 +5,7 @@ use Rattle.arrays_core.{specs.declared.item.Item.TheVariants.{Num}, specs.declar
 use Rattle.arrays_core.{specs.Items.{fill, all_or_first_error}, specs.Shapes.{size, is_index_of, places_before}, specs.Arrays.{ArrayValue, collect, with_items}}
 use Rattle.arrays_core.proofs.Shapes.{places_below}
 use Rattle.function_names.specs.declared.scalar.Scalar2.{Scalar2}
-use Rattle.scalar_fns.{specs.Numbers.{dyadic_on_numbers}, specs.Items.{number_item}, specs.NumberLists.{number_items}}
+use Rattle.item_fns.{specs.Numbers.{dyadic_on_numbers}, specs.Items.{number_item}, specs.NumberLists.{number_items}}
 use Rattle.index_region.{specs.Checks.{Form, whole}, proofs.Passing.{limited_gives}}
 use Rattle.operator_fns.{specs.OuterProduct.{outer_form, outer_item, outer_whole}, specs.OuterResults.{outer_results}, proofs.OuterRows.{places_of_outer}}
 use Rattle.operator_fns.{specs.Laws.JoinedIndices.{parts, size-append}, proofs.Joined.{number_there}}

@@ -2,7 +2,7 @@
 use Rattle.std.proofs.Common.{◌≡◌, ℕ, zero, suc, ◌+◌, ◌-◌, ◌*◌, ◌/◌, ◌%◌, ◌<◌, ◌≤◌, List, length, get_or, ap, sym, ◌∙◌, arith, ℤ, pos, Ok}
 use Rattle.std.{proofs.lemmas.Nat.{div-mul-add, div-add-mod'}, proofs.Math.Nat.{mod-eq_of_lt}}
 use Rattle.function_names.specs.declared.scalar.Scalar2.TheVariants.{Plus, Times}
-use Rattle.scalar_fns.specs.Numbers.{dyadic_on_numbers}
+use Rattle.item_fns.specs.Numbers.{dyadic_on_numbers}
 use Rattle.operator_fns.{specs.declared.grid.Grid.{Grid}, specs.RowByColumn.{cell, IsGridOf, IsPlain}, specs.SmallProducts.{AddUp, IsProduct}}
 use Rattle.operator_fns.proofs.ProductSums.{small_entries, products_folded, same_sums}
 

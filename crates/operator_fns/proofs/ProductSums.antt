@@ -7,7 +7,7 @@ use Rattle.std.proofs.lemmas.List.{get_or-take, get_or-drop, get_or_append_left,
 use Rattle.std.{proofs.lemmas.List.Elements.{All-take, All-drop}, proofs.lemmas.Bool.{cases_lt}, proofs.lemmas.Nat.{div-mul-add, mod-mul-add}}
 use Rattle.arrays_core.specs.Items.{and_then}
 use Rattle.function_names.specs.declared.scalar.Scalar2.TheVariants.{Plus, Times}
-use Rattle.scalar_fns.{specs.Numbers.{dyadic_on_numbers, number_or_limit}, specs.Folds.{folded}, proofs.Within.{held_within, within_of}}
+use Rattle.item_fns.{specs.Numbers.{dyadic_on_numbers, number_or_limit}, specs.Folds.{folded}, proofs.Within.{held_within, within_of}}
 use Rattle.reduce_fns.{specs.Sum.{IsWithinBound, sum_of}, proofs.Firsts.{same_rules}}
 use Rattle.operator_fns.{specs.InnerProduct.{all_or_last_error}, specs.RowByColumn.{all_met, folded_all}}
 use Rattle.operator_fns.specs.SmallProducts.{sum_of_products, IsNoFurther, AddUp, EndsInSums, IsProduct}

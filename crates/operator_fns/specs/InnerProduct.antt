@@ -6,7 +6,8 @@ use Rattle.arrays_core.{specs.declared.item.Kind.TheVariants.{Length}, specs.Ite
 use Rattle.index_region.{specs.Checks.{Form, check, limited, whole}, specs.Arguments.{has_one_item}, specs.Boxes.{whole_of}}
 use Rattle.change_core.{specs.RuleModels.{RuleModel, Use}, specs.Sourced.{two_rule}}
 use Rattle.function_names.specs.declared.scalar.Scalar2.{Scalar2}
-use Rattle.scalar_fns.{specs.Items.{dyadic_on_items}, specs.ScalarExtension.{extended}, specs.RightFold.{fold_right}}
+use Rattle.scalar_fns.specs.ScalarExtension.{extended}
+use Rattle.item_fns.{specs.Items.{dyadic_on_items}, specs.RightFold.{fold_right}}
 
 -- how many axes of a are not folded along: all but the last
 abbrev pub row_rank : ArrayValue → ℕ

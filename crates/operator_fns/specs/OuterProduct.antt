@@ -5,7 +5,7 @@ use Rattle.arrays_core.specs.Arrays.{ArrayValue, item_of}
 use Rattle.index_region.specs.Checks.{Form, limited, whole}
 use Rattle.change_core.{specs.RuleModels.{Growth, RuleModel, Use}, specs.Growth.{growing, two_grow}, specs.Sourced.{two_rule}, specs.Ways.{front, back}}
 use Rattle.function_names.specs.declared.scalar.Scalar2.{Scalar2}
-use Rattle.scalar_fns.specs.Items.{dyadic_on_items}
+use Rattle.item_fns.specs.Items.{dyadic_on_items}
 
 -- the checks, and the shape and the type of the result
 abbrev pub outer_form : ArrayValue → ArrayValue → Result Form Kind

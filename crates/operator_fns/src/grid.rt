@@ -5,17 +5,17 @@ ghost use Rattle.arrays_core.specs.declared.item.ItemType.TheVariants.{Nums};
 ghost use Rattle.arrays_core.specs.Arrays.{collect, IsAnswerTo};
 ghost use Rattle.arrays_core.specs.Shapes.{size, places_before, IsWithinLimits};
 ghost use Rattle.function_names.specs.declared.scalar.Scalar2.TheVariants.{Plus as Sum, Times as Product};
-ghost use Rattle.scalar_fns.specs.Numbers.{dyadic_on_numbers};
-ghost use Rattle.scalar_fns.specs.Items.{number_item};
+ghost use Rattle.item_fns.specs.Numbers.{dyadic_on_numbers};
+ghost use Rattle.item_fns.specs.Items.{number_item};
 ghost use Rattle.operator_fns.specs.RowByColumn.{cell, IsGridOf, IsPlain};
 
 use crate::met_numbers::MetNumbers;
 use crate::row_by_column::{NumberLines, StridedLine, fold_row};
 use crate::small_products::{add_up, small_products};
 use arrays_core::{ApplyFault, Array, Kind, Shape, size};
+use item_fns::kernels::{And, Equal, Maximum, Minimum, Or, Plus, Times, TwoNumbers};
+use item_fns::{Scalar2, WithFunction, with_function};
 use reduce_fns::{NumberFunction, collect_numbers};
-use scalar_fns::kernels::{And, Equal, Maximum, Minimum, Or, Plus, Times, TwoNumbers};
-use scalar_fns::{Scalar2, WithFunction, with_function};
 use std::alloc::Global;
 
 /// How the rows of one list of numbers and the columns of another lie.

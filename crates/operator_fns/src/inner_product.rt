@@ -24,8 +24,8 @@ use arrays_core::{
 };
 use change_core::Announced;
 use index_region::{IndexBox, Intervals, Primitive, Seen, apply, limited};
+use item_fns::Scalar2;
 use reduce_fns::{identity_item, stride};
-use scalar_fns::Scalar2;
 use std::alloc::Global;
 
 /// How many axes are not folded along: all but the last.

@@ -6,18 +6,18 @@ ghost use Rattle.arrays_core.specs.declared.item.ItemType.TheVariants.{Nums};
 ghost use Rattle.arrays_core.specs.Items.{all_or_first_error};
 ghost use Rattle.arrays_core.specs.Shapes.{size, IsWithinLimits};
 ghost use Rattle.arrays_core.specs.Arrays.{with_items, IsAnswerTo};
-ghost use Rattle.scalar_fns.specs.Numbers.{dyadic_on_numbers};
-ghost use Rattle.scalar_fns.specs.Folds.{folded};
-ghost use Rattle.scalar_fns.specs.NumberLists.{number_items, IsListAnswerTo};
+ghost use Rattle.item_fns.specs.Numbers.{dyadic_on_numbers};
+ghost use Rattle.item_fns.specs.Folds.{folded};
+ghost use Rattle.item_fns.specs.NumberLists.{number_items, IsListAnswerTo};
 ghost use Rattle.operator_fns.specs.InnerProduct.{all_or_last_error};
 ghost use Rattle.operator_fns.specs.RowByColumn.{entry, all_met, cell, IsInside, IsGridOf};
 
 use crate::grid::Grid;
 use crate::row_by_column::StridedLine;
 use arrays_core::{ApplyFault, Array, Kind, Shape, repeated, room_of};
-use scalar_fns::folds::fold_list;
-use scalar_fns::kernels::TwoNumbers;
-use scalar_fns::{Scalar2, WithFunction, with_function};
+use item_fns::folds::fold_list;
+use item_fns::kernels::TwoNumbers;
+use item_fns::{Scalar2, WithFunction, with_function};
 use std::alloc::Global;
 
 /// Writes what a function gives for each number of a row with the number of a column that it meets, from the last to the

@@ -11,7 +11,7 @@ ghost use Rattle.arrays_core.specs.Shapes.{size, IsWithinLimits};
 ghost use Rattle.index_region.specs.ArgumentLists.{of_two_arguments};
 ghost use Rattle.index_region.specs.Answers.{IsFormAnswerTo, IsPlaceOf, HasTypeOf};
 ghost use Rattle.change_core.specs.Sourced.{uses_of_two};
-ghost use Rattle.scalar_fns.specs.NumberLists.{number_items, IsListAnswerTo};
+ghost use Rattle.item_fns.specs.NumberLists.{number_items, IsListAnswerTo};
 ghost use Rattle.operator_fns.specs.OuterResults.{outer_results, with_results, LeavesOrFails};
 ghost use Rattle.operator_fns.specs.OuterProduct.{outer_form, outer_item, outer_whole, front_use, back_use};
 ghost use Rattle.operator_fns.specs.Laws.OuterProduct.{outer_tight};
@@ -24,8 +24,8 @@ use arrays_core::{
 };
 use change_core::Announced;
 use index_region::{IndexBox, Intervals, Primitive, Seen, apply, limited};
-use scalar_fns::kernels::TwoNumbers;
-use scalar_fns::{Scalar2, WithFunction, two, with_function};
+use item_fns::kernels::TwoNumbers;
+use item_fns::{Scalar2, WithFunction, two, with_function};
 use std::alloc::Global;
 
 /// Puts what a function gives for a number with each of others at the end of a list.

@@ -6,13 +6,13 @@ ghost use Rattle.arrays_core.specs.Limits.{most_places};
 ghost use Rattle.arrays_core.specs.Items.{fill, type_of};
 ghost use Rattle.arrays_core.specs.declared.item.ItemType.TheVariants.{Nums};
 ghost use Rattle.arrays_core.specs.declared.item.Kind.{Kind as AKind};
-ghost use Rattle.scalar_fns.specs.Items.{dyadic_on_items};
+ghost use Rattle.item_fns.specs.Items.{dyadic_on_items};
 ghost use Rattle.operator_fns.specs.RowByColumn.{entry, IsInside, last_error_or, folded_all};
 
 use arrays_core::{Item, Kind};
 use index_region::Seen;
-use scalar_fns::kernels::TwoNumbers;
-use scalar_fns::{Scalar2, two};
+use item_fns::kernels::TwoNumbers;
+use item_fns::{Scalar2, two};
 
 /// Entries of a list that stand a stride apart.
 #[derive(Clone, Copy)]

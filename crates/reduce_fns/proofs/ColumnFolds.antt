@@ -3,7 +3,7 @@ use Rattle.std.proofs.Common.{◌≡◌, refl, inl, inr, ℕ, ◌+◌, ◌-◌, 
 use Rattle.std.{proofs.lemmas.Bool.{cases_lt}, proofs.lemmas.List.{ext_get_or, get_or-take, get_or-drop, get_or_append_left, get_or-append_right}}
 use Rattle.std.{proofs.lemmas.Nat.{div-mul-add, mod-mul-add, div-add-mod'}, proofs.Math.Nat.{mul-le-mul_right}}
 use Rattle.arrays_core.specs.declared.item.Kind.{Kind}
-use Rattle.scalar_fns.{specs.Folds.{strided, folded, line_start}, proofs.RightFolds.{length-strided, get_or-strided}}
+use Rattle.item_fns.{specs.Folds.{strided, folded, line_start}, proofs.RightFolds.{length-strided, get_or-strided}}
 use Rattle.reduce_fns.{specs.Columns.{EndsInFolds}, proofs.Folds.{place_high}}
 
 -- a line within a part of a list

@@ -3,8 +3,8 @@ use Rattle.std.proofs.Common.{◌≡◌, suc, ◌<◌, List, [], ◌∷◌, ◌+
 use Rattle.std.{specs.Int.{int_max, int_min}, specs.List.{All}, proofs.lemmas.Int.{ints, clamps}}
 use Rattle.arrays_core.{specs.declared.item.Kind.{Kind}, specs.declared.item.Kind.TheVariants.{Limit}, specs.Items.{and_then}}
 use Rattle.function_names.specs.declared.scalar.Scalar2.TheVariants.{Plus}
-use Rattle.scalar_fns.{specs.Numbers.{dyadic_on_numbers, number_or_limit}, specs.Identities.{least, greatest}, specs.Folds.{folded}}
-use Rattle.scalar_fns.proofs.Within.{Within, held_within, held_ok, held_error}
+use Rattle.item_fns.{specs.Numbers.{dyadic_on_numbers, number_or_limit}, specs.Identities.{least, greatest}, specs.Folds.{folded}}
+use Rattle.item_fns.proofs.Within.{Within, held_within, held_ok, held_error}
 use Rattle.reduce_fns.{specs.LeftFolds.{fold_on, folded_left}, proofs.Firsts.{Given}}
 
 -- ---- the sum of a list, and the greatest and the least sum of an ending of it

@@ -1,7 +1,7 @@
 -- Sums that the machine gives with a flag.
 use Rattle.std.{proofs.Common.{◌≡◌, ◌∙◌, ap, sym, refl, ◌+ℤ◌, ℤ, Bool, true, false, ◌&&◌, not, Ok, SFits, w64}, specs.Prelude.{FitsSigned}}
 use Rattle.std.{specs.Bool.{FalseIff}, specs.Int.{int_wrapping_add}, proofs.lemmas.Bool.{false≢true}, proofs.lemmas.Int.{wrapping_add_is, int_wrap_fits}}
-use Rattle.scalar_fns.{specs.Numbers.{number_or_limit}, proofs.Within.{held_within, within_of}}
+use Rattle.item_fns.{specs.Numbers.{number_or_limit}, proofs.Within.{held_within, within_of}}
 
 -- a sum that fits is what the machine gives
 sum_fits : (a b : ℤ) → SFits w64 a → SFits w64 b → SFits w64 (a +ℤ b) → number_or_limit (a +ℤ b) ≡ Ok (int_wrapping_add w64 a b)

@@ -3,7 +3,7 @@ use Rattle.std.proofs.Common.{◌≡◌, ℕ, ◌+◌, ◌-◌, ◌*◌, ◌<◌
 use Rattle.std.{proofs.lemmas.List.{length-map, ext_get_or}, proofs.lemmas.List.Elements.{All-get_or}, proofs.Math.ListN.{get_or-map}}
 use Rattle.arrays_core.{specs.declared.item.Item.{Item}, specs.declared.item.Item.TheVariants.{Num, Char}, specs.declared.item.ItemType.TheVariants.{Nums}}
 use Rattle.arrays_core.{specs.Items.{fill, type_of}, specs.Arrays.{ArrayValue, IsArray}}
-use Rattle.scalar_fns.{specs.Folds.{strided}, proofs.RightFolds.{length-strided, get_or-strided}}
+use Rattle.item_fns.{specs.Folds.{strided}, proofs.RightFolds.{length-strided, get_or-strided}}
 use Rattle.index_region.specs.Arguments.{number_of, numbers}
 use Rattle.reduce_fns.proofs.Folds.{place_high}
 

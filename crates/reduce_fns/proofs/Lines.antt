@@ -4,7 +4,7 @@ use Rattle.std.{proofs.lemmas.List.{length-drop, length-take, length-append, ext
 use Rattle.std.proofs.lemmas.List.FromFn.{length-map-range_with_len, get_or-map-range_with_len}
 use Rattle.arrays_core.{specs.Shapes.{size, is_index_of, places_before, IsWithinLimits}, specs.Arrays.{ArrayValue, item_of}, specs.Items.{fill}}
 use Rattle.arrays_core.proofs.Shapes.{as_long, places_below}
-use Rattle.scalar_fns.{specs.Folds.{strided}, proofs.RightFolds.{length-strided, get_or-strided}}
+use Rattle.item_fns.{specs.Folds.{strided}, proofs.RightFolds.{length-strided, get_or-strided}}
 use Rattle.index_region.specs.Axes.{places_along}
 use Rattle.reduce_fns.{specs.Lines.{line}, specs.Laws.LineIndices.{inside}}
 

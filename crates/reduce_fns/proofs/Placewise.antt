@@ -6,7 +6,7 @@ use Rattle.arrays_core.{specs.declared.item.Item.{Item}, specs.declared.item.Ite
 use Rattle.arrays_core.{specs.declared.item.Kind.{Kind}, specs.Items.{all_or_first_error}}
 use Rattle.arrays_core.{specs.Shapes.{size, indices, index_after, is_index_of, places_before}, specs.Arrays.{collect, with_items}}
 use Rattle.arrays_core.proofs.Order.{length-indices, get_or-indices, places_before-index_after, index_after-within}
-use Rattle.scalar_fns.{specs.Items.{number_item}, specs.NumberLists.{number_items}, proofs.Joint.{collected}}
+use Rattle.item_fns.{proofs.Collected.{collected}, specs.Items.{number_item}, specs.NumberLists.{number_items}}
 
 -- the numbers of a rule are those of the array that it gives
 pub numbers_collected : (shape : List ℕ) (number : ℕ → Result ℤ Kind)

@@ -8,8 +8,8 @@ use Rattle.arrays_core.{specs.declared.item.Item.{Item}, specs.declared.item.Ite
 use Rattle.arrays_core.{specs.declared.item.ItemType.TheVariants.{Nums}, specs.Items.{fill, and_then}, specs.Shapes.{size, is_index_of, places_before}}
 use Rattle.arrays_core.{specs.Arrays.{ArrayValue, item_of, collect}, proofs.Shapes.{head_of, places_below}}
 use Rattle.function_names.{specs.declared.scalar.Scalar2.{Scalar2}, specs.declared.along.Along.{Along}, specs.Axes.{axis_at}}
-use Rattle.scalar_fns.{specs.Numbers.{dyadic_on_numbers}, specs.Items.{number_item}, specs.Folds.{strided, folded, line_start}}
-use Rattle.scalar_fns.{proofs.RightFolds.{length-strided, get_or-strided}, specs.RightFold.{fold_right}, proofs.ItemFolds.{number_items_folded}}
+use Rattle.item_fns.{specs.Numbers.{dyadic_on_numbers}, specs.Items.{number_item}, specs.Folds.{strided, folded, line_start}}
+use Rattle.item_fns.{proofs.RightFolds.{length-strided, get_or-strided}, specs.RightFold.{fold_right}, proofs.ItemFolds.{number_items_folded}}
 use Rattle.index_region.{specs.Checks.{form_of}, specs.Axes.{places_along}}
 use Rattle.reduce_fns.{specs.Reduce.{reduce_form, reduce_item, reduce_whole}, proofs.Placewise.{collected_same}, specs.Lines.{line}}
 use Rattle.reduce_fns.{proofs.Lines.{line-strided, size-drop-le}, specs.Laws.ReducedShapes.{reduce_facts}}

@@ -3,7 +3,7 @@ use Rattle.std.proofs.Common.{◌≡◌, ℕ, sym, suc, ◌+◌, ◌*◌, ◌<�
 use Rattle.std.{specs.List.{All}, proofs.lemmas.Int.{ints, clamps}}
 use Rattle.arrays_core.specs.Items.{and_then}
 use Rattle.function_names.specs.declared.scalar.Scalar2.TheVariants.{Plus}
-use Rattle.scalar_fns.{specs.Numbers.{dyadic_on_numbers}, specs.Folds.{folded}, proofs.Within.{held_within}}
+use Rattle.item_fns.{specs.Numbers.{dyadic_on_numbers}, specs.Folds.{folded}, proofs.Within.{held_within}}
 use Rattle.reduce_fns.{specs.LeftFolds.{fold_on, folded_left}, specs.Sum.{IsSmall, sum_of}, proofs.Endings.{total, most, fewest, folded_sum}}
 
 pub sum_total : (x : ℤ) (rest : List ℤ) → total x rest ≡ sum_of (x ∷ rest)

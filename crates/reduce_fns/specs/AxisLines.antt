@@ -2,7 +2,7 @@
 use Rattle.std.specs.Prelude.{ℕ, ℤ, pos, List, Result}
 use Rattle.arrays_core.{specs.declared.item.ItemType.TheVariants.{Nums}, specs.declared.item.Kind.{Kind}, specs.Arrays.{ArrayValue, collect}}
 use Rattle.arrays_core.specs.Shapes.{places_before}
-use Rattle.scalar_fns.{specs.Items.{number_item}, specs.Folds.{strided, folded, line_start}}
+use Rattle.item_fns.{specs.Items.{number_item}, specs.Folds.{strided, folded, line_start}}
 use Rattle.reduce_fns.specs.declared.axis_lines.AxisLines.{AxisLines}
 
 -- the fold of the line of a place

@@ -1,7 +1,7 @@
 -- Folds of columns, a row at a time.
 use Rattle.std.specs.Prelude.{◌≡◌, ℕ, ◌<◌, ◌++◌, ℤ, pos, List, length, get_or, Result, Ok}
 use Rattle.arrays_core.specs.declared.item.Kind.{Kind}
-use Rattle.scalar_fns.specs.Folds.{strided, folded}
+use Rattle.item_fns.specs.Folds.{strided, folded}
 
 -- what a function gives for each number of a row and the one below it
 pub record ArePutOver (f : ℤ → ℤ → Result ℤ Kind) (row below made : List ℤ) : Type 0 where

@@ -5,7 +5,7 @@ use Rattle.arrays_core.{specs.declared.item.Kind.{Kind}, specs.declared.item.Kin
 use Rattle.function_names.{specs.declared.along.Along.{Along}, specs.Axes.{is_axis, axis_at}, specs.declared.scalar.Scalar2.{Scalar2}}
 use Rattle.index_region.{specs.Checks.{Form, check, limited, whole}, specs.Axes.{places_along}, specs.Arguments.{is_scalar}}
 use Rattle.change_core.{specs.RuleModels.{RuleModel, Use}, specs.Growth.{growing}, specs.Sourced.{one_rule}}
-use Rattle.scalar_fns.specs.RightFold.{fold_right}
+use Rattle.item_fns.specs.RightFold.{fold_right}
 use Rattle.reduce_fns.{specs.Lines.{line}, specs.Growth.{lines_grow}}
 
 -- that of b where each line is one item

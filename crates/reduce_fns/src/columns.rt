@@ -8,7 +8,7 @@ ghost use Rattle.reduce_fns.specs.Columns.{ArePutOver, AreColumnFolds, EndsInFol
 
 use crate::axis_lines::AxisLines;
 use arrays_core::{ApplyFault, Kind, room_of};
-use scalar_fns::kernels::{Plus, TwoNumbers};
+use item_fns::kernels::{Plus, TwoNumbers};
 use std::alloc::Global;
 
 /// A function of two numbers that puts a whole row together with the folds of the columns below it.

@@ -7,8 +7,8 @@ ghost use Rattle.arrays_core.specs.declared.item.Kind.{Kind as AKind};
 ghost use Rattle.arrays_core.specs.Items.{all_or_first_error};
 ghost use Rattle.arrays_core.specs.Shapes.{size, places_before, IsWithinLimits};
 ghost use Rattle.arrays_core.specs.Arrays.{collect, with_items, IsAnswerTo};
-ghost use Rattle.scalar_fns.specs.Items.{number_item};
-ghost use Rattle.scalar_fns.specs.NumberLists.{number_items, IsListAnswerTo};
+ghost use Rattle.item_fns.specs.Items.{number_item};
+ghost use Rattle.item_fns.specs.NumberLists.{number_items, IsListAnswerTo};
 
 use arrays_core::{ApplyFault, Array, Kind, Shape, room_of, size};
 use std::alloc::Global;

@@ -10,7 +10,7 @@ ghost use Rattle.index_region.specs.ArgumentLists.{of_one_argument};
 ghost use Rattle.index_region.specs.Answers.{IsFormAnswerTo, IsPlaceOf, HasTypeOf};
 ghost use Rattle.change_core.specs.Sourced.{uses_of_one};
 ghost use Rattle.function_names.specs.declared.scalar.Scalar2.TheVariants.{Plus as Sum};
-ghost use Rattle.scalar_fns.specs.Numbers.{dyadic_on_numbers};
+ghost use Rattle.item_fns.specs.Numbers.{dyadic_on_numbers};
 ghost use Rattle.reduce_fns.specs.AxisLines.{fold_at, line_folds};
 ghost use Rattle.reduce_fns.specs.Reduce.{reduce_form, reduce_item, reduce_whole, reduce_use};
 ghost use Rattle.reduce_fns.specs.Laws.Reduce.{reduce_tight};
@@ -26,9 +26,9 @@ use crate::sum::sum_list;
 use arrays_core::{ApplyFault, Array, Item, ItemType, Kind, Shape, shape_of, without_axis};
 use change_core::Announced;
 use index_region::{Along, IndexBox, Intervals, Primitive, Seen, apply, limited};
-use scalar_fns::folds::fold_numbers;
-use scalar_fns::kernels::{Plus, TwoNumbers};
-use scalar_fns::{Scalar2, WithFunction, with_function};
+use item_fns::folds::fold_numbers;
+use item_fns::kernels::{Plus, TwoNumbers};
+use item_fns::{Scalar2, WithFunction, with_function};
 use std::alloc::Global;
 
 /// The fold of each line.

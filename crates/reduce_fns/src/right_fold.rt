@@ -6,15 +6,15 @@ ghost use Rattle.arrays_core.specs.Items.{fill, type_of};
 ghost use Rattle.arrays_core.specs.declared.item.Item.TheVariants.{Num};
 ghost use Rattle.arrays_core.specs.declared.item.ItemType.TheVariants.{Nums};
 ghost use Rattle.arrays_core.specs.Shapes.{is_index_of, size, IsWithinLimits};
-ghost use Rattle.scalar_fns.specs.Identities.{identity_of};
-ghost use Rattle.scalar_fns.specs.Folds.{strided};
+ghost use Rattle.item_fns.specs.Identities.{identity_of};
+ghost use Rattle.item_fns.specs.Folds.{strided};
 ghost use Rattle.index_region.specs.Arguments.{numbers};
-ghost use Rattle.scalar_fns.specs.RightFold.{identity_item, fold_right};
+ghost use Rattle.item_fns.specs.RightFold.{identity_item, fold_right};
 ghost use Rattle.reduce_fns.specs.Lines.{line};
 
 use arrays_core::{Item, Kind, position, size, with_axis};
 use index_region::Seen;
-use scalar_fns::{Scalar2, identity, two};
+use item_fns::{Scalar2, identity, two};
 use std::alloc::{AllocError, Global};
 
 /// What a fold of no items gives: the identity of the function, or DOMAIN where it has none.

@@ -3,15 +3,15 @@
 ghost use Rattle.std.specs.Prelude.{◌≡◌, ◌<◌, ◌≤◌, All, length};
 ghost use Rattle.arrays_core.specs.Limits.{most_places};
 ghost use Rattle.function_names.specs.declared.scalar.Scalar2.TheVariants.{Plus as Sum};
-ghost use Rattle.scalar_fns.specs.Numbers.{dyadic_on_numbers};
-ghost use Rattle.scalar_fns.specs.Folds.{folded};
+ghost use Rattle.item_fns.specs.Numbers.{dyadic_on_numbers};
+ghost use Rattle.item_fns.specs.Folds.{folded};
 ghost use Rattle.reduce_fns.specs.Sum.{IsSmall, sum_of};
 
 use crate::bounds::are_within;
 use crate::limits::MOST_ITEMS;
 use arrays_core::Kind;
-use scalar_fns::folds::fold_list;
-use scalar_fns::kernels::Plus;
+use item_fns::folds::fold_list;
+use item_fns::kernels::Plus;
 
 /// Numbers that are less than this, and no further below 0, add up within 64 bits: as many of them as an array may have.
 pub const SMALL: u64 = 8_796_093_022_208;

@@ -5,7 +5,7 @@ ghost use Rattle.fold_trees.specs.FoldTrees.{has_trees as has_such};
 
 use arrays_core::Kind;
 use fold_trees::{FoldTrees, has_trees};
-use scalar_fns::{Scalar2, two_numbers};
+use item_fns::{Scalar2, two_numbers};
 use std::alloc::{AllocError, Global};
 use std::test::Fail;
 

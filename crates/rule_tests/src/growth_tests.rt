@@ -9,8 +9,9 @@ use arrays_core::{Array, Fault, Kind};
 use change_core::{Meter, Rule};
 use change_rules::refresh_with_cost;
 use index_region::{Along, Delta, Seen};
+use item_fns::Scalar2;
 use operator_fns::{Outer, Reduce};
-use scalar_fns::{EachDyadic, Scalar2};
+use scalar_fns::EachDyadic;
 use selection_fns::Index;
 use std::alloc::Global;
 

@@ -7,7 +7,8 @@ use arrays_core::{
 };
 use change_rules::{Meter, Rule, Seen};
 use index_region::IndexBox;
-use scalar_fns::{EachDyadic, Scalar1, Scalar2, common_shape, identity, one, two};
+use item_fns::{Scalar1, Scalar2, identity, one, two};
+use scalar_fns::{EachDyadic, common_shape};
 use std::alloc::Global;
 
 /// Whether a number that is written at an index list of a table of zeros is read there, and nowhere before it.

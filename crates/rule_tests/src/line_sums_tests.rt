@@ -14,8 +14,8 @@ use arrays_core::{Array, Fault, Item, ItemType, Kind, is_within_limits, shape_of
 use change_core::Meter;
 use fold_trees::{FoldTrees, has_trees};
 use index_region::{Along, Delta, Patch, Seen};
+use item_fns::Scalar2;
 use operator_fns::{Reduce, SumTree};
-use scalar_fns::Scalar2;
 use std::alloc::Global;
 use sum_rules::{LineSums, NewLines, refresh_sums, refresh_totals_with_cost};
 

@@ -2,7 +2,8 @@
 
 use crate::fixtures::{reach_of_left, zeros};
 use change_rules::Reach;
-use scalar_fns::{EachDyadic, Scalar2};
+use item_fns::Scalar2;
+use scalar_fns::EachDyadic;
 use std::alloc::Global;
 
 /// What the sum of a vector of five items and another reaches where the second and the third of the five changed.

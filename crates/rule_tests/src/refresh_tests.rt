@@ -6,7 +6,8 @@ ghost use Rattle.index_region.specs.declared.delta.Delta.TheVariants.{Same};
 use crate::fixtures::{patch_of, vector};
 use arrays_core::{Array, Fault, Item};
 use change_rules::{Delta, Meter, Seen, refresh, refreshed_place};
-use scalar_fns::{EachDyadic, EachMonadic, Scalar1, Scalar2};
+use item_fns::{Scalar1, Scalar2};
+use scalar_fns::{EachDyadic, EachMonadic};
 use std::alloc::Global;
 
 /// The change of a product where the left argument changed and the right one is as it was.

@@ -7,9 +7,10 @@ use Rattle.arrays_core.{specs.Building.{listed}, specs.declared.item.Item.{Item}
 use Rattle.arrays_core.{specs.declared.item.ItemType.TheVariants.{Nums}, specs.declared.item.Kind.{Kind}}
 use Rattle.arrays_core.{specs.Items.{all_or_first_error, after, fill, type_of}, specs.Shapes.{size, index_after}}
 use Rattle.arrays_core.specs.Arrays.{ArrayValue, IsArray, collect, with_items}
-use Rattle.scalar_fns.{specs.Items.{dyadic_on_items, number_item}, specs.ScalarExtension.{common, extended, dyadic_on_arrays, for_shape}}
-use Rattle.scalar_fns.{specs.NumberLists.{number_items}, specs.Characters.{equality, told, answers_of, character_at, AreTold}}
-use Rattle.scalar_fns.{specs.Laws.Extension.{ExtendsTo, common_extends}, proofs.Joint.{collected, IsOf, extended_is, extended_place, place_in}}
+use Rattle.scalar_fns.specs.ScalarExtension.{common, extended, dyadic_on_arrays, for_shape}
+use Rattle.scalar_fns.{specs.Characters.{equality, told, answers_of, character_at, AreTold}, specs.Laws.Extension.{ExtendsTo, common_extends}}
+use Rattle.scalar_fns.proofs.Joint.{IsOf, extended_is, extended_place, place_in}
+use Rattle.item_fns.{specs.Items.{dyadic_on_items, number_item}, specs.NumberLists.{number_items}, proofs.Collected.{collected}}
 
 all_ok : (zs : List ℤ) → all_or_first_error {E = Kind} (map (λ z. Ok z) zs) ≡ Ok zs
 all_ok [] = refl

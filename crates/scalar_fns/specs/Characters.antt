@@ -3,7 +3,7 @@ use Rattle.std.specs.Prelude.{◌≡◌, ℕ, ◌<◌, ◌==◌, ℤ, pos, Bool,
 use Rattle.arrays_core.{specs.declared.item.Item.TheVariants.{Num}, specs.declared.item.ItemType.TheVariants.{Nums}, specs.declared.item.Kind.{Kind}}
 use Rattle.arrays_core.specs.Arrays.{ArrayValue}
 use Rattle.function_names.{specs.declared.scalar.Scalar2.{Scalar2}, specs.declared.scalar.Scalar2.TheVariants.{Equal, NotEqual}}
-use Rattle.scalar_fns.specs.Numbers.{truth}
+use Rattle.item_fns.specs.Numbers.{truth}
 
 -- the function that asks whether items are equal, or the one that asks whether they differ
 abbrev pub equality : Bool → Scalar2

@@ -3,7 +3,8 @@ use Rattle.std.specs.Prelude.{ℕ, ◌==◌, if◌then◌else◌, List, [], ◌�
 use Rattle.arrays_core.{specs.declared.item.Item.{Item}, specs.declared.item.ItemType.TheVariants.{Nums}, specs.declared.item.Kind.{Kind}}
 use Rattle.arrays_core.{specs.Arrays.{ArrayValue}, specs.Shapes.{size}}
 use Rattle.function_names.specs.declared.scalar.Scalar2.{Scalar2}
-use Rattle.scalar_fns.{specs.Items.{dyadic_on_items}, specs.ScalarExtension.{common, extended, for_shape}, specs.Growth.{each_dyadic_grows}}
+use Rattle.scalar_fns.{specs.ScalarExtension.{common, extended, for_shape}, specs.Growth.{each_dyadic_grows}}
+use Rattle.item_fns.specs.Items.{dyadic_on_items}
 use Rattle.index_region.{specs.Boxes.{whole_of}, specs.Checks.{Form, form_of}}
 use Rattle.change_core.{specs.RuleModels.{RuleModel, Use}, specs.Growth.{growing}, specs.Sourced.{Spread, two_rule}}
 

@@ -3,7 +3,8 @@ use Rattle.std.specs.Prelude.{ℕ, List, Result, Ok}
 use Rattle.arrays_core.{specs.declared.item.Item.{Item}, specs.declared.item.ItemType.TheVariants.{Nums}, specs.declared.item.Kind.{Kind}}
 use Rattle.arrays_core.specs.Arrays.{ArrayValue, item_of}
 use Rattle.function_names.specs.declared.scalar.Scalar1.{Scalar1}
-use Rattle.scalar_fns.{specs.Items.{monadic_on_item}, specs.Growth.{each_monadic_grows}}
+use Rattle.scalar_fns.specs.Growth.{each_monadic_grows}
+use Rattle.item_fns.specs.Items.{monadic_on_item}
 use Rattle.index_region.specs.Checks.{Form, form_of}
 use Rattle.change_core.{specs.RuleModels.{RuleModel}, specs.Sourced.{one_rule}, specs.Growth.{growing}, specs.Ways.{alike}}
 

@@ -5,7 +5,7 @@ use Rattle.arrays_core.{specs.declared.item.Item.{Item}, specs.declared.item.Ite
 use Rattle.arrays_core.{specs.declared.item.Kind.TheVariants.{Rank, Length}, specs.Items.{fill}, specs.Shapes.{size, places_before}}
 use Rattle.arrays_core.specs.Arrays.{ArrayValue, item_of, collect}
 use Rattle.function_names.{specs.declared.scalar.Scalar1.{Scalar1}, specs.declared.scalar.Scalar2.{Scalar2}}
-use Rattle.scalar_fns.specs.Items.{monadic_on_item, dyadic_on_items}
+use Rattle.item_fns.specs.Items.{monadic_on_item, dyadic_on_items}
 
 abbrev pub same_shape : List ℕ → List ℕ → Bool
 same_shape = bytes_eq

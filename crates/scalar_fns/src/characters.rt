@@ -4,8 +4,8 @@ ghost use Rattle.std.specs.Prelude.{◌≡◌, ◌≢◌, ◌==◌, length, get_
 ghost use Rattle.arrays_core.specs.Building.{listed};
 ghost use Rattle.scalar_fns.specs.Characters.{told, AreTold};
 
-use crate::numbers::truth;
 use arrays_core::room_of;
+use item_fns::truth;
 use std::alloc::{AllocError, Global};
 
 /// 1 or 0: whether two items are the same, or where that is not asked whether they differ.

@@ -8,12 +8,12 @@ ghost use Rattle.scalar_fns.specs.Laws.EachDyadic.{each_dyadic_tight};
 ghost use Rattle.scalar_fns.specs.Laws.EachDyadicGrowth.{each_dyadic_growing};
 ghost use Rattle.scalar_fns.specs.Growth.{is_extended_to};
 
-use crate::items::two;
 use crate::scalar_extension::{apply_two, common_shape, extended_item};
 use arrays_core::{ApplyFault, Array, Item, ItemType, Kind, Shape};
 use change_core::Announced;
 use function_names::Scalar2;
 use index_region::{IndexBox, Intervals, Primitive, Seen, apply};
+use item_fns::two;
 use std::alloc::Global;
 
 /// A scalar function of two arrays, item by item.

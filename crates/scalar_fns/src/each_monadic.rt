@@ -6,12 +6,12 @@ ghost use Rattle.scalar_fns.specs.EachMonadic.{each_monadic_form, each_monadic_i
 ghost use Rattle.scalar_fns.specs.Laws.EachMonadic.{each_monadic_tight};
 ghost use Rattle.scalar_fns.specs.Laws.EachMonadicGrowth.{each_monadic_growing};
 
-use crate::items::one;
 use crate::scalar_extension::apply_one;
 use arrays_core::{ApplyFault, Array, Item, ItemType, Kind, Shape, position, shape_of};
 use change_core::Announced;
 use function_names::Scalar1;
 use index_region::{IndexBox, Intervals, Primitive, Seen, apply};
+use item_fns::one;
 use std::alloc::Global;
 
 /// A scalar function of one array, item by item.

@@ -5,20 +5,19 @@ ghost use Rattle.arrays_core.specs.Shapes.{size, is_index_of, IsWithinLimits, Is
 ghost use Rattle.arrays_core.specs.Arrays.{IsAnswerTo, IsArray, item_of, scalar_of, with_items};
 ghost use Rattle.arrays_core.specs.declared.item.ItemType.TheVariants.{Nums};
 ghost use Rattle.scalar_fns.specs.ScalarExtension.{common, extended, monadic_on_array, dyadic_on_arrays};
-ghost use Rattle.scalar_fns.specs.Items.{monadic_on_item, dyadic_on_items};
+ghost use Rattle.item_fns.specs.Items.{monadic_on_item, dyadic_on_items};
 ghost use Rattle.scalar_fns.specs.Characters.{equality, told, answers_of};
-ghost use Rattle.scalar_fns.specs.NumberLists.{monadic_results, dyadic_results, paired_length, number_items};
+ghost use Rattle.item_fns.specs.NumberLists.{monadic_results, dyadic_results, paired_length, number_items};
 ghost use Rattle.arrays_core.specs.Items.{all_or_first_error};
 
 use crate::characters::{equalities, tell};
-use crate::dispatch::{on_number_lists, on_numbers};
-use crate::items::{one, two};
 use arrays_core::{
     ApplyFault, Array, Item, ItemFunction, ItemType, Kind, Shape, collect, position, repeated,
     shape_of, size,
 };
 use function_names::{Scalar1, Scalar2};
 use index_region::Seen;
+use item_fns::{on_number_lists, on_numbers, one, two};
 use std::alloc::Global;
 
 /// The shape of a result of two arrays: of equal shapes that shape. An array of one item extends to

@@ -1,7 +1,7 @@
 -- Folds by associative functions: from the left as from the right.
 use Rattle.std.proofs.Common.{◌≡◌, List, [], ◌∷◌, refl, ap, sym, ◌∙◌, ℤ, Result, Ok, Err}
 use Rattle.arrays_core.{specs.declared.item.Kind.{Kind}, specs.Items.{and_then}}
-use Rattle.scalar_fns.specs.Folds.{folded, IsAssociative}
+use Rattle.item_fns.specs.Folds.{folded, IsAssociative}
 use Rattle.reduce_fns.specs.LeftFolds.{fold_on, folded_left}
 use Rattle.scan_fns.proofs.Runs.{through, as_it_is}
 

@@ -3,7 +3,7 @@ use Rattle.std.proofs.Common.{◌≡◌, ℕ, zero, suc, ◌+◌, ◌-◌, ◌<�
 use Rattle.std.{proofs.lemmas.Bool.{eqb-true, eqb-false, cases_lt}, proofs.lemmas.List.{get_or_append_left, length-append}}
 use Rattle.std.proofs.Math.Seq.{get_or-append_right}
 use Rattle.function_names.specs.declared.scalar.Scalar2.TheVariants.{Residue as ByResidue}
-use Rattle.scalar_fns.specs.Numbers.{residue, dyadic_on_numbers}
+use Rattle.item_fns.specs.Numbers.{residue, dyadic_on_numbers}
 use Rattle.scan_fns.{specs.declared.residue_scan.Divisor.{Divisor}, specs.LinearScan.{depth}, specs.RecalledScan.{given_at}}
 use Rattle.scan_fns.specs.ResidueScan.{extent_at, place_before, no_divisor, AreDivisors, IsBeside, AreTheSame, IsDivisor, Leads, LeadsTo, from}
 use Rattle.scan_fns.{proofs.RecalledFolds.{at_first, at_later}, proofs.OneSided.{stays, comes_near, beside_at, rest_stays_beside}}

@@ -3,7 +3,7 @@ use Rattle.std.{proofs.Common.{◌≡◌, refl, ℕ, List, ℤ, pos, Vec, Ok, Er
 use Rattle.arrays_core.{specs.declared.item.Kind.{Kind}, specs.declared.fault.ApplyFault.{ApplyFault}}
 use Rattle.arrays_core.{specs.declared.fault.ApplyFault.TheVariants.{Kind as KindFault, NoMemory}, specs.declared.item.ItemType.TheVariants.{Nums}}
 use Rattle.arrays_core.specs.Arrays.{ArrayValue, IsAnswerTo, with_items}
-use Rattle.scalar_fns.specs.NumberLists.{IsListAnswerTo, number_items}
+use Rattle.item_fns.specs.NumberLists.{IsListAnswerTo, number_items}
 use Rattle.scan_fns.specs.LinearScan.{run_to, FailsAt, HasRead}
 
 -- an error of what was read is that of the whole, or it is want of memory

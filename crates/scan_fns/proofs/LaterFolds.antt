@@ -4,7 +4,7 @@ use Rattle.std.{specs.List.{range_with_len}, proofs.lemmas.List.{length-drop, le
 use Rattle.std.{proofs.lemmas.List.FromFn.{length-map-range_with_len, get_or-map-range_with_len, take-map-range_with_len}, proofs.Math.Nat.{mod-eq_of_lt}}
 use Rattle.arrays_core.{specs.declared.item.Kind.{Kind}, specs.declared.item.Kind.TheVariants.{Domain}, specs.declared.fault.ApplyFault.{ApplyFault}}
 use Rattle.arrays_core.{specs.declared.fault.ApplyFault.TheVariants.{Kind as KindFault, NoMemory}, specs.Items.{all_or_first_error, and_then}}
-use Rattle.scalar_fns.{specs.NumberLists.{IsListAnswerTo}, specs.Folds.{strided, folded}, proofs.RightFolds.{strided_run}}
+use Rattle.item_fns.{specs.NumberLists.{IsListAnswerTo}, specs.Folds.{strided, folded}, proofs.RightFolds.{strided_run}}
 use Rattle.reduce_fns.{specs.declared.axis_lines.AxisLines.{AxisLines}, proofs.ListResults.{after_parts, all_then, as_many_as}}
 use Rattle.scan_fns.specs.LinearScan.{scans_of, run_to, scanned, folds_from}
 

@@ -3,7 +3,7 @@ use Rattle.std.proofs.Common.{◌≡◌, suc, zero, refl, ap, ◌∙◌, arith, 
 use Rattle.std.{specs.Prelude.{int_le}, specs.Int.{saturate_signed}, specs.Bool.{Decides}, proofs.lemmas.Int.{ints}, proofs.lemmas.Bool.{and_parts}}
 use Rattle.std.{proofs.lemmas.Bool.Decides.{same_from_decides}, proofs.Math.Bool.{and_comm}}
 use Rattle.arrays_core.{specs.declared.item.Kind.TheVariants.{Limit}, specs.Items.{and_then}}
-use Rattle.scalar_fns.{specs.Numbers.{is_number, number_or_limit}, proofs.Within.{Within, within_of, held_within}}
+use Rattle.item_fns.{specs.Numbers.{is_number, number_or_limit}, proofs.Within.{Within, within_of, held_within}}
 use Rattle.scan_fns.specs.Prefixes.{difference}
 
 at_most : (a b : ℤ) → Decides (int_le a b) (a ≤ℤ b)

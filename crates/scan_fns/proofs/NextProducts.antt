@@ -3,7 +3,7 @@ use Rattle.std.proofs.Common.{◌≡◌, ℕ, suc, zero, ◌+◌, ◌*◌, ◌/�
 use Rattle.std.{specs.Bool.{Decides}, proofs.lemmas.Int.{ints}, proofs.lemmas.Bool.{leb-true, ltb-true, lt-ltb, le-leb}}
 use Rattle.std.{proofs.lemmas.Bool.Decides.{same_from_decides}, proofs.Math.Nat.{le-div_iff_mul-le}}
 use Rattle.arrays_core.{specs.declared.item.Kind.TheVariants.{Limit}, specs.Items.{and_then}}
-use Rattle.scalar_fns.specs.Numbers.{is_number, number_or_limit}
+use Rattle.item_fns.specs.Numbers.{is_number, number_or_limit}
 use Rattle.scan_fns.specs.Prefixes.{lies_within, product}
 use borrow.Author.Differences.{up, down, product_is}
 

@@ -3,7 +3,7 @@ use Rattle.std.proofs.Common.{◌≡◌, ℕ, zero, suc, ◌<◌, ◌≤◌, ◌
 use Rattle.std.{specs.List.{list_all}, specs.Ordering.{int_eq}, proofs.lemmas.Bool.{false_from_ne_true, leb-true, le-leb}}
 use Rattle.std.{proofs.lemmas.Bool.Decides.{Decides-int_eq}, proofs.lemmas.List.Sums.{AllPass-from_list_all}, proofs.lemmas.Nat.{mod_below}}
 use Rattle.std.proofs.Math.Nat.{mod-eq_of_lt}
-use Rattle.scalar_fns.{specs.Numbers.{residue}, proofs.Residues.{both_positive, both_negative, negative_divisor_whole}}
+use Rattle.item_fns.{specs.Numbers.{residue}, proofs.Residues.{both_positive, both_negative, negative_divisor_whole}}
 use Rattle.scan_fns.specs.ResidueScan.{extent_of, is_low, is_high, are_one_sided, IsBeside}
 
 -- two numbers on one side of 0

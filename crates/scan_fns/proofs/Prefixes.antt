@@ -3,7 +3,7 @@ use Rattle.std.proofs.Common.{◌≡◌, ℕ, zero, suc, ◌+◌, ◌-◌, ◌*�
 use Rattle.std.{specs.Int.{w64}, proofs.Math.ListN.{set}, proofs.lemmas.Bool.{cases_lt, lt-ltb, le-ltb}, proofs.lemmas.List.{get_or-set_same, get_or-set_other}}
 use Rattle.std.{proofs.Math.Nat.{mod-add-div, mod-add-mod, mod-eq_of_lt, add-mod_right, mul-le-mul_left}, proofs.lemmas.Nat.{mod_below}}
 use Rattle.arrays_core.{specs.declared.item.Kind.{Kind}, specs.Items.{and_then}}
-use Rattle.scalar_fns.{specs.Folds.{folded}, proofs.RightFolds.{fold_more}}
+use Rattle.item_fns.{specs.Folds.{folded}, proofs.RightFolds.{fold_more}}
 use Rattle.scan_fns.{specs.LinearScan.{depth, run_to}, specs.Prefixes.{fold_to, IsFresh, Continues, IsClosed}}
 use Rattle.scan_fns.proofs.Runs.{through, as_it_is, run_first, run_more, first_row, later_row}
 

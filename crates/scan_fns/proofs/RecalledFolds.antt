@@ -5,7 +5,7 @@ use Rattle.std.proofs.lemmas.List.{take_more, take_all, length-take, get_or-take
 use Rattle.std.{proofs.Math.Seq.{get_or-append_right}, specs.List.{range_with_len}}
 use Rattle.std.proofs.lemmas.List.FromFn.{length-map-range_with_len, get_or-map-range_with_len}
 use Rattle.arrays_core.{specs.declared.item.Kind.{Kind}, specs.Items.{and_then}}
-use Rattle.scalar_fns.{specs.Folds.{strided, folded}, proofs.RightFolds.{length-strided, get_or-strided, take-strided}}
+use Rattle.item_fns.{specs.Folds.{strided, folded}, proofs.RightFolds.{length-strided, get_or-strided, take-strided}}
 use Rattle.scan_fns.{specs.LinearScan.{depth, run_to, AreResultsTo}, specs.declared.recalled_scan.Recalled.{Recalled}, specs.Prefixes.{fold_to}}
 use Rattle.scan_fns.{specs.RecalledScan.{run_before, given_at, nothing, IsRecalled, AreRecalled}, proofs.Runs.{as_it_is, one_deeper, depth_high}}
 use Rattle.reduce_fns.proofs.Firsts.{entry_of}

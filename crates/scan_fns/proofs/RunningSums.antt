@@ -3,8 +3,8 @@ use Rattle.std.proofs.Common.{◌≡◌, ℕ, zero, suc, ◌+◌, ◌-◌, ◌*�
 use Rattle.std.{specs.Int.{int_max, int_min, w64}, specs.List.{All}, proofs.Math.Nat.{mul-le-mul_left, mul-le-mul_right}}
 use Rattle.arrays_core.{specs.Items.{all_or_first_error, and_then}, specs.declared.item.Kind.{Kind}, specs.declared.item.Kind.TheVariants.{Limit}}
 use Rattle.function_names.specs.declared.scalar.Scalar2.TheVariants.{Plus}
-use Rattle.scalar_fns.{specs.Numbers.{dyadic_on_numbers}, specs.Folds.{folded}, proofs.RightFolds.{length-strided, get_or-strided}}
-use Rattle.scalar_fns.proofs.Within.{Within, within_of, held_error}
+use Rattle.item_fns.{specs.Numbers.{dyadic_on_numbers}, specs.Folds.{folded}, proofs.RightFolds.{length-strided, get_or-strided}}
+use Rattle.item_fns.proofs.Within.{Within, within_of, held_error}
 use Rattle.scan_fns.{specs.LinearScan.{depth, run_to, scanned, FailsAt}, proofs.Runs.{one_deeper, depth_high, run_more, run_some, left_first, left_later}}
 use Rattle.reduce_fns.{specs.LeftFolds.{fold_on, folded_left}, specs.Sum.{IsSmall}, proofs.SmallSums.{small_left}}
 use Rattle.reduce_fns.proofs.Firsts.{Given, rule_entry, rule_error, same_rules}

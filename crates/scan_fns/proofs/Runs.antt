@@ -3,7 +3,7 @@ use Rattle.std.proofs.Common.{◌≡◌, ℕ, zero, suc, ◌+◌, ◌-◌, ◌*�
 use Rattle.std.{proofs.lemmas.List.{take_more, take_all}, proofs.lemmas.Nat.{mod_below}, proofs.Math.Nat.{div-eq-sub-div, mod-add-div}}
 use Rattle.std.proofs.Math.Arith.{mod-mul}
 use Rattle.arrays_core.{specs.declared.item.Kind.{Kind}, specs.Items.{and_then}}
-use Rattle.scalar_fns.{specs.Folds.{strided}, proofs.Residues.{next_mod}, proofs.RightFolds.{length-strided, get_or-strided, take-strided}}
+use Rattle.item_fns.{specs.Folds.{strided}, proofs.Residues.{next_mod}, proofs.RightFolds.{length-strided, get_or-strided, take-strided}}
 use Rattle.scan_fns.specs.LinearScan.{depth, run_to}
 use Rattle.reduce_fns.specs.LeftFolds.{fold_on, folded_left}
 

@@ -8,8 +8,8 @@ use Rattle.arrays_core.{specs.declared.item.ItemType.TheVariants.{Nums, Chars}, 
 use Rattle.arrays_core.{specs.Shapes.{size, is_index_of, places_before}, specs.Arrays.{ArrayValue, IsArray, collect, with_items}}
 use Rattle.arrays_core.proofs.Shapes.{as_long, places_below}
 use Rattle.function_names.{specs.declared.scalar.Scalar2.{Scalar2}, specs.declared.along.Along.{Along}, specs.Axes.{is_axis, axis_at}}
-use Rattle.scalar_fns.{specs.Numbers.{dyadic_on_numbers}, specs.Items.{number_item}, specs.NumberLists.{number_items}}
-use Rattle.scalar_fns.{specs.Folds.{strided, folded, line_start}, proofs.RightFolds.{take-strided}, specs.RightFold.{fold_right}}
+use Rattle.item_fns.{specs.Numbers.{dyadic_on_numbers}, specs.Items.{number_item}, specs.NumberLists.{number_items}, specs.Folds.{strided, folded, line_start}}
+use Rattle.item_fns.{proofs.RightFolds.{take-strided}, specs.RightFold.{fold_right}}
 use Rattle.index_region.{specs.Checks.{form_of, limited}, specs.Arguments.{counts_as_numbers, is_of_numbers}, specs.Axes.{places_along}}
 use Rattle.index_region.{specs.Answers.{IsPlaceOf, HasTypeOf}, proofs.Passing.{passed, place_inside, typed_check, typed_limited}}
 use Rattle.reduce_fns.{specs.Lines.{line}, proofs.Lines.{stride, line-strided, size-drop-le}, proofs.Placewise.{collected_same, numbers_collected}}

@@ -7,8 +7,8 @@ use Rattle.arrays_core.{specs.declared.item.Item.{Item}, specs.declared.item.Ite
 use Rattle.arrays_core.{specs.declared.item.Kind.{Kind}, specs.declared.item.Kind.TheVariants.{Domain}, specs.Limits.{longest_axis}}
 use Rattle.arrays_core.{specs.Items.{all_or_first_error, after}, specs.Arrays.{ArrayValue, item_of, with_items, vector_of}}
 use Rattle.function_names.{specs.declared.scalar.Scalar2.{Scalar2}, specs.declared.along.Along.{Along}, specs.Axes.{axis_at}}
-use Rattle.scalar_fns.{specs.Numbers.{dyadic_on_numbers}, specs.Items.{number_item}, specs.NumberLists.{number_items}, specs.Folds.{folded}}
-use Rattle.scalar_fns.{specs.RightFold.{fold_right}, proofs.ItemFolds.{some_folded, folded_numbers}}
+use Rattle.item_fns.{specs.Numbers.{dyadic_on_numbers}, specs.Items.{number_item}, specs.NumberLists.{number_items}, specs.Folds.{folded}}
+use Rattle.item_fns.{specs.RightFold.{fold_right}, proofs.ItemFolds.{some_folded, folded_numbers}}
 use Rattle.index_region.specs.Axes.{places_along}
 use Rattle.reduce_fns.{specs.Lines.{line}, proofs.ListResults.{as_many_as}}
 use Rattle.scan_fns.{specs.LinearScan.{folds_from}, specs.Scan.{scan_item, scan_along}}

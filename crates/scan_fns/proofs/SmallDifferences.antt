@@ -5,7 +5,7 @@ use Rattle.std.{proofs.lemmas.Nat.{div-mul-add}, proofs.lemmas.List.{length-take
 use Rattle.std.proofs.lemmas.List.FromFn.{length-map-range_with_len, get_or-map-range_with_len}
 use Rattle.arrays_core.specs.Items.{all_or_first_error, and_then}
 use Rattle.function_names.specs.declared.scalar.Scalar2.TheVariants.{Minus}
-use Rattle.scalar_fns.{specs.Numbers.{dyadic_on_numbers}, specs.Folds.{folded}, proofs.RightFolds.{length-strided}, proofs.Within.{held_within}}
+use Rattle.item_fns.{specs.Numbers.{dyadic_on_numbers}, specs.Folds.{folded}, proofs.RightFolds.{length-strided}, proofs.Within.{held_within}}
 use Rattle.scan_fns.{specs.LinearScan.{depth, run_to}, specs.Prefixes.{fold_to}, proofs.RunningSums.{run_each}, proofs.Prefixes.{beside_depth}}
 use Rattle.scan_fns.proofs.Runs.{one_deeper, depth_high, run_first, run_more, run_some}
 use Rattle.reduce_fns.{specs.Sum.{IsSmall}, proofs.SmallSums.{fits_between}, proofs.Firsts.{entry_of}}

@@ -3,7 +3,7 @@ use Rattle.std.specs.Prelude.{◌≡◌, ℕ, ◌+◌, ◌-◌, ◌*◌, ◌/◌
 use Rattle.std.{specs.Int.{w64}, specs.List.{range_with_len}}
 use Rattle.arrays_core.{specs.Items.{all_or_first_error}, specs.declared.item.Kind.{Kind}, specs.declared.fault.ApplyFault.{ApplyFault}}
 use Rattle.arrays_core.specs.declared.fault.ApplyFault.TheVariants.{Kind as KindFault, NoMemory}
-use Rattle.scalar_fns.specs.Folds.{strided, folded}
+use Rattle.item_fns.specs.Folds.{strided, folded}
 use Rattle.reduce_fns.{specs.declared.axis_lines.AxisLines.{AxisLines}, specs.LeftFolds.{folded_left}}
 
 -- how many entries of its line come before the entry at a place

@@ -1,7 +1,7 @@
 -- Scans that recall what a number gave which came to a place before.
 use Rattle.std.specs.Prelude.{◌≡◌, ℕ, ◌-◌, ◌*◌, ◌<◌, ℤ, pos, List, [], ◌∷◌, ◌++◌, length, get_or, Result}
 use Rattle.arrays_core.specs.declared.item.Kind.{Kind}
-use Rattle.scalar_fns.specs.Folds.{strided, folded}
+use Rattle.item_fns.specs.Folds.{strided, folded}
 use Rattle.scan_fns.{specs.declared.recalled_scan.Recalled.{Recalled}, specs.LinearScan.{depth}, specs.Prefixes.{fold_to}}
 
 -- the entries of the line of a place before the one there

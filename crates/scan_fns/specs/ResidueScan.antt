@@ -3,7 +3,7 @@ use Rattle.std.specs.Prelude.{◌≡◌, ℕ, suc, ◌-◌, ◌^◌, ◌<◌, �
 use Rattle.std.{specs.List.{list_all}, specs.Ordering.{int_eq}}
 use Rattle.arrays_core.specs.declared.item.Kind.{Kind}
 use Rattle.function_names.specs.declared.scalar.Scalar2.TheVariants.{Residue as ByResidue}
-use Rattle.scalar_fns.specs.Numbers.{residue, dyadic_on_numbers}
+use Rattle.item_fns.specs.Numbers.{residue, dyadic_on_numbers}
 use Rattle.scan_fns.{specs.declared.residue_scan.Divisor.{Divisor}, specs.LinearScan.{depth}, specs.RecalledScan.{given_at}}
 
 -- how far from 0 a number is as a divisor: what is nearer is its own residue by it

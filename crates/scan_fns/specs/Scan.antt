@@ -7,7 +7,7 @@ use Rattle.arrays_core.specs.Arrays.{ArrayValue, with_items}
 use Rattle.function_names.{specs.declared.along.Along.{Along}, specs.Axes.{is_axis, axis_at}, specs.declared.scalar.Scalar2.{Scalar2}}
 use Rattle.index_region.{specs.Checks.{Form, check, limited, whole}, specs.Arguments.{counts_as_numbers}, specs.Axes.{places_along}}
 use Rattle.change_core.{specs.RuleModels.{RuleModel, Use}, specs.Growth.{growing}, specs.Sourced.{one_rule}, specs.Ways.{along as on_own_line}}
-use Rattle.scalar_fns.specs.RightFold.{fold_right}
+use Rattle.item_fns.specs.RightFold.{fold_right}
 use Rattle.reduce_fns.{specs.Lines.{line}, specs.Growth.{lines_grow}}
 
 -- b itself where the axis is below 2

@@ -2,12 +2,12 @@
 
 ghost use Rattle.std.specs.Prelude.{◌≡◌, ◌+ℤ◌, ◌-ℤ◌, if◌then◌else◌};
 ghost use Rattle.function_names.specs.declared.scalar.Scalar2.TheVariants.{Minus as Difference};
-ghost use Rattle.scalar_fns.specs.Numbers.{dyadic_on_numbers, number_or_limit};
+ghost use Rattle.item_fns.specs.Numbers.{dyadic_on_numbers, number_or_limit};
 ghost use Rattle.scan_fns.specs.Prefixes.{IsFresh, difference};
 
 use crate::prefix::Prefix;
 use arrays_core::Kind;
-use scalar_fns::kernels::{Minus, Plus, TwoNumbers};
+use item_fns::kernels::{Minus, Plus, TwoNumbers};
 
 /// `x1 - (x2 - (.. (xk - v)))` for each v: the next number v is added to a total or taken from it, in turn. Each difference on
 /// the way to it is within 64 bits where v lies between two numbers, as 0 always does.

@@ -3,16 +3,16 @@
 ghost use Rattle.std.specs.Prelude.{◌≡◌, ◌<◌, ◌≤◌, ◌+◌, ◌-◌, ◌*◌, ◌%◌, true, false, pos, length, min, get_or, Ok, Err, IfOk, IfErr, vec_len};
 ghost use Rattle.std.specs.Int.{int_max, int_min};
 ghost use Rattle.function_names.specs.declared.scalar.Scalar2.TheVariants.{Plus as Sum};
-ghost use Rattle.scalar_fns.specs.Numbers.{dyadic_on_numbers};
-ghost use Rattle.scalar_fns.specs.NumberLists.{IsListAnswerTo};
+ghost use Rattle.item_fns.specs.Numbers.{dyadic_on_numbers};
+ghost use Rattle.item_fns.specs.NumberLists.{IsListAnswerTo};
 ghost use Rattle.scan_fns.specs.LinearScan.{scans_of};
 ghost use Rattle.scan_fns.specs.LinearScan.{left_rule, scanned, AreResultsTo, FailsAt, HasRead};
 ghost use Rattle.reduce_fns.specs.LeftFolds.{folded_left};
-ghost use Rattle.scalar_fns.specs.Folds.{IsAssociative};
+ghost use Rattle.item_fns.specs.Folds.{IsAssociative};
 
 use arrays_core::{ApplyFault, Kind, room_of};
+use item_fns::kernels::{Plus, TwoNumbers};
 use reduce_fns::{AxisLines, MOST_ITEMS, SMALL, are_within};
-use scalar_fns::kernels::{Plus, TwoNumbers};
 use std::alloc::Global;
 
 /// The greatest sum of an ending, from that of the numbers before: the last number, and what came

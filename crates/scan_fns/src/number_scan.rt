@@ -2,9 +2,9 @@
 
 ghost use Rattle.std.specs.Prelude.{◌≡◌, ◌≤◌, ℤ, List, false, length, drop, take, Ok, IfOk, IfSome, vec_len};
 ghost use Rattle.function_names.specs.declared.scalar.Scalar2.TheVariants.{Residue as ByResidue};
-ghost use Rattle.scalar_fns.specs.Numbers.{dyadic_on_numbers};
-ghost use Rattle.scalar_fns.specs.NumberLists.{IsListAnswerTo};
-ghost use Rattle.scalar_fns.specs.Folds.{folded};
+ghost use Rattle.item_fns.specs.Numbers.{dyadic_on_numbers};
+ghost use Rattle.item_fns.specs.NumberLists.{IsListAnswerTo};
+ghost use Rattle.item_fns.specs.Folds.{folded};
 ghost use Rattle.scan_fns.specs.LinearScan.{scans_of};
 ghost use Rattle.scan_fns.specs.LinearScan.{scanned, folds_from};
 ghost use Rattle.scan_fns.specs.Prefixes.{GivesTruths};
@@ -17,12 +17,12 @@ use crate::residue_scan::{are_one_sided, running_residues};
 use crate::small_differences::running_differences;
 use crate::unit_products::running_products;
 use arrays_core::ApplyFault;
-use reduce_fns::AxisLines;
-use scalar_fns::Scalar2;
-use scalar_fns::kernels::{
+use item_fns::Scalar2;
+use item_fns::kernels::{
     And, Divide, Equal, Greater, GreaterOrEqual, Less, LessOrEqual, Maximum, Minimum, Nand, Nor,
     NotEqual, Or, Power, Residue, TwoNumbers,
 };
+use reduce_fns::AxisLines;
 use std::alloc::Global;
 
 /// The folds of the first numbers of each line, by a function that gives truth values: one step for each number.

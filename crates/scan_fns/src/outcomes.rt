@@ -5,7 +5,7 @@ ghost use Rattle.scan_fns.specs.Prefixes.{IsFresh, GivesTruths, outcome};
 
 use crate::prefix::Prefix;
 use arrays_core::Kind;
-use scalar_fns::kernels::TwoNumbers;
+use item_fns::kernels::TwoNumbers;
 use std::alloc::AllocError;
 
 /// `x1 f (x2 f (.. (xk f v)))` for each v, by a function that gives 0 or 1: what the numbers before the last one make of these

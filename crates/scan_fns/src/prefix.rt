@@ -2,8 +2,8 @@
 
 ghost use Rattle.std.specs.Prelude.{◌≡◌, ◌<◌, ◌≤◌, ◌+◌, ◌*◌, ◌%◌, true, false, ℤ, length, min, get_or, Result, Err, IfOk, IfErr, vec_len};
 ghost use Rattle.arrays_core.specs.declared.item.Kind.{Kind};
-ghost use Rattle.scalar_fns.specs.NumberLists.{IsListAnswerTo};
-ghost use Rattle.scalar_fns.specs.Folds.{folded};
+ghost use Rattle.item_fns.specs.NumberLists.{IsListAnswerTo};
+ghost use Rattle.item_fns.specs.Folds.{folded};
 ghost use Rattle.scan_fns.specs.LinearScan.{scans_of};
 ghost use Rattle.scan_fns.specs.LinearScan.{scanned, AreResultsTo};
 ghost use Rattle.scan_fns.specs.Prefixes.{fold_to, Continues, IsClosed, IsFresh};

@@ -3,12 +3,12 @@
 ghost use Rattle.std.specs.Prelude.{◌≡◌, ◌<◌, ◌≤◌, ◌/◌, ◌^◌, ◌*ℤ◌, true, ℤ, FitsSigned};
 ghost use Rattle.std.specs.Int.{w64};
 ghost use Rattle.function_names.specs.declared.scalar.Scalar2.TheVariants.{Times as Product};
-ghost use Rattle.scalar_fns.specs.Numbers.{dyadic_on_numbers};
+ghost use Rattle.item_fns.specs.Numbers.{dyadic_on_numbers};
 ghost use Rattle.scan_fns.specs.Prefixes.{IsFresh, product, lies_within};
 
 use crate::prefix::Prefix;
 use arrays_core::Kind;
-use scalar_fns::kernels::{Times, TwoNumbers};
+use item_fns::kernels::{Times, TwoNumbers};
 
 /// How far below 0 and above it a number may be.
 #[derive(Clone, Copy)]

@@ -1,14 +1,14 @@
 //! Scans by functions of which no law is used: what a number gave that came to a place before is recalled.
 
 ghost use Rattle.std.specs.Prelude.{◌≡◌, ℕ, ◌<◌, ◌≤◌, pos, length, get_or, Ok, IfOk, vec_len};
-ghost use Rattle.scalar_fns.specs.NumberLists.{IsListAnswerTo};
+ghost use Rattle.item_fns.specs.NumberLists.{IsListAnswerTo};
 ghost use Rattle.scan_fns.specs.LinearScan.{scans_of};
 ghost use Rattle.scan_fns.specs.Prefixes.{fold_to};
 ghost use Rattle.scan_fns.specs.RecalledScan.{AreRecalled};
 
 use arrays_core::{ApplyFault, Kind, room_of};
+use item_fns::kernels::TwoNumbers;
 use reduce_fns::AxisLines;
-use scalar_fns::kernels::TwoNumbers;
 use std::alloc::Global;
 
 /// What came to a place while a later place of its line was folded.

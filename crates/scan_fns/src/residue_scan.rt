@@ -3,15 +3,15 @@
 ghost use Rattle.std.specs.Prelude.{◌≡◌, ◌<◌, ◌≤◌, ◌+◌, length, Ok, IsTrue, IfSome, Some, IfOk, vec_len};
 ghost use Rattle.std.specs.List.{list_all};
 ghost use Rattle.function_names.specs.declared.scalar.Scalar2.TheVariants.{Residue as ByResidue};
-ghost use Rattle.scalar_fns.specs.Numbers.{dyadic_on_numbers};
-ghost use Rattle.scalar_fns.specs.Folds.{folded};
+ghost use Rattle.item_fns.specs.Numbers.{dyadic_on_numbers};
+ghost use Rattle.item_fns.specs.Folds.{folded};
 ghost use Rattle.scan_fns.specs.LinearScan.{scans_of};
 ghost use Rattle.scan_fns.specs.LinearScan.{scanned};
 ghost use Rattle.scan_fns.specs.ResidueScan.{extent_of, extent_at, place_before, are_one_sided, is_low, is_high, IsBeside, AreDivisors, IsDivisor, AreTheSame, LeadsTo, from, rank};
 
 use arrays_core::room_of;
+use item_fns::residue;
 use reduce_fns::AxisLines;
-use scalar_fns::residue;
 use std::alloc::{AllocError, Global};
 
 /// A number of a line as the divisor of what comes to its place, and the way from there back to the divisors before it.

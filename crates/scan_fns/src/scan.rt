@@ -12,8 +12,8 @@ ghost use Rattle.index_region.specs.Answers.{IsFormAnswerTo, IsPlaceOf, HasTypeO
 ghost use Rattle.function_names.specs.Axes.{axis_at};
 ghost use Rattle.index_region.specs.Axes.{places_along};
 ghost use Rattle.change_core.specs.Sourced.{uses_of_one};
-ghost use Rattle.scalar_fns.specs.Numbers.{dyadic_on_numbers};
-ghost use Rattle.scalar_fns.specs.NumberLists.{number_items};
+ghost use Rattle.item_fns.specs.Numbers.{dyadic_on_numbers};
+ghost use Rattle.item_fns.specs.NumberLists.{number_items};
 ghost use Rattle.scan_fns.specs.LinearScan.{scans_of};
 ghost use Rattle.scan_fns.specs.LinearScan.{folds_from};
 ghost use Rattle.scan_fns.specs.Scan.{scan_form, scan_item, scan_along, scan_whole, scan_use};
@@ -26,8 +26,8 @@ use crate::number_scan::{later_folds, number_folds};
 use arrays_core::{ApplyFault, Array, Item, ItemType, Kind, Shape, shape_of, without_axis};
 use change_core::Announced;
 use index_region::{Along, IndexBox, Intervals, Primitive, Seen, apply, limited};
+use item_fns::Scalar2;
 use reduce_fns::{AxisLines, fold_line, is_along_a_later_axis, line_numbers};
-use scalar_fns::Scalar2;
 use std::alloc::Global;
 
 /// The array of the folds of the numbers up to each place of its line, by the scalar function that is named.

@@ -4,9 +4,9 @@ ghost use Rattle.std.specs.Prelude.{◌≡◌, ◌<◌, ◌≤◌, ◌+◌, ◌-
 ghost use Rattle.std.specs.Int.{w64};
 ghost use Rattle.arrays_core.specs.Limits.{most_places};
 ghost use Rattle.function_names.specs.declared.scalar.Scalar2.TheVariants.{Minus as Difference};
-ghost use Rattle.scalar_fns.specs.Numbers.{dyadic_on_numbers};
-ghost use Rattle.scalar_fns.specs.NumberLists.{IsListAnswerTo};
-ghost use Rattle.scalar_fns.specs.Folds.{folded};
+ghost use Rattle.item_fns.specs.Numbers.{dyadic_on_numbers};
+ghost use Rattle.item_fns.specs.NumberLists.{IsListAnswerTo};
+ghost use Rattle.item_fns.specs.Folds.{folded};
 ghost use Rattle.scan_fns.specs.LinearScan.{scans_of};
 ghost use Rattle.scan_fns.specs.LinearScan.{depth, scanned, AreResultsTo};
 ghost use Rattle.scan_fns.specs.Prefixes.{fold_to};

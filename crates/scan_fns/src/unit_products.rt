@@ -2,8 +2,8 @@
 
 ghost use Rattle.std.specs.Prelude.{◌≡◌, true, All, length, IfOk, vec_len};
 ghost use Rattle.function_names.specs.declared.scalar.Scalar2.TheVariants.{Times as Product};
-ghost use Rattle.scalar_fns.specs.Numbers.{dyadic_on_numbers};
-ghost use Rattle.scalar_fns.specs.NumberLists.{IsListAnswerTo};
+ghost use Rattle.item_fns.specs.Numbers.{dyadic_on_numbers};
+ghost use Rattle.item_fns.specs.NumberLists.{IsListAnswerTo};
 ghost use Rattle.scan_fns.specs.LinearScan.{scans_of};
 ghost use Rattle.scan_fns.specs.Prefixes.{IsUnit};
 
@@ -11,8 +11,8 @@ use crate::linear_scan::running;
 use crate::prefix::prefix_folds;
 use crate::products::Products;
 use arrays_core::ApplyFault;
+use item_fns::kernels::Times;
 use reduce_fns::AxisLines;
-use scalar_fns::kernels::Times;
 use std::alloc::Global;
 
 /// No number of a list is farther from 0 than 1: none has a bit but the last in its distance from 0.

@@ -8,7 +8,7 @@ use Rattle.arrays_core.{specs.declared.item.Item.{Item}, specs.declared.item.Ite
 use Rattle.arrays_core.{specs.declared.item.Kind.{Kind}, specs.declared.item.Kind.TheVariants.{Domain}, specs.Items.{all_or_first_error, and_then, fill}}
 use Rattle.arrays_core.{specs.Shapes.{size, indices, index_after, places_before}, specs.Arrays.{ArrayValue, collect, with_items, item_of}}
 use Rattle.arrays_core.proofs.Order.{length-indices, get_or-indices}
-use Rattle.scalar_fns.{specs.Items.{number_item}, specs.Numbers.{residue}}
+use Rattle.item_fns.{specs.Items.{number_item}, specs.Numbers.{residue}}
 use Rattle.index_region.{specs.Arguments.{number_of, numbers}, specs.Boxes.{Interval, interval_length, box_size, walk_at, fits}, specs.Checks.{Form}}
 use Rattle.index_region.proofs.Walks.{some_place}
 use Rattle.change_core.specs.Parts.{items_in}

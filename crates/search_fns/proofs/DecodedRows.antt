@@ -7,7 +7,7 @@ use Rattle.arrays_core.{specs.declared.item.Item.TheVariants.{Num}, specs.declar
 use Rattle.arrays_core.{specs.declared.item.Kind.{Kind}, specs.declared.item.Kind.TheVariants.{Limit}, specs.Items.{fill, and_then}}
 use Rattle.arrays_core.{specs.Shapes.{size, indices, places_before, index_after}, specs.Arrays.{ArrayValue, collect, with_items}}
 use Rattle.arrays_core.proofs.Order.{given_in_order, places_before-index_after, length-indices, get_or-indices}
-use Rattle.scalar_fns.specs.Items.{number_item}
+use Rattle.item_fns.specs.Items.{number_item}
 use Rattle.index_region.{specs.Arguments.{number_of, numbers}, specs.Axes.{places_along}}
 use Rattle.search_fns.specs.Decode.{decode_item, digit_count, radix_at, digit_at, worth, decoded}
 use Rattle.search_fns.specs.DecodedRows.{with_one_more, HaveOneMore, LeavesNumbers, AreDecoded, HasLimit}

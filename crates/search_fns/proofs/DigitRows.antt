@@ -2,7 +2,7 @@
 use Rattle.std.proofs.Common.{◌≡◌, ℕ, ◌+◌, ◌-◌, ◌*◌, ◌<◌, ◌≤◌, List, length, get_or, drop, ℤ, pos, Ok, ap, sym, ◌∙◌, inl, inr, arith}
 use Rattle.std.{proofs.lemmas.Bool.{cases_lt}, proofs.Math.Nat.{mul-le-mul_right}}
 use Rattle.arrays_core.specs.Items.{and_then}
-use Rattle.scalar_fns.specs.Numbers.{residue}
+use Rattle.item_fns.specs.Numbers.{residue}
 use Rattle.search_fns.{specs.Encode.{carried_through, digit}, specs.EncodedRows.{AreCarried, HasRow}, proofs.Radices.{one_more_radix}}
 
 -- the digit by the radix before those that leave a number

@@ -6,7 +6,7 @@ use Rattle.arrays_core.{specs.declared.item.Item.{Item}, specs.declared.item.Ite
 use Rattle.arrays_core.{specs.declared.item.ItemType.TheVariants.{Nums}, specs.declared.item.Kind.TheVariants.{Rank, Domain}, specs.Items.{fill, and_then}}
 use Rattle.arrays_core.{specs.Shapes.{size, index_after}, specs.Arrays.{ArrayValue, IsArray, item_of, collect, with_items}}
 use Rattle.arrays_core.proofs.Order.{given_in_order, places_before-index_after}
-use Rattle.scalar_fns.specs.Items.{number_item}
+use Rattle.item_fns.specs.Items.{number_item}
 use Rattle.index_region.{specs.Arguments.{is_list, counts_as_numbers, number_of, numbers}, specs.Checks.{Form, form_of, check, limited}}
 use Rattle.index_region.{specs.ArgumentLists.{of_two_arguments}, proofs.Passing.{two_arguments, gives, limited_gives}}
 use Rattle.search_fns.{specs.Encode.{digit, encode_form, encode_item, encode_whole}, specs.EncodedRows.{AreDigits}}

@@ -3,8 +3,8 @@ use Rattle.std.proofs.Common.{◌≡◌, ◌∙◌, ◌+◌, ◌-◌, ◌*◌, �
 use Rattle.std.{specs.Ordering.{int_eq}, specs.Int.{int_wrap}}
 use Rattle.std.{proofs.lemmas.Int.{ints, wrapping_sub-bits, wrapping_mul-bits, int_wrap_fits, int_wrap-sub_right, to_z-of_z}, proofs.Math.Facts.{Fits-of_z}}
 use Rattle.std.{proofs.Math.Nat.{mod-lt}, proofs.lemmas.Bool.Decides.{Decides-int_eq}}
-use Rattle.scalar_fns.{specs.Numbers.{residue, floor_div, number_or_limit}, specs.Residue.{IsFromZeroBelow}, proofs.Floors.{held_ok}}
-use Rattle.scalar_fns.proofs.Rests.{residue_is_rest}
+use Rattle.item_fns.{specs.Numbers.{residue, floor_div, number_or_limit}, specs.Residue.{IsFromZeroBelow}, proofs.Floors.{held_ok}}
+use Rattle.item_fns.proofs.Rests.{residue_is_rest}
 use Rattle.search_fns.specs.Encode.{carried}
 
 -- what lies between 0 and a number of 64 bits is of 64 bits

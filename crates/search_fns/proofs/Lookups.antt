@@ -2,7 +2,7 @@
 use Rattle.std.proofs.Common.{◌≡◌, ℕ, ◌+◌, ◌<◌, ◌≤◌, Bool, true, false, cond, List, [], ◌∷◌, ◌++◌, length, get_or, take, drop, map, Option, Some, None, pos, refl, ap, sym, ◌∙◌, arith}
 use Rattle.std.{specs.Prelude.{is_some}, specs.Cmp.{IsEquivalence}, specs.List.{list_any, position_from, position_or_len}}
 use Rattle.std.proofs.lemmas.List.{drop_more, take_more, map-append}
-use Rattle.scalar_fns.specs.Numbers.{truth}
+use Rattle.item_fns.specs.Numbers.{truth}
 use mir.Val.{bool_byte}
 
 -- one more item in front of those whose first places are known

@@ -2,7 +2,7 @@
 use Rattle.std.proofs.Common.{◌≡◌, ℕ, zero, suc, ◌+◌, ◌-◌, ◌/◌, ◌%◌, min, Bool, false, cond, negsuc, neg_ℤ, ◌-ℤ◌, ◌*ℤ◌, Result, ◌<◌, ◌≤◌, true, List, [], ◌∷◌, ◌++◌, length, get_or, drop, ℤ, pos, Ok, Err, refl, ap, ◌∙◌, arith}
 use Rattle.std.{specs.Prelude.{◌&&◌, nat_le}, specs.Ordering.{int_eq}, proofs.Math.Nat.{div-eq_of_lt, mod-eq_of_lt}, proofs.lemmas.Int.{ints}}
 use Rattle.std.{proofs.lemmas.Bool.Decides.{nat_tests}, proofs.lemmas.List.{drop-drop, drop_more}}
-use Rattle.scalar_fns.specs.Numbers.{residue, floor_div, number_or_limit}
+use Rattle.item_fns.specs.Numbers.{residue, floor_div, number_or_limit}
 use Rattle.arrays_core.{specs.declared.item.Kind.{Kind}, specs.declared.item.ItemType.TheVariants.{Nums}, specs.Items.{and_then}}
 use Rattle.arrays_core.{specs.Shapes.{size, is_index_of}, specs.Arrays.{ArrayValue}, proofs.Shapes.{head_of}}
 use Rattle.index_region.{specs.Arguments.{is_list, counts_as_numbers}, specs.Answers.{IsPlaceOf}, proofs.Passing.{passed, place_inside}}

@@ -1,7 +1,7 @@
 -- Whole results of index of and of membership.
 use Rattle.std.{proofs.Common.{◌≡◌, ℕ, List, [], ◌∷◌, length, get_or, map, suc, pos, ℤ, Ok, sym, ap, ◌∙◌}, specs.Prelude.{nat_eq}}
 use Rattle.std.specs.List.{list_any, position_or_len}
-use Rattle.scalar_fns.specs.Numbers.{truth}
+use Rattle.item_fns.specs.Numbers.{truth}
 use Rattle.arrays_core.{specs.declared.item.Item.TheVariants.{Num}, specs.declared.item.ItemType.{ItemType}, specs.declared.item.ItemType.TheVariants.{Nums}}
 use Rattle.arrays_core.{specs.declared.item.Kind.TheVariants.{Rank}, specs.Shapes.{size}, specs.Arrays.{ArrayValue}}
 use Rattle.index_region.{specs.Checks.{form_of, Form, limited}, specs.ArgumentLists.{of_two_arguments}, proofs.Passing.{two_arguments, gives, limited_gives}}

@@ -2,7 +2,7 @@
 use Rattle.std.proofs.Common.{◌≡◌, ◌≢◌, ℕ, ◌+◌, ◌<◌, Bool, true, false, List, [], ◌∷◌, length, get_or, map, replicate, suc, pos, ℤ, refl, ap, sym, ◌∙◌, arith}
 use Rattle.std.{specs.Prelude.{nat_eq, nat_le}, specs.Ordering.{int_eq}, specs.List.{All, list_any, position_or_len}, proofs.lemmas.Bool.Decides.{nat_tests}}
 use Rattle.std.proofs.lemmas.List.Sums.{position_or_len_is}
-use Rattle.scalar_fns.specs.Numbers.{truth}
+use Rattle.item_fns.specs.Numbers.{truth}
 use Rattle.arrays_core.{specs.declared.item.Item.{Item}, specs.declared.item.Item.TheVariants.{Num, Char}, specs.Items.{type_of}, specs.Arrays.{ArrayValue}}
 use Rattle.search_fns.specs.SameItem.{same_item}
 

@@ -4,7 +4,7 @@ use Rattle.std.{specs.Prelude.{◌&&◌, ◌||◌, nat_le, nat_eq, if◌then◌e
 use Rattle.std.{proofs.lemmas.Bool.{and_from, le-leb}, proofs.Math.ListN.{get_or-map}}
 use Rattle.arrays_core.{specs.declared.item.Kind.{Kind}, specs.declared.item.ItemType.{ItemType}, specs.declared.item.ItemType.TheVariants.{Nums, Chars}}
 use Rattle.arrays_core.{specs.Items.{fill, and_then}, specs.Shapes.{size, places_before, is_index_of}, specs.Arrays.{ArrayValue}}
-use Rattle.scalar_fns.specs.Numbers.{number_or_limit}
+use Rattle.item_fns.specs.Numbers.{number_or_limit}
 use Rattle.index_region.{specs.Arguments.{is_list, has_one_item, counts_as_numbers, numbers, number_of}, specs.Axes.{places_along}, specs.Answers.{IsPlaceOf}}
 use Rattle.index_region.proofs.Passing.{passed, place_inside}
 use Rattle.search_fns.specs.Decode.{decode_form, digit_count, radix_at, digit_at, worth, decoded}

@@ -7,7 +7,8 @@ use Rattle.arrays_core.specs.Shapes.{indices}
 use Rattle.index_region.{specs.Checks.{Form, check, limited, whole}, specs.Arguments.{is_scalar, is_list, has_one_item, counts_as_numbers, number_of}}
 use Rattle.index_region.specs.Axes.{places_along}
 use Rattle.change_core.{specs.RuleModels.{Use, RuleModel}, specs.Sourced.{two_rule}, specs.Ways.{everywhere}}
-use Rattle.scalar_fns.{specs.Numbers.{number_or_limit}, specs.Items.{number_item}, specs.ScalarExtension.{extended}}
+use Rattle.scalar_fns.specs.ScalarExtension.{extended}
+use Rattle.item_fns.{specs.Numbers.{number_or_limit}, specs.Items.{number_item}}
 
 -- RANK, LENGTH and DOMAIN in this order; then numbers along the axes of b but the first
 abbrev pub decode_form : ArrayValue → ArrayValue → Result Form Kind

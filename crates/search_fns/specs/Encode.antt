@@ -6,7 +6,7 @@ use Rattle.arrays_core.{specs.declared.item.Kind.TheVariants.{Rank, Domain}, spe
 use Rattle.index_region.{specs.Checks.{Form, check, limited, whole}, specs.Arguments.{is_scalar, is_list, counts_as_numbers, number_of, numbers}}
 use Rattle.index_region.specs.Boxes.{whole_of}
 use Rattle.change_core.{specs.RuleModels.{RuleModel}, specs.Sourced.{Spread, two_rule}, specs.Ways.{back}}
-use Rattle.scalar_fns.{specs.Numbers.{residue, floor_div, number_or_limit}, specs.Items.{number_item}}
+use Rattle.item_fns.{specs.Numbers.{residue, floor_div, number_or_limit}, specs.Items.{number_item}}
 
 -- RANK and DOMAIN in this order; then numbers along the axes of a, and then those of b
 abbrev pub encode_form : ArrayValue → ArrayValue → Result Form Kind

@@ -1,6 +1,6 @@
 -- The digits of numbers, a row for each radix.
 use Rattle.std.specs.Prelude.{◌≡◌, ◌≤◌, ◌<◌, ℕ, ◌+◌, ◌*◌, ℤ, pos, List, length, get_or, Ok}
-use Rattle.scalar_fns.specs.Numbers.{residue}
+use Rattle.item_fns.specs.Numbers.{residue}
 use Rattle.search_fns.specs.Encode.{carried, digit}
 
 -- the digits of some numbers by a radix stand after so many others, and the others stay

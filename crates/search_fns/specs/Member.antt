@@ -4,7 +4,7 @@ use Rattle.arrays_core.{specs.declared.item.Item.{Item}, specs.declared.item.Ite
 use Rattle.arrays_core.{specs.declared.item.Kind.{Kind}, specs.Arrays.{ArrayValue, item_of}, specs.Shapes.{indices}}
 use Rattle.index_region.specs.Checks.{Form, limited, whole}
 use Rattle.change_core.{specs.RuleModels.{RuleModel}, specs.Sourced.{two_rule}, specs.Ways.{alike, everywhere}}
-use Rattle.scalar_fns.specs.Numbers.{truth}
+use Rattle.item_fns.specs.Numbers.{truth}
 use Rattle.search_fns.specs.SameItem.{same_item}
 
 -- numbers in the shape of a

@@ -2,7 +2,7 @@
 use Rattle.std.{specs.Prelude.{pos, Bool, false, Result, Ok, Err}, specs.Ordering.{int_eq}}
 use Rattle.arrays_core.{specs.declared.item.Item.{Item}, specs.declared.item.Item.TheVariants.{Num, Char}, specs.declared.item.Kind.{Kind}}
 use Rattle.function_names.specs.declared.scalar.Scalar2.TheVariants.{Equal}
-use Rattle.scalar_fns.specs.Items.{dyadic_on_items}
+use Rattle.item_fns.specs.Items.{dyadic_on_items}
 
 -- the answer of a comparison is 1
 abbrev pub is_1 : Result Item Kind → Bool

@@ -7,7 +7,7 @@ ghost use Rattle.index_region.specs.ArgumentLists.{of_two_arguments};
 ghost use Rattle.index_region.specs.Arguments.{numbers};
 ghost use Rattle.index_region.specs.Answers.{IsPlaceOf};
 ghost use Rattle.change_core.proofs.Growing.{never_grows};
-ghost use Rattle.scalar_fns.specs.Items.{number_item};
+ghost use Rattle.item_fns.specs.Items.{number_item};
 ghost use Rattle.search_fns.specs.Encode.{carried, digit, encode_form, encode_item, encode_whole, encode_rule};
 ghost use Rattle.search_fns.specs.Laws.Encode.{encode_tight};
 
@@ -19,7 +19,7 @@ use arrays_core::{
 };
 use change_core::Announced;
 use index_region::{IndexBox, Intervals, Primitive, Seen, apply, limited};
-use scalar_fns::{Scalar2, floor_quotient, two_numbers};
+use item_fns::{Scalar2, floor_quotient, two_numbers};
 use std::alloc::Global;
 
 /// Encode, `A⊤B` (ISO/IEC 13751, "Representation"): the axes of A, and then those of B. Along the axis

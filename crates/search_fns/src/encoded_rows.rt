@@ -3,14 +3,14 @@
 ghost use Rattle.std.specs.Prelude.{◌≡◌, ◌≤◌, ◌<◌, ◌+◌, ◌*◌, Ok, OnOk, IfOk, length};
 ghost use Rattle.arrays_core.specs.Arrays.{IsArray};
 ghost use Rattle.index_region.specs.Arguments.{numbers};
-ghost use Rattle.scalar_fns.specs.Numbers.{residue};
+ghost use Rattle.item_fns.specs.Numbers.{residue};
 ghost use Rattle.search_fns.specs.Encode.{carried};
 ghost use Rattle.search_fns.specs.EncodedRows.{AreCarried, AreDigits, HasRow};
 
 use crate::encode::carried;
 use arrays_core::{ApplyFault, Kind, repeated};
 use index_region::Seen;
-use scalar_fns::residue;
+use item_fns::residue;
 use selection_fns::numbers_of;
 use std::alloc::Global;
 

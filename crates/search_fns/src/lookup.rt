@@ -5,7 +5,7 @@ ghost use Rattle.std.specs.Prelude.{◌≡◌, ◌≤◌, suc, pos, IfOk, length
 ghost use Rattle.std.specs.List.{list_any, position_from, position_or_len};
 ghost use Rattle.std.specs.HashMap.{get};
 ghost use Rattle.arrays_core.specs.Limits.{most_places};
-ghost use Rattle.scalar_fns.specs.Numbers.{truth};
+ghost use Rattle.item_fns.specs.Numbers.{truth};
 
 use arrays_core::{repeated, room_of};
 use std::alloc::{AllocError, Global};

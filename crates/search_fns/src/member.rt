@@ -7,7 +7,7 @@ ghost use Rattle.arrays_core.specs.Arrays.{IsAnswerTo};
 ghost use Rattle.arrays_core.specs.Shapes.{size};
 ghost use Rattle.index_region.specs.ArgumentLists.{of_two_arguments};
 ghost use Rattle.change_core.proofs.Growing.{never_grows};
-ghost use Rattle.scalar_fns.specs.Numbers.{truth};
+ghost use Rattle.item_fns.specs.Numbers.{truth};
 ghost use Rattle.search_fns.specs.SameItem.{same_item};
 ghost use Rattle.search_fns.specs.Member.{member_form, member_item, member_whole, member_rule};
 ghost use Rattle.search_fns.specs.Laws.Member.{member_tight};
@@ -17,7 +17,7 @@ use crate::lookup::{all_of, members_of};
 use arrays_core::{ApplyFault, Array, Item, ItemType, Kind, Shape, position, shape_of};
 use change_core::Announced;
 use index_region::{IndexBox, Intervals, Primitive, Seen, limited};
-use scalar_fns::truth;
+use item_fns::truth;
 use selection_fns::{is_small, items_of_whole};
 use std::alloc::{AllocError, Global};
 

@@ -5,7 +5,7 @@ ghost use Rattle.arrays_core.specs.declared.item.Kind.TheVariants.{Limit};
 ghost use Rattle.search_fns.specs.DecodedRows.{with_one_more, StaysWithin, HaveOneMore, LeavesNumbers};
 
 use arrays_core::Kind;
-use scalar_fns::kernels::{Plus, Times, TwoNumbers};
+use item_fns::kernels::{Plus, Times, TwoNumbers};
 
 /// How far from 0 a number and a digit may be where the machine's product and sum serve.
 const NEAR: u64 = 1_099_511_627_776;

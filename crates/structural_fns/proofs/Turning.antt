@@ -4,7 +4,7 @@ use Rattle.std.{specs.Int.{int_rem_euclid}, specs.Ordering.{int_eq}, proofs.lemm
 use Rattle.std.{proofs.lemmas.Bool.Decides.{Decides-int_eq}, proofs.lemmas.Nat.{mod_below, div-add-mod'}}
 use Rattle.arrays_core.{specs.declared.item.Item.{Item}, specs.declared.item.Kind.TheVariants.{Axis as AxisKind, Rank, Length, Domain}, specs.Items.{type_of}}
 use Rattle.arrays_core.specs.Arrays.{ArrayValue}
-use Rattle.scalar_fns.{specs.Numbers.{residue}, proofs.Residues.{both_positive}}
+use Rattle.item_fns.{specs.Numbers.{residue}, proofs.Residues.{both_positive}}
 use Rattle.function_names.{specs.declared.along.Along.{Along}, specs.Axes.{is_axis, axis_at}}
 use Rattle.index_region.{specs.Checks.{check, limited}, specs.Arguments.{has_one_item, counts_as_numbers}, specs.Answers.{HasTypeOf}}
 use Rattle.index_region.proofs.Passing.{typed_check, typed_limited}

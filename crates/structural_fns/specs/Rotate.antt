@@ -6,7 +6,8 @@ use Rattle.function_names.{specs.declared.along.Along.{Along}, specs.Axes.{is_ax
 use Rattle.index_region.{specs.Checks.{check, Form, limited, whole}, specs.Arguments.{has_one_item, counts_as_numbers, number_of}, specs.Axes.{places_along}}
 use Rattle.index_region.{specs.Sources.{Place, Source, item_from}, specs.Boxes.{whole_of}}
 use Rattle.change_core.{specs.RuleModels.{RuleModel, Use}, specs.Sourced.{Spread, on_axis, right_used, two_rule}}
-use Rattle.scalar_fns.{specs.ScalarExtension.{same_shape, extended}, specs.Numbers.{residue}}
+use Rattle.scalar_fns.specs.ScalarExtension.{same_shape, extended}
+use Rattle.item_fns.specs.Numbers.{residue}
 
 -- one amount, or one for each line of a shape along an axis
 abbrev pub lines_checked : ℕ → ArrayValue → List ℕ → Result Form Kind → Result Form Kind

@@ -8,7 +8,7 @@ use Rattle.arrays_core.{specs.declared.item.Item.{Item}, specs.declared.item.Ite
 use Rattle.arrays_core.{specs.Arrays.{ArrayValue, item_of}, specs.Items.{fill, type_of}, specs.Shapes.{size, is_index_of, places_before}}
 use Rattle.arrays_core.proofs.Shapes.{places_below}
 use Rattle.function_names.{specs.declared.scalar.Scalar2.{Scalar2}, specs.declared.along.Along.{Along}}
-use Rattle.scalar_fns.{specs.Folds.{strided, line_start}, proofs.RightFolds.{length-strided, get_or-strided}, specs.RightFold.{fold_right}}
+use Rattle.item_fns.{specs.Folds.{strided, line_start}, proofs.RightFolds.{length-strided, get_or-strided}, specs.RightFold.{fold_right}}
 use Rattle.index_region.{specs.Arguments.{number_of}, specs.Axes.{places_along}, specs.Boxes.{Interval, box_size, box_offset, is_within, walk_at}}
 use Rattle.index_region.{specs.Patches.{PatchValue, IsPatch, FitsPatch, patched, patched_item}, proofs.Boxes.{fits_length}}
 use Rattle.index_region.{proofs.Patched.{fits_within, patched_at}, proofs.Walks.{offset_below, offset_of_walk, walk_of_offset, walk_within}}

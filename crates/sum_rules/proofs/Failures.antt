@@ -9,8 +9,8 @@ use Rattle.arrays_core.{specs.Items.{after, all_or_first_error, and_then, fill, 
 use Rattle.arrays_core.proofs.Order.{get_or-indices, length-indices}
 use Rattle.function_names.{specs.Axes.{axis_at}, specs.declared.along.Along.{Along}, specs.declared.scalar.Scalar2.{Scalar2}}
 use Rattle.function_names.specs.declared.scalar.Scalar2.TheVariants.{Plus, Times, Maximum, Minimum, And, Or}
-use Rattle.scalar_fns.{specs.Identities.{identity_of}, specs.Items.{dyadic_on_items, number_item}}
-use Rattle.scalar_fns.{specs.Numbers.{as_truth, dyadic_on_numbers, is_number, number_or_limit, on_truths}, specs.RightFold.{fold_right, identity_item}}
+use Rattle.item_fns.{specs.Identities.{identity_of}, specs.Items.{dyadic_on_items, number_item}}
+use Rattle.item_fns.{specs.Numbers.{as_truth, dyadic_on_numbers, is_number, number_or_limit, on_truths}, specs.RightFold.{fold_right, identity_item}}
 use Rattle.index_region.specs.Axes.{places_along}
 use Rattle.reduce_fns.specs.Reduce.{reduce_item}
 use Rattle.fold_trees.specs.FoldTrees.{has_trees}

@@ -8,7 +8,7 @@ use Rattle.arrays_core.{specs.declared.item.Item.TheVariants.{Num}, specs.Arrays
 use Rattle.arrays_core.{specs.Shapes.{indices, is_index_of, places_before, size}, proofs.Shapes.{places_below}}
 use Rattle.change_core.{proofs.Collected.{along as items_along, collected, collected_is}, proofs.Walking.{box_size-whole, walk_is}}
 use Rattle.function_names.specs.declared.scalar.Scalar2.{Scalar2}
-use Rattle.scalar_fns.{specs.Folds.{strided, line_start}, proofs.RightFolds.{length-strided, get_or-strided}, specs.RightFold.{fold_right}}
+use Rattle.item_fns.{specs.Folds.{strided, line_start}, proofs.RightFolds.{length-strided, get_or-strided}, specs.RightFold.{fold_right}}
 use Rattle.index_region.{specs.Axes.{places_along}, specs.Boxes.{Interval, box_offset, is_within, walk_at, whole_of}}
 use Rattle.index_region.{proofs.Walks.{offset_below, walk_of_offset, walk_within}, specs.Patches.{PatchValue, FitsPatch, patched}, proofs.Boxes.{fits_length}}
 use Rattle.index_region.proofs.Patched.{patched_at}

@@ -2,7 +2,7 @@
 use Rattle.std.proofs.Common.{◌≡◌, ℕ, zero, suc, ◌+◌, ◌*◌, ◌/◌, ◌%◌, ◌<◌, List, [], ◌∷◌, length, sym, ap, ◌∙◌, arith}
 use Rattle.std.{proofs.lemmas.Nat.{div-add-mod', div-mul-add, mod-mul-add, mod_below, mul-add-lt}, proofs.Math.Nat.{mul-mod_left}}
 use Rattle.arrays_core.specs.Shapes.{size}
-use Rattle.scalar_fns.specs.Folds.{line_start}
+use Rattle.item_fns.specs.Folds.{line_start}
 use Rattle.fold_trees.specs.ArrayLines.{line_through}
 use Rattle.reduce_fns.{proofs.Lines.{size-drop-le}, proofs.Reduced.{sizes}}
 use Rattle.sum_rules.specs.LineSums.{line_length, line_step}

@@ -10,8 +10,8 @@ use Rattle.arrays_core.{specs.Growth.{one_longer}, specs.Items.{all_or_first_err
 use Rattle.arrays_core.{proofs.Growing.{rank_longer, size_longer}, proofs.Order.{length-indices, get_or-indices, places_before-index_after}}
 use Rattle.arrays_core.proofs.Shapes.{places_below}
 use Rattle.function_names.{specs.declared.scalar.Scalar2.{Scalar2}, specs.Axes.{axis_at, is_axis}}
-use Rattle.scalar_fns.{specs.Folds.{strided, folded, line_start}, specs.Items.{number_item}, specs.Numbers.{dyadic_on_numbers}}
-use Rattle.scalar_fns.{proofs.RightFolds.{length-strided, get_or-strided}, specs.RightFold.{fold_right}, proofs.ItemFolds.{number_items_folded}}
+use Rattle.item_fns.{specs.Folds.{strided, folded, line_start}, specs.Items.{number_item}, specs.Numbers.{dyadic_on_numbers}}
+use Rattle.item_fns.{proofs.RightFolds.{length-strided, get_or-strided}, specs.RightFold.{fold_right}, proofs.ItemFolds.{number_items_folded}}
 use Rattle.index_region.{specs.Checks.{form_of}, specs.Tails.{TailValue}}
 use Rattle.reduce_fns.{specs.Reduce.{reduce_form, reduce_whole}, specs.declared.reduce.Reduce.{Reduce}, proofs.Placewise.{collected_same}}
 use Rattle.reduce_fns.{specs.Laws.ReducedShapes.{reduce_facts}, proofs.Reduced.{reduced_whole}}

@@ -3,7 +3,7 @@ use Rattle.std.proofs.Common.{◌≡◌, ℕ, zero, suc, ◌+◌, ◌-◌, ◌*�
 use Rattle.std.proofs.lemmas.List.{length-append, length-set, set-append_left, set-append_right, get_or_append_left, get_or-append_right, get_or-set_same, ext_get_or}
 use Rattle.std.{proofs.lemmas.List.Elements.{All-head, All-tail, All-get_or, All-set}, proofs.Math.Nat.{mul-div_cancel}, specs.List.{flat_map}}
 use Rattle.std.proofs.lemmas.Nat.{div-add-mod', mod_below, div_below}
-use Rattle.scalar_fns.{specs.Folds.{strided, line_start}, proofs.RightFolds.{length-strided, get_or-strided}}
+use Rattle.item_fns.{specs.Folds.{strided, line_start}, proofs.RightFolds.{length-strided, get_or-strided}}
 use Rattle.fold_trees.specs.ArrayLines.{line_through, numbers_of_line, numbers_through, with_number}
 use Rattle.sum_rules.specs.Totals.{AreAllAsLong, all_trees}
 

@@ -5,8 +5,8 @@ use Rattle.arrays_core.{specs.declared.item.Item.{Item}, specs.declared.item.Ite
 use Rattle.arrays_core.{specs.declared.item.ItemType.TheVariants.{Nums}, specs.declared.item.Kind.{Kind}, specs.Arrays.{ArrayValue, with_items}}
 use Rattle.arrays_core.{specs.Items.{all_or_first_error}, specs.Shapes.{size, places_before}}
 use Rattle.function_names.{specs.declared.scalar.Scalar2.{Scalar2}, specs.Axes.{axis_at}}
-use Rattle.scalar_fns.{specs.Folds.{strided, folded, line_start}, specs.Items.{number_item}, specs.Numbers.{dyadic_on_numbers}}
-use Rattle.scalar_fns.{proofs.RightFolds.{length-strided}, specs.RightFold.{fold_right}, proofs.ItemFolds.{number_items_folded}}
+use Rattle.item_fns.{specs.Folds.{strided, folded, line_start}, specs.Items.{number_item}, specs.Numbers.{dyadic_on_numbers}}
+use Rattle.item_fns.{proofs.RightFolds.{length-strided}, specs.RightFold.{fold_right}, proofs.ItemFolds.{number_items_folded}}
 use Rattle.index_region.specs.Checks.{form_of}
 use Rattle.reduce_fns.{specs.Reduce.{reduce_form, reduce_whole}, specs.declared.reduce.Reduce.{Reduce}, proofs.Placewise.{collected_same}}
 use Rattle.reduce_fns.{specs.Laws.ReducedShapes.{reduce_facts}, proofs.Reduced.{lines_whole, reduced_whole}}

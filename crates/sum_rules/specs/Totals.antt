@@ -10,7 +10,7 @@ use Rattle.index_region.{specs.Patches.{PatchValue, FitsPatch, patched}, specs.T
 use Rattle.change_core.{specs.RuleModels.{RuleModel}, specs.Meters.{ticked}}
 use Rattle.change_rules.specs.Nodes.{Argument, node_cost}
 use Rattle.reduce_fns.{specs.declared.reduce.Reduce.{Reduce}, specs.Reduce.{reduce_rule}}
-use Rattle.scalar_fns.specs.RightFold.{fold_right}
+use Rattle.item_fns.specs.RightFold.{fold_right}
 use Rattle.fold_trees.specs.ArrayLines.{TreesValue, line_count, numbers_of_line}
 use Rattle.sum_rules.specs.LineSums.{StandFor, length_along}
 

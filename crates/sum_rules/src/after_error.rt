@@ -11,7 +11,7 @@ ghost use Rattle.index_region.specs.declared.delta.Delta.TheVariants.{Whole};
 ghost use Rattle.index_region.specs.Boxes.{box_size, is_within};
 ghost use Rattle.index_region.specs.Patches.{FitsPatch, patched};
 ghost use Rattle.reduce_fns.specs.Reduce.{reduce_item};
-ghost use Rattle.scalar_fns.specs.RightFold.{fold_right};
+ghost use Rattle.item_fns.specs.RightFold.{fold_right};
 ghost use Rattle.fold_trees.specs.ArrayLines.{line_count, numbers_of_line};
 ghost use Rattle.change_core.specs.Meters.{ticked};
 ghost use Rattle.change_core.specs.RuleModels.{form_size};

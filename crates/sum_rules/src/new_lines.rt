@@ -10,7 +10,7 @@ use crate::line_sums::{line_length, line_step};
 use arrays_core::{Shape, shape_of, size};
 use fold_trees::{NewFolds, NextFolds};
 use index_region::Tail;
-use scalar_fns::Scalar2;
+use item_fns::Scalar2;
 use std::alloc::{AllocError, Global};
 use std::marker::Model;
 

@@ -12,7 +12,7 @@ ghost use Rattle.function_names.specs.Axes.{is_axis, axis_at};
 ghost use Rattle.index_region.specs.Boxes.{box_size, is_within};
 ghost use Rattle.index_region.specs.Patches.{FitsPatch, patched};
 ghost use Rattle.reduce_fns.specs.Reduce.{reduce_item};
-ghost use Rattle.scalar_fns.specs.RightFold.{fold_right};
+ghost use Rattle.item_fns.specs.RightFold.{fold_right};
 ghost use Rattle.fold_trees.specs.FoldTrees.{IsWithinDigitsOf};
 ghost use Rattle.fold_trees.specs.ArrayLines.{line_count, numbers_through, with_number};
 ghost use Rattle.change_core.specs.Meters.{ticked, most_ticks};
@@ -35,8 +35,8 @@ use change_core::{Meter, Reach, Rule};
 use change_rules::refresh_with_cost;
 use fold_trees::SumTree;
 use index_region::{Along, Delta, IndexBox, Patch, Seen, Tail};
+use item_fns::Scalar2;
 use reduce_fns::Reduce;
-use scalar_fns::Scalar2;
 use std::alloc::{AllocError, Global};
 
 /// The box has one place on an axis, axes counted from 0.

@@ -6,8 +6,8 @@ use Rattle.std.proofs.lemmas.List.{take-append-le, take_all}
 use Rattle.arrays_core.{specs.declared.item.Item.{Item}, specs.declared.item.Kind.{Kind}, specs.Arrays.{ArrayValue, IsArray, item_if_there}}
 use Rattle.arrays_core.{specs.Items.{fill, and_then}, specs.Shapes.{is_index_of, size}, proofs.Shapes.{as_long}}
 use Rattle.function_names.specs.declared.scalar.Scalar2.{Scalar2}
-use Rattle.scalar_fns.{specs.Items.{dyadic_on_items}, specs.ScalarExtension.{extended}, specs.Laws.OneItem.{ones_inside, ones_first, only_index}}
-use Rattle.scalar_fns.specs.RightFold.{fold_right}
+use Rattle.scalar_fns.{specs.ScalarExtension.{extended}, specs.Laws.OneItem.{ones_inside, ones_first, only_index}}
+use Rattle.item_fns.{specs.Items.{dyadic_on_items}, specs.RightFold.{fold_right}}
 use Rattle.index_region.{specs.Answers.{IsPlaceOf}, specs.Boxes.{Interval, is_within, whole_of}, specs.Checks.{Form}}
 use Rattle.change_core.{specs.Tightness.{Covered, Each}, specs.Sourced.{other}, proofs.UsedWays.{back-onto, each_all, each_map, front-onto}}
 use Rattle.change_core.proofs.ReadAlike.{item_same}

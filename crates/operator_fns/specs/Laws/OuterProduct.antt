@@ -3,7 +3,7 @@ use Rattle.std.proofs.Common.{◌≡◌, ℕ, true, false, List, ◌∷◌, ◌+
 use Rattle.arrays_core.{specs.declared.item.Item.{Item}, specs.declared.item.ItemType.TheVariants.{Nums}, specs.Arrays.{ArrayValue, item_of, item_if_there}}
 use Rattle.arrays_core.specs.Shapes.{is_index_of}
 use Rattle.function_names.specs.declared.scalar.Scalar2.{Scalar2}
-use Rattle.scalar_fns.specs.Items.{dyadic_on_items}
+use Rattle.item_fns.specs.Items.{dyadic_on_items}
 use Rattle.index_region.{specs.Checks.{Form}, proofs.Passing.{limited_gives}}
 use Rattle.change_core.{specs.Tightness.{IsTight, Covered}, specs.Sourced.{other}, specs.Ways.{front, back}, proofs.Growing.{tight_growing}}
 use Rattle.change_core.{proofs.Sourced.{two_tight}, proofs.UsedWays.{front-onto, back-onto, onto_covered, index-take, index-drop}, proofs.ReadAlike.{item_same}}

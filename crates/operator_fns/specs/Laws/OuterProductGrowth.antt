@@ -2,7 +2,7 @@
 use Rattle.std.{proofs.Common.{◌≡◌, ℕ, ◌<◌, ap, sym, ◌∙◌, refl, arith, true, false, List, [], ◌∷◌, ◌++◌, length, take, drop}, proofs.lemmas.Bool.{false≢true}}
 use Rattle.arrays_core.{specs.declared.item.Item.{Item}, specs.declared.item.ItemType.TheVariants.{Nums}, specs.Arrays.{item_of}, specs.Growth.{one_longer}}
 use Rattle.function_names.specs.declared.scalar.Scalar2.{Scalar2}
-use Rattle.scalar_fns.specs.Items.{dyadic_on_items}
+use Rattle.item_fns.specs.Items.{dyadic_on_items}
 use Rattle.index_region.{specs.Checks.{form_of}, proofs.Passing.{limited_gives}}
 use Rattle.change_core.{specs.Growth.{IsGrowing}, proofs.Growing.{item_kept, length-longer, longer_form, shape_grown, two_growing, growing_growing}}
 use Rattle.change_core.proofs.UsedWays.{index-take}

@@ -9,7 +9,7 @@ use Rattle.change_core.specs.Growth.{IsGrown, IsGrowing}
 use Rattle.change_core.proofs.Growing.{along_longer, item_kept, growing_growing, length-longer, longer_form, one_growing, range_same, remove_longer, shape_grown, some_left, type_grown}
 use Rattle.reduce_fns.{specs.Reduce.{reduce_form, reduce_item, reduce_type, reduce_rule, reduce_use}, specs.Lines.{line}, specs.Laws.LineIndices.{inside}}
 use Rattle.reduce_fns.{specs.Laws.ReducedShapes.{reduce_facts}, specs.Growth.{lines_grow}}
-use Rattle.scalar_fns.specs.RightFold.{fold_right}
+use Rattle.item_fns.specs.RightFold.{fold_right}
 
 -- what is the same of the old array and the one that grew, along an axis that is not the first
 pub record Alike (along : Along) (old new : ArrayValue) : Type 0 where

@@ -9,7 +9,7 @@ use Rattle.change_core.{specs.Tightness.{IsTight, Covered, Each}, specs.Sourced.
 use Rattle.change_core.{proofs.UsedWays.{lines-covered}, proofs.ReadAlike.{item_same}}
 use Rattle.reduce_fns.{specs.Reduce.{reduce_form, reduce_item, line_use, reduce_rule, reduce_use}, specs.Lines.{line}, specs.Laws.LineIndices.{inside}}
 use Rattle.reduce_fns.{specs.Laws.ReducedShapes.{reduce_facts}, specs.Laws.ReadLines.{items_same, no_axes, scalar_line}}
-use Rattle.scalar_fns.specs.RightFold.{fold_right}
+use Rattle.item_fns.specs.RightFold.{fold_right}
 
 -- a line is the same where it is read alike
 line_same : (d : ArrayValue) (xs : List Item) (axis : ℕ) (index : List ℕ) → (0 < length d.shape → axis < length d.shape) → is_index_of (remove d.shape axis) index ≡ true

@@ -4,8 +4,9 @@ use Rattle.std.{proofs.lemmas.Bool.{eqb-true, cases_Bool, cond-true, cond-false}
 use Rattle.arrays_core.{specs.declared.item.Kind.{Kind}, specs.declared.item.ItemType.TheVariants.{Nums}, specs.Shapes.{size, is_index_of}}
 use Rattle.arrays_core.specs.Arrays.{ArrayValue}
 use Rattle.function_names.specs.declared.scalar.Scalar2.{Scalar2}
-use Rattle.scalar_fns.{specs.Items.{dyadic_on_items}, specs.ScalarExtension.{common, for_shape}, specs.Laws.Extension.{ExtendsTo, common_extends}}
+use Rattle.scalar_fns.{specs.ScalarExtension.{common, for_shape}, specs.Laws.Extension.{ExtendsTo, common_extends}}
 use Rattle.scalar_fns.{specs.EachDyadic.{each_dyadic_form, each_dyadic_item, each_dyadic_rule, extended_use}, specs.Laws.OneItem.{extended_same, only_index}}
+use Rattle.item_fns.specs.Items.{dyadic_on_items}
 use Rattle.index_region.{specs.Boxes.{Interval, is_within, whole_of}, specs.Checks.{Form, form_of}}
 use Rattle.change_core.{specs.Tightness.{Covered, IsTight}, proofs.Growing.{tight_growing}, proofs.Sourced.{two_tight}, proofs.UsedWays.{within-whole}}
 

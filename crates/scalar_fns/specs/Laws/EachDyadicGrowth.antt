@@ -6,8 +6,9 @@ use Rattle.arrays_core.{specs.declared.item.Item.{Item}, specs.declared.item.Kin
 use Rattle.arrays_core.{specs.declared.item.ItemType.TheVariants.{Nums}, specs.Arrays.{ArrayValue, IsArray, item_of}, specs.Items.{fill}}
 use Rattle.arrays_core.{specs.Shapes.{size, is_index_of, places_before}, proofs.Shapes.{factor_le, places_below}, specs.Growth.{one_longer}}
 use Rattle.function_names.specs.declared.scalar.Scalar2.{Scalar2}
-use Rattle.scalar_fns.{specs.Items.{dyadic_on_items}, specs.ScalarExtension.{common, extended, for_shape}}
-use Rattle.scalar_fns.{specs.EachDyadic.{each_dyadic_form, each_dyadic_item, each_dyadic_rule}, specs.Growth.{each_dyadic_grows, is_extended_to}}
+use Rattle.scalar_fns.{specs.ScalarExtension.{common, extended, for_shape}, specs.EachDyadic.{each_dyadic_form, each_dyadic_item, each_dyadic_rule}}
+use Rattle.scalar_fns.specs.Growth.{each_dyadic_grows, is_extended_to}
+use Rattle.item_fns.specs.Items.{dyadic_on_items}
 use Rattle.index_region.specs.Checks.{Form, form_of}
 use Rattle.change_core.specs.Growth.{IsGrown, IsGrowing}
 use Rattle.change_core.proofs.Growing.{item_kept, length-longer, longer_form, shape_grown, still_inside, two_growing, growing_growing}

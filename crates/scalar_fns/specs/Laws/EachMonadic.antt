@@ -2,7 +2,8 @@
 use Rattle.std.proofs.Common.{◌≡◌, refl, ap, ◌∙◌, true}
 use Rattle.arrays_core.{specs.declared.item.ItemType.TheVariants.{Nums}, specs.Shapes.{is_index_of}}
 use Rattle.function_names.specs.declared.scalar.Scalar1.{Scalar1}
-use Rattle.scalar_fns.{specs.Items.{monadic_on_item}, specs.EachMonadic.{each_monadic_form, each_monadic_item, each_monadic_rule}}
+use Rattle.scalar_fns.specs.EachMonadic.{each_monadic_form, each_monadic_item, each_monadic_rule}
+use Rattle.item_fns.specs.Items.{monadic_on_item}
 use Rattle.index_region.specs.Checks.{Form, form_of}
 use Rattle.change_core.{specs.Tightness.{IsTight}, specs.Sourced.{other}, proofs.Growing.{tight_growing}, proofs.Sourced.{one_tight}}
 use Rattle.change_core.{proofs.ReadAlike.{one_same}, proofs.UsedWays.{alike-covered}}

@@ -2,8 +2,8 @@
 use Rattle.std.proofs.Common.{◌≡◌, ap, sym, ◌∙◌, true}
 use Rattle.arrays_core.specs.declared.item.ItemType.TheVariants.{Nums}
 use Rattle.function_names.specs.declared.scalar.Scalar1.{Scalar1}
-use Rattle.scalar_fns.{specs.Items.{monadic_on_item}, specs.EachMonadic.{each_monadic_form, each_monadic_item, each_monadic_rule}}
-use Rattle.scalar_fns.specs.Growth.{each_monadic_grows}
+use Rattle.scalar_fns.{specs.EachMonadic.{each_monadic_form, each_monadic_item, each_monadic_rule}, specs.Growth.{each_monadic_grows}}
+use Rattle.item_fns.specs.Items.{monadic_on_item}
 use Rattle.index_region.specs.Checks.{form_of}
 use Rattle.change_core.{specs.Growth.{IsGrowing}, proofs.Growing.{item_kept, longer_form, one_growing, growing_growing, shape_grown}}
 

@@ -8,7 +8,7 @@ use Rattle.index_region.{specs.Axes.{places_along}, proofs.RowIndices.{axis_belo
 use Rattle.change_core.{specs.Tightness.{IsTight, Covered}, specs.Sourced.{other}, proofs.Growing.{tight_growing}, proofs.Sourced.{one_tight}}
 use Rattle.change_core.{proofs.UsedWays.{Follows, along-covered, each_range}, proofs.ReadAlike.{item_same}}
 use Rattle.scan_fns.{specs.Scan.{scan_form, scan_item, run_use, scan_rule, scan_use}, specs.Laws.ScannedPlaces.{at_axis, scan_facts}}
-use Rattle.scalar_fns.specs.RightFold.{fold_right}
+use Rattle.item_fns.specs.RightFold.{fold_right}
 use Rattle.reduce_fns.{specs.Lines.{line}, specs.Laws.ReadLines.{items_same, no_axes, scalar_line}}
 
 -- an index that is taken out and put in again

@@ -6,7 +6,7 @@ use Rattle.std.{proofs.lemmas.Bool.Decides.{nat_tests}, proofs.lemmas.List.{get_
 use Rattle.std.proofs.lemmas.List.FromFn.{get_or-map-range_with_len, length-range_with_len}
 use Rattle.arrays_core.{specs.declared.item.Item.{Item}, specs.declared.item.ItemType.{ItemType}, specs.declared.item.ItemType.TheVariants.{Nums}}
 use Rattle.arrays_core.{specs.Arrays.{ArrayValue, item_if_there, item_of}, specs.Shapes.{indices, is_index_of}}
-use Rattle.scalar_fns.specs.Items.{number_item}
+use Rattle.item_fns.specs.Items.{number_item}
 use Rattle.index_region.{specs.Arguments.{counts_as_numbers, has_one_item, is_list, number_of}, specs.Axes.{places_along}, specs.Boxes.{is_within}}
 use Rattle.index_region.{specs.Checks.{Form}, proofs.Passing.{gives, limited_gives}}
 use Rattle.change_core.{specs.Tightness.{Covered, Each, IsTight}, specs.Sourced.{other}, specs.Ways.{everywhere}, proofs.Sourced.{two_arrays_tight}}

@@ -4,7 +4,7 @@ use Rattle.std.{specs.List.{range_with_len}, proofs.lemmas.Bool.{and_parts, and_
 use Rattle.std.proofs.lemmas.List.{ext_get_or, get_or-map, length-map}
 use Rattle.arrays_core.{specs.declared.item.Item.{Item}, specs.declared.item.ItemType.{ItemType}, specs.declared.item.ItemType.TheVariants.{Nums}}
 use Rattle.arrays_core.{specs.Arrays.{ArrayValue, item_if_there, item_of}, specs.Items.{fill, and_then}, specs.Shapes.{is_index_of, size}}
-use Rattle.scalar_fns.{specs.Items.{number_item}, specs.Numbers.{residue}}
+use Rattle.item_fns.{specs.Items.{number_item}, specs.Numbers.{residue}}
 use Rattle.index_region.{specs.Arguments.{counts_as_numbers, is_list, number_of, numbers}, specs.Checks.{Form}, proofs.Passing.{gives, limited_gives}}
 use Rattle.change_core.{specs.Tightness.{Covered, IsTight}, specs.Sourced.{other}, specs.Ways.{back}, proofs.Sourced.{two_arrays_tight}}
 use Rattle.change_core.{proofs.UsedWays.{back-onto, each_map, each_range, index-drop, onto_covered, within-whole}, proofs.ReadAlike.{item_same}}

@@ -1,7 +1,7 @@
 use Rattle.std.{proofs.Common.{◌≡◌, ◌∙◌, ap, sym, map, Ok, pos, length, subst, get_or}, specs.List.{range_with_len}}
 use Rattle.arrays_core.{specs.Items.{all_or_first_error}, specs.Shapes.{size}, specs.Arrays.{with_items}, specs.declared.item.ItemType.TheVariants.{Nums}}
 use Rattle.function_names.specs.declared.scalar.Scalar2.TheVariants.{Plus as Sum, Times as Product}
-use Rattle.scalar_fns.{specs.Numbers.{dyadic_on_numbers}, specs.NumberLists.{number_items}}
+use Rattle.item_fns.{specs.Numbers.{dyadic_on_numbers}, specs.NumberLists.{number_items}}
 use Rattle.operator_fns.{specs.RowByColumn.{cell, IsGridOf}, proofs.PlainGrids.{rows_inside, columns_inside, product_there}}
 use Rattle.reduce_fns.{proofs.Placewise.{numbers_collected}, proofs.Firsts.{all_places}}
 use Rattle.operator_fns.proofs.grid.sums_of_products.Goals as goal

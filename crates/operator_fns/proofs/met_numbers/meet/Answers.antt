@@ -1,6 +1,6 @@
 use Rattle.std.proofs.Common.{◌≡◌, ◌∙◌, ◌+◌, ◌-◌, ℕ, ap, sym, refl, subst, length, drop, pos, arith, Ok, Err, to_z, of_z, w64, SFits, rules}
 use Rattle.std.{proofs.Math.ListN.{length-set}, proofs.lemmas.Int.{to_z-of_z}, proofs.lemmas.List.{drop_all}}
-use Rattle.scalar_fns.proofs.Errors.{passed_on}
+use Rattle.item_fns.proofs.Errors.{passed_on}
 use Rattle.operator_fns.{specs.InnerProduct.{all_or_last_error}, specs.RowByColumn.{entry, all_met}, proofs.Meetings.{length-met, met_at}}
 use Rattle.operator_fns.proofs.MetLists.{one_written, one_failed}
 use Rattle.operator_fns.proofs.met_numbers.meet.Goals as goal

@@ -1,5 +1,5 @@
 use Rattle.std.proofs.Common.{◌≡◌, ◌∙◌, ◌+◌, ◌-◌, ap, sym, subst, arith, Ok, Err}
-use Rattle.scalar_fns.proofs.Errors.{passed_on}
+use Rattle.item_fns.proofs.Errors.{passed_on}
 use Rattle.operator_fns.specs.RowByColumn.{last_error_or}
 use Rattle.operator_fns.proofs.Meetings.{FoldedTo, firsts, length-firsts, first_at, take-firsts, folded_last, one_more, last_entry_failed, entry_failed, fold_failed}
 use Rattle.operator_fns.proofs.row_by_column.fold_row.Goals as goal

@@ -1,6 +1,6 @@
 use Rattle.std.proofs.Common.{◌≡◌, ◌∙◌, ◌<◌, ◌≤◌, ◌+◌, ◌-◌, ◌*◌, ap, sym, subst, get_or, drop, take, length, pos, arith, Ok}
 use Rattle.std.{proofs.lemmas.List.{get_or-take, get_or-drop, length-take, length-drop}, proofs.Math.Nat.{mul-le-mul_right}}
-use Rattle.scalar_fns.{specs.Folds.{strided, folded}, proofs.RightFolds.{strided_last, strided_more}}
+use Rattle.item_fns.{specs.Folds.{strided, folded}, proofs.RightFolds.{strided_last, strided_more}}
 use Rattle.reduce_fns.proofs.columns.fold_rows.Goals as goal
 
 pub loop-before-init : goal.loop-before-init

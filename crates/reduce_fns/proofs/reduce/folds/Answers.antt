@@ -1,7 +1,7 @@
 use Rattle.std.proofs.Common.{rules, ◌≡◌, sym, subst}
 use Rattle.arrays_core.specs.Arrays.{IsAnswerTo}
 use Rattle.function_names.specs.declared.scalar.Scalar2.TheVariants.{Plus}
-use Rattle.scalar_fns.specs.Numbers.{dyadic_on_numbers}
+use Rattle.item_fns.specs.Numbers.{dyadic_on_numbers}
 use Rattle.reduce_fns.specs.AxisLines.{line_folds}
 use Rattle.reduce_fns.proofs.reduce.folds.Goals as goal
 

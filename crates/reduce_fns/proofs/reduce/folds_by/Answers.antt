@@ -1,6 +1,6 @@
 use Rattle.std.{proofs.Common.{◌≡◌, ◌∙◌, ap, sym, map, Ok}, specs.List.{range_with_len}}
 use Rattle.arrays_core.{specs.Items.{all_or_first_error}, specs.Shapes.{size}, specs.Arrays.{with_items}, specs.declared.item.ItemType.TheVariants.{Nums}}
-use Rattle.scalar_fns.specs.NumberLists.{number_items}
+use Rattle.item_fns.specs.NumberLists.{number_items}
 use Rattle.reduce_fns.{specs.AxisLines.{fold_at}, proofs.Placewise.{numbers_collected}}
 use Rattle.reduce_fns.proofs.reduce.folds_by.Goals as goal
 

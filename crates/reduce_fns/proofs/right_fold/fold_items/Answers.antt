@@ -1,7 +1,7 @@
 use Rattle.std.proofs.Common.{◌≡◌, ◌∙◌, ◌+◌, ◌-◌, ◌*◌, ap, sym, subst, get_or, length, arith, Ok, Err, drop}
 use Rattle.arrays_core.specs.Items.{fill}
-use Rattle.scalar_fns.{specs.Items.{dyadic_on_items}, specs.Folds.{strided, folded}}
-use Rattle.scalar_fns.{proofs.RightFolds.{strided_last, strided_more, strided_error, length-strided}, proofs.Errors.{passed_on}, proofs.ItemFolds.{some_folded}}
+use Rattle.item_fns.{specs.Items.{dyadic_on_items}, specs.Folds.{strided, folded}}
+use Rattle.item_fns.{proofs.RightFolds.{strided_last, strided_more, strided_error, length-strided}, proofs.Errors.{passed_on}, proofs.ItemFolds.{some_folded}}
 use Rattle.reduce_fns.proofs.Folds.{place_high}
 use Rattle.reduce_fns.proofs.right_fold.fold_items.Goals as goal
 

@@ -1,6 +1,6 @@
 use Rattle.std.proofs.Common.{◌≡◌, ◌∙◌, ◌+◌, ◌-◌, ◌≤◌, suc, ap, sym, arith, drop, take, insert, get_or}
 use Rattle.arrays_core.{specs.Items.{fill}, specs.Shapes.{places_before, size}}
-use Rattle.scalar_fns.{specs.Folds.{strided}, proofs.RightFolds.{take-strided}, specs.RightFold.{fold_right}}
+use Rattle.item_fns.{specs.Folds.{strided}, proofs.RightFolds.{take-strided}, specs.RightFold.{fold_right}}
 use Rattle.reduce_fns.{specs.Lines.{line}, specs.Laws.LineIndices.{inside}, proofs.Lines.{line-strided, line_high, long_with_axis}}
 use Rattle.reduce_fns.proofs.right_fold.fold_line.Goals as goal
 

@@ -1,7 +1,7 @@
 use Rattle.std.proofs.Common.{pos, ◌≡◌, ◌∙◌, ◌+◌, ◌-◌, ◌≤◌, suc, ap, sym, arith, drop, take, insert, get_or}
 use Rattle.arrays_core.{specs.Items.{fill}, specs.Shapes.{places_before, size}}
 use Rattle.index_region.specs.Arguments.{numbers}
-use Rattle.scalar_fns.{specs.Folds.{strided}, proofs.RightFolds.{take-strided}}
+use Rattle.item_fns.{specs.Folds.{strided}, proofs.RightFolds.{take-strided}}
 use Rattle.reduce_fns.{specs.Lines.{line}, specs.Laws.LineIndices.{inside}, proofs.Lines.{line-strided, line_high, long_with_axis}}
 use Rattle.reduce_fns.proofs.LineNumbers.{numbers_there, as_items}
 use Rattle.reduce_fns.proofs.right_fold.line_numbers.Goals as goal

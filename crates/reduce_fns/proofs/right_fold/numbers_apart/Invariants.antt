@@ -1,5 +1,5 @@
 use Rattle.std.proofs.Common.{◌≡◌, ◌-◌, ◌≤◌, pos, vec_len, vec_capacity}
-use Rattle.scalar_fns.specs.Folds.{strided}
+use Rattle.item_fns.specs.Folds.{strided}
 use Rattle.index_region.specs.Arguments.{numbers}
 use Rattle.reduce_fns.proofs.right_fold.numbers_apart.Given as goal
 

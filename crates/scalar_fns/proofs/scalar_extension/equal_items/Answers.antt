@@ -1,5 +1,5 @@
 use Rattle.std.proofs.Common.{◌≡◌, ◌∙◌, ℕ, sym, ap, refl, subst, Ok}
-use Rattle.scalar_fns.{specs.Characters.{AreTold}, specs.Laws.Extension.{common_extends}, proofs.Joint.{IsOf, as_long_as}}
+use Rattle.scalar_fns.{specs.Laws.Extension.{common_extends}, proofs.Joint.{IsOf, as_long_as}, specs.Characters.{AreTold}}
 use Rattle.scalar_fns.proofs.Equalities.{of_characters, of_other_types}
 use Rattle.arrays_core.{specs.declared.item.Item.TheVariants.{Char}, specs.Shapes.{size}}
 use Rattle.scalar_fns.proofs.scalar_extension.equal_items.Goals as goal

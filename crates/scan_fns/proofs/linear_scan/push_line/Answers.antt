@@ -1,6 +1,6 @@
 use Rattle.std.proofs.Common.{◌≡◌, ◌∙◌, ◌+◌, ◌-◌, ◌%◌, ◌<◌, ◌++◌, ◌∷◌, [], ap, sym, subst, length, get_or, min, arith, Ok, Err, pos, to_z, of_z, w64, SFits, rules}
 use Rattle.std.{proofs.lemmas.List.{get_or-append_right}, proofs.lemmas.Int.{to_z-of_z}}
-use Rattle.scalar_fns.proofs.Errors.{passed_on}
+use Rattle.item_fns.proofs.Errors.{passed_on}
 use Rattle.scan_fns.{specs.LinearScan.{left_rule, AreResultsTo}, proofs.LeftScans.{next_beside, one_more, first_error, fails_here}}
 use Rattle.scan_fns.proofs.linear_scan.push_line.Goals as goal
 

@@ -1,7 +1,7 @@
 use Rattle.std.proofs.Common.{◌≡◌, ◌∙◌, ◌+◌, ◌*◌, ◌%◌, ◌++◌, ◌∷◌, [], ap, sym, length, get_or, map, arith, Ok, Err, pos, to_z, of_z, w64, SFits, rules}
 use Rattle.std.{specs.List.{range_with_len}, proofs.lemmas.Int.{to_z-of_z}, proofs.Math.Nat.{mod-add-mod, zero-mod}}
 use Rattle.arrays_core.specs.Items.{all_or_first_error}
-use Rattle.scalar_fns.proofs.Errors.{list_error}
+use Rattle.item_fns.proofs.Errors.{list_error}
 use Rattle.scan_fns.{specs.LinearScan.{left_rule}, proofs.LeftScans.{next_left, all_fit, error_read, none_yet, one_more, first_error, fails_here, results_end}}
 use Rattle.reduce_fns.specs.LeftFolds.{folded_left}
 use Rattle.scan_fns.proofs.linear_scan.running_apart.Goals as goal

@@ -1,6 +1,6 @@
 use Rattle.std.proofs.Common.{◌≡◌, ap, length, pos, subst}
 use Rattle.arrays_core.specs.Items.{all_or_first_error}
-use Rattle.scalar_fns.{specs.NumberLists.{IsListAnswerTo}, specs.Folds.{folded}}
+use Rattle.item_fns.{specs.NumberLists.{IsListAnswerTo}, specs.Folds.{folded}}
 use Rattle.scan_fns.{specs.LinearScan.{run_to, scanned}, proofs.Associates.{left_is_right}}
 use Rattle.reduce_fns.{specs.LeftFolds.{folded_left}, proofs.Firsts.{same_rules}}
 use Rattle.scan_fns.proofs.linear_scan.running_folds.Goals as goal

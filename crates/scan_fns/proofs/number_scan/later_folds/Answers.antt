@@ -1,5 +1,5 @@
 use Rattle.std.proofs.Common.{◌≡◌, ◌∙◌, Global, Ok, Err, length, sym, subst}
-use Rattle.scalar_fns.{specs.Numbers.{dyadic_on_numbers}, specs.NumberLists.{IsListAnswerTo}, specs.Folds.{folded}}
+use Rattle.item_fns.{specs.Numbers.{dyadic_on_numbers}, specs.NumberLists.{IsListAnswerTo}, specs.Folds.{folded}}
 use Rattle.scan_fns.{specs.LinearScan.{scanned}, proofs.LaterFolds.{one_line, later_folds, later_fault}}
 use Rattle.scan_fns.proofs.number_scan.later_folds.Goals as goal
 

@@ -1,4 +1,4 @@
-use Rattle.scalar_fns.proofs.Associative.{maximum, minimum, both_true, any_true}
+use Rattle.item_fns.proofs.Associative.{maximum, minimum, both_true, any_true}
 use Rattle.scan_fns.proofs.NextOutcomes.{less, less_or_equal, equal, greater_or_equal, greater, not_equal, not_both, neither}
 use Rattle.scan_fns.proofs.number_scan.number_folds.Goals as goal
 

@@ -1,6 +1,6 @@
 use Rattle.std.proofs.Common.{◌≡◌, ◌∙◌, ◌+◌, ◌%◌, ◌<◌, ◌++◌, ◌∷◌, [], ap, sym, subst, length, get_or, min, arith, Ok, Err, pos, to_z, of_z, w64, SFits, rules}
 use Rattle.std.proofs.lemmas.Int.{to_z-of_z}
-use Rattle.scalar_fns.proofs.Errors.{passed_on}
+use Rattle.item_fns.proofs.Errors.{passed_on}
 use Rattle.scan_fns.{specs.LinearScan.{AreResultsTo}, specs.Prefixes.{fold_to}, proofs.LeftScans.{one_more, first_error}}
 use Rattle.scan_fns.proofs.Prefixes.{IsFoldKept, line_begun, line_goes_on, fold_here}
 use Rattle.scan_fns.proofs.prefix.push_folds.Goals as goal

@@ -1,7 +1,7 @@
 use Rattle.std.{proofs.Common.{rules, ◌≡◌, ◌∙◌, ◌<◌, ◌-◌, ap, sym, pos, length, get_or, Ok, Err, arith, to_z, of_z, w64, SFits}, proofs.lemmas.Int.{to_z-of_z}}
 use Rattle.std.proofs.lemmas.List.{length-set}
 use Rattle.arrays_core.specs.Items.{and_then}
-use Rattle.scalar_fns.proofs.Errors.{passed_on}
+use Rattle.item_fns.proofs.Errors.{passed_on}
 use Rattle.scan_fns.{specs.LinearScan.{depth}, specs.Prefixes.{fold_to}, specs.RecalledScan.{given_at, nothing}, proofs.Runs.{one_deeper, past_stride}}
 use Rattle.scan_fns.proofs.RecalledFolds.{own_number, at_later, one_recalled}
 use Rattle.scan_fns.proofs.recalled_scan.recalled_fold.Goals as goal

@@ -3,7 +3,7 @@ use Rattle.std.{specs.List.{range_with_len}, proofs.lemmas.Int.{to_z-of_z}, proo
 use Rattle.arrays_core.specs.Items.{all_or_first_error}
 use Rattle.scan_fns.{specs.declared.recalled_scan.Recalled.{Recalled}, specs.Prefixes.{fold_to}}
 use Rattle.scan_fns.{proofs.LeftScans.{none_yet, one_more, first_error, results_end}, proofs.RecalledFolds.{next_recalled, result_before}}
-use Rattle.scalar_fns.proofs.Errors.{list_error}
+use Rattle.item_fns.proofs.Errors.{list_error}
 use Rattle.scan_fns.proofs.recalled_scan.recalled_folds.Goals as goal
 
 pub loop-place-init : goal.loop-place-init

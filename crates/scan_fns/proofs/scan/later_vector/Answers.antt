@@ -1,6 +1,6 @@
 use Rattle.std.proofs.Common.{◌≡◌, ◌∙◌, ◌+◌, ◌-◌, ◌≤◌, ◌∷◌, [], ap, sym, length, arith, Ok}
 use Rattle.arrays_core.{specs.declared.item.ItemType.TheVariants.{Nums}, specs.Arrays.{with_items}, specs.Limits.{longest_axis}}
-use Rattle.scalar_fns.{specs.Numbers.{dyadic_on_numbers}, specs.NumberLists.{number_items}}
+use Rattle.item_fns.{specs.Numbers.{dyadic_on_numbers}, specs.NumberLists.{number_items}}
 use Rattle.scan_fns.{specs.LinearScan.{folds_from}, proofs.ScannedLine.{folds_from_long, vector_is}}
 use Rattle.scan_fns.proofs.scan.later_vector.Goals as goal
 

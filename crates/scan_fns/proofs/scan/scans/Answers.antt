@@ -1,6 +1,6 @@
 use Rattle.std.proofs.Common.{◌∙◌, ap, sym, Ok, Global}
 use Rattle.arrays_core.{specs.declared.item.ItemType.TheVariants.{Nums}, specs.Arrays.{with_items}}
-use Rattle.scalar_fns.{specs.Numbers.{dyadic_on_numbers}, specs.NumberLists.{number_items}}
+use Rattle.item_fns.{specs.Numbers.{dyadic_on_numbers}, specs.NumberLists.{number_items}}
 use Rattle.scan_fns.{specs.LinearScan.{scans_of}, proofs.Errors.{array_fault}}
 use Rattle.scan_fns.proofs.scan.scans.Goals as goal
 

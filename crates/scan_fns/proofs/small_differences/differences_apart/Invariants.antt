@@ -1,6 +1,6 @@
 use Rattle.std.proofs.Common.{◌≡◌, ◌-◌, ◌<◌, ◌≤◌, ◌%◌, length, vec_len}
 use Rattle.function_names.specs.declared.scalar.Scalar2.TheVariants.{Minus}
-use Rattle.scalar_fns.specs.Numbers.{dyadic_on_numbers}
+use Rattle.item_fns.specs.Numbers.{dyadic_on_numbers}
 use Rattle.scan_fns.{specs.LinearScan.{depth, AreResultsTo}, specs.Prefixes.{fold_to}}
 use Rattle.scan_fns.proofs.small_differences.differences_apart.Given as goal
 

@@ -1,7 +1,7 @@
 use Rattle.std.proofs.Common.{◌≡◌, ◌∙◌, ◌+◌, ◌-◌, ◌%◌, ◌<◌, ◌++◌, ◌∷◌, [], ap, sym, subst, length, get_or, arith, Ok, pos, to_z, of_z, w64, SFits, rules}
 use Rattle.std.proofs.lemmas.Int.{to_z-of_z}
 use Rattle.function_names.specs.declared.scalar.Scalar2.TheVariants.{Minus}
-use Rattle.scalar_fns.specs.Numbers.{dyadic_on_numbers}
+use Rattle.item_fns.specs.Numbers.{dyadic_on_numbers}
 use Rattle.scan_fns.{specs.Prefixes.{fold_to}, proofs.LeftScans.{one_more}, proofs.SmallDifferences.{sum_to, next_total, next_beside, sum_is, sum_fits}}
 use Rattle.scan_fns.proofs.small_differences.push_line.Goals as goal
 

@@ -1,5 +1,5 @@
 use Rattle.std.proofs.Common.{subst}
-use Rattle.scalar_fns.specs.NumberLists.{IsListAnswerTo}
+use Rattle.item_fns.specs.NumberLists.{IsListAnswerTo}
 use Rattle.scan_fns.proofs.UnitProducts.{unit_products}
 use Rattle.scan_fns.proofs.unit_products.running_products.Goals as goal
 

@@ -1,7 +1,7 @@
 use Rattle.std.{proofs.Common.{◌≡◌, ◌+◌, ◌∙◌, ap, sym, map, Ok, Err, ◌+ℤ◌, ◌*ℤ◌, to_z, of_z, w64, SFits, rules}, specs.List.{range_with_len}}
 use Rattle.std.proofs.lemmas.Int.{to_z-of_z}
 use Rattle.arrays_core.specs.Items.{and_then}
-use Rattle.scalar_fns.{specs.Numbers.{number_or_limit}, specs.Items.{number_item}}
+use Rattle.item_fns.{specs.Numbers.{number_or_limit}, specs.Items.{number_item}}
 use Rattle.search_fns.{specs.Decode.{radix_at, digit_at, worth, decoded, decode_item}, proofs.Worths.{digits_after, digit_pair, all_digits, one_more_digit}}
 use Rattle.search_fns.proofs.decode.decoded_at.Goals as goal
 

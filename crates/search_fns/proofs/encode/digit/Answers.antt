@@ -2,7 +2,7 @@ use Rattle.std.proofs.Common.{◌≡◌, ◌∙◌, ◌+◌, ◌-◌, ◌<◌, a
 use Rattle.std.{proofs.lemmas.Int.{to_z-of_z}, proofs.lemmas.List.{length-map}}
 use Rattle.arrays_core.specs.Items.{and_then}
 use Rattle.index_region.specs.Arguments.{numbers, number_of}
-use Rattle.scalar_fns.specs.Numbers.{residue}
+use Rattle.item_fns.specs.Numbers.{residue}
 use Rattle.search_fns.{specs.Encode.{carried, carried_through}, proofs.Radices.{error_in_front, one_more_radix, zero_in_front, zero_digit}}
 use Rattle.search_fns.proofs.encode.digit.Goals as goal
 

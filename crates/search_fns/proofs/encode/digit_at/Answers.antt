@@ -2,7 +2,7 @@ use Rattle.std.proofs.Common.{◌≡◌, ◌-◌, List, ℕ, true, take, drop, l
 use Rattle.std.{proofs.lemmas.Int.{to_z-of_z}, proofs.lemmas.List.{length-drop, take_all, get_or_default}}
 use Rattle.arrays_core.{specs.Shapes.{is_index_of}, specs.Arrays.{item_of}}
 use Rattle.index_region.specs.Arguments.{numbers, number_of}
-use Rattle.scalar_fns.specs.Items.{number_item}
+use Rattle.item_fns.specs.Items.{number_item}
 use Rattle.search_fns.{specs.Encode.{digit}, proofs.Radices.{encode_inside, encode_rank, after, in_front}}
 use Rattle.search_fns.proofs.encode.digit_at.Goals as goal
 

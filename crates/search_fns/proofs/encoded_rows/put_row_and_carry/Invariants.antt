@@ -1,5 +1,5 @@
 use Rattle.std.proofs.Common.{◌≡◌, ℕ, ◌+◌, ◌<◌, ◌≤◌, length, get_or, pos, Ok}
-use Rattle.scalar_fns.specs.Numbers.{residue}
+use Rattle.item_fns.specs.Numbers.{residue}
 use Rattle.search_fns.specs.Encode.{carried}
 use Rattle.search_fns.proofs.encoded_rows.put_row_and_carry.Given as goal
 

@@ -1,5 +1,5 @@
 use Rattle.std.{proofs.Common.{◌≡◌, ◌++◌, ◌∷◌, [], ◌∙◌, ap, to_z, of_z, w64, SFits, rules}, proofs.lemmas.Int.{to_z-of_z}, specs.List.{list_any}}
-use Rattle.scalar_fns.specs.Numbers.{truth}
+use Rattle.item_fns.specs.Numbers.{truth}
 use Rattle.search_fns.proofs.Lookups.{mapped_more, truth_of_bool}
 use Rattle.search_fns.proofs.lookup.members_of.Goals as goal
 

@@ -1,5 +1,5 @@
 use Rattle.std.{proofs.Common.{◌≡◌, map, take}, specs.List.{list_any}}
-use Rattle.scalar_fns.specs.Numbers.{truth}
+use Rattle.item_fns.specs.Numbers.{truth}
 use Rattle.search_fns.proofs.lookup.members_of.Given as goal
 
 abbrev pub invariant-loop-item : goal.invariant-loop-item

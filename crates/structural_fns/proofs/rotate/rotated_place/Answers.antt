@@ -1,6 +1,6 @@
 use Rattle.std.{proofs.Common.{◌≡◌, ◌+◌, pos, ◌+ℤ◌, ◌-ℤ◌, unsigned_abs, ap, sym, ◌∙◌, arith, to_z, of_z}, specs.Int.{int_rem_euclid, w128}}
 use Rattle.std.proofs.lemmas.Int.{ints}
-use Rattle.scalar_fns.specs.Numbers.{residue}
+use Rattle.item_fns.specs.Numbers.{residue}
 use Rattle.structural_fns.proofs.Turning.{residue_euclid}
 use Rattle.structural_fns.proofs.rotate.rotated_place.Goals as goal
 

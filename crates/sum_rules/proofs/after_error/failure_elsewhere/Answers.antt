@@ -4,7 +4,7 @@ use Rattle.arrays_core.proofs.Order.{index_after-within, places_before-index_aft
 use Rattle.function_names.specs.Axes.{axis_at}
 use Rattle.index_region.{specs.Boxes.{is_within}, specs.Patches.{patched}, proofs.Patched.{patched_sound}}
 use Rattle.reduce_fns.specs.Reduce.{reduce_item}
-use Rattle.scalar_fns.{specs.Items.{number_item}, specs.RightFold.{fold_right}}
+use Rattle.item_fns.{specs.Items.{number_item}, specs.RightFold.{fold_right}}
 use Rattle.fold_trees.specs.ArrayLines.{numbers_of_line}
 use Rattle.sum_rules.{specs.LineSums.{array_of_shape}, proofs.KeptLines.{kept_total, line_below}, proofs.Failures.{one_decides}}
 use Rattle.sum_rules.proofs.after_error.failure_elsewhere.Goals as goal

@@ -1,5 +1,5 @@
 use Rattle.std.{proofs.Common.{◌≡◌, ap, sym, ◌∙◌, arith, inl, inr, to_z, of_z, w64, Ok}, specs.Int.{w128}, proofs.lemmas.Int.{ints, clamps}}
-use Rattle.scalar_fns.proofs.Within.{Within}
+use Rattle.item_fns.proofs.Within.{Within}
 use Rattle.fold_trees.{specs.Products.{kept_products, product_told}, proofs.ProductEndings.{told_within}}
 use Rattle.fold_trees.proofs.product.Product.product.Goals as goal
 

@@ -1,5 +1,5 @@
 use Rattle.std.{proofs.Common.{◌≡◌, sym, subst, true}, proofs.lemmas.List.Elements.{All-append}}
-use Rattle.scalar_fns.specs.Numbers.{is_number}
+use Rattle.item_fns.specs.Numbers.{is_number}
 use Rattle.fold_trees.{specs.Products.{TellsProducts, products_of}, proofs.JoinedProducts.{products_append}}
 use Rattle.fold_trees.proofs.product.ProductPart.join.Goals as goal
 

@@ -1,5 +1,5 @@
 use Rattle.std.{proofs.Common.{◌≡◌, sym, subst, true}, proofs.lemmas.List.Elements.{All-append}}
-use Rattle.scalar_fns.specs.Numbers.{is_number}
+use Rattle.item_fns.specs.Numbers.{is_number}
 use Rattle.fold_trees.{specs.Sums.{IsSummaryOf, sums_of}, proofs.JoinedSums.{sums_append}}
 use Rattle.fold_trees.proofs.summary.SummaryPart.join.Goals as goal
 

@@ -1,5 +1,5 @@
 use Rattle.std.{proofs.Common.{◌≡◌, to_z, of_z, w64, rules, ◌||◌}, proofs.lemmas.Int.{to_z-of_z}}
-use Rattle.scalar_fns.proofs.Associative.{any_true}
+use Rattle.item_fns.proofs.Associative.{any_true}
 use Rattle.fold_trees.proofs.JoinedTruths.{joined_truths}
 use Rattle.fold_trees.proofs.truths.AnyTruePart.join.Goals as goal
 

@@ -1,7 +1,7 @@
 use Rattle.std.{proofs.Common.{◌≡◌, ◌∙◌, ◌+◌, ◌++◌, ◌∷◌, [], ap, sym, length, map, arith, Ok, Err, to_z, of_z, w64, SFits, rules}, specs.List.{range_with_len}}
 use Rattle.std.{proofs.lemmas.List.{take_all}, proofs.lemmas.List.FromFn.{length-map-range_with_len, get_or-map-range_with_len}, proofs.lemmas.Int.{to_z-of_z}}
 use Rattle.arrays_core.{specs.Items.{all_or_first_error}, proofs.Order.{front_more, front_error}}
-use Rattle.scalar_fns.{specs.Numbers.{dyadic_on_numbers}, proofs.Errors.{list_error}}
+use Rattle.item_fns.{specs.Numbers.{dyadic_on_numbers}, proofs.Errors.{list_error}}
 use Rattle.operator_fns.specs.RowByColumn.{cell}
 use Rattle.operator_fns.proofs.met_numbers.MetNumbers.cells.Goals as goal
 

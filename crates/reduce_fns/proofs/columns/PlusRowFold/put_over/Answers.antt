@@ -1,6 +1,6 @@
 use Rattle.std.proofs.Common.{◌≡◌, ◌∙◌, ◌<◌, ◌≢◌, ap, sym, get_or, length, pos, arith, Ok, ◌+ℤ◌, to_z, of_z, w64, SFits, FitsSigned, rules, below_more, get_or-set_same, get_or-set_other}
 use Rattle.std.{specs.Bool.{FalseIff}, specs.Int.{int_wrapping_add}, proofs.Math.ListN.{length-set}, proofs.lemmas.Int.{to_z-of_z}}
-use Rattle.scalar_fns.specs.Numbers.{number_or_limit}
+use Rattle.item_fns.specs.Numbers.{number_or_limit}
 use Rattle.reduce_fns.proofs.FlaggedSums.{all_within}
 use Rattle.reduce_fns.proofs.columns.PlusRowFold.put_over.Goals as goal
 

@@ -1,6 +1,6 @@
 use Rattle.std.proofs.Common.{rules, ◌≡◌, ◌∙◌, ◌<◌, ap, get_or, length}
 use Rattle.function_names.specs.Axes.{axis_at}
-use Rattle.scalar_fns.specs.RightFold.{fold_right}
+use Rattle.item_fns.specs.RightFold.{fold_right}
 use Rattle.reduce_fns.{specs.Lines.{line}, proofs.Reduced.{all_of_line}}
 use Rattle.reduce_fns.proofs.reduce.Reduce.folded_at.Goals as goal
 

@@ -1,6 +1,6 @@
 use Rattle.std.{proofs.Common.{◌≡◌, ◌∙◌, ◌+◌, ◌-◌, ◌*◌, ◌/◌, ◌%◌, ◌≤◌, ap, sym, length, drop, take, pos, arith}, proofs.lemmas.Nat.{div-add-mod', mod_below}}
 use Rattle.function_names.specs.declared.scalar.Scalar2.TheVariants.{Plus}
-use Rattle.scalar_fns.{specs.Numbers.{dyadic_on_numbers}, specs.Folds.{strided, folded, line_start}, proofs.RightFolds.{strided_run}}
+use Rattle.item_fns.{specs.Numbers.{dyadic_on_numbers}, specs.Folds.{strided, folded, line_start}, proofs.RightFolds.{strided_run}}
 use Rattle.reduce_fns.proofs.Reduced.{whole_line}
 use Rattle.reduce_fns.proofs.reduce.TotalsNumberFunction.number_at.Goals as goal
 

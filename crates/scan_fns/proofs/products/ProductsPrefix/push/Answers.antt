@@ -1,5 +1,5 @@
 use Rattle.std.{proofs.Common.{◌≡◌, sym, ◌*ℤ◌, Ok, to_z, of_z, w64, SFits, rules}, proofs.lemmas.Int.{to_z-of_z}}
-use Rattle.scalar_fns.{specs.Numbers.{number_or_limit}, proofs.Within.{held_ok}}
+use Rattle.item_fns.{specs.Numbers.{number_or_limit}, proofs.Within.{held_ok}}
 use Rattle.scan_fns.proofs.NextProducts.{next_product}
 use Rattle.scan_fns.proofs.products.ProductsPrefix.push.Goals as goal
 

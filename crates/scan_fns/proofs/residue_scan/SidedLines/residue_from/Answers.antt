@@ -1,6 +1,6 @@
 use Rattle.std.proofs.Common.{◌≡◌, ◌∙◌, ◌<◌, ◌≤◌, ap, sym, get_or, length, arith, pos, unsigned_abs, to_z, of_z, w64, SFits, rules}
 use Rattle.std.proofs.lemmas.Int.{to_z-of_z}
-use Rattle.scalar_fns.specs.Numbers.{residue}
+use Rattle.item_fns.specs.Numbers.{residue}
 use Rattle.scan_fns.{specs.ResidueScan.{IsBeside, extent_at, from, no_divisor}, proofs.OneSided.{rest_stays_beside}, proofs.Divisors.{divided}}
 use Rattle.scan_fns.proofs.residue_scan.SidedLines.residue_from.Goals as goal
 

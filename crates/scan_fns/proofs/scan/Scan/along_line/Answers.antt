@@ -2,7 +2,7 @@ use Rattle.std.proofs.Common.{rules, ◌≡◌, ◌∙◌, ◌+◌, ◌-◌, ◌
 use Rattle.std.proofs.lemmas.List.{get_or_default}
 use Rattle.arrays_core.{specs.declared.item.Item.TheVariants.{Num}, specs.declared.item.ItemType.TheVariants.{Nums}, specs.declared.item.Kind.{Kind}}
 use Rattle.arrays_core.{specs.Arrays.{ArrayValue, IsAnswerTo, with_items}, proofs.Shapes.{as_long}}
-use Rattle.scalar_fns.{specs.Numbers.{dyadic_on_numbers}, specs.NumberLists.{number_items}}
+use Rattle.item_fns.{specs.Numbers.{dyadic_on_numbers}, specs.NumberLists.{number_items}}
 use Rattle.function_names.specs.Axes.{axis_at}
 use Rattle.scan_fns.{specs.LinearScan.{folds_from}, specs.Laws.ScannedPlaces.{at_axis}, proofs.Scanned.{scan_place}, proofs.ScannedLine.{along_is, as_many}}
 use Rattle.reduce_fns.specs.Lines.{line}

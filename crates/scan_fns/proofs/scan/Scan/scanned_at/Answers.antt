@@ -1,7 +1,7 @@
 use Rattle.std.{proofs.Common.{rules, ◌≡◌, ◌∙◌, ◌<◌, ap, sym, subst, get_or, length, take, remove, arith}, proofs.lemmas.List.{get_or_default}}
 use Rattle.arrays_core.proofs.Shapes.{as_long}
 use Rattle.function_names.specs.Axes.{axis_at}
-use Rattle.scalar_fns.specs.RightFold.{fold_right}
+use Rattle.item_fns.specs.RightFold.{fold_right}
 use Rattle.reduce_fns.specs.Lines.{line}
 use Rattle.scan_fns.{specs.Laws.ScannedPlaces.{at_axis}, proofs.Scanned.{scan_place, scan_typed}}
 use Rattle.scan_fns.proofs.scan.Scan.scanned_at.Goals as goal

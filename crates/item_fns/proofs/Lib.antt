@@ -1,0 +1,16 @@
+pub mod Errors
+pub mod Signs
+pub mod Residues
+pub mod Rests
+pub mod Powers
+pub mod Rows
+pub mod RightFolds
+pub mod ItemFolds
+pub mod Associative
+pub mod Within
+pub mod Products
+pub mod Lists
+pub mod Neutral
+pub mod Floors
+pub mod Quotients
+pub mod Collected

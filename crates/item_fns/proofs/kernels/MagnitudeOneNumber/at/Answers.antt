@@ -1,0 +1,8 @@
+use Rattle.std.{proofs.Common.{w64}, proofs.lemmas.Int.{to_z-of_z}}
+use Rattle.item_fns.proofs.Signs.{magnitude_fits}
+use Rattle.item_fns.proofs.kernels.MagnitudeOneNumber.at.Goals as goal
+
+pub returns : goal.returns
+returns c =
+    let b = c.args.b in
+    c.in_range.ensures _ (magnitude_fits _ b c.ranges.b (rw (to_z-of_z w64 b c.ranges.b) at c.checked_abs.ensures))

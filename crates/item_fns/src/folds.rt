@@ -1,0 +1,42 @@
+//! Right folds of numbers.
+
+ghost use Rattle.std.specs.Prelude.{◌≡◌, ◌<◌, ◌≤◌, ◌+◌, ◌-◌, ◌*◌, pos, length};
+ghost use Rattle.item_fns.specs.Folds.{strided, folded};
+
+use crate::kernels::TwoNumbers;
+use arrays_core::Kind;
+
+/// The right fold of a list of numbers.
+pub fn fold_list<S: TwoNumbers>(step: &S, numbers: &[i64]) -> Result<i64, Kind>
+    requires { 0 < length numbers.now }
+    ensures { result ≡ folded (S.gives step.now) numbers.now }
+{
+    let last = numbers.len() - 1;
+    let mut result = numbers[last];
+    for before in (0..last).rev() {
+        result = step.at(numbers[before], result)?;
+    }
+    Ok(result)
+}
+
+/// The right fold of `count` numbers that stand a stride apart, the first of them after `first` others.
+pub fn fold_numbers<S: TwoNumbers>(
+    step: &S,
+    numbers: &[i64],
+    first: usize,
+    stride: usize,
+    count: usize,
+) -> Result<i64, Kind>
+    requires some { 1 ≤ count }
+    requires high { first + (count - 1) * stride < length numbers.now }
+    ensures { result ≡ folded (S.gives step.now) (strided (pos 0) numbers.now first stride count) }
+{
+    if stride == 1 {
+        return fold_list(step, &numbers[first..first + count]);
+    }
+    let mut result = numbers[first + (count - 1) * stride];
+    for before in (0..count - 1).rev() {
+        result = step.at(numbers[first + before * stride], result)?;
+    }
+    Ok(result)
+}

@@ -1,0 +1,334 @@
+//! Functions of numbers as types, so that a loop over many numbers is made for each function.
+
+ghost use Rattle.std.specs.Prelude.{◌≡◌, ℤ, Result, Ok};
+ghost use Rattle.arrays_core.specs.declared.item.Kind.{Kind};
+ghost use Rattle.function_names.specs.declared.scalar.Scalar1.TheVariants as one;
+ghost use Rattle.function_names.specs.declared.scalar.Scalar2.TheVariants as two;
+ghost use Rattle.item_fns.specs.Numbers.{monadic_on_number, dyadic_on_numbers};
+
+use crate::numbers::{as_truth, in_range, power, quotient, residue, truth};
+use arrays_core::Kind;
+
+/// A function of one number.
+pub(crate) trait OneNumber {
+    ghost gives: { Self → ℤ → Result ℤ Kind };
+
+    /// What it gives of a number.
+    fn at(&self, b: i64) -> Result<i64, Kind>
+        ensures { result ≡ gives self.now b };
+}
+
+/// A function of two numbers: a number, or an error. It takes no memory.
+pub trait TwoNumbers {
+    ghost gives: { Self → ℤ → ℤ → Result ℤ Kind };
+
+    /// What the function gives for two numbers.
+    fn at(&self, a: i64, b: i64) -> Result<i64, Kind>
+        ensures { result ≡ gives self.now a b };
+}
+
+/// A function of two numbers with its left one given.
+#[derive(Clone, Copy)]
+pub(crate) struct WithLeft<S> {
+    pub(crate) step: S,
+    pub(crate) left: i64,
+}
+
+impl<S: TwoNumbers> OneNumber for WithLeft<S> {
+    ghost gives = { λ s b. S.gives s.step s.left b };
+
+    fn at(&self, b: i64) -> Result<i64, Kind> {
+        self.step.at(self.left, b)
+    }
+}
+
+/// A function of two numbers with its right one given.
+#[derive(Clone, Copy)]
+pub(crate) struct WithRight<S> {
+    pub(crate) step: S,
+    pub(crate) right: i64,
+}
+
+impl<S: TwoNumbers> OneNumber for WithRight<S> {
+    ghost gives = { λ s a. S.gives s.step a s.right };
+
+    fn at(&self, a: i64) -> Result<i64, Kind> {
+        self.step.at(a, self.right)
+    }
+}
+
+/// The number itself.
+#[derive(Clone, Copy)]
+pub(crate) struct Same;
+
+impl OneNumber for Same {
+    ghost gives = { λ s b. monadic_on_number one.Conjugate b };
+
+    fn at(&self, b: i64) -> Result<i64, Kind> {
+        Ok(b)
+    }
+}
+
+/// The number of the other sign.
+#[derive(Clone, Copy)]
+pub(crate) struct Negative;
+
+impl OneNumber for Negative {
+    ghost gives = { λ s b. monadic_on_number one.Negative b };
+
+    fn at(&self, b: i64) -> Result<i64, Kind> {
+        in_range(b.checked_neg())
+    }
+}
+
+/// ¯1, 0 or 1.
+#[derive(Clone, Copy)]
+pub(crate) struct Direction;
+
+impl OneNumber for Direction {
+    ghost gives = { λ s b. monadic_on_number one.Direction b };
+
+    fn at(&self, b: i64) -> Result<i64, Kind> {
+        Ok(b.signum())
+    }
+}
+
+/// The number without its sign.
+#[derive(Clone, Copy)]
+pub(crate) struct Magnitude;
+
+impl OneNumber for Magnitude {
+    ghost gives = { λ s b. monadic_on_number one.Magnitude b };
+
+    fn at(&self, b: i64) -> Result<i64, Kind> {
+        in_range(b.checked_abs())
+    }
+}
+
+/// 1 for 0 and 0 for 1.
+#[derive(Clone, Copy)]
+pub(crate) struct Not;
+
+impl OneNumber for Not {
+    ghost gives = { λ s b. monadic_on_number one.Not b };
+
+    fn at(&self, b: i64) -> Result<i64, Kind> {
+        Ok(truth(!as_truth(b)?))
+    }
+}
+
+/// The sum.
+#[derive(Clone, Copy)]
+pub struct Plus;
+
+impl TwoNumbers for Plus {
+    ghost gives = { λ s. dyadic_on_numbers two.Plus };
+
+    fn at(&self, a: i64, b: i64) -> Result<i64, Kind> {
+        in_range(a.checked_add(b))
+    }
+}
+
+/// The difference.
+#[derive(Clone, Copy)]
+pub struct Minus;
+
+impl TwoNumbers for Minus {
+    ghost gives = { λ s. dyadic_on_numbers two.Minus };
+
+    fn at(&self, a: i64, b: i64) -> Result<i64, Kind> {
+        in_range(a.checked_sub(b))
+    }
+}
+
+/// The product.
+#[derive(Clone, Copy)]
+pub struct Times;
+
+impl TwoNumbers for Times {
+    ghost gives = { λ s. dyadic_on_numbers two.Times };
+
+    fn at(&self, a: i64, b: i64) -> Result<i64, Kind> {
+        in_range(a.checked_mul(b))
+    }
+}
+
+/// The quotient.
+#[derive(Clone, Copy)]
+pub struct Divide;
+
+impl TwoNumbers for Divide {
+    ghost gives = { λ s. dyadic_on_numbers two.Divide };
+
+    fn at(&self, a: i64, b: i64) -> Result<i64, Kind> {
+        quotient(a, b)
+    }
+}
+
+/// The power.
+#[derive(Clone, Copy)]
+pub struct Power;
+
+impl TwoNumbers for Power {
+    ghost gives = { λ s. dyadic_on_numbers two.Power };
+
+    fn at(&self, a: i64, b: i64) -> Result<i64, Kind> {
+        power(a, b)
+    }
+}
+
+/// The residue.
+#[derive(Clone, Copy)]
+pub struct Residue;
+
+impl TwoNumbers for Residue {
+    ghost gives = { λ s. dyadic_on_numbers two.Residue };
+
+    fn at(&self, a: i64, b: i64) -> Result<i64, Kind> {
+        Ok(residue(a, b))
+    }
+}
+
+/// The greater.
+#[derive(Clone, Copy)]
+pub struct Maximum;
+
+impl TwoNumbers for Maximum {
+    ghost gives = { λ s. dyadic_on_numbers two.Maximum };
+
+    fn at(&self, a: i64, b: i64) -> Result<i64, Kind> {
+        Ok(a.max(b))
+    }
+}
+
+/// The lesser.
+#[derive(Clone, Copy)]
+pub struct Minimum;
+
+impl TwoNumbers for Minimum {
+    ghost gives = { λ s. dyadic_on_numbers two.Minimum };
+
+    fn at(&self, a: i64, b: i64) -> Result<i64, Kind> {
+        Ok(a.min(b))
+    }
+}
+
+/// Whether a is less.
+#[derive(Clone, Copy)]
+pub struct Less;
+
+impl TwoNumbers for Less {
+    ghost gives = { λ s. dyadic_on_numbers two.Less };
+
+    fn at(&self, a: i64, b: i64) -> Result<i64, Kind> {
+        Ok(truth(a < b))
+    }
+}
+
+/// Whether a is not greater.
+#[derive(Clone, Copy)]
+pub struct LessOrEqual;
+
+impl TwoNumbers for LessOrEqual {
+    ghost gives = { λ s. dyadic_on_numbers two.LessOrEqual };
+
+    fn at(&self, a: i64, b: i64) -> Result<i64, Kind> {
+        Ok(truth(a <= b))
+    }
+}
+
+/// Whether they are equal.
+#[derive(Clone, Copy)]
+pub struct Equal;
+
+impl TwoNumbers for Equal {
+    ghost gives = { λ s. dyadic_on_numbers two.Equal };
+
+    fn at(&self, a: i64, b: i64) -> Result<i64, Kind> {
+        Ok(truth(a == b))
+    }
+}
+
+/// Whether a is not less.
+#[derive(Clone, Copy)]
+pub struct GreaterOrEqual;
+
+impl TwoNumbers for GreaterOrEqual {
+    ghost gives = { λ s. dyadic_on_numbers two.GreaterOrEqual };
+
+    fn at(&self, a: i64, b: i64) -> Result<i64, Kind> {
+        Ok(truth(a >= b))
+    }
+}
+
+/// Whether a is greater.
+#[derive(Clone, Copy)]
+pub struct Greater;
+
+impl TwoNumbers for Greater {
+    ghost gives = { λ s. dyadic_on_numbers two.Greater };
+
+    fn at(&self, a: i64, b: i64) -> Result<i64, Kind> {
+        Ok(truth(a > b))
+    }
+}
+
+/// Whether they differ.
+#[derive(Clone, Copy)]
+pub struct NotEqual;
+
+impl TwoNumbers for NotEqual {
+    ghost gives = { λ s. dyadic_on_numbers two.NotEqual };
+
+    fn at(&self, a: i64, b: i64) -> Result<i64, Kind> {
+        Ok(truth(a != b))
+    }
+}
+
+/// Both; both are looked at, so `0∧2` is DOMAIN.
+#[derive(Clone, Copy)]
+pub struct And;
+
+impl TwoNumbers for And {
+    ghost gives = { λ s. dyadic_on_numbers two.And };
+
+    fn at(&self, a: i64, b: i64) -> Result<i64, Kind> {
+        Ok(truth(as_truth(a)? & as_truth(b)?))
+    }
+}
+
+/// At least one; both are looked at.
+#[derive(Clone, Copy)]
+pub struct Or;
+
+impl TwoNumbers for Or {
+    ghost gives = { λ s. dyadic_on_numbers two.Or };
+
+    fn at(&self, a: i64, b: i64) -> Result<i64, Kind> {
+        Ok(truth(as_truth(a)? | as_truth(b)?))
+    }
+}
+
+/// Not both; both are looked at.
+#[derive(Clone, Copy)]
+pub struct Nand;
+
+impl TwoNumbers for Nand {
+    ghost gives = { λ s. dyadic_on_numbers two.Nand };
+
+    fn at(&self, a: i64, b: i64) -> Result<i64, Kind> {
+        Ok(truth(!(as_truth(a)? & as_truth(b)?)))
+    }
+}
+
+/// Neither; both are looked at.
+#[derive(Clone, Copy)]
+pub struct Nor;
+
+impl TwoNumbers for Nor {
+    ghost gives = { λ s. dyadic_on_numbers two.Nor };
+
+    fn at(&self, a: i64, b: i64) -> Result<i64, Kind> {
+        Ok(truth(!(as_truth(a)? | as_truth(b)?)))
+    }
+}

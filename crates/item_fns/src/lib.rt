@@ -1,0 +1,17 @@
+//! The scalar functions on items: of one item or two, of numbers by a kernel for each function, and right folds of numbers.
+#![tactic(auto)]
+
+mod dispatch;
+pub mod folds;
+mod identities;
+mod items;
+pub mod kernels;
+mod loops;
+mod numbers;
+mod power_loops;
+
+pub use dispatch::{WithFunction, on_number_lists, on_numbers, two_numbers, with_function};
+pub use function_names::{Scalar1, Scalar2};
+pub use identities::identity;
+pub use items::{one, two};
+pub use numbers::{floor_quotient, residue, truth};

@@ -1,9 +1,0 @@
-use Rattle.std.proofs.Common.{◌≡◌, ◌+◌, ◌≤◌, drop, length, Ok}
-use Rattle.scalar_fns.specs.Folds.{folded}
-use Rattle.scalar_fns.proofs.folds.fold_list.Given as goal
-
-abbrev pub invariant-loop-before : goal.invariant-loop-before
-invariant-loop-before g l = record {
-  folded : folded (g.S.TwoNumbers.gives l.step) (drop l.before l.numbers) ≡ Ok l.result;
-  below : l.before + 1 ≤ length l.numbers;
-}
