@@ -5,7 +5,7 @@ use Rattle.function_names.{specs.declared.scalar.Scalar2.{Scalar2}, specs.declar
 use Rattle.change_core.{specs.Growth.{IsGrowing}, proofs.Growing.{growing_growing, longer_form, one_growing, shape_grown, type_grown}}
 use Rattle.scan_fns.{specs.Scan.{scan_form, scan_item, scan_type, scan_rule, scan_use}, specs.Laws.ScannedPlaces.{at_axis, scan_facts}}
 use Rattle.item_fns.specs.RightFold.{fold_right}
-use Rattle.reduce_fns.{specs.Lines.{line}, specs.Growth.{lines_grow}, specs.Laws.LinesGrowth.{Alike, alike, line_kept, form_is}}
+use Rattle.reduce_fns.{specs.Lines.{line}, specs.Growth.{lines_grow}, specs.Laws.LinesGrowth.{alike, line_kept, form_is}}
 use Rattle.index_region.proofs.RowIndices.{axis_below}
 
 pub scan_growing : (f : Scalar2) (along : Along) → IsGrowing (scan_rule f along) (lines_grow along)
