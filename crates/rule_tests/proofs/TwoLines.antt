@@ -1,5 +1,5 @@
 -- Two lines of five numbers, with a tree for each.
-use Rattle.std.{proofs.Common.{◌≡◌, ℕ, zero, suc, ◌<◌, true, ℤ, List, [], ◌∷◌, length, refl, sym, ap, subst, arith}, specs.List.{flat_map}}
+use Rattle.std.{proofs.Common.{◌≡◌, ℕ, ◌<◌, true, ℤ, List, [], ◌∷◌, length, refl, sym, ap, subst, arith}, specs.List.{flat_map}}
 use Rattle.arrays_core.{specs.Arrays.{ArrayValue, IsArray}, specs.Shapes.{size}}
 use Rattle.function_names.{specs.Axes.{is_axis, axis_at}, specs.declared.along.Along.TheVariants.{Last}}
 use Rattle.index_region.specs.Patches.{PatchValue, FitsPatch, patched}
@@ -40,8 +40,3 @@ module _ (a : ArrayValue) (lines : List (List ℤ)) (a_is : a ≡ array_of_shape
       → AreAllAsLong (length_along Last (patched a p).shape) lines × StoodFor Last (all_trees (length_along Last (patched a p).shape) lines) p (patched a p)
   summed_by_lines p fit long =
       by_shape (λ s. AreAllAsLong (length_along Last s) lines × StoodFor Last (all_trees (length_along Last s) lines) p (patched a p)) (long, stood p fit)
-
-pub both_long : (count : ℕ) (a b : List ℤ) → length a ≡ count → length b ≡ count → AreAllAsLong count (a ∷ b ∷ [])
-both_long count a b first second zero d h = first
-both_long count a b first second (suc zero) d h = second
-both_long count a b first second (suc (suc k)) d h = absurd (omega arith)

@@ -1,6 +1,8 @@
-//! Tests of change rules: what they reach, the change of a node, and that of totals by trees of sums.
+//! Tests of change rules: the places that they reach, the change of a node, and the change of totals by trees of sums.
 #![tactic(auto)]
 
+#[cfg(test)]
+mod box_tests;
 #[cfg(test)]
 mod fixtures;
 #[cfg(test)]
@@ -16,6 +18,6 @@ mod reach_tests;
 #[cfg(test)]
 mod refresh_tests;
 #[cfg(test)]
-mod sum_tree_tests;
+mod source_tests;
 #[cfg(test)]
-mod surface_tests;
+mod sum_tree_tests;

@@ -1,30 +1,22 @@
-//! What a rule reaches where a box of an argument changed. The boxes of each function stand as worked cases in the proofs of its rule.
+//! The places that a rule reaches where a box of an argument changed. The boxes of each function stand as worked cases in
+//! the proofs of its rule.
 
-use crate::fixtures::{reach_of_left, zeros};
-use change_rules::Reach;
+use crate::fixtures::array_of;
+use change_rules::{Reach, Rule, Seen};
+use index_region::IndexBox;
 use item_fns::Scalar2;
 use scalar_fns::EachDyadic;
-use std::alloc::Global;
 
-/// What the sum of a vector of five items and another reaches where the second and the third of the five changed.
-fn reach_of_sum(alloc: Global, other: &[u32]) -> Option<Reach> {
-    let rule = EachDyadic {
+#[test]
+fn a_sum_reaches_a_box_and_grows_with_both_sides(rt: HostRuntime) {
+    let numbers = array_of(&rt, rt.alloc(), &[5], &[1, 2, 3, 4, 5]);
+    let region = IndexBox::of(&[(2, 3)]).expect(&rt, "a box");
+    assert!(rt; region.lies_in(numbers.shape().as_slice()));
+    let sum = EachDyadic {
         function: Scalar2::Plus,
     };
-    let (five, other) = (zeros(alloc, &[5]), zeros(alloc, other));
-    reach_of_left(&rule, five, other, &[(2, 3)])
-}
-
-#[test]
-fn a_box_where_the_lengths_agree(rt: HostRuntime) {
-    let is_inside = match reach_of_sum(rt.alloc(), &[5]) {
-        Some(Reach::Inside(region)) => region.as_slice() == [(2, 3)].as_slice(),
-        _ => false,
-    };
-    assert!(rt; is_inside);
-}
-
-#[test]
-fn all_where_they_do_not(rt: HostRuntime) {
-    assert!(rt; matches!(reach_of_sum(rt.alloc(), &[4]), Some(Reach::Anew)));
+    let args = [Seen::plain(&numbers), Seen::plain(&numbers)];
+    assert!(rt; sum.grows(&args, &[true, true]) && !sum.grows(&args, &[true, false]));
+    let reach = sum.reach(&args, &[Some(region), None]);
+    assert!(rt; matches!(reach, Reach::Inside(region) if region.as_slice() == [(2, 3)].as_slice()));
 }

@@ -1,115 +1,66 @@
-//! The change of a node: a patch of what changed, with a tick an item.
+//! The change of a node of which one place of an argument changed: a patch of one place, which ticks once.
 
-ghost use Rattle.std.specs.Prelude.{◌≡◌};
-ghost use Rattle.index_region.specs.declared.delta.Delta.TheVariants.{Same};
+ghost use Rattle.std.specs.Prelude.{◌≡◌, length};
+ghost use Rattle.index_region.specs.Patches.{FitsPatch};
 
-use crate::fixtures::{patch_of, vector};
-use arrays_core::{Array, Fault, Item};
-use change_rules::{Delta, Meter, Seen, refresh, refreshed_place};
-use item_fns::{Scalar1, Scalar2};
-use scalar_fns::{EachDyadic, EachMonadic};
+use crate::fixtures::{array_of, item_in, patch_of};
+use arrays_core::{Array, Item};
+use change_core::Rule;
+use change_rules::{Delta, Meter, Patch, Seen, refresh, refreshed_place};
+use item_fns::Scalar2;
+use scalar_fns::EachDyadic;
 use std::alloc::Global;
+use std::process::Abort;
 
-/// The change of a product where the left argument changed and the right one is as it was.
-fn product_with<'a>(
+/// Returns the item of a change that is a patch of the second place of a vector alone.
+fn second_alone(change: &Delta) -> Option<Item> {
+    if item_in(change, &[1]).is_some() || item_in(change, &[3]).is_some() {
+        return None;
+    }
+    item_in(change, &[2])
+}
+
+/// Returns the change of a node that held an array and over whose left argument a patch is laid, twice: as worked out for
+/// any change, which the meter counts, and as known at once.
+fn changes_of_left<'a, R: Rule>(
+    rt: &impl Abort,
     alloc: Global,
-    left: (&'a Array, &'a Delta),
-    right: (&'a Array, &'a Delta),
-    old: &Result<Array, Fault>,
+    rule: &R,
+    left: (&'a Array, &'a Patch),
+    right: &'a Array,
     meter: &mut Meter,
-) -> Option<Delta>
-    requires { right.1.now ≡ Same }
+) -> (Delta, Delta)
+    requires count { length (R.model rule.now).selectors ≡ 2 }
+    requires fits { FitsPatch left.0.now left.1.now }
 {
-    let (array, moved) = left;
-    let Delta::Patch(patch) = moved else {
-        return None;
-    };
-    if !patch.region().lies_in(array.shape().as_slice()) || patch.item_type() != array.item_type() {
-        return None;
-    }
-    let rule = EachDyadic {
-        function: Scalar2::Times,
-    };
+    let moved = Delta::Patch(left.1.copy().expect(rt, "a patch"));
+    let old = Ok(Array::scalar(alloc, 0).expect(rt, "a number"));
     let args = [
-        (Seen::patched(array, patch), moved),
-        (Seen::plain(right.0), right.1),
+        (Seen::patched(left.0, left.1), &moved),
+        (Seen::plain(right), &Delta::Same),
     ];
-    refresh(alloc, &rule, &args, old, meter).ok()
-}
-
-/// The one place that changes of the negatives of numbers that changed, as a change.
-fn negatives_at_once(
-    numbers: (&Array, &Delta),
-    old: &Result<Array, Fault>,
-    meter: &mut Meter,
-) -> Option<Delta> {
-    let (array, moved) = numbers;
-    let Delta::Patch(patch) = moved else {
-        return None;
-    };
-    if !patch.region().lies_in(array.shape().as_slice()) || patch.item_type() != array.item_type() {
-        return None;
-    }
-    let rule = EachMonadic {
-        function: Scalar1::Negative,
-    };
-    let args = [(Seen::patched(array, patch), moved)];
-    let place = refreshed_place(&rule, &args, old, meter)?;
-    Some(place.delta())
-}
-
-/// The change of the doubles of numbers that changed.
-fn doubles_of(
-    alloc: Global,
-    numbers: (&Array, &Delta),
-    old: &Result<Array, Fault>,
-    meter: &mut Meter,
-) -> Option<Delta> {
-    let two = Array::scalar(alloc, 2).ok()?;
-    product_with(alloc, numbers, (&two, &Delta::Same), old, meter)
-}
-
-/// The change of the doubles of 1 2 3 where the second is 7 now.
-fn doubles_with_seven(
-    alloc: Global,
-    old: &Result<Array, Fault>,
-    meter: &mut Meter,
-) -> Option<Delta> {
-    let numbers = vector(alloc, &[1, 2, 3])?;
-    let moved = Delta::Patch(patch_of(alloc, &numbers, &[(2, 2)], &[7])?);
-    doubles_of(alloc, (&numbers, &moved), old, meter)
-}
-
-/// It is a patch of one place of a vector by this number.
-fn is_number_at(delta: Option<Delta>, place: u32, number: i64) -> bool {
-    match &delta {
-        Some(Delta::Patch(patch)) if patch.region().contains(&[place]) => {
-            patch.region().as_slice() == [(place, place)].as_slice()
-                && patch.item(&[place]) == Item::Num(number)
-        }
-        _ => false,
-    }
+    let change = refresh(alloc, rule, &args, &old, meter).expect(rt, "a change");
+    let place = refreshed_place(rule, &args, &old, &mut Meter::new()).expect(rt, "one place");
+    (change, place.delta())
 }
 
 #[test]
 fn doubles_one_place(rt: HostRuntime) {
+    let numbers = array_of(&rt, rt.alloc(), &[3], &[1, 2, 3]);
+    let seven = patch_of(&rt, rt.alloc(), &numbers, &[(2, 2)], &[7]);
+    let two = Array::scalar(rt.alloc(), 2).expect(&rt, "a number");
+    let rule = EachDyadic {
+        function: Scalar2::Times,
+    };
     let mut meter = Meter::new();
-    let old = Ok(vector(rt.alloc(), &[2, 4, 6]).expect(&rt, "a vector"));
-    let delta = doubles_with_seven(rt.alloc(), &old, &mut meter);
-    assert_eq!(rt; meter.ticks(), 1);
-    assert!(rt; is_number_at(delta, 2, 14));
-}
-
-#[test]
-fn one_place_is_told_at_once(rt: HostRuntime) {
-    let mut meter = Meter::new();
-    let numbers = vector(rt.alloc(), &[1, 2, 3]).expect(&rt, "a vector");
-    let old = Ok(vector(rt.alloc(), &[-1, -2, -3]).expect(&rt, "a vector"));
-    let one = patch_of(rt.alloc(), &numbers, &[(2, 2)], &[7]).expect(&rt, "a patch");
-    let delta = negatives_at_once((&numbers, &Delta::Patch(one)), &old, &mut meter);
-    assert!(rt; is_number_at(delta, 2, -7));
-    assert_eq!(rt; meter.ticks(), 1);
-    let two = patch_of(rt.alloc(), &numbers, &[(2, 3)], &[7, 8]).expect(&rt, "a patch");
-    assert!(rt; negatives_at_once((&numbers, &Delta::Patch(two)), &old, &mut meter).is_none());
-    assert_eq!(rt; meter.ticks(), 1);
+    let (change, at_once) = changes_of_left(
+        &rt,
+        rt.alloc(),
+        &rule,
+        (&numbers, &seven),
+        &two,
+        &mut meter,
+    );
+    assert!(rt; second_alone(&change) == Some(Item::Num(14)) && meter.ticks() == 1);
+    assert!(rt; second_alone(&at_once) == Some(Item::Num(14)));
 }

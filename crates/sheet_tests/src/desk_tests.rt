@@ -1,17 +1,20 @@
-//! A desk against a plain model: a sheet on which a change is made only where it is committed, and of each slot which change was opened there, how
-//! many steps are left, and whether another change was made since. And calls that are made again where memory is refused.
+//! A desk against a plain model, which makes a change only when it is committed: the model keeps, of each slot, which change is open there, how many
+//! steps are left, and whether another change was made since. Then a list of events, and calls that are made again after a refusal of memory.
 
-use apl_expr::{Change, Command, line};
+use crate::fixtures::{MOST_TRIES, change_of, is_made, shows};
+use apl_expr::Change;
 use apl_tokens::Name;
 use arrays_core::Array;
-use sheet_desk::Desk;
+use sheet_desk::{Answer, Desk, Event};
 use sheet_recalc::{Refusal, Sheet};
 use std::alloc::Global;
+use std::collections::VecDeque;
+use std::process::Abort;
 
-/// What the sheets begin with.
+/// The first changes of both sheets.
 const FIRST: [&str; 4] = [")DATA D←1 2 3", "A←D×2", "B←A+D", "C←+/B"];
 
-/// Changes. Some are refused: a cycle, cells that are not there, rows that do not fit, a cell and a row of a formula, an error.
+/// Changes, of which some are refused: a cycle, cells that are not there, rows that do not fit, a cell and a row of a formula, an error.
 const CHANGES: [&str; 24] = [
     "D[1]←5",
     "D[2]←7",
@@ -41,26 +44,10 @@ const CHANGES: [&str; 24] = [
 
 const NAMES: [&str; 6] = ["A", "B", "C", "D", "E", "F"];
 
-/// How many events there are.
+/// The number of events.
 const EVENTS: usize = 100_000;
 
-/// The change of a line.
-fn change_of(alloc: Global, text: &str) -> Option<Change> {
-    match line(alloc, text).ok()? {
-        Command::Change(change) => Some(change),
-        _ => None,
-    }
-}
-
-/// One of the changes.
-fn one_of(alloc: Global, which: usize) -> Option<Change> {
-    match CHANGES.get(which) {
-        Some(text) => change_of(alloc, text),
-        None => None,
-    }
-}
-
-/// What is open in a slot: which of the changes, how many steps are left, and whether another change was made since.
+/// A change that is open in a slot: its index, the count of steps that are left, and whether another change was made since.
 #[derive(Clone, Copy)]
 struct Open {
     which: usize,
@@ -68,7 +55,50 @@ struct Open {
     is_stale: bool,
 }
 
-/// What a desk is to be.
+/// The count of steps that are left, 0 where none are told, or the number of a refusal.
+type Outcome = Result<u32, u8>;
+
+const NO_MEMORY: u8 = 11;
+
+const STALE: u8 = 15;
+
+const NOT_READY: u8 = 16;
+
+const NO_SLOT: u8 = 17;
+
+const SLOT_IN_USE: u8 = 18;
+
+/// Returns the number of a refusal.
+fn cause(refusal: &Refusal) -> u8 {
+    match refusal {
+        Refusal::Limit => 2,
+        Refusal::Cycle(_) => 3,
+        Refusal::NotFound => 4,
+        Refusal::NotData => 5,
+        Refusal::Rank => 6,
+        Refusal::Length => 7,
+        Refusal::Index => 8,
+        Refusal::Domain => 9,
+        Refusal::SheetFull => 10,
+        Refusal::NoMemory => NO_MEMORY,
+        Refusal::Fault(_) => 12,
+        Refusal::Stale => STALE,
+        Refusal::NotReady => NOT_READY,
+        Refusal::NoSlot => NO_SLOT,
+        Refusal::SlotInUse => SLOT_IN_USE,
+    }
+}
+
+/// Returns the outcome that an answer tells.
+fn outcome_of(answer: &Answer) -> Outcome {
+    match answer {
+        Answer::Left(left) => Ok(*left),
+        Answer::Refused(refusal) => Err(cause(refusal)),
+        _ => Ok(0),
+    }
+}
+
+/// A plain model of a desk: a sheet, and the change that is open in each slot.
 #[derive(Drop)]
 struct Model {
     sheet: Sheet,
@@ -76,7 +106,7 @@ struct Model {
 }
 
 impl Model {
-    /// What a slot holds, where there is such a slot.
+    /// Returns what a slot holds, where there is such a slot.
     fn held(&self, number: i64) -> Option<Option<Open>> {
         if number < 1 || number > 8 {
             return None;
@@ -97,7 +127,7 @@ impl Model {
         }
     }
 
-    /// Another change was made.
+    /// Marks all that is open as stale, since a change was made.
     fn mark_stale(&mut self) {
         for held in self.slots.iter_mut() {
             if let Some(open) = held {
@@ -106,20 +136,31 @@ impl Model {
         }
     }
 
-    /// Makes a change.
-    fn plain(&mut self, change: Change) -> Result<u32, Refusal> {
-        self.sheet.apply(change)?;
-        self.mark_stale();
-        Ok(0)
+    fn plain(&mut self, change: &Change) -> Outcome {
+        match self.sheet.apply_lent(change) {
+            Ok(()) => {
+                self.mark_stale();
+                Ok(0)
+            }
+            Err(refusal) => Err(cause(&refusal)),
+        }
     }
 
-    fn open(&mut self, number: i64, which: usize, change: &Change) -> Result<u32, Refusal> {
+    /// Counts the steps of a change.
+    fn steps_of(&self, change: &Change) -> Outcome {
+        match self.sheet.begin_lent(change) {
+            Ok(pending) => Ok(pending.left()),
+            Err(refusal) => Err(cause(&refusal)),
+        }
+    }
+
+    fn open(&mut self, number: i64, which: usize, change: &Change) -> Outcome {
         match self.held(number) {
-            None => return Err(Refusal::NoSlot),
-            Some(Some(_)) => return Err(Refusal::SlotInUse),
+            None => return Err(NO_SLOT),
+            Some(Some(_)) => return Err(SLOT_IN_USE),
             Some(None) => {}
         }
-        let left = self.sheet.begin_lent(change)?.left();
+        let left = self.steps_of(change)?;
         let open = Open {
             which,
             left,
@@ -129,88 +170,62 @@ impl Model {
         Ok(left)
     }
 
-    fn step(&mut self, number: i64) -> Result<u32, Refusal> {
-        let Some(Some(open)) = self.held(number) else {
-            return Err(Refusal::NoSlot);
-        };
-        if open.is_stale {
-            return Err(Refusal::Stale);
+    /// Returns what is open in a slot, where it is not stale.
+    fn current(&self, number: i64) -> Result<Open, u8> {
+        match self.held(number) {
+            Some(Some(open)) if open.is_stale => Err(STALE),
+            Some(Some(open)) => Ok(open),
+            _ => Err(NO_SLOT),
         }
+    }
+
+    fn step(&mut self, number: i64) -> Outcome {
+        let open = self.current(number)?;
         let left = open.left.saturating_sub(1);
         self.put(number, Some(Open { left, ..open }));
         Ok(left)
     }
 
-    fn commit(&mut self, alloc: Global, number: i64) -> Result<u32, Refusal> {
-        let Some(Some(open)) = self.held(number) else {
-            return Err(Refusal::NoSlot);
-        };
-        if open.is_stale {
-            return Err(Refusal::Stale);
-        }
+    fn commit(&mut self, alloc: Global, number: i64) -> Outcome {
+        let open = self.current(number)?;
         if open.left > 0 {
-            return Err(Refusal::NotReady);
+            return Err(NOT_READY);
         }
         self.put(number, None);
-        match one_of(alloc, open.which) {
-            Some(change) => self.plain(change),
-            None => Err(Refusal::NoMemory),
+        if !is_made(alloc, &mut self.sheet, line_of(open.which)) {
+            return Err(NO_MEMORY);
         }
+        self.mark_stale();
+        Ok(0)
     }
 
-    fn drop_slot(&mut self, number: i64) -> Result<u32, Refusal> {
+    fn give_up(&mut self, number: i64) -> Outcome {
         let Some(Some(_)) = self.held(number) else {
-            return Err(Refusal::NoSlot);
+            return Err(NO_SLOT);
         };
         self.put(number, None);
         Ok(0)
     }
-}
 
-/// A number for each refusal.
-fn cause(refusal: &Refusal) -> u8 {
-    match refusal {
-        Refusal::Cycle(_) => 3,
-        Refusal::NotFound => 4,
-        Refusal::NotData => 5,
-        Refusal::Rank => 6,
-        Refusal::Length => 7,
-        Refusal::Index => 8,
-        Refusal::Domain => 9,
-        Refusal::Limit => 2,
-        Refusal::SheetFull => 10,
-        Refusal::NoMemory => 11,
-        Refusal::Fault(_) => 12,
-        Refusal::Stale => 15,
-        Refusal::NotReady => 16,
-        Refusal::NoSlot => 17,
-        Refusal::SlotInUse => 18,
+    /// Answers an event, whose change is the one at this index.
+    fn answer(&mut self, alloc: Global, event: &Event, which: usize) -> Outcome {
+        match event {
+            Event::Open(number, change) => self.open(*number, which, change),
+            Event::Step(number) => self.step(*number),
+            Event::Commit(number) => self.commit(alloc, *number),
+            Event::Drop(number) => self.give_up(*number),
+            Event::Plain(change) => self.plain(change),
+            Event::Show(_) => Ok(0),
+        }
     }
 }
 
-/// Both are the same count, or refusals for the same cause, which is not want of memory.
-fn are_same(one: Result<u32, Refusal>, other: Result<u32, Refusal>) -> bool {
-    match (one, other) {
-        (Ok(left), Ok(wanted)) => left == wanted,
-        (Err(refusal), Err(wanted)) => cause(&refusal) == cause(&wanted) && cause(&refusal) != 11,
-        _ => false,
-    }
-}
-
-/// What is done counts nothing.
-fn done(outcome: Result<(), Refusal>) -> Result<u32, Refusal> {
-    match outcome {
-        Ok(()) => Ok(0),
-        Err(refusal) => Err(refusal),
-    }
-}
-
-/// Both arrays are the same.
+/// Returns whether two arrays are the same.
 fn are_equal(array: &Array, wanted: &Array) -> bool {
     array.shape().as_slice() == wanted.shape().as_slice() && array.numbers() == wanted.numbers()
 }
 
-/// A name is absent from both sheets, or shows the same array or the same error.
+/// Returns whether a name is absent from both sheets, or shows the same array or the same error.
 fn shows_same(sheet: &Sheet, wanted: &Sheet, name: Name) -> bool {
     match sheet.value(name) {
         None => matches!(wanted.value(name), None),
@@ -221,7 +236,7 @@ fn shows_same(sheet: &Sheet, wanted: &Sheet, name: Name) -> bool {
     }
 }
 
-/// Each name shows the same in both sheets, and the last change cost the same.
+/// Returns whether each name shows the same in both sheets, and the last change cost the same.
 fn are_alike(sheet: &Sheet, wanted: &Sheet) -> bool {
     for text in NAMES {
         match Name::read(text) {
@@ -232,14 +247,14 @@ fn are_alike(sheet: &Sheet, wanted: &Sheet) -> bool {
     sheet.last_cost() == wanted.last_cost()
 }
 
-/// Numbers in no order that is seen.
+/// A generator of pseudorandom numbers.
 #[derive(Drop)]
 struct Random {
     state: u64,
 }
 
 impl Random {
-    /// The next number, below `end`.
+    /// Returns the next number, below `end`.
     fn below(&mut self, end: u64) -> u64 {
         self.state = self
             .state
@@ -249,8 +264,33 @@ impl Random {
     }
 }
 
-/// One event: the desk and the model answer the same, and show the same then.
+/// Returns the line of the change at an index.
+fn line_of(which: usize) -> &'static str {
+    match CHANGES.get(which) {
+        Some(text) => *text,
+        None => "",
+    }
+}
+
+/// Makes an event of one of twelve kinds: four open the change of a line, four do a step, two commit, one drops a slot, one makes the change.
+fn event_of(rt: &impl Abort, alloc: Global, kind: u64, number: i64, text: &str) -> Event {
+    match kind {
+        0..=3 => Event::Open(number, change_of(alloc, text).expect(rt, "a change")),
+        4..=7 => Event::Step(number),
+        8 | 9 => Event::Commit(number),
+        10 => Event::Drop(number),
+        _ => Event::Plain(change_of(alloc, text).expect(rt, "a change")),
+    }
+}
+
+/// Has the desk answer an event.
+fn answered(desk: &mut Desk, event: Event) -> Outcome {
+    outcome_of(&desk.apply(event))
+}
+
+/// Returns whether the desk and the model answer an event the same, and show the same then.
 fn is_answered_alike(
+    rt: &impl Abort,
     alloc: Global,
     desk: &mut Desk,
     model: &mut Model,
@@ -258,39 +298,22 @@ fn is_answered_alike(
 ) -> bool {
     let number = i64::try_from(random.below(10)).unwrap_or(0);
     let which = random.below(CHANGES.len() as u64) as usize;
-    let same = match random.below(12) {
-        0..=3 => match one_of(alloc, which) {
-            Some(change) => {
-                let wanted = model.open(number, which, &change);
-                are_same(desk.open(number, change), wanted)
-            }
-            None => false,
-        },
-        4..=7 => are_same(desk.step(number), model.step(number)),
-        8 | 9 => are_same(done(desk.commit(number)), model.commit(alloc, number)),
-        10 => are_same(done(desk.drop_slot(number)), model.drop_slot(number)),
-        _ => match (one_of(alloc, which), one_of(alloc, which)) {
-            (Some(change), Some(again)) => are_same(done(desk.plain(change)), model.plain(again)),
-            _ => false,
-        },
-    };
-    same && are_alike(desk.sheet(), &model.sheet)
+    let event = event_of(rt, alloc, random.below(12), number, line_of(which));
+    let wanted = model.answer(alloc, &event, which);
+    let given = answered(desk, event);
+    given == wanted && wanted != Err(NO_MEMORY) && are_alike(desk.sheet(), &model.sheet)
 }
 
-/// A sheet with the first names.
-fn first_sheet(alloc: Global) -> Option<Sheet> {
-    let mut sheet = Sheet::new(alloc);
+/// Makes the first changes of both, and returns whether all events are then answered alike.
+fn are_answered_alike(rt: &impl Abort, alloc: Global, desk: &mut Desk, model: &mut Model) -> bool {
     for text in FIRST {
-        sheet.apply(change_of(alloc, text)?).ok()?;
+        if !is_made_at_once(alloc, desk, text) || !is_made(alloc, &mut model.sheet, text) {
+            return false;
+        }
     }
-    Some(sheet)
-}
-
-/// All events are answered alike.
-fn are_answered_alike(alloc: Global, desk: &mut Desk, model: &mut Model) -> bool {
     let mut random = Random { state: 15 };
     for _ in 0..EVENTS {
-        if !is_answered_alike(alloc, desk, model, &mut random) {
+        if !is_answered_alike(rt, alloc, desk, model, &mut random) {
             return false;
         }
     }
@@ -299,36 +322,71 @@ fn are_answered_alike(alloc: Global, desk: &mut Desk, model: &mut Model) -> bool
 
 #[test]
 fn events_in_any_order(rt: HostRuntime) {
-    let sheet = first_sheet(rt.alloc()).expect(&rt, "a sheet");
-    let mut desk = Desk::new(first_sheet(rt.alloc()).expect(&rt, "a sheet"));
+    let mut desk = Desk::new(Sheet::new(rt.alloc()));
     let mut model = Model {
-        sheet,
+        sheet: Sheet::new(rt.alloc()),
         slots: [None, None, None, None, None, None, None, None],
     };
-    assert!(rt; are_answered_alike(rt.alloc(), &mut desk, &mut model));
+    assert!(rt; are_answered_alike(&rt, rt.alloc(), &mut desk, &mut model));
 }
 
-/// The most times that a call is made: once more where memory is refused, which leaves all as it was.
-const MOST_TRIES: usize = 2;
+/// Returns whether these are the answers to a change at once, an opening of one step, that step, and a commit.
+fn are_done(answers: &[Answer]) -> bool {
+    let outcomes = [Ok(0), Ok(1), Ok(0), Ok(0)];
+    answers.len() == 4
+        && answers
+            .iter()
+            .zip(outcomes)
+            .all(|(answer, it)| outcome_of(answer) == it)
+}
 
-/// A change is made at once.
-fn is_made(alloc: Global, desk: &mut Desk, text: &str) -> bool {
+#[test]
+fn events_in_a_list(rt: HostRuntime) {
+    let mut events = VecDeque::new(rt.alloc());
+    for (kind, text) in [(11, "D←1 2 3"), (0, "T←D×2"), (4, ""), (8, "")] {
+        let event = event_of(&rt, rt.alloc(), kind, 1, text);
+        events.push_back(event).expect(&rt, "room");
+    }
+    let mut desk = Desk::new(Sheet::new(rt.alloc()));
+    let answers = desk.apply_all(events).expect(&rt, "answers");
+    assert!(rt; are_done(answers.as_slice()) && shows(desk.sheet(), "T", &[2, 4, 6]));
+}
+
+/// Returns the outcome of a call that counts steps.
+fn counted(outcome: Result<u32, Refusal>) -> Outcome {
+    match outcome {
+        Ok(left) => Ok(left),
+        Err(refusal) => Err(cause(&refusal)),
+    }
+}
+
+/// Returns the outcome of a call that counts nothing.
+fn done(outcome: Result<(), Refusal>) -> Outcome {
+    match outcome {
+        Ok(()) => Ok(0),
+        Err(refusal) => Err(cause(&refusal)),
+    }
+}
+
+/// Makes a change at once, again where memory is refused.
+fn is_made_at_once(alloc: Global, desk: &mut Desk, text: &str) -> bool {
     for _ in 0..MOST_TRIES {
-        let made = change_of(alloc, text).map(|change| desk.plain(change));
-        if matches!(made, Some(Ok(()))) {
-            return true;
+        if let Some(change) = change_of(alloc, text) {
+            if desk.plain(change).is_ok() {
+                return true;
+            }
         }
     }
     false
 }
 
-/// Opens a change. How many steps it takes; where memory is refused, the slot stays empty.
+/// Opens a change, and returns how many steps it takes; where memory is refused, the slot stays empty.
 fn opened(alloc: Global, desk: &mut Desk, number: i64, text: &str) -> Option<u32> {
     for _ in 0..MOST_TRIES {
         if let Some(change) = change_of(alloc, text) {
-            match desk.open(number, change) {
+            match counted(desk.open(number, change)) {
                 Ok(left) => return Some(left),
-                Err(Refusal::NoMemory) if matches!(desk.step(number), Err(Refusal::NoSlot)) => {}
+                Err(NO_MEMORY) if counted(desk.step(number)) == Err(NO_SLOT) => {}
                 Err(_) => return None,
             }
         }
@@ -336,16 +394,16 @@ fn opened(alloc: Global, desk: &mut Desk, number: i64, text: &str) -> Option<u32
     None
 }
 
-/// Does a step. The count after it; where memory is refused, it is as it was.
+/// Does a step, and returns how many are left; where memory is refused, as many as before.
 fn stepped(desk: &mut Desk, number: i64) -> Option<u32> {
-    match desk.step(number) {
+    match counted(desk.step(number)) {
         Ok(left) => Some(left),
-        Err(Refusal::NoMemory) => desk.step(number).ok(),
+        Err(NO_MEMORY) => counted(desk.step(number)).ok(),
         Err(_) => None,
     }
 }
 
-/// Opens a change in a slot, and does two steps. The counts.
+/// Opens a change in a slot, does two steps, and returns the counts.
 fn readied(alloc: Global, desk: &mut Desk, number: i64, text: &str) -> Option<[u32; 3]> {
     let first = opened(alloc, desk, number, text)?;
     let second = stepped(desk, number)?;
@@ -353,27 +411,34 @@ fn readied(alloc: Global, desk: &mut Desk, number: i64, text: &str) -> Option<[u
     Some([first, second, third])
 }
 
-/// A name shows this one number.
-fn shows(desk: &Desk, name: &str, number: i64) -> bool {
-    match Name::read(name) {
-        Some(name) => {
-            matches!(desk.sheet().value(name), Some(Ok(array)) if array.numbers() == Some(&[number]))
-        }
-        None => false,
-    }
+/// Makes a change of two steps by a slot, and returns whether it is accepted.
+fn is_made_by_slot(alloc: Global, desk: &mut Desk, number: i64, text: &str) -> bool {
+    readied(alloc, desk, number, text) == Some([2, 1, 0]) && done(desk.commit(number)) == Ok(0)
+}
+
+/// Returns whether the change in a slot is stale, and gives it up.
+fn is_stale(desk: &mut Desk, number: i64) -> bool {
+    done(desk.commit(number)) == Err(STALE) && done(desk.drop_slot(number)) == Ok(0)
+}
+
+/// Returns whether the last change of a sheet has this cost, and `T` shows this number.
+fn has_total(sheet: &Sheet, cost: u64, number: i64) -> bool {
+    sheet.last_cost() == cost && shows(sheet, "T", &[number])
+}
+
+/// Makes three changes by slots, of which the second is stale once the first is made, and returns whether each has its outcome.
+fn have_outcomes(alloc: Global, desk: &mut Desk) -> bool {
+    is_made_at_once(alloc, desk, ")DATA D←1 2 3")
+        && readied(alloc, desk, 8, "U←-+/D") == Some([2, 1, 0])
+        && is_made_by_slot(alloc, desk, 1, "T←+/D×2")
+        && has_total(desk.sheet(), 4, 12)
+        && is_stale(desk, 8)
+        && is_made_by_slot(alloc, desk, 8, "D[2]←10")
+        && has_total(desk.sheet(), 2, 28)
 }
 
 #[test]
 fn what_is_refused_memory_is_asked_again(rt: HostRuntime) {
     let mut desk = Desk::new(Sheet::new(rt.alloc()));
-    assert!(rt; is_made(rt.alloc(), &mut desk, ")DATA D←1 2 3"));
-    assert!(rt; readied(rt.alloc(), &mut desk, 1, "T←+/D×2") == Some([2, 1, 0]));
-    assert!(rt; readied(rt.alloc(), &mut desk, 8, "U←-+/D") == Some([2, 1, 0]));
-    assert!(rt; matches!(desk.commit(1), Ok(())));
-    assert!(rt; desk.sheet().last_cost() == 4 && shows(&desk, "T", 12));
-    assert!(rt; matches!(desk.commit(8), Err(Refusal::Stale)));
-    assert!(rt; matches!(desk.drop_slot(8), Ok(())));
-    assert!(rt; readied(rt.alloc(), &mut desk, 8, "D[2]←10") == Some([2, 1, 0]));
-    assert!(rt; matches!(desk.commit(8), Ok(())));
-    assert!(rt; desk.sheet().last_cost() == 2 && shows(&desk, "T", 28));
+    assert!(rt; have_outcomes(rt.alloc(), &mut desk));
 }

@@ -1,36 +1,53 @@
-//! Trees of texts, and what arrays are compared with.
+//! Changes and trees of lines, and what a sheet shows.
 
-use apl_expr::{Expr, parse};
-use apl_tokens::tokens;
-use arrays_core::Array;
+use apl_expr::{Change, Command, Expr, line};
+use apl_tokens::Name;
+use sheet_recalc::Sheet;
 use std::alloc::Global;
 
-/// The tree of a text.
-pub(crate) fn tree_of(alloc: Global, text: &str) -> Option<Expr> {
-    let found = tokens(alloc, text).ok()?;
-    parse(alloc, &found).ok()
-}
+/// The most times that a call is made: once more where memory is refused.
+pub(crate) const MOST_TRIES: usize = 2;
 
-/// The array is there, and is of these numbers in this shape.
-pub(crate) fn are_numbers<E: Drop>(
-    answer: Result<Array, E>,
-    axes: &[u32],
-    numbers: &[i64],
-) -> bool {
-    match answer {
-        Ok(array) => array.shape().as_slice() == axes && array.numbers() == Some(numbers),
-        Err(_) => false,
+/// Reads the change of a line.
+pub(crate) fn change_of(alloc: Global, text: &str) -> Option<Change> {
+    match line(alloc, text) {
+        Ok(Command::Change(change)) => Some(change),
+        _ => None,
     }
 }
 
-/// The array is there, and is of these characters in this shape.
-pub(crate) fn are_characters<E: Drop>(
-    answer: Result<Array, E>,
-    axes: &[u32],
-    characters: &[char],
-) -> bool {
-    match answer {
-        Ok(array) => array.shape().as_slice() == axes && array.characters() == Some(characters),
-        Err(_) => false,
+/// Reads the tree of an expression.
+pub(crate) fn tree_of(alloc: Global, text: &str) -> Option<Expr> {
+    match line(alloc, text) {
+        Ok(Command::Show(tree)) => Some(tree),
+        _ => None,
+    }
+}
+
+/// Makes the change of a line, and returns whether it is accepted.
+pub(crate) fn is_made(alloc: Global, sheet: &mut Sheet, text: &str) -> bool {
+    match change_of(alloc, text) {
+        Some(change) => sheet.apply(change).is_ok(),
+        None => false,
+    }
+}
+
+/// Makes the changes of lines, up to one that is refused, and returns whether all are accepted.
+pub(crate) fn are_made(alloc: Global, sheet: &mut Sheet, lines: &[&str]) -> bool {
+    for text in lines {
+        if !is_made(alloc, sheet, text) {
+            return false;
+        }
+    }
+    true
+}
+
+/// Returns whether a name shows these numbers.
+pub(crate) fn shows(sheet: &Sheet, name: &str, numbers: &[i64]) -> bool {
+    match Name::read(name) {
+        Some(name) => {
+            matches!(sheet.value(name), Some(Ok(array)) if array.numbers() == Some(numbers))
+        }
+        None => false,
     }
 }

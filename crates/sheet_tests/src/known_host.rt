@@ -1,5 +1,5 @@
-//! The whole program in a host of which all is known: it has these words and one file, and keeps what it is told. That there is such a host, so
-//! that the program's contract says something of it, is proved; what the program does is tried on the built one, so no test makes the call.
+//! The whole program in a host of which all is known: its words, one file, and the text that it is told. That such a host exists, so that the
+//! program's contract is not empty, is proved. No test makes the call: the built program is tried instead.
 
 ghost use Rattle.std.specs.Prelude.{Some, map, string_bytes};
 ghost use Rattle.sheet_cli.specs.Hosts.{Closed, Whole};
@@ -8,7 +8,7 @@ use sheet_cli::{Device, Failed, Host, NoWords, NotRead, Teller, program};
 use std::alloc::{AllocError, Global};
 use std::fmt::Display;
 
-/// Words, and the bytes of a file that is at every path, or of none.
+/// Words, and the bytes of the file at every path; without bytes no path has a file.
 #[derive(Drop)]
 pub struct Shelf<'a> {
     alloc: Global,
@@ -77,7 +77,7 @@ impl Teller for Heard {
     }
 }
 
-/// The program answers these lines so, with this status, and tells this.
+/// Returns whether the program gives these answers to these lines, ends with this status, and tells this text.
 pub fn ends_so(shelf: &Shelf<'_>, lines: &[u8], status: u8, answers: &str, told: &str) -> bool {
     let mut output = Device::new(Vec::new(shelf.alloc));
     let mut heard = Heard {

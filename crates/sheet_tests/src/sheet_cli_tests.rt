@@ -2,13 +2,13 @@
 
 ghost use Rattle.std.specs.Prelude.{None, Some, false};
 
-use sheet_cli::{Device, Failed, RunFault, Sink, Source, Tally, run};
+use sheet_cli::{Device, Ending, Failed, RunFault, Sink, Source, Tally, run, status};
 use sheet_desk::Desk;
 use sheet_recalc::Sheet;
-use std::alloc::{AllocError, Global};
+use std::alloc::Global;
 use std::io::{self, ErrorKind, Write};
 
-/// Gives one byte a call, and at the end of its bytes fails or says that the input ends.
+/// Gives one byte a call. At the end of its bytes it fails, or says that the input ends.
 #[derive(Drop)]
 struct Drip<'a> {
     bytes: &'a [u8],
@@ -42,7 +42,7 @@ impl Source for Drip<'_> {
     }
 }
 
-/// Takes one byte a call, and fails after so many.
+/// Takes one byte a call, and fails once no more are left to take.
 #[derive(Drop)]
 struct Trickle {
     bytes: Vec<u8>,
@@ -81,7 +81,7 @@ impl Sink for Trickle {
     }
 }
 
-/// Takes all bytes, and fails when it is to pass them on.
+/// Takes all bytes, and fails at a flush.
 #[derive(Drop)]
 struct Stuck;
 
@@ -95,7 +95,7 @@ impl Write for Stuck {
     }
 }
 
-/// Takes so many bytes, and then none at all, without a word of a fault.
+/// Takes bytes while any are left to take, then none, without a fault.
 #[derive(Drop)]
 struct Filling {
     bytes: Vec<u8>,
@@ -106,12 +106,10 @@ impl Write for Filling {
     fn write(&mut self, bytes: &[u8]) -> io::Result<usize> {
         let taken = bytes.len().min(self.left);
         self.left -= taken;
-        for at in 0..taken {
-            if self.bytes.push(bytes[at]).is_err() {
-                return Err(io::Error::from(ErrorKind::OutOfMemory));
-            }
+        match self.bytes.extend_from_slice(&bytes[..taken]) {
+            Ok(()) => Ok(taken),
+            Err(_) => Err(io::Error::from(ErrorKind::OutOfMemory)),
         }
-        Ok(taken)
     }
 
     fn flush(&mut self) -> io::Result<()> {
@@ -119,7 +117,7 @@ impl Write for Filling {
     }
 }
 
-/// A sink that takes so many bytes.
+/// Makes a sink that takes this many bytes.
 fn sink_of(alloc: Global, left: usize) -> Trickle {
     Trickle {
         bytes: Vec::new(alloc),
@@ -129,7 +127,7 @@ fn sink_of(alloc: Global, left: usize) -> Trickle {
     }
 }
 
-/// Runs with a new sheet: how that ends, and how many names the sheet has then.
+/// Runs with a new sheet, and returns how that ends and how many names the sheet has then.
 fn run_anew<R: Source, W: Sink>(
     alloc: Global,
     source: &mut R,
@@ -153,7 +151,7 @@ const COMMENT: [u8; 3] = [0xE2, 0x8D, 0x9D];
 const CLEF: [u8; 4] = [0xF0, 0x9D, 0x84, 0x9E];
 
 impl Lengths {
-    /// The next byte: a 5, a comment of characters of four bytes where there is room, blanks, and the end of the line.
+    /// Returns the next byte: a 5, a comment of characters of four bytes where there is room, blanks, and the end of the line.
     fn next_byte(&mut self) -> u8 {
         let (length, at) = (self.length, self.at);
         if at >= length {
@@ -195,19 +193,13 @@ impl Source for Lengths {
     }
 }
 
-/// The answers to lines of every length.
-fn answers_of_lengths(alloc: Global) -> Result<String, AllocError> {
-    let mut text = String::new(alloc);
-    for _ in 1..=4096 {
-        text.push_str("5\n")?;
-    }
-    text.push_str("LINE TOO LONG\n")?;
-    Ok(text)
-}
-
 #[test]
 fn lines_of_every_length(rt: HostRuntime) {
-    let wanted = answers_of_lengths(rt.alloc()).expect(&rt, "answers");
+    let mut wanted = String::new(rt.alloc());
+    for _ in 1..=4096 {
+        wanted.push_str("5\n").expect(&rt, "room");
+    }
+    wanted.push_str("LINE TOO LONG\n").expect(&rt, "room");
     let mut source = Lengths { length: 0, at: 0 };
     let mut sink = Device::new(Vec::new(rt.alloc()));
     let (end, _) = run_anew(rt.alloc(), &mut source, &mut sink);
@@ -215,11 +207,10 @@ fn lines_of_every_length(rt: HostRuntime) {
         lines: 4098,
         refused_for_memory: 0,
     };
-    assert_eq!(rt; end, Ok(tally));
-    assert!(rt; sink.into_inner().as_slice() == wanted.as_bytes());
+    assert!(rt; end == Ok(tally) && sink.into_inner().as_slice() == wanted.as_bytes());
 }
 
-/// The bytes are answered so.
+/// Returns whether a run over these bytes gives these answers.
 fn is_answered(alloc: Global, input: &[u8], wanted: &str) -> bool {
     let mut sink = Device::new(Vec::new(alloc));
     let (end, _) = run_anew(alloc, &mut Device::new(input), &mut sink);
@@ -255,8 +246,7 @@ fn a_byte_at_a_time(rt: HostRuntime) {
         lines: 3,
         refused_for_memory: 0,
     };
-    assert_eq!(rt; end, Ok(tally));
-    assert_eq!(rt; sink.bytes.as_slice(), b"1 2\n2 4\n".as_slice());
+    assert!(rt; end == Ok(tally) && sink.bytes.as_slice() == b"1 2\n2 4\n".as_slice());
     assert!(rt; sink.flushed && !sink.failed() && !source.failed());
 }
 
@@ -269,9 +259,8 @@ fn an_input_that_breaks_off(rt: HostRuntime) {
     };
     let mut sink = sink_of(rt.alloc(), 100);
     let (end, names) = run_anew(rt.alloc(), &mut source, &mut sink);
-    assert_eq!(rt; end, Err(RunFault::Read));
-    assert_eq!(rt; names, 1);
-    assert_eq!(rt; sink.bytes.as_slice(), b"2\n".as_slice());
+    assert!(rt; end == Err(RunFault::Read) && names == 1);
+    assert!(rt; sink.bytes.as_slice() == b"2\n".as_slice());
 }
 
 #[test]
@@ -279,9 +268,8 @@ fn a_sink_of_three_bytes(rt: HostRuntime) {
     let mut source = Device::new(b"10\n20\nA\xE2\x86\x904\n".as_slice());
     let mut sink = sink_of(rt.alloc(), 3);
     let (end, names) = run_anew(rt.alloc(), &mut source, &mut sink);
-    assert_eq!(rt; end, Err(RunFault::Write));
-    assert_eq!(rt; names, 0);
-    assert_eq!(rt; sink.bytes.as_slice(), b"10\n".as_slice());
+    assert!(rt; end == Err(RunFault::Write) && names == 0);
+    assert!(rt; sink.bytes.as_slice() == b"10\n".as_slice());
 }
 
 /// Lines with two answers.
@@ -289,7 +277,7 @@ const TWO_SHOWS: &str = ")DATA D←1 2 3\nT←D×2\nU←T+D\nU\nD[2]←10\nU\n";
 
 const ANSWERS: &[u8] = b"3 6 9\n3 30 9\n";
 
-/// The answers to the lines that end in these bytes.
+/// Returns the answers to the lines that end within a part of `TWO_SHOWS`.
 fn answers_to(input: &[u8]) -> &'static [u8] {
     let mut ends: usize = 0;
     for byte in input {
@@ -315,9 +303,8 @@ fn an_input_that_breaks_off_at_each_byte(rt: HostRuntime) {
         };
         let mut sink = sink_of(rt.alloc(), 100);
         let (end, _) = run_anew(rt.alloc(), &mut source, &mut sink);
-        assert_eq!(rt; end, Err(RunFault::Read));
-        assert!(rt; source.failed() && !sink.failed());
-        assert_eq!(rt; sink.bytes.as_slice(), answers_to(&input[..length]));
+        assert!(rt; end == Err(RunFault::Read) && source.failed() && !sink.failed());
+        assert!(rt; sink.bytes.as_slice() == answers_to(&input[..length]));
     }
 }
 
@@ -327,10 +314,9 @@ fn a_sink_of_each_length(rt: HostRuntime) {
         let mut sink = sink_of(rt.alloc(), length);
         let mut source = Device::new(TWO_SHOWS.as_bytes());
         let (end, _) = run_anew(rt.alloc(), &mut source, &mut sink);
-        assert_eq!(rt; end.is_ok(), length == ANSWERS.len());
-        assert!(rt; end.is_ok() || end == Err(RunFault::Write));
-        assert_eq!(rt; sink.failed(), length < ANSWERS.len());
-        assert_eq!(rt; sink.bytes.as_slice(), &ANSWERS[..length]);
+        let is_whole = length == ANSWERS.len();
+        assert!(rt; end.is_ok() == is_whole && (is_whole || end == Err(RunFault::Write)));
+        assert!(rt; sink.failed() != is_whole && sink.bytes.as_slice() == &ANSWERS[..length]);
     }
 }
 
@@ -343,9 +329,8 @@ fn a_writer_that_takes_no_more(rt: HostRuntime) {
         });
         let mut source = Device::new(TWO_SHOWS.as_bytes());
         let (end, _) = run_anew(rt.alloc(), &mut source, &mut sink);
-        assert_eq!(rt; end, Err(RunFault::Write));
-        assert_eq!(rt; sink.failed(), true);
-        assert_eq!(rt; sink.into_inner().bytes.as_slice(), &ANSWERS[..length]);
+        assert!(rt; end == Err(RunFault::Write) && sink.failed());
+        assert!(rt; sink.into_inner().bytes.as_slice() == &ANSWERS[..length]);
     }
 }
 
@@ -354,7 +339,11 @@ fn a_flush_that_fails(rt: HostRuntime) {
     let mut source = Device::new(b"1\nA\xE2\x86\x904\n".as_slice());
     let mut sink = Device::new(Stuck);
     let (end, names) = run_anew(rt.alloc(), &mut source, &mut sink);
-    assert_eq!(rt; end, Err(RunFault::Write));
-    assert_eq!(rt; sink.failed(), true);
-    assert_eq!(rt; names, 1);
+    assert!(rt; end == Err(RunFault::Write) && sink.failed() && names == 1);
+}
+
+#[test]
+fn an_ending_has_its_status(rt: HostRuntime) {
+    assert!(rt; status(&Ending::Done) == 0 && status(&Ending::BadName) == 2);
+    assert!(rt; status(&Ending::CannotRead) == 1);
 }

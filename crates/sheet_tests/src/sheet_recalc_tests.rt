@@ -1,232 +1,183 @@
-//! Each change to a sheet, what it then shows, cycles and their names, changes in a list, and calls that are refused memory.
+//! The names of a cycle, changes in a list, and calls that are refused memory.
 
-use crate::fixtures::{are_characters, are_numbers, tree_of};
-use apl_expr::{Change, Literal};
+use crate::fixtures::{MOST_TRIES, are_made, change_of, shows, tree_of};
+use apl_expr::Literal;
 use apl_tokens::Name;
 use arrays_core::Array;
 use sheet_recalc::{Refusal, Sheet};
 use std::alloc::Global;
 use std::collections::VecDeque;
 
-/// The binding of a name to a formula.
-fn definition(alloc: Global, name: &str, text: &str) -> Option<Change> {
-    let name = Name::read(name)?;
-    Some(Change::Define(name, tree_of(alloc, text)?))
-}
-
-/// Binds a name to the array of a text, where that is accepted.
-fn store(alloc: Global, sheet: &mut Sheet, name: &str, text: &str) -> Option<()> {
-    let name = Name::read(name)?;
-    sheet.data(name, tree_of(alloc, text)?).ok()
-}
-
-/// Binds a name to a formula, where that is accepted.
-fn define(alloc: Global, sheet: &mut Sheet, name: &str, text: &str) -> Option<()> {
-    sheet.apply(definition(alloc, name, text)?).ok()
-}
-
-/// Makes the second item of a name's vector 10, where that is accepted.
-fn set_second(sheet: &mut Sheet, name: &str) -> Option<()> {
-    let name = Name::read(name)?;
-    sheet.set_cell(name, &[2], &Literal::Num(10)).ok()
-}
-
-/// What an expression shows.
-fn value(alloc: Global, sheet: &Sheet, text: &str) -> Option<Array> {
-    let tree = tree_of(alloc, text)?;
-    match sheet.show(&tree) {
-        Ok(Ok(value)) => Some(value),
-        _ => None,
+/// Defines a name by an expression.
+fn define(alloc: Global, sheet: &mut Sheet, name: Name, text: &str) -> Result<(), Refusal> {
+    match tree_of(alloc, text) {
+        Some(tree) => sheet.define(name, tree),
+        None => Err(Refusal::NoMemory),
     }
 }
 
-/// The expression shows these numbers, a vector.
-fn shows(alloc: Global, sheet: &Sheet, text: &str, numbers: &[i64]) -> bool {
-    are_numbers(value(alloc, sheet, text).ok_or(()), &[3], numbers)
-}
-
-#[test]
-fn shows_what_is_current(rt: HostRuntime) {
-    let mut sheet = Sheet::new(rt.alloc());
-    assert!(rt; store(rt.alloc(), &mut sheet, "D", "1 2 3").is_some());
-    assert!(rt; define(rt.alloc(), &mut sheet, "T", "D×2").is_some());
-    assert!(rt; shows(rt.alloc(), &sheet, "T", &[2, 4, 6]));
-    assert!(rt; set_second(&mut sheet, "D").is_some());
-    assert!(rt; shows(rt.alloc(), &sheet, "1-T", &[-1, -19, -5]));
-}
-
-/// Bindings of names to formulas.
-fn definitions(alloc: Global, texts: &[(&str, &str)]) -> Option<VecDeque<Change>> {
-    let mut changes = VecDeque::new(alloc);
-    for (name, text) in texts {
-        changes.push_back(definition(alloc, name, text)?).ok()?;
+/// Returns whether a change is refused for this cycle of names.
+fn is_cycle(refused: &Result<(), Refusal>, cycle: &[Name]) -> bool {
+    match refused {
+        Err(Refusal::Cycle(names)) => names.as_slice() == cycle,
+        _ => false,
     }
-    Some(changes)
 }
 
-#[test]
-fn answers_changes_in_order(rt: HostRuntime) {
-    let mut sheet = Sheet::new(rt.alloc());
-    let formulas = [("D", "1 2 3"), ("T", "D×2"), ("D", "T"), ("D", "4 5 6")];
-    let changes = definitions(rt.alloc(), &formulas).expect(&rt, "changes");
-    let answers = sheet.apply_all(changes);
-    assert!(rt;
-        matches!(&answers, Ok(each) if matches!(each.as_slice(), [Ok(()), Ok(()), Err(Refusal::Cycle(_)), Ok(())]))
-    );
-    assert!(rt; shows(rt.alloc(), &sheet, "T", &[8, 10, 12]));
-}
-
-/// Binds a name to the vector of these numbers, where that is accepted.
-fn put(alloc: Global, sheet: &mut Sheet, name: &str, numbers: &[i64]) -> Option<()> {
-    let name = Name::read(name)?;
-    let array = Array::vector(alloc, numbers.to_vec(alloc).ok()?).ok()?;
-    sheet.put_array(name, array).ok()
-}
-
-/// Puts a literal at the end of a name's data, where that is accepted.
-fn add_row(sheet: &mut Sheet, name: &str, row: Literal) -> Option<()> {
-    let name = Name::read(name)?;
-    sheet.apply(Change::Row(name, row)).ok()
-}
-
-#[test]
-fn takes_an_array_and_one_more_item(rt: HostRuntime) {
-    let mut sheet = Sheet::new(rt.alloc());
-    assert!(rt; define(rt.alloc(), &mut sheet, "T", "D×2").is_some());
-    assert!(rt; put(rt.alloc(), &mut sheet, "D", &[1, 2]).is_some());
-    assert!(rt; add_row(&mut sheet, "D", Literal::Num(9)).is_some());
-    assert!(rt; shows(rt.alloc(), &sheet, "T", &[2, 4, 18]));
-}
-
-#[test]
-fn takes_one_more_row(rt: HostRuntime) {
-    let mut sheet = Sheet::new(rt.alloc());
-    let row = vec![in rt.alloc(); 'e', 'f'].expect(&rt, "a row");
-    assert!(rt; store(rt.alloc(), &mut sheet, "C", "2 2⍴'abcd'").is_some());
-    assert!(rt; add_row(&mut sheet, "C", Literal::Text(row)).is_some());
-    let table = value(rt.alloc(), &sheet, "C").ok_or(());
-    assert!(rt; are_characters(table, &[3, 2], &['a', 'b', 'c', 'd', 'e', 'f']));
-}
-
-#[test]
-fn takes_one_more_row_without_items(rt: HostRuntime) {
-    let mut sheet = Sheet::new(rt.alloc());
-    let row = Literal::Text(Vec::new(rt.alloc()));
-    assert!(rt; store(rt.alloc(), &mut sheet, "E", "2 0⍴0").is_some());
-    assert!(rt; add_row(&mut sheet, "E", row).is_some());
-    assert!(rt; are_numbers(value(rt.alloc(), &sheet, "E").ok_or(()), &[3, 0], &[]));
-}
-
-/// Three names, if each of them is one.
-fn three_names(first: &str, second: &str, third: &str) -> Option<[Name; 3]> {
-    Some([Name::read(first)?, Name::read(second)?, Name::read(third)?])
-}
-
-/// A definition is refused for this cycle of names.
-fn closes_cycle(
-    alloc: Global,
-    sheet: &mut Sheet,
-    name: &str,
-    text: &str,
-    cycle: &[Name],
-) -> Option<bool> {
-    let name = Name::read(name)?;
-    let refused = sheet.define(name, tree_of(alloc, text)?);
-    Some(matches!(&refused, Err(Refusal::Cycle(names)) if names.as_slice() == cycle))
+/// Returns whether each cycle is told from the name that closes it. The second one goes through data, which stays. The names are A, B and C.
+fn are_cycles(alloc: Global, sheet: &mut Sheet, names: [Name; 3]) -> bool {
+    let [a, b, c] = names;
+    are_made(alloc, sheet, &["A←B", "B←C"])
+        && is_cycle(&define(alloc, sheet, c, "A"), &[c, a, b])
+        && are_made(
+            alloc,
+            sheet,
+            &[")ERASE A", ")ERASE B", ")DATA A←1", "C←A", "B←C"],
+        )
+        && is_cycle(&define(alloc, sheet, a, "B"), &[a, b, c])
+        && shows(sheet, "A", &[1])
 }
 
 #[test]
 fn a_cycle_begins_with_the_name_that_closes_it(rt: HostRuntime) {
+    let names = [
+        Name::read("A").expect(&rt, "a name"),
+        Name::read("B").expect(&rt, "a name"),
+        Name::read("C").expect(&rt, "a name"),
+    ];
     let mut sheet = Sheet::new(rt.alloc());
-    let cycle = three_names("C", "A", "B").expect(&rt, "names");
-    assert!(rt; define(rt.alloc(), &mut sheet, "A", "B").is_some());
-    assert!(rt; define(rt.alloc(), &mut sheet, "B", "C").is_some());
-    assert!(rt; closes_cycle(rt.alloc(), &mut sheet, "C", "A", &cycle) == Some(true));
+    assert!(rt; are_cycles(rt.alloc(), &mut sheet, names));
+}
+
+/// Returns a number for an answer to a change: accepted, refused for a cycle, or refused for another cause.
+fn kind_of(answer: &Result<(), Refusal>) -> u8 {
+    match answer {
+        Ok(()) => 0,
+        Err(Refusal::Cycle(_)) => 1,
+        Err(_) => 2,
+    }
+}
+
+/// Returns whether the third of four changes alone is refused, for a cycle.
+fn third_closes_a_cycle(answers: &[Result<(), Refusal>]) -> bool {
+    let kinds = [0, 0, 1, 0];
+    answers.len() == 4
+        && answers
+            .iter()
+            .zip(kinds)
+            .all(|(answer, kind)| kind_of(answer) == kind)
 }
 
 #[test]
-fn a_cycle_through_data_leaves_the_data(rt: HostRuntime) {
+fn answers_changes_in_order(rt: HostRuntime) {
+    let mut changes = VecDeque::new(rt.alloc());
+    for text in ["D←1 2 3", "T←D×2", "D←T", "D←4 5 6"] {
+        let change = change_of(rt.alloc(), text).expect(&rt, "a change");
+        changes.push_back(change).expect(&rt, "room");
+    }
     let mut sheet = Sheet::new(rt.alloc());
-    let cycle = three_names("A", "B", "C").expect(&rt, "names");
-    assert!(rt; store(rt.alloc(), &mut sheet, "A", "1").is_some());
-    assert!(rt; define(rt.alloc(), &mut sheet, "C", "A").is_some());
-    assert!(rt; define(rt.alloc(), &mut sheet, "B", "C").is_some());
-    assert!(rt; closes_cycle(rt.alloc(), &mut sheet, "A", "B", &cycle) == Some(true));
-    assert!(rt; are_numbers(value(rt.alloc(), &sheet, "A").ok_or(()), &[], &[1]));
+    let answers = sheet.apply_all(changes).expect(&rt, "answers");
+    assert!(rt; third_closes_a_cycle(answers.as_slice()) && shows(&sheet, "T", &[8, 10, 12]));
 }
 
-/// The most times that a call is made: once more where memory is refused.
-const MOST_TRIES: usize = 2;
-
-/// What `D` and `T` show, each a vector or no name where there are no numbers, and the cost of the last change.
+/// The numbers of `D` and of `T`, none where the name is absent, and the cost of the last change.
 type State<'a> = (&'a [i64], &'a [i64], u64);
 
-/// A name shows these numbers, a vector; it is not bound where there are none.
-fn shows_numbers(sheet: &Sheet, name: &str, numbers: &[i64]) -> bool {
+/// Returns whether a name shows these numbers, or is absent where there are none.
+fn shows_or_is_absent(sheet: &Sheet, name: &str, numbers: &[i64]) -> bool {
+    if !numbers.is_empty() {
+        return shows(sheet, name, numbers);
+    }
     match Name::read(name) {
-        Some(name) => match sheet.value(name) {
-            Some(Ok(array)) => array.numbers() == Some(numbers),
-            Some(Err(_)) => false,
-            None => numbers.is_empty(),
-        },
+        Some(name) => sheet.value(name).is_none(),
         None => false,
     }
 }
 
-/// The sheet is in this state, and has no other names.
+/// Returns whether the sheet is in this state, and has no other names.
 fn is_in_state(sheet: &Sheet, state: State) -> bool {
     let (data, product, cost) = state;
     let names = usize::from(!data.is_empty()) + usize::from(!product.is_empty());
     sheet.names().as_slice().len() == names
         && sheet.last_cost() == cost
-        && shows_numbers(sheet, "D", data)
-        && shows_numbers(sheet, "T", product)
+        && shows_or_is_absent(sheet, "D", data)
+        && shows_or_is_absent(sheet, "T", product)
 }
 
-/// Makes one of the calls that change a sheet, if its arguments are there.
-fn call(alloc: Global, sheet: &mut Sheet, which: usize) -> Option<Result<(), Refusal>> {
-    let (data, product) = (Name::read("D")?, Name::read("T")?);
-    let answer = match which {
-        0 => sheet.data(data, tree_of(alloc, "1 2 3")?),
-        1 => sheet.define(product, tree_of(alloc, "D×2")?),
+/// Gives a name the data 1 2 3.
+fn store(alloc: Global, sheet: &mut Sheet, name: Name) -> Result<(), Refusal> {
+    match tree_of(alloc, "1 2 3") {
+        Some(tree) => sheet.data(name, tree),
+        None => Err(Refusal::NoMemory),
+    }
+}
+
+/// Binds a name to the vector 5 6.
+fn put(alloc: Global, sheet: &mut Sheet, name: Name) -> Result<(), Refusal> {
+    let numbers = [5, 6].to_vec(alloc)?;
+    match Array::vector(alloc, numbers) {
+        Ok(array) => sheet.put_array(name, array),
+        Err(_) => Err(Refusal::NoMemory),
+    }
+}
+
+/// Makes one of the calls that change a sheet, of the name of data or of its double.
+fn call(alloc: Global, sheet: &mut Sheet, names: [Name; 2], which: usize) -> Result<(), Refusal> {
+    let [data, product] = names;
+    match which {
+        0 => store(alloc, sheet, data),
+        1 => define(alloc, sheet, product, "D×2"),
         2 => sheet.set_cell(data, &[2], &Literal::Num(10)),
         3 => sheet.add_row(data, &Literal::Num(4)),
-        4 => sheet.put_array(data, Array::vector(alloc, [5, 6].to_vec(alloc).ok()?).ok()?),
+        4 => put(alloc, sheet, data),
         _ => sheet.erase(product),
-    };
-    Some(answer)
+    }
 }
 
-/// A call leads from one state to another. Where memory is refused, it leaves the first one, and is made again.
-fn leads_to(alloc: Global, sheet: &mut Sheet, which: usize, before: State, after: State) -> bool {
+/// Makes a call again where memory is refused, and returns whether it leads from one state to another. A refusal leaves the first.
+fn leads_to(
+    alloc: Global,
+    sheet: &mut Sheet,
+    names: [Name; 2],
+    which: usize,
+    states: [State; 2],
+) -> bool {
     for _ in 0..MOST_TRIES {
-        match call(alloc, sheet, which) {
-            Some(Ok(())) => return is_in_state(sheet, after),
-            Some(Err(Refusal::NoMemory)) | None => {
-                if !is_in_state(sheet, before) {
-                    return false;
-                }
-            }
-            Some(Err(_)) => return false,
+        match call(alloc, sheet, names, which) {
+            Ok(()) => return is_in_state(sheet, states[1]),
+            Err(Refusal::NoMemory) if is_in_state(sheet, states[0]) => {}
+            Err(_) => return false,
         }
     }
     false
 }
 
+/// The states of a sheet before the first of the calls, and after each.
+const STATES: [State; 7] = [
+    (&[], &[], 0),
+    (&[1, 2, 3], &[], 0),
+    (&[1, 2, 3], &[2, 4, 6], 3),
+    (&[1, 10, 3], &[2, 20, 6], 1),
+    (&[1, 10, 3, 4], &[2, 20, 6, 8], 1),
+    (&[5, 6], &[10, 12], 2),
+    (&[5, 6], &[], 0),
+];
+
+/// Returns whether each call leads to its state.
+fn all_lead_on(alloc: Global, sheet: &mut Sheet, names: [Name; 2]) -> bool {
+    for which in 0..6 {
+        let states = [STATES[which], STATES[which + 1]];
+        if !leads_to(alloc, sheet, names, which, states) {
+            return false;
+        }
+    }
+    true
+}
+
 #[test]
 fn a_call_that_is_refused_memory_leaves_the_sheet(rt: HostRuntime) {
+    let data = Name::read("D").expect(&rt, "a name");
+    let product = Name::read("T").expect(&rt, "a name");
     let mut sheet = Sheet::new(rt.alloc());
-    let states: [State; 7] = [
-        (&[], &[], 0),
-        (&[1, 2, 3], &[], 0),
-        (&[1, 2, 3], &[2, 4, 6], 3),
-        (&[1, 10, 3], &[2, 20, 6], 1),
-        (&[1, 10, 3, 4], &[2, 20, 6, 8], 1),
-        (&[5, 6], &[10, 12], 2),
-        (&[5, 6], &[], 0),
-    ];
-    for which in 0..6 {
-        let (before, after) = (states[which], states[which + 1]);
-        assert!(rt; leads_to(rt.alloc(), &mut sheet, which, before, after));
-    }
+    assert!(rt; all_lead_on(rt.alloc(), &mut sheet, [data, product]));
 }

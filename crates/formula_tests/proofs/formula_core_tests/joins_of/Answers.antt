@@ -2,11 +2,11 @@ use Rattle.std.proofs.Common.{◌≡◌, Ok, refl, sym, ap, subst}
 use Rattle.arrays_core.specs.Arrays.{ArrayValue, IsArray}
 use Rattle.index_region.{specs.declared.delta.Delta.{Delta}, specs.Patches.{patched}}
 use Rattle.change_rules.specs.Currency.{applied}
-use Rattle.sheet_tests.proofs.OneName.{one_change, told_of_one}
-use Rattle.sheet_tests.proofs.formula_core_tests.joins_of.Goals as goal
+use Rattle.formula_tests.proofs.OneName.{one_change, told_of_one}
+use Rattle.formula_tests.proofs.formula_core_tests.joins_of.Goals as goal
 
 pub plan-requires : goal.plan-requires
-plan-requires c =
+plan-requires g c =
     let a = c.args.array.now in
     let d = c.args.delta.now in
     let b = patched a c.in-Patch.patch in

@@ -1,10 +1,10 @@
 -- A formula of one name, which shows an array.
-use Rattle.std.proofs.Common.{◌≡◌, ℕ, List, [], ◌∷◌, length, false, Ok, refl, sym, ap, subst, arith}
+use Rattle.std.proofs.Common.{◌≡◌, ℕ, List, [], ◌∷◌, length, false, Ok, arith}
 use Rattle.arrays_core.specs.Arrays.{ArrayValue, IsArray}
 use Rattle.index_region.specs.declared.delta.Delta.{Delta}
 use Rattle.change_rules.specs.Currency.{applied}
 use Rattle.formula_core.{specs.declared.input.Input.{Input}, specs.Changes.{NamesChange, FitsIn}, specs.Formulas.{FormulaValue, IsHeld}, specs.Inputs.{IsInput}}
-use Rattle.formula_core.{specs.Meaning.{names_in}, specs.Holdings.{adopted}, specs.Plans.{PlanValue, AreInputs, IsTold, IsPlanned}}
+use Rattle.formula_core.{specs.Meaning.{names_in}, specs.Plans.{AreInputs, IsTold}}
 
 -- an array before and after, and what changed of it
 module _ (a b : ArrayValue) (d : Delta) (becomes : applied d (Ok a) ≡ Ok b) (fit : FitsIn d (Ok a)) (sound_a : IsArray a) (sound_b : IsArray b) where
@@ -23,7 +23,3 @@ module _ (a b : ArrayValue) (d : Delta) (becomes : applied d (Ok a) ≡ Ok b) (f
     changed = λ x h. record { right = becomes; fit = fit };
     sound = λ x h. record { old = sound_a; new = sound_b };
   }
-
-  -- a plan, once it is taken
-  pub held_of_one : (f : FormulaValue) (p : PlanValue) (g : FormulaValue) → IsPlanned f one_change p → g ≡ record { tree = f.tree; is_new = false; nodes = adopted p.changes f.nodes } → IsHeld g (λ x. Ok b)
-  held_of_one f p g planned is = subst (λ (v : FormulaValue). IsHeld v (λ x. Ok b)) (sym is) (record { worked_out = refl; nodes = planned.right })

@@ -1,0 +1,9 @@
+//! Room for an array to grow. The program asks a tail of an array for it.
+
+use arrays_core::Array;
+
+#[test]
+fn an_array_has_room_to_grow(rt: HostRuntime) {
+    let array = Array::scalar(rt.alloc(), 7).expect(&rt, "a scalar");
+    assert!(rt; array.room(1000).is_ok());
+}
