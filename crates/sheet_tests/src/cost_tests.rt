@@ -84,12 +84,17 @@ fn shows_edits(sheet: &Sheet, name: Name) -> bool {
     }
 }
 
-/// Doubles a million ones, of which many become 2.
+/// Doubles a million ones, of which many become 2, and returns whether each edit costs one item.
+fn are_edits_cheap(alloc: Global, sheet: &mut Sheet, data: Name, product: Name) -> bool {
+    are_made(alloc, sheet, &[")DATA D←1048576⍴1", "T←D×2"])
+        && edit_first_places(sheet, data)
+        && shows_edits(sheet, product)
+}
+
 #[test]
 fn each_of_many_edits_costs_one_item(rt: HostRuntime) {
     let data = Name::read("D").expect(&rt, "a name");
     let product = Name::read("T").expect(&rt, "a name");
     let mut sheet = Sheet::new(rt.alloc());
-    assert!(rt; are_made(rt.alloc(), &mut sheet, &[")DATA D←1048576⍴1", "T←D×2"]));
-    assert!(rt; edit_first_places(&mut sheet, data) && shows_edits(&sheet, product));
+    assert!(rt; are_edits_cheap(rt.alloc(), &mut sheet, data, product));
 }

@@ -320,14 +320,19 @@ fn are_answered_alike(rt: &impl Abort, alloc: Global, desk: &mut Desk, model: &m
     true
 }
 
+/// Returns whether a new desk answers all events as a new model does.
+fn is_as_modelled(rt: &impl Abort, alloc: Global, desk: &mut Desk) -> bool {
+    let mut model = Model {
+        sheet: Sheet::new(alloc),
+        slots: [None, None, None, None, None, None, None, None],
+    };
+    are_answered_alike(rt, alloc, desk, &mut model)
+}
+
 #[test]
 fn events_in_any_order(rt: HostRuntime) {
     let mut desk = Desk::new(Sheet::new(rt.alloc()));
-    let mut model = Model {
-        sheet: Sheet::new(rt.alloc()),
-        slots: [None, None, None, None, None, None, None, None],
-    };
-    assert!(rt; are_answered_alike(&rt, rt.alloc(), &mut desk, &mut model));
+    assert!(rt; is_as_modelled(&rt, rt.alloc(), &mut desk));
 }
 
 /// Returns whether these are the answers to a change at once, an opening of one step, that step, and a commit.
@@ -340,16 +345,27 @@ fn are_done(answers: &[Answer]) -> bool {
             .all(|(answer, it)| outcome_of(answer) == it)
 }
 
+/// Makes a list of events: a change at once, an opening, a step and a commit.
+fn four_events(rt: &impl Abort, alloc: Global) -> VecDeque<Event> {
+    let mut events = VecDeque::new(alloc);
+    for (kind, text) in [(11, "D←1 2 3"), (0, "T←D×2"), (4, ""), (8, "")] {
+        let event = event_of(rt, alloc, kind, 1, text);
+        events.push_back(event).expect(rt, "room");
+    }
+    events
+}
+
+/// Has a desk answer these events, and returns whether all are done.
+fn are_answered(rt: &impl Abort, desk: &mut Desk, events: VecDeque<Event>) -> bool {
+    let answers = desk.apply_all(events).expect(rt, "answers");
+    are_done(answers.as_slice())
+}
+
 #[test]
 fn events_in_a_list(rt: HostRuntime) {
-    let mut events = VecDeque::new(rt.alloc());
-    for (kind, text) in [(11, "D←1 2 3"), (0, "T←D×2"), (4, ""), (8, "")] {
-        let event = event_of(&rt, rt.alloc(), kind, 1, text);
-        events.push_back(event).expect(&rt, "room");
-    }
+    let events = four_events(&rt, rt.alloc());
     let mut desk = Desk::new(Sheet::new(rt.alloc()));
-    let answers = desk.apply_all(events).expect(&rt, "answers");
-    assert!(rt; are_done(answers.as_slice()) && shows(desk.sheet(), "T", &[2, 4, 6]));
+    assert!(rt; are_answered(&rt, &mut desk, events) && shows(desk.sheet(), "T", &[2, 4, 6]));
 }
 
 /// Returns the outcome of a call that counts steps.

@@ -1,12 +1,13 @@
 //! The names of a cycle, changes in a list, and calls that are refused memory.
 
 use crate::fixtures::{MOST_TRIES, are_made, change_of, shows, tree_of};
-use apl_expr::Literal;
+use apl_expr::{Change, Literal};
 use apl_tokens::Name;
 use arrays_core::Array;
 use sheet_recalc::{Refusal, Sheet};
 use std::alloc::Global;
 use std::collections::VecDeque;
+use std::process::Abort;
 
 /// Defines a name by an expression.
 fn define(alloc: Global, sheet: &mut Sheet, name: Name, text: &str) -> Result<(), Refusal> {
@@ -68,16 +69,27 @@ fn third_closes_a_cycle(answers: &[Result<(), Refusal>]) -> bool {
             .all(|(answer, kind)| kind_of(answer) == kind)
 }
 
+/// Makes a list of changes, of which the third would close a cycle.
+fn four_changes(rt: &impl Abort, alloc: Global) -> VecDeque<Change> {
+    let mut changes = VecDeque::new(alloc);
+    for text in ["D←1 2 3", "T←D×2", "D←T", "D←4 5 6"] {
+        let change = change_of(alloc, text).expect(rt, "a change");
+        changes.push_back(change).expect(rt, "room");
+    }
+    changes
+}
+
+/// Makes these changes, and returns whether the third alone is refused.
+fn are_answered(rt: &impl Abort, sheet: &mut Sheet, changes: VecDeque<Change>) -> bool {
+    let answers = sheet.apply_all(changes).expect(rt, "answers");
+    third_closes_a_cycle(answers.as_slice())
+}
+
 #[test]
 fn answers_changes_in_order(rt: HostRuntime) {
-    let mut changes = VecDeque::new(rt.alloc());
-    for text in ["D←1 2 3", "T←D×2", "D←T", "D←4 5 6"] {
-        let change = change_of(rt.alloc(), text).expect(&rt, "a change");
-        changes.push_back(change).expect(&rt, "room");
-    }
+    let changes = four_changes(&rt, rt.alloc());
     let mut sheet = Sheet::new(rt.alloc());
-    let answers = sheet.apply_all(changes).expect(&rt, "answers");
-    assert!(rt; third_closes_a_cycle(answers.as_slice()) && shows(&sheet, "T", &[8, 10, 12]));
+    assert!(rt; are_answered(&rt, &mut sheet, changes) && shows(&sheet, "T", &[8, 10, 12]));
 }
 
 /// The numbers of `D` and of `T`, none where the name is absent, and the cost of the last change.
