@@ -3,8 +3,7 @@ use Rattle.std.proofs.Common.{◌≡◌, ℕ, List, [], ◌∷◌, length, false
 use Rattle.arrays_core.specs.Arrays.{ArrayValue, IsArray}
 use Rattle.index_region.specs.declared.delta.Delta.{Delta}
 use Rattle.change_rules.specs.Currency.{applied}
-use Rattle.formula_core.{specs.declared.input.Input.{Input}, specs.Changes.{NamesChange, FitsIn}, specs.Formulas.{FormulaValue, IsHeld}, specs.Inputs.{IsInput}}
-use Rattle.formula_core.{specs.Meaning.{names_in}, specs.Plans.{AreInputs, IsTold}}
+use Rattle.formula_core.{specs.declared.input.Input.{Input}, specs.Changes.{NamesChange, FitsIn}, specs.Formulas.{FormulaValue, IsHeld}, specs.Inputs.{IsInput}, specs.Meaning.{names_in}, specs.Plans.{AreInputs, IsTold}}
 
 -- an array before and after, and what changed of it
 module _ (a b : ArrayValue) (d : Delta) (becomes : applied d (Ok a) ≡ Ok b) (fit : FitsIn d (Ok a)) (sound_a : IsArray a) (sound_b : IsArray b) where

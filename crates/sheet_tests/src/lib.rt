@@ -1,5 +1,5 @@
-//! Tests of the calls of `sheet_recalc`, `sheet_desk` and `sheet_cli`: what no contract says and no worked row of the program shows. A call
-//! that takes memory succeeds once, with the right answer; devices give and take a little at a time, or fail.
+//! Tests of the calls of `sheet_recalc` and `sheet_desk`: what no contract says and no worked row of the program shows. A call that takes memory
+//! succeeds once, with the right answer.
 #![tactic(auto)]
 
 #[cfg(test)]
@@ -8,10 +8,6 @@ mod cost_tests;
 mod desk_tests;
 #[cfg(test)]
 mod fixtures;
-#[cfg(test)]
-mod known_host;
-#[cfg(test)]
-mod sheet_cli_tests;
 #[cfg(test)]
 mod sheet_recalc_tests;
 #[cfg(test)]
