@@ -1,10 +1,7 @@
 -- What the reader of an edit reads is in the grammar, and what is in the grammar it reads.
-use Rattle.std.proofs.Common.{◌≡◌, ℕ, Some, None, List, [], ◌∷◌, ◌++◌, refl, sym, ap, ◌∙◌, subst, append_assoc, Bool, true, false, cond}
-use Rattle.std.{proofs.lemmas.List.{append-nil}, proofs.lemmas.Bool.{eqb-true}, specs.Prelude.{ℤ, ◌==◌}}
+use Rattle.std.{proofs.Common.{◌≡◌, ℕ, Some, None, List, [], ◌∷◌, ◌++◌, refl, sym, ap, ◌∙◌, subst, append_assoc, Bool, true, false, cond}, proofs.lemmas.List.{append-nil}, proofs.lemmas.Bool.{eqb-true}, specs.Prelude.{ℤ, ◌==◌}}
 use Rattle.apl_tokens.specs.Lexemes.{Lexeme, Number, Characters, Named, Sign}
-use Rattle.apl_expr.{specs.Grammar.{IsNums, one, more}, specs.Lines.{IsCellPositions, last, further, IsLit, nums_lit, text_lit}}
-use Rattle.apl_expr.specs.Trees.{Literal, Numbers, Text}
-use Rattle.apl_expr.specs.Edits.{Edit, Open, Position, Closed, Items, Quoted, Written, Write, edit_text, edit_end, after_position, after_bracket, edits}
+use Rattle.apl_expr.{specs.Grammar.{IsNums, one, more}, specs.Lines.{IsCellPositions, last, further, IsLit, nums_lit, text_lit}, specs.Trees.{Literal, Numbers, Text}, specs.Edits.{Edit, Open, Position, Closed, Items, Quoted, Written, Write, edit_text, edit_end, after_position, after_bracket, edits}}
 use Rattle.apl_expr.proofs.Sound.{IsStrand, none, strand_nums}
 use Rattle.apl_expr.proofs.Sound as strand
 

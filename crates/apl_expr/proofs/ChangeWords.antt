@@ -1,10 +1,7 @@
 -- The words of changes, and what stands after each.
-use Rattle.std.{proofs.Common.{◌≡◌, ℕ, Option, Some, None, List, [], ◌∷◌, refl, sym, subst, Bool, true, false, cond}, specs.Prelude.{◌||◌}}
-use Rattle.std.{specs.Str.{bytes_eq}, proofs.lemmas.Slice.Eq.{bytes_eq-Decides}}
+use Rattle.std.{proofs.Common.{◌≡◌, ℕ, Option, Some, None, List, [], ◌∷◌, refl, sym, subst, Bool, true, false, cond}, specs.Prelude.{◌||◌}, specs.Str.{bytes_eq}, proofs.lemmas.Slice.Eq.{bytes_eq-Decides}}
 use Rattle.apl_tokens.specs.Lexemes.{Lexeme, Named, Sign}
-use Rattle.apl_expr.{specs.Trees.{Tree, Literal}, specs.Grammar.{IsTreeOf}}
-use Rattle.apl_expr.{specs.Lines.{Meaning, Data, Row, Erase, data_word, row_word, erase_word, row_change, name_change, IsLit}, proofs.Parsed.{one_tree_of}}
-use Rattle.apl_expr.proofs.CellEdits.{literal_read}
+use Rattle.apl_expr.{specs.Trees.{Tree, Literal}, specs.Grammar.{IsTreeOf}, specs.Lines.{Meaning, Data, Row, Erase, data_word, row_word, erase_word, row_change, name_change, IsLit}, proofs.Parsed.{one_tree_of}, proofs.CellEdits.{literal_read}}
 
 -- what comes after the word of a change, and what the line asks for
 pub data ChangeAfter : List ℕ → List Lexeme → Meaning → Type 0 where

@@ -1,16 +1,11 @@
 -- A change from its front and what comes after it.
-use Rattle.std.proofs.Common.{◌≡◌, ℕ, false, ◌≤◌, Some, None, Result, Ok, Err, List, [], ◌∷◌, length, refl, sym, ap, ◌∙◌, subst, arith, inl, inr}
-use Rattle.std.specs.Prelude.{ℤ}
+use Rattle.std.{proofs.Common.{◌≡◌, ℕ, false, ◌≤◌, Some, None, Result, Ok, Err, List, [], ◌∷◌, length, refl, sym, ap, ◌∙◌, subst, arith, inl, inr}, specs.Prelude.{ℤ}}
 use Rattle.smallvec.specs.SmallVec.{SmallVec}
 use Rattle.apl_tokens.{specs.Lexemes.{Lexeme, Named, Sign}, specs.declared.name.Name.{Name}}
-use Rattle.apl_expr.{specs.Limits.{most_tokens, most_height, most_nodes}, specs.declared.expr.Expr.{Expr}, specs.declared.fault.ParseFault.{ParseFault}}
-use Rattle.apl_expr.{specs.declared.fault.ParseFault.TheVariants.{Syntax, Limit, NoMemory}, specs.Trees.{Tree, Literal, tree_of, literal_of, height, nodes}}
-use Rattle.apl_expr.{specs.Grammar.{IsTreeOf, IsTooLarge}, specs.Parsing.{IsParsed}, specs.Edits.{Open, Items, Write, edits, EditGives, LiteralGives}}
-use Rattle.apl_expr.specs.Lines.{Meaning, Define, Data, Cell, Row, Erase, data_word, row_word, erase_word, IsCellPositions, IsLit, IsChange, define, keep, cell, row, erase}
-use Rattle.apl_expr.{specs.Fronts.{name_before, name_first, only_name, command_word}, specs.Changes.{IsNoChange, IsChangeOf}, proofs.Parsed.{one_tree_of}}
-use Rattle.apl_expr.proofs.CellEdits.{edit_read, edit_correct, literal_read, literal_correct}
-use Rattle.apl_expr.proofs.Fronts.{name_before_is, name_first_is, only_name_is, no_name_before, no_name_first, no_only_name, no_command_word}
-use Rattle.apl_expr.proofs.ChangeWords.{ChangeAfter, is_change_word, change_word, data_line, row_follows, erase_follows, after_data, after_row, after_erase, after_no_change, one_change_after}
+use Rattle.apl_expr.{specs.Limits.{most_tokens, most_height, most_nodes}, specs.declared.expr.Expr.{Expr}, specs.declared.fault.ParseFault.{ParseFault}, specs.declared.fault.ParseFault.TheVariants.{Syntax, Limit, NoMemory}, specs.Trees.{Tree, Literal, tree_of, literal_of, height, nodes}}
+use Rattle.apl_expr.{specs.Grammar.{IsTreeOf, IsTooLarge}, specs.Parsing.{IsParsed}, specs.Edits.{Open, Items, Write, edits, EditGives, LiteralGives}, specs.Lines.{Meaning, Define, Data, Cell, Row, Erase, data_word, row_word, erase_word, IsCellPositions, IsLit, IsChange, define, keep, cell, row, erase}}
+use Rattle.apl_expr.{specs.Fronts.{name_before, name_first, only_name, command_word}, specs.Changes.{IsNoChange, IsChangeOf}, proofs.Parsed.{one_tree_of}, proofs.CellEdits.{edit_read, edit_correct, literal_read, literal_correct}}
+use Rattle.apl_expr.{proofs.Fronts.{name_before_is, name_first_is, only_name_is, no_name_before, no_name_first, no_only_name, no_command_word}, proofs.ChangeWords.{ChangeAfter, is_change_word, change_word, data_line, row_follows, erase_follows, after_data, after_row, after_erase, after_no_change, one_change_after}}
 use Rattle.apl_expr.specs.declared.expr.Literal as code
 use Rattle.apl_expr.specs.declared.command.Change.TheVariants as changed
 
@@ -71,7 +66,6 @@ one_change is n other = same (by_front is) (by_front other)
     same (edit {n = k} {ts = ts} {ps = ps} {l = c} p is) other =
         let x = change_cell other k ts refl in
         let read = edit_read p is in
-        let found = x.2 in
         let same_positions : ps ≡ x.0 = cc in
         let same_literal : c ≡ x.1 = cc in
         ap (λ (qs : List ℤ). Cell k qs c) same_positions ∙ ap (λ (d : Literal). Cell k x.0 d) same_literal ∙ sym x.3

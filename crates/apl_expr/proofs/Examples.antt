@@ -1,12 +1,9 @@
 -- Worked examples of the grammar: what some lines ask for.
 use Rattle.std.{proofs.Common.{ℕ, [], ◌∷◌, refl, arith}, specs.Prelude.{pos, negsuc, codes}}
 use Rattle.apl_tokens.specs.Lexemes.{Number, Characters, Named, Sign}
-use Rattle.apl_expr.specs.Symbols.{scalar_monad_of, scalar_dyad_of, array_monad, array_dyad, folding_of, folding_along_of, monadic_along_of, dyadic_along_of}
-use Rattle.apl_expr.specs.Trees.{Tree, Numbers, Text, Const, Name, Monad, Dyad, Index, Reduce, Scan, Outer, Inner, Filled, Empty, NoPositions}
-use Rattle.apl_expr.{specs.Machine.{run}, specs.Grammar.{IsTreeOf, one, more}}
-use Rattle.apl_expr.specs.Lines.{IsLine, show, change, cell, define, row, erase, word, about, opened, numbered, nums_lit, text_lit, last, further, Meaning, Define, Cell, Row, Erase, Show, Names, Cost, Csv, Open, Step, Commit, Drop}
-use Rattle.apl_expr.{specs.declared.fault.ParseFault.TheVariants.{Syntax}, proofs.Complete.{complete}, proofs.Sound.{correct, run_none}}
-use Rattle.apl_expr.{proofs.Changes.{no_change_word, no_front}, proofs.Commands.{open_none, open_err, step_none, drop_none}}
+use Rattle.apl_expr.{specs.Symbols.{scalar_monad_of, scalar_dyad_of, array_monad, array_dyad, folding_of, folding_along_of, monadic_along_of, dyadic_along_of}, specs.Trees.{Tree, Numbers, Text, Const, Name, Monad, Dyad, Index, Reduce, Scan, Outer, Inner, Filled, Empty, NoPositions}, specs.Machine.{run}}
+use Rattle.apl_expr.{specs.Grammar.{IsTreeOf, one, more}, specs.Lines.{IsLine, show, change, cell, define, row, erase, word, about, opened, numbered, nums_lit, text_lit, last, further, Meaning, Define, Cell, Row, Erase, Show, Names, Cost, Csv, Open, Step, Commit, Drop}}
+use Rattle.apl_expr.{specs.declared.fault.ParseFault.TheVariants.{Syntax}, proofs.Complete.{complete}, proofs.Sound.{correct, run_none}, proofs.Changes.{no_change_word, no_front}, proofs.Commands.{open_none, open_err, step_none, drop_none}}
 use Rattle.function_names.specs.declared.scalar.Scalar1.TheVariants as monad
 use Rattle.function_names.specs.declared.scalar.Scalar2.TheVariants as dyad
 use Rattle.apl_expr.specs.declared.expr.Monadic.TheVariants as monadic

@@ -1,6 +1,5 @@
 -- What the tokens are where a name, a word or a number stands at their front.
-use Rattle.std.{proofs.Common.{◌≡◌, ℕ, Option, Some, None, List, [], ◌∷◌, refl, ap, Bool, true, false, cond}, specs.Prelude.{ℤ, ◌==◌}}
-use Rattle.std.proofs.lemmas.Bool.{eqb-true, eq-eqb}
+use Rattle.std.{proofs.Common.{◌≡◌, ℕ, Option, Some, None, List, [], ◌∷◌, refl, ap, Bool, true, false, cond}, specs.Prelude.{ℤ, ◌==◌}, proofs.lemmas.Bool.{eqb-true, eq-eqb}}
 use Rattle.apl_tokens.specs.Lexemes.{Lexeme, Number, Characters, Named, Sign}
 use Rattle.apl_expr.specs.Fronts.{name_before, name_first, only_name, number_first, only_number, command_word}
 
@@ -17,13 +16,11 @@ name_before_is c (Named k ∷ Sign d ∷ ts) n us h = same_sign (d == c) refl h
   where
     same_sign : (b : Bool) → (d == c) ≡ b → cond {A = Option (List ℕ × List Lexeme)} b (Some (k, ts)) None ≡ Some (n, us) → Named k ∷ Sign d ∷ ts ≡ Named n ∷ Sign c ∷ us
     same_sign true is h =
-        let e = eqb-true d c is in
-        let found : List ℕ × List Lexeme = (k, ts) in
         let wanted : List ℕ × List Lexeme = (n, us) in
-        let same : found ≡ wanted = cc in
+        let same : (k, ts) ≡ wanted = cc in
         let same_name : k ≡ n = ap (λ (p : List ℕ × List Lexeme). p.0) same in
         let same_rest : ts ≡ us = ap (λ (p : List ℕ × List Lexeme). p.1) same in
-        λ i. Named (same_name i) ∷ Sign (e i) ∷ same_rest i
+        λ i. Named (same_name i) ∷ Sign ((eqb-true d c is) i) ∷ same_rest i
     same_sign false is h = cc
 
 pub command_word_is : (ts : List Lexeme) (w : List ℕ) (us : List Lexeme) → command_word ts ≡ Some (w, us) → ts ≡ Sign 0x29 ∷ Named w ∷ us
@@ -39,13 +36,11 @@ command_word_is (Sign k ∷ Named v ∷ ts) w us h = closing (k == 0x29) refl h
   where
     closing : (b : Bool) → (k == 0x29) ≡ b → cond {A = Option (List ℕ × List Lexeme)} b (Some (v, ts)) None ≡ Some (w, us) → Sign k ∷ Named v ∷ ts ≡ Sign 0x29 ∷ Named w ∷ us
     closing true is h =
-        let e = eqb-true k 0x29 is in
-        let found : List ℕ × List Lexeme = (v, ts) in
         let wanted : List ℕ × List Lexeme = (w, us) in
-        let same : found ≡ wanted = cc in
+        let same : (v, ts) ≡ wanted = cc in
         let same_word : v ≡ w = ap (λ (p : List ℕ × List Lexeme). p.0) same in
         let same_rest : ts ≡ us = ap (λ (p : List ℕ × List Lexeme). p.1) same in
-        λ i. Sign (e i) ∷ Named (same_word i) ∷ same_rest i
+        λ i. Sign ((eqb-true k 0x29 is) i) ∷ Named (same_word i) ∷ same_rest i
     closing false is h = cc
 
 pub name_first_is : (ts : List Lexeme) (n : List ℕ) (us : List Lexeme) → name_first ts ≡ Some (n, us) → ts ≡ Named n ∷ us
@@ -54,9 +49,8 @@ name_first_is (Number k ∷ ts) n us h = cc
 name_first_is (Characters k ∷ ts) n us h = cc
 name_first_is (Sign k ∷ ts) n us h = cc
 name_first_is (Named k ∷ ts) n us h =
-    let found : List ℕ × List Lexeme = (k, ts) in
     let wanted : List ℕ × List Lexeme = (n, us) in
-    let same : found ≡ wanted = cc in
+    let same : (k, ts) ≡ wanted = cc in
     let same_name : k ≡ n = ap (λ (p : List ℕ × List Lexeme). p.0) same in
     let same_rest : ts ≡ us = ap (λ (p : List ℕ × List Lexeme). p.1) same in
     λ i. Named (same_name i) ∷ same_rest i
@@ -75,9 +69,8 @@ number_first_is (Named n ∷ ts) k us h = cc
 number_first_is (Characters n ∷ ts) k us h = cc
 number_first_is (Sign n ∷ ts) k us h = cc
 number_first_is (Number n ∷ ts) k us h =
-    let found : ℤ × List Lexeme = (n, ts) in
     let wanted : ℤ × List Lexeme = (k, us) in
-    let same : found ≡ wanted = cc in
+    let same : (n, ts) ≡ wanted = cc in
     let same_number : n ≡ k = ap (λ (p : ℤ × List Lexeme). p.0) same in
     let same_rest : ts ≡ us = ap (λ (p : ℤ × List Lexeme). p.1) same in
     λ i. Number (same_number i) ∷ same_rest i

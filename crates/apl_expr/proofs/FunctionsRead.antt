@@ -1,10 +1,7 @@
 -- What a function at the front of the tokens is in the grammar.
-use Rattle.std.proofs.Common.{◌≡◌, ℕ, ◌≤◌, Bool, true, false, cond, Option, Some, None, List, [], ◌∷◌, length, drop, refl, sym, ap, subst, arith}
-use Rattle.std.{specs.Prelude.{ℤ, ◌==◌, ◌&&◌, option_and_then}, proofs.lemmas.Bool.{eqb-true}, proofs.lemmas.List.{length-map}}
+use Rattle.std.{proofs.Common.{◌≡◌, ℕ, ◌≤◌, Bool, true, false, cond, Option, Some, None, List, [], ◌∷◌, length, drop, refl, sym, ap, subst, arith}, specs.Prelude.{ℤ, ◌==◌, ◌&&◌, option_and_then}, proofs.lemmas.Bool.{eqb-true}, proofs.lemmas.List.{length-map}}
 use Rattle.apl_tokens.{specs.declared.token.Spanned.{Spanned}, specs.Lexemes.{Lexeme, Number, Characters, Named, Sign, lexeme, lexemes}}
-use Rattle.apl_expr.{specs.declared.functions.Function1.{Function1}, specs.declared.functions.Function2.{Function2}}
-use Rattle.apl_expr.specs.declared.functions.Function.{Function}
-use Rattle.apl_expr.specs.Symbols.{monadic_along_of, folded_along_of, dyadic_along_of, outer_of, inner_of, stands_alone}
+use Rattle.apl_expr.{specs.declared.functions.Function1.{Function1}, specs.declared.functions.Function2.{Function2}, specs.declared.functions.Function.{Function}, specs.Symbols.{monadic_along_of, folded_along_of, dyadic_along_of, outer_of, inner_of, stands_alone}}
 use Rattle.apl_expr.specs.Grammar.{IsMonadicFunction, plain1, along1, folded, folded_along, IsDyadicFunction, plain2, along2, outer, inner}
 use Rattle.apl_expr.specs.Functions.{function, axis_in, product_in, fold_in, fold_along_in, monadic_along_in, dyadic_along_in, along_or_plain, fold_or_less, fold_along_or_less, product_or_less, function_at, function_from}
 

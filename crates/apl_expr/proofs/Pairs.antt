@@ -1,9 +1,7 @@
 -- The tree of a function between an operand of one token and an operand.
 use Rattle.std.{proofs.Common.{◌≡◌, ◌∙◌, ℕ, ◌<◌, Some, List, [], ◌∷◌, length, map, sym, ap, subst, arith}, specs.Prelude.{ℤ}}
 use Rattle.apl_tokens.{specs.Lexemes.{Lexeme, Number, Sign, lexeme, lexemes}, specs.declared.token.Spanned.{Spanned}}
-use Rattle.apl_expr.specs.declared.functions.Function2.{Function2}
-use Rattle.apl_expr.{specs.Grammar.{IsNums, one, more, IsExpr, operand, duo, IsWrittenOperand, nums, plain2, IsTreeOf}, specs.Symbols.{dyadic_of}}
-use Rattle.apl_expr.specs.Trees.{Tree, Numbers, Const, between_arguments}
+use Rattle.apl_expr.{specs.declared.functions.Function2.{Function2}, specs.Grammar.{IsNums, one, more, IsExpr, operand, duo, IsWrittenOperand, nums, plain2, IsTreeOf}, specs.Symbols.{dyadic_of}, specs.Trees.{Tree, Numbers, Const, between_arguments}}
 
 -- numbers that stand side by side are an operand
 pub numbers_read : (n : ℤ) (ns : List ℤ) → IsNums (map (λ z. Number z) (n ∷ ns)) (n ∷ ns) []

@@ -1,13 +1,9 @@
 -- The edit of a cell by a number and a row of numbers, read from the bytes of a line, are lines of the grammar.
-use Rattle.std.proofs.Common.{ℕ, ◌*◌, ◌<◌, ◌≤◌, List, [], ◌∷◌, ◌++◌, length, Ok, refl, sym, ap, subst, arith, true, ◌≡◌, ◌+◌, length-append, lit<}
-use Rattle.std.{specs.Prelude.{ℤ, Some}, proofs.lemmas.List.{length-map}}
+use Rattle.std.{proofs.Common.{ℕ, ◌*◌, ◌<◌, ◌≤◌, List, [], ◌∷◌, ◌++◌, length, Ok, refl, sym, ap, subst, arith, true, ◌≡◌, ◌+◌, length-append, lit<}, specs.Prelude.{ℤ, Some}, proofs.lemmas.List.{length-map}}
 use Rattle.smallvec.specs.SmallVec.{SmallVec}
-use Rattle.apl_tokens.{specs.declared.name.Name.{Name}, specs.Lexemes.{Lexeme, Number, Sign}, specs.Signs.{right_bracket, left_arrow}}
-use Rattle.apl_tokens.specs.NumberEdits.{position_lexemes, edit_lexemes, row_numbers_of, AreSeveral, row_lexemes, Says}
-use Rattle.apl_tokens.{specs.declared.row_edit.RowNumbers.{RowNumbers}, specs.declared.row_edit.RowNumbers.TheVariants.{One, Several}}
-use Rattle.apl_expr.{specs.declared.expr.Literal.{Literal}, specs.declared.expr.Literal.TheVariants.{Num}, specs.Limits.{most_tokens}}
-use Rattle.apl_expr.{specs.Trees.{Numbers, literal_of, is_plain}, specs.Grammar.{one}}
-use Rattle.apl_expr.{specs.Lines.{IsCellPositions, last, further, nums_lit, cell, row, change, IsCommand}, specs.Answers.{TokensAnswer}}
+use Rattle.apl_tokens.{specs.declared.name.Name.{Name}, specs.Lexemes.{Lexeme, Number, Sign}, specs.Signs.{right_bracket, left_arrow}, specs.NumberEdits.{position_lexemes, edit_lexemes, row_numbers_of, AreSeveral, row_lexemes, Says}, specs.declared.row_edit.RowNumbers.{RowNumbers}}
+use Rattle.apl_tokens.specs.declared.row_edit.RowNumbers.TheVariants.{One, Several}
+use Rattle.apl_expr.{specs.declared.expr.Literal.{Literal}, specs.declared.expr.Literal.TheVariants.{Num}, specs.Limits.{most_tokens}, specs.Trees.{Numbers, literal_of, is_plain}, specs.Grammar.{one}, specs.Lines.{IsCellPositions, last, further, nums_lit, cell, row, change, IsCommand}, specs.Answers.{TokensAnswer}}
 use Rattle.apl_expr.proofs.Pairs.{numbers_read}
 use Rattle.apl_expr.specs.declared.command.Change.TheVariants as changed
 use Rattle.apl_expr.specs.declared.command.Command.TheVariants as command
@@ -28,8 +24,7 @@ module _ (name : Name) (ps : SmallVec ℤ) (k : ℤ) (some : 0 < length ps.items
   edit_is : IsCommand (edit_lexemes name ps.items k) (Ok (command.Change (changed.Cell name ps (Num k))))
   edit_is =
       let size = length-append (position_lexemes ps.items) (Sign right_bracket ∷ Sign left_arrow ∷ Number k ∷ []) in
-      let bound = few_lexemes ps.items in
-      (omega (arith, size, bound, few), change (cell (positions_are ps.items _ some) (nums_lit one)), λ no. no, refl)
+      (omega (arith, size, few_lexemes ps.items, few), change (cell (positions_are ps.items _ some) (nums_lit one)), λ no. no, refl)
 
   pub edit_answers : (cs : List ℕ) → Says 0 cs (edit_lexemes name ps.items k) → TokensAnswer cs (Ok (command.Change (changed.Cell name ps (Num k))))
   edit_answers cs says = (says.0, says.1, subst (λ (ts : List Lexeme). IsCommand ts (Ok (command.Change (changed.Cell name ps (Num k))))) (sym says.2) edit_is)

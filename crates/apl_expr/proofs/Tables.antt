@@ -1,7 +1,6 @@
 -- What the laws use of the tables of symbols: the signs that belong to no function are in none of them, and no expression begins
 -- with a sign that goes on with a function.
-use Rattle.std.{proofs.Common.{◌≡◌, ℕ, Bool, true, false, cond, Option, Some, None, List, [], ◌∷◌, refl, sym, subst, arith}, specs.Prelude.{ℤ, ◌==◌, ◌||◌}}
-use Rattle.std.{proofs.lemmas.Bool.{eqb-true}, proofs.lemmas.Option.{option_and_then_some}}
+use Rattle.std.{proofs.Common.{◌≡◌, ℕ, Bool, true, false, cond, Option, Some, None, List, [], ◌∷◌, refl, sym, subst, arith}, specs.Prelude.{ℤ, ◌==◌, ◌||◌}, proofs.lemmas.Bool.{eqb-true}, proofs.lemmas.Option.{option_and_then_some}}
 use Rattle.apl_expr.specs.declared.functions.Function1.{Function1}
 use Rattle.apl_expr.specs.Symbols.{Meant, meant, foldings, foldings_along, scalar_monad_of, scalar_dyad_of, array_monad, array_dyad, monadic_of, monadic_along_of, folding_of, folding_along_of, folded_of, folded_along_of, dyadic_of, dyadic_along_of, inner_of, stands_alone}
 

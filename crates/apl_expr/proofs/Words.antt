@@ -1,10 +1,8 @@
 -- The words that stand after `)` in no change, and what stands after each.
-use Rattle.std.{proofs.Common.{◌≡◌, ℕ, Option, Some, None, List, [], ◌∷◌, refl, sym, subst, Bool, true, false, cond, inl, inr, ◌⊎◌}, specs.Prelude.{ℤ}}
-use Rattle.std.{specs.Str.{bytes_eq}, proofs.lemmas.Slice.Eq.{bytes_eq-Decides}}
+use Rattle.std.{proofs.Common.{◌≡◌, ℕ, Option, Some, None, List, [], ◌∷◌, refl, sym, subst, Bool, true, false, cond, inl, inr, ◌⊎◌}, specs.Prelude.{ℤ}, specs.Str.{bytes_eq}, proofs.lemmas.Slice.Eq.{bytes_eq-Decides}}
 use Rattle.apl_tokens.specs.Lexemes.{Lexeme, Number, Named, Sign}
-use Rattle.apl_expr.specs.Lines.{Meaning, Names, Cost, Csv, Open, Step, Commit, Drop, IsChange, names_word, cost_word, csv_word, open_word, step_word, commit_word, drop_word, word_query, name_query, opened_change, number_command}
-use Rattle.apl_expr.{specs.Changes.{IsNoChange}, proofs.ChangeWords.{looked_up, follows_as, differ, is_change_word}}
-use Rattle.apl_expr.proofs.Changes.{one_change, no_change_word}
+use Rattle.apl_expr.{specs.Lines.{Meaning, Names, Cost, Csv, Open, Step, Commit, Drop, IsChange, names_word, cost_word, csv_word, open_word, step_word, commit_word, drop_word, word_query, name_query, opened_change, number_command}, specs.Changes.{IsNoChange}}
+use Rattle.apl_expr.{proofs.ChangeWords.{looked_up, follows_as, differ, is_change_word}, proofs.Changes.{one_change, no_change_word}}
 
 -- what comes after a word, and what the line asks for
 pub data After : List ℕ → List Lexeme → Meaning → Type 0 where

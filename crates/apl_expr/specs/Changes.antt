@@ -1,8 +1,7 @@
 -- The change that tokens are, in a line or behind the word that opens one.
 use Rattle.std.specs.Prelude.{◌≡◌, IsTrue, Result, Ok, Err, List}
 use Rattle.apl_tokens.specs.Lexemes.{Lexeme}
-use Rattle.apl_expr.{specs.declared.command.Change.{Change}, specs.declared.command.Command.{Command}, specs.declared.fault.ParseFault.{ParseFault}}
-use Rattle.apl_expr.{specs.declared.fault.ParseFault.TheVariants.{Syntax, Limit, NoMemory}, specs.Grammar.{IsTooLarge}}
+use Rattle.apl_expr.{specs.declared.command.Change.{Change}, specs.declared.command.Command.{Command}, specs.declared.fault.ParseFault.{ParseFault}, specs.declared.fault.ParseFault.TheVariants.{Syntax, Limit, NoMemory}, specs.Grammar.{IsTooLarge}}
 use Rattle.apl_expr.specs.Lines.{Meaning, change_meaning, IsChange, HasTree, is_plain_change}
 use Rattle.apl_expr.specs.declared.command.Command.TheVariants as command
 

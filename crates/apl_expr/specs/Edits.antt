@@ -2,8 +2,7 @@
 -- as what comes after `←`.
 use Rattle.std.specs.Prelude.{◌≡◌, IsTrue, ℕ, ℤ, Option, Some, None, Result, Ok, Err, List, [], ◌∷◌, ◌++◌, if◌then◌else◌, ◌==◌}
 use Rattle.smallvec.specs.SmallVec.{SmallVec}
-use Rattle.apl_expr.{specs.Trees.{Literal, Numbers, Text, literal_of, is_plain}, specs.declared.fault.ParseFault.{ParseFault}}
-use Rattle.apl_expr.specs.declared.fault.ParseFault.TheVariants.{Syntax, Limit, NoMemory}
+use Rattle.apl_expr.{specs.Trees.{Literal, Numbers, Text, literal_of, is_plain}, specs.declared.fault.ParseFault.{ParseFault}, specs.declared.fault.ParseFault.TheVariants.{Syntax, Limit, NoMemory}}
 use Rattle.apl_tokens.{specs.Lexemes.{Lexeme, Number, Characters, Named, Sign}, specs.Signs.{left_arrow, right_bracket, semicolon}}
 use Rattle.apl_expr.specs.declared.expr.Literal as literal
 use Rattle.apl_expr.specs.declared.edit.Edit as code

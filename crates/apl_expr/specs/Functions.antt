@@ -2,9 +2,7 @@
 -- begins with a sign that goes on with a function.
 use Rattle.std.specs.Prelude.{ℕ, ℤ, Option, Some, None, is_some, option_and_then, List, [], ◌∷◌, ◌&&◌, ◌||◌, ◌==◌, if◌then◌else◌}
 use Rattle.apl_tokens.{specs.Lexemes.{Lexeme, Number, Characters, Named, Sign}, specs.Signs.{jot, dot, left_bracket, right_bracket}}
-use Rattle.apl_expr.{specs.declared.functions.Function.{Function}, specs.declared.functions.Function1.{Function1}}
-use Rattle.apl_expr.specs.declared.functions.Function2.{Function2}
-use Rattle.apl_expr.specs.Symbols.{monadic_of, monadic_along_of, folded_of, folded_along_of, dyadic_of, dyadic_along_of, outer_of, inner_of, stands_alone}
+use Rattle.apl_expr.{specs.declared.functions.Function.{Function}, specs.declared.functions.Function1.{Function1}, specs.declared.functions.Function2.{Function2}, specs.Symbols.{monadic_of, monadic_along_of, folded_of, folded_along_of, dyadic_of, dyadic_along_of, outer_of, inner_of, stands_alone}}
 
 -- a function that is f alone, g between two arguments, and has n lexemes after its first
 abbrev pub function : Option Function1 → Option Function2 → ℕ → Function

@@ -1,6 +1,5 @@
 -- The bytes of a name, and zeros up to the room.
-use Rattle.std.{proofs.Common.{◌≡◌, ℕ, ◌-◌, ◌≤◌, List, ◌++◌, length, drop, ap, ◌∙◌, arith, length-append, length-drop}, specs.Prelude.{replicate}}
-use Rattle.std.{proofs.Math.Seq.{drop-append_seam}, proofs.lemmas.List.{length-replicate, drop-replicate}}
+use Rattle.std.{proofs.Common.{◌≡◌, ℕ, ◌-◌, ◌≤◌, List, ◌++◌, length, drop, ap, ◌∙◌, arith, length-append, length-drop}, specs.Prelude.{replicate}, proofs.Math.Seq.{drop-append_seam}, proofs.lemmas.List.{length-replicate, drop-replicate}}
 
 module _ (room : ℕ) (zeros bytes : List ℕ) (are_zeros : zeros ≡ replicate room 0) (fits : length bytes ≤ room) where
   pub name_room : length (bytes ++ drop (length bytes) zeros) ≡ room

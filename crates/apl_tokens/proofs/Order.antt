@@ -1,9 +1,7 @@
 -- The tokens of a text stand in the order of their spans.
-use Rattle.std.{proofs.Common.{◌≡◌, ℕ, ◌+◌, ◌<◌, ◌≤◌, List, [], ◌∷◌, ◌++◌, length, Ok, Err, refl, subst, arith, Bool}, specs.Prelude.{encode_utf8_all}}
-use Rattle.std.{specs.Char.{is_ascii_digit, len_utf8}, proofs.lemmas.Str.{len_utf8_bounds}}
-use Rattle.apl_tokens.specs.Characters.{doubled, quoted}
-use Rattle.apl_tokens.specs.Scans.{SpannedLexeme, with_front, IsRun, stop, more, IsNumber, plain, minus, Scans, done, comment, blank, sign, text, number, word, strange, open_text, lone_minus, joined, too_great, too_long}
-use Rattle.apl_tokens.{specs.Order.{InOrder}, proofs.Sound.{Found, digit_len, width, width_cons, width_append}}
+use Rattle.std.{proofs.Common.{◌≡◌, ℕ, ◌+◌, ◌<◌, ◌≤◌, List, [], ◌∷◌, ◌++◌, length, Ok, Err, refl, subst, arith, Bool}, specs.Prelude.{encode_utf8_all}, specs.Char.{is_ascii_digit, len_utf8}, proofs.lemmas.Str.{len_utf8_bounds}}
+use Rattle.apl_tokens.{specs.Characters.{doubled, quoted}, specs.Scans.{SpannedLexeme, with_front, IsRun, stop, more, IsNumber, plain, minus, Scans, done, comment, blank, sign, text, number, word, strange, open_text, lone_minus, joined, too_great, too_long}, specs.Order.{InOrder}}
+use Rattle.apl_tokens.proofs.Sound.{Found, digit_len, width, width_cons, width_append}
 
 run_bytes : {p : ℕ → Bool} {xs cs us : List ℕ} → IsRun p xs cs us → width cs ≡ width xs + width us
 unfolding width

@@ -1,8 +1,6 @@
 -- A byte behind the end of a name is zero, as its room has it; names of the same words are the same.
-use Rattle.std.proofs.Common.{◌≡◌, ℕ, zero, suc, ◌+◌, ◌-◌, ◌/◌, ◌<◌, ◌≤◌, List, [], ◌∷◌, length, take, drop, refl, ap, ◌∙◌, sym, get_or, arith}
-use Rattle.std.{specs.Prelude.{replicate, true, false, ◌^◌}, proofs.lemmas.Grind.{same_number_lists}, specs.Bool.{one_answer}}
-use Rattle.std.{specs.Int.{w64, to_le_bytes, from_le_bytes}, specs.Str.{bytes_eq}, proofs.lemmas.Nat.{from_le_bytes-to_le_bytes_8}}
-use Rattle.std.proofs.lemmas.Slice.Eq.{bytes_eq-Decides}
+use Rattle.std.{proofs.Common.{◌≡◌, ℕ, zero, suc, ◌+◌, ◌-◌, ◌/◌, ◌<◌, ◌≤◌, List, [], ◌∷◌, length, take, drop, refl, ap, ◌∙◌, sym, get_or, arith}, specs.Prelude.{replicate, true, false, ◌^◌}, proofs.lemmas.Grind.{same_number_lists}, specs.Bool.{one_answer}, specs.Int.{w64, to_le_bytes, from_le_bytes}}
+use Rattle.std.{specs.Str.{bytes_eq}, proofs.lemmas.Nat.{from_le_bytes-to_le_bytes_8}, proofs.lemmas.Slice.Eq.{bytes_eq-Decides}}
 use Rattle.apl_tokens.{specs.Limits.{longest_name}, specs.Words.{eight_bytes, word_at, word_start, count_of_words}}
 
 zeros : (m k : ℕ) → ◌≡◌ {A = ℕ} (get_or (replicate m 0) k 0) 0
@@ -31,16 +29,12 @@ byte_of_eight name from (suc (suc (suc (suc (suc (suc (suc (suc d)))))))) h = ab
 -- a byte of a name, from its word
 byte_of_word : (name : List ℕ) (i : ℕ) → i < longest_name → ◌≡◌ {A = ℕ} (get_or name i 0) (get_or (word_at name (i / 8)) (i - word_start (i / 8)) 0)
 byte_of_word name i h =
-    let inside : i - word_start (i / 8) < 8 = omega arith in
-    let there : word_start (i / 8) + (i - word_start (i / 8)) ≡ i = omega arith in
-    sym (byte_of_eight name (word_start (i / 8)) (i - word_start (i / 8)) inside ∙ ap (λ j. get_or name j 0) there)
+    sym (byte_of_eight name (word_start (i / 8)) (i - word_start (i / 8)) (omega arith) ∙ ap (λ j. get_or name j 0) (omega arith))
 
 pub same_words : (a b : List ℕ) → length a ≡ length b → length a ≤ longest_name → ((k : ℕ) → k < count_of_words a → word_at a k ≡ word_at b k) → a ≡ b
 same_words a b len short same =
     same_number_lists a b len (λ i h.
-    let of_a = byte_of_word a i (omega arith) in
-    let of_b = byte_of_word b i (omega arith) in
-    of_a ∙ ap (λ w. get_or w (i - word_start (i / 8)) 0) (same (i / 8) (omega arith)) ∙ sym of_b)
+    (byte_of_word a i (omega arith)) ∙ ap (λ w. get_or w (i - word_start (i / 8)) 0) (same (i / 8) (omega arith)) ∙ sym (byte_of_word b i (omega arith)))
 
 pub same_answer : (a b : List ℕ) → a ≡ b → true ≡ bytes_eq a b
 same_answer a b same = one_answer true (bytes_eq a b) (λ h. same, λ h. refl) (bytes_eq-Decides a b)

@@ -1,7 +1,6 @@
 -- The edit of a cell by a number, `NAME[positions]←number`, and a row of numbers, `)ROW NAME numbers`, as the tokens of a line.
 use Rattle.std.specs.Prelude.{◌≡◌, ℕ, ◌<◌, ◌≤◌, ℤ, Ok, List, [], ◌∷◌, ◌++◌, length, map, codes}
-use Rattle.apl_tokens.{specs.Signs.{left_bracket, right_bracket, semicolon, left_arrow, right_parenthesis}, specs.Lexemes.{Lexeme, Number, Named, Sign}}
-use Rattle.apl_tokens.{specs.Scans.{Scans, SpannedLexeme}, specs.declared.cell_edit.NumberEdit.{NumberEdit}, specs.declared.row_edit.NumberRow.{NumberRow}}
+use Rattle.apl_tokens.{specs.Signs.{left_bracket, right_bracket, semicolon, left_arrow, right_parenthesis}, specs.Lexemes.{Lexeme, Number, Named, Sign}, specs.Scans.{Scans, SpannedLexeme}, specs.declared.cell_edit.NumberEdit.{NumberEdit}, specs.declared.row_edit.NumberRow.{NumberRow}}
 use Rattle.apl_tokens.{specs.declared.row_edit.RowNumbers.{RowNumbers}, specs.declared.row_edit.RowNumbers.TheVariants.{One, Several}}
 
 -- the positions, with `;` between them

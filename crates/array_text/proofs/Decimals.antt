@@ -1,7 +1,5 @@
 -- A few digits spell less than a power of ten.
-use Rattle.std.{proofs.Common.{◌≡◌, ℕ, ◌^◌, ◌<◌, ◌≤◌, nat_lt, Bool, true, false, List, [], length, drop, take, Some, refl, arith}, specs.List.{prefix_len}}
-use Rattle.std.{specs.Char.{is_ascii_digit}, proofs.Math.Nat.{pow-le-pow_right}, proofs.lemmas.Bool.Decides.{nat_tests}}
-use Rattle.std.proofs.lemmas.List.{drop_all, take_all}
+use Rattle.std.{proofs.Common.{◌≡◌, ℕ, ◌^◌, ◌<◌, ◌≤◌, nat_lt, Bool, true, false, List, length, Some, refl, arith}, specs.List.{prefix_len}, specs.Char.{is_ascii_digit}, proofs.Math.Nat.{pow-le-pow_right}, proofs.lemmas.Bool.Decides.{nat_tests}, proofs.lemmas.List.{drop_all, take_all}}
 use Rattle.apl_tokens.specs.Characters.{decimal_from, fits_number, signed}
 use Rattle.array_text.specs.Tables.{digits_number, unsigned_number}
 
@@ -18,7 +16,5 @@ pub few_alone : (is_negative : Bool) (bytes : List ℕ) (n : ℕ) → 0 < length
     → unsigned_number is_negative bytes ≡ Some (signed is_negative n)
 unfolding unsigned_number digits_number
 few_alone is_negative bytes n some digits is small =
-    let none : drop (length bytes) bytes ≡ [] = drop_all (length bytes) bytes (omega arith) in
-    let whole : take (length bytes) bytes ≡ bytes = take_all (length bytes) bytes (omega arith) in
     let there : nat_lt 0 (length bytes) ≡ true = grind (arith, nat_tests) in
-    rw (digits, none, whole, there, ← is, few_fit is_negative n small) refl
+    rw (digits, drop_all (length bytes) bytes (omega arith), take_all (length bytes) bytes (omega arith), there, ← is, few_fit is_negative n small) refl

@@ -1,8 +1,6 @@
 -- The text and the width of a number.
-use Rattle.std.proofs.Common.{◌≡◌, ℕ, ℤ, pos, negsuc, ◌+◌, ◌*◌, ◌^◌, ◌<◌, true, false, List, [], ◌∷◌, ◌++◌, length, get_or, map, refl, sym, ap, ◌∙◌, arith, w64}
-use Rattle.std.{specs.Prelude.{decimal, encode_utf8, encode_utf8_all, max}, specs.List.{range_with_len, fold}, specs.Int.Signed.{lt_z}}
-use Rattle.std.{proofs.Math.IntN.{nat_abs}, proofs.lemmas.Int.{ints, to_z-of_z}, proofs.lemmas.List.Sums.{fold-append}}
-use Rattle.std.{proofs.lemmas.List.FromFn.{map-range_with_len_more}, proofs.lemmas.Fmt.{IsAscii-decimal}, proofs.lemmas.Str.Ascii.{encodes-IsAscii}}
+use Rattle.std.{proofs.Common.{◌≡◌, ℕ, ℤ, pos, negsuc, ◌+◌, ◌*◌, ◌^◌, ◌<◌, true, false, List, [], ◌∷◌, ◌++◌, length, get_or, map, refl, sym, ap, ◌∙◌, arith, w64}, specs.Prelude.{decimal, encode_utf8, encode_utf8_all, max}, specs.List.{range_with_len, fold}, specs.Int.Signed.{lt_z}, proofs.Math.IntN.{nat_abs}}
+use Rattle.std.{proofs.lemmas.Int.{ints, to_z-of_z}, proofs.lemmas.List.Sums.{fold-append}, proofs.lemmas.List.FromFn.{map-range_with_len_more}, proofs.lemmas.Fmt.{IsAscii-decimal}, proofs.lemmas.Str.Ascii.{encodes-IsAscii}}
 use Rattle.array_text.specs.Text.{number_text, number_width, number_characters, column_width, matrix_number}
 use mir.Val.{to_z, of_z, SFits}
 

@@ -1,8 +1,6 @@
 -- The text of an array by its rank.
-use Rattle.std.{proofs.Common.{◌≡◌, ℕ, ◌-◌, ◌*◌, ◌<◌, List, [], ◌∷◌, length, get_or, map, refl, ap, ◌∙◌, arith, ℤ}, proofs.NetLemmas.Arrays.{four_items}}
-use Rattle.std.proofs.lemmas.Slice.Eq.{text_from_reads}
-use Rattle.arrays_core.{specs.Arrays.{ArrayValue}, specs.Shapes.{size}, specs.declared.item.Item.TheVariants.{Num, Char}}
-use Rattle.arrays_core.specs.declared.item.ItemType.TheVariants.{Nums, Chars}
+use Rattle.std.{proofs.Common.{◌≡◌, ℕ, ◌-◌, ◌*◌, ◌<◌, List, [], ◌∷◌, length, get_or, map, refl, ap, ◌∙◌, arith, ℤ}, proofs.NetLemmas.Arrays.{four_items}, proofs.lemmas.Slice.Eq.{text_from_reads}}
+use Rattle.arrays_core.{specs.Arrays.{ArrayValue}, specs.Shapes.{size}, specs.declared.item.Item.TheVariants.{Num, Char}, specs.declared.item.ItemType.TheVariants.{Nums, Chars}}
 use Rattle.array_text.specs.Text.{text_by_rank, planes, numbers_text, characters_text, items_text, array_text, item_number, item_character}
 
 module _ {X : Type 0} (line : List X → List ℕ) (plane : ℕ → ℕ → List X → List ℕ) (xs : List X) where

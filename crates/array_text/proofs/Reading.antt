@@ -1,8 +1,6 @@
 -- Records are left until the bytes are used up.
-use Rattle.std.proofs.Common.{◌≡◌, ◌==◌, ◌||◌, ◌⊎◌, inl, inr, is_some, ℕ, zero, suc, ◌<◌, Bool, true, false, cond, List, [], ◌∷◌, ◌++◌, length, Option, Some, None, refl, sym, ap, ◌∙◌, subst, arith}
-use Rattle.std.proofs.lemmas.Bool.{false≢true}
-use Rattle.csv.specs.Machine.{Read, in_field, start_field, start_record, step, next_record, ends_at_end, is_end, fields_after, field_after}
-use Rattle.csv.{specs.Reading.{ReadRecord, Reached, default_config, is_flexible, records_from, records_next, took_first}, specs.declared.reader.Reader.{Reader}}
+use Rattle.std.{proofs.Common.{◌≡◌, ◌==◌, ◌||◌, ◌⊎◌, inl, inr, is_some, ℕ, zero, suc, ◌<◌, Bool, true, false, cond, List, [], ◌∷◌, ◌++◌, length, Option, Some, None, refl, sym, ap, ◌∙◌, subst, arith}, proofs.lemmas.Bool.{false≢true}}
+use Rattle.csv.{specs.Machine.{Read, in_field, start_field, start_record, step, next_record, ends_at_end, is_end, fields_after, field_after}, specs.Reading.{ReadRecord, Reached, default_config, is_flexible, records_from, records_next, took_first}, specs.declared.reader.Reader.{Reader}}
 use Rattle.csv.{proofs.ReadFacts.{rows-end, rows-more}, specs.declared.parser.State.{State}, specs.declared.parser.Action.{Action}}
 use Rattle.array_text.{specs.Tables.{Fields}, specs.Reading.{AreLeft, IsNext}}
 use Rattle.csv.specs.declared.parser.State.TheVariants as st

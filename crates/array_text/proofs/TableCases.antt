@@ -1,10 +1,8 @@
 -- Worked cases of tables, computed: what files read as, the first faults of files, and the files of tables.
-use Rattle.std.{proofs.Common.{◌≡◌, ℕ, ℤ, pos, negsuc, Bool, true, false, List, [], ◌∷◌, ◌++◌, map, Option, Some, None, refl}, specs.Prelude.{codes}}
-use Rattle.std.specs.Fmt.{digits}
+use Rattle.std.{proofs.Common.{◌≡◌, ℕ, ℤ, pos, negsuc, Bool, true, false, List, [], ◌∷◌, ◌++◌, map, Option, Some, None, refl}, specs.Prelude.{codes}, specs.Fmt.{digits}}
 use Rattle.csv.{specs.Machine.{next_record}, specs.Reading.{records_from, strip_bom}}
 use Rattle.arrays_core.{specs.Arrays.{ArrayValue}, specs.declared.item.Item.TheVariants.{Num}, specs.declared.item.ItemType.TheVariants.{Nums}}
-use Rattle.array_text.{specs.Text.{text_by_rank}, specs.declared.table_fault.TableFault.{TableFault}}
-use Rattle.array_text.specs.declared.table_fault.TableFault.TheVariants.{Field as FieldFault, Length as LengthFault}
+use Rattle.array_text.{specs.Text.{text_by_rank}, specs.declared.table_fault.TableFault.{TableFault}, specs.declared.table_fault.TableFault.TheVariants.{Field as FieldFault, Length as LengthFault}}
 use Rattle.array_text.specs.Tables.{columns_of, digits_number, field_number, first_fault, record_fault, record_text, records_of, records_text, sign_and_rest, table_of, table_text, unsigned_number}
 
 abbrev fault_of : (header : Bool) → List ℕ → Option TableFault

@@ -1,7 +1,6 @@
 -- Tables that are read record by record.
-use Rattle.std.proofs.Common.{◌≡◌, ℕ, zero, suc, ℤ, ◌+◌, ◌-◌, ◌*◌, ◌<◌, ◌≤◌, Bool, true, false, not, cond, eqb, List, [], ◌∷◌, ◌++◌, length, drop, get_or, map, Option, Some, None, is_some, refl, sym, ap, ◌∙◌, subst, arith, rules, append_assoc}
-use Rattle.std.{proofs.lemmas.Bool.{eqb-true, false_from_ne_true}, proofs.lemmas.Option.{none-some}}
-use Rattle.std.proofs.lemmas.List.{append-nil, drop_more, length-append, length-map}
+use Rattle.std.{proofs.Common.{◌≡◌, ℕ, zero, suc, ℤ, ◌+◌, ◌-◌, ◌*◌, ◌<◌, ◌≤◌, Bool, true, false, not, cond, eqb, List, [], ◌∷◌, ◌++◌, length, drop, get_or, map, Option, Some, None, is_some, refl, sym, ap, ◌∙◌, subst, arith, rules, append_assoc}, proofs.lemmas.Bool.{eqb-true, false_from_ne_true}}
+use Rattle.std.{proofs.lemmas.Option.{none-some}, proofs.lemmas.List.{append-nil, drop_more, length-append, length-map}}
 use Rattle.csv.specs.Records.{field_at}
 use Rattle.arrays_core.{specs.Arrays.{ArrayValue}, specs.declared.item.Item.TheVariants.{Num}, specs.declared.item.ItemType.TheVariants.{Nums}}
 use Rattle.array_text.{specs.declared.table_fault.TableFault.{TableFault}, specs.Reading.{AreRead}}
@@ -113,7 +112,6 @@ pub stands_on : (header : Bool) (all : List Fields) (columns count : ℕ) (numbe
 stands_on header all columns count numbers new fields later s none is_new =
     let c = clean header columns (count + 1) fields none in
     let more = numbers_of (fields_read header (count + 1) fields) in
-    let counted = s.counted in
     record {
       first = s.first;
       faults = ap (λ (o : Option TableFault). or_else o (first_fault header columns (count + 1 + 1) later)) (sym none) ∙ s.faults;

@@ -1,8 +1,6 @@
 -- Texts that are made piece by piece.
-use Rattle.std.proofs.Common.{◌≡◌, ℕ, zero, suc, ◌+◌, ◌-◌, ◌*◌, ◌<◌, false, cond, eqb, List, [], ◌∷◌, ◌++◌, length, get_or, take, refl, sym, ap, ◌∙◌, arith, add-one, append_assoc, Result, Ok, Err, OnOk, is_ok}
-use Rattle.std.{specs.Prelude.{encode_utf8, encode_utf8_all}, specs.List.{flat_map, range_with_len, join_by}}
-use Rattle.std.{proofs.lemmas.Bool.{false_from_ne_true, eqb-true, eq-eqb}, proofs.lemmas.Grind.{flat_map-append}}
-use Rattle.std.{proofs.lemmas.List.{append-nil, length-take-le, take_more}, proofs.lemmas.List.FromFn.{length-range_with_len}}
+use Rattle.std.{proofs.Common.{◌≡◌, ℕ, zero, suc, ◌+◌, ◌-◌, ◌*◌, ◌<◌, false, cond, eqb, List, [], ◌∷◌, ◌++◌, length, get_or, take, refl, sym, ap, ◌∙◌, arith, add-one, append_assoc, Result, Ok, Err, OnOk, is_ok}, specs.Prelude.{encode_utf8, encode_utf8_all}, specs.List.{flat_map, range_with_len, join_by}}
+use Rattle.std.{proofs.lemmas.Bool.{false_from_ne_true, eqb-true, eq-eqb}, proofs.lemmas.Grind.{flat_map-append}, proofs.lemmas.List.{append-nil, length-take-le, take_more}, proofs.lemmas.List.FromFn.{length-range_with_len}}
 use Rattle.array_text.specs.Text.{gap, planes, part_of, line_end}
 
 -- what is written goes on
@@ -54,9 +52,8 @@ join_by-push f between (y ∷ ys) x =
 pub join_by-more : {X : Type 0} (f : X → List ℕ) (between : List ℕ) (xs : List X) (k : ℕ) (d : X) → k < length xs
     → join_by f between (take (k + 1) xs) ≡ join_by f between (take k xs) ++ (gap between k ++ f (get_or xs k d))
 join_by-more f between xs k d h =
-    let long : length (take k xs) ≡ k = length-take-le k xs (omega arith) in
     ap (join_by f between) (take_more xs k d h) ∙ join_by-push f between (take k xs) (get_or xs k d)
-    ∙ ap (λ (n : ℕ). join_by f between (take k xs) ++ (gap between n ++ f (get_or xs k d))) long
+    ∙ ap (λ (n : ℕ). join_by f between (take k xs) ++ (gap between n ++ f (get_or xs k d))) (length-take-le k xs (omega arith))
 
 -- one piece more of a count
 pub join_by-range_step : (f : ℕ → List ℕ) (between : List ℕ) (n : ℕ)

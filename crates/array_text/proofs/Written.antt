@@ -1,10 +1,7 @@
 -- The text of a table by its rank.
-use Rattle.std.proofs.Common.{◌≡◌, ℕ, ℤ, ◌<◌, Bool, true, false, eqb, List, [], ◌∷◌, length, get_or, map, refl, sym, ap, ◌∙◌, arith, All}
-use Rattle.std.{proofs.lemmas.Bool.{eq-eqb, false≢true}, proofs.lemmas.List.Elements.{recursion_from_All}}
-use Rattle.arrays_core.{specs.Items.{type_of}, specs.declared.item.Item.{Item}, specs.declared.item.Item.TheVariants.{Num}}
-use Rattle.arrays_core.{specs.declared.item.ItemType.{ItemType}, specs.declared.item.ItemType.TheVariants.{Nums, Chars}}
-use Rattle.array_text.{specs.Text.{item_number, text_by_rank}, specs.Tables.{record_text, records_text, table_text}}
-use Rattle.array_text.proofs.Ranks.{numbers_again, of_rank_below_two}
+use Rattle.std.{proofs.Common.{◌≡◌, ℕ, ℤ, ◌<◌, Bool, true, false, eqb, List, [], ◌∷◌, length, get_or, map, refl, sym, ap, ◌∙◌, arith, All}, proofs.lemmas.Bool.{eq-eqb, false≢true}, proofs.lemmas.List.Elements.{recursion_from_All}}
+use Rattle.arrays_core.{specs.Items.{type_of}, specs.declared.item.Item.{Item}, specs.declared.item.Item.TheVariants.{Num}, specs.declared.item.ItemType.{ItemType}, specs.declared.item.ItemType.TheVariants.{Nums, Chars}}
+use Rattle.array_text.{specs.Text.{item_number, text_by_rank}, specs.Tables.{record_text, records_text, table_text}, proofs.Ranks.{numbers_again, of_rank_below_two}}
 
 pub table_none : (shape : List ℕ) (zs : List ℤ) → length zs ≡ 0 → table_text shape zs ≡ []
 unfolding table_text
@@ -44,5 +41,4 @@ pub no_items : (t : ItemType) (items : List Item) → t ≡ Chars → All (λ it
 no_items t [] chars typed numbers = refl
 no_items t (item ∷ items) chars typed numbers =
     let is_character = (recursion_from_All (λ x. type_of x ≡ t) (item ∷ items) typed).0 ∙ chars in
-    let is_number = (recursion_from_All (λ x. type_of x ≡ Nums) (item ∷ items) numbers).0 in
-    absurd (false≢true (one_type (type_of item) is_number is_character))
+    absurd (false≢true (one_type (type_of item) ((recursion_from_All (λ x. type_of x ≡ Nums) (item ∷ items) numbers).0) is_character))

@@ -1,8 +1,6 @@
 -- The records that a reader of a file has not read yet.
 use Rattle.std.specs.Prelude.{◌≡◌, ◌<◌, ◌*◌, ℕ, ℤ, Bool, true, false, List, [], ◌∷◌, length, Option, Some}
-use Rattle.csv.specs.Machine.{ends_at_end}
-use Rattle.csv.specs.Reading.{Ready, default_config, is_flexible, reader_config, reader_state, reader_trim, records_from, source_of}
-use Rattle.csv.specs.declared.reader.Reader.{Reader}
+use Rattle.csv.{specs.Machine.{ends_at_end}, specs.Reading.{Ready, default_config, is_flexible, reader_config, reader_state, reader_trim, records_from, source_of}, specs.declared.reader.Reader.{Reader}}
 use Rattle.array_text.specs.Tables.{Fields, columns_of, is_matrix_within, numbers_from, rows_of}
 use Rattle.csv.specs.declared.reader.Trim.TheVariants as trim
 

@@ -1,10 +1,9 @@
 -- Tables in files: each field of a record is a number.
-use Rattle.std.specs.Prelude.{◌≡◌, ℕ, ℤ, pos, ◌+◌, ◌-◌, ◌*◌, ◌==◌, ◌&&◌, not, nat_lt, nat_le, Bool, true, false, List, [], ◌∷◌, ◌++◌, if◌then◌else◌, Option, Some, None, is_some, Result, Ok, Err, length, map, get_or, take, drop}
-use Rattle.std.{specs.Fmt.{signed_decimal}, specs.List.{flat_map, range_with_len, join_by, list_all, prefix_len}, specs.Char.{is_ascii_digit}}
+use Rattle.std.{specs.Prelude.{◌≡◌, ℕ, ℤ, pos, ◌+◌, ◌-◌, ◌*◌, ◌==◌, ◌&&◌, not, nat_lt, nat_le, Bool, true, false, List, [], ◌∷◌, ◌++◌, if◌then◌else◌, Option, Some, None, is_some, Result, Ok, Err, length, map, get_or, take, drop}, specs.Fmt.{signed_decimal}}
+use Rattle.std.{specs.List.{flat_map, range_with_len, join_by, list_all, prefix_len}, specs.Char.{is_ascii_digit}}
 use Rattle.csv.specs.Reading.{default_config, records, strip_bom}
 use Rattle.apl_tokens.specs.Characters.{is_blank, decimal_from, signed, fits_number}
-use Rattle.arrays_core.{specs.Limits.{longest_axis, most_places}, specs.Arrays.{ArrayValue}, specs.declared.item.Item.TheVariants.{Num}}
-use Rattle.arrays_core.specs.declared.item.ItemType.TheVariants.{Nums}
+use Rattle.arrays_core.{specs.Limits.{longest_axis, most_places}, specs.Arrays.{ArrayValue}, specs.declared.item.Item.TheVariants.{Num}, specs.declared.item.ItemType.TheVariants.{Nums}}
 use Rattle.array_text.{specs.Text.{line_end, part_of, text_by_rank}, specs.declared.table_fault.TableFault.{TableFault}}
 use Rattle.array_text.specs.declared.table_fault.TableFault.TheVariants as fault
 

@@ -1,8 +1,6 @@
 -- The bytes that arrays and errors print. Each printed line ends with LF.
-use Rattle.std.specs.Prelude.{ℕ, ℤ, pos, negsuc, ◌+◌, ◌-◌, ◌*◌, ◌==◌, max, List, [], ◌∷◌, ◌++◌, if◌then◌else◌, Option, Some, None, length, map, get_or, take, drop, replicate, codes, decimal, encode_utf8_all}
-use Rattle.std.specs.List.{flat_map, range_with_len, fold, join_by}
-use Rattle.arrays_core.{specs.Arrays.{ArrayValue}, specs.declared.item.Item.{Item}, specs.declared.item.Item.TheVariants.{Num, Char}}
-use Rattle.arrays_core.{specs.declared.item.ItemType.{ItemType}, specs.declared.item.ItemType.TheVariants.{Nums, Chars}, specs.declared.item.Kind.{Kind}}
+use Rattle.std.{specs.Prelude.{ℕ, ℤ, pos, negsuc, ◌+◌, ◌-◌, ◌*◌, ◌==◌, max, List, [], ◌∷◌, ◌++◌, if◌then◌else◌, Option, Some, None, length, map, get_or, take, drop, replicate, codes, decimal, encode_utf8_all}, specs.List.{flat_map, range_with_len, fold, join_by}}
+use Rattle.arrays_core.{specs.Arrays.{ArrayValue}, specs.declared.item.Item.{Item}, specs.declared.item.Item.TheVariants.{Num, Char}, specs.declared.item.ItemType.{ItemType}, specs.declared.item.ItemType.TheVariants.{Nums, Chars}, specs.declared.item.Kind.{Kind}}
 use Rattle.arrays_core.{specs.declared.item.Kind.TheVariants.{Domain, Rank, Length, Index, Axis, Limit, Value}, specs.declared.fault.Fault.{Fault}}
 
 -- the blank between two numbers

@@ -1,9 +1,6 @@
 -- Items that are put behind others.
-use Rattle.std.proofs.Common.{◌≡◌, ℕ, zero, suc, ◌+◌, ◌*◌, ◌/◌, ◌%◌, ◌<◌, ◌≤◌, List, [], ◌∷◌, ◌++◌, length, map, get_or, take, drop, replicate, refl, ap, sym, ◌∙◌, arith, append_assoc, length-drop, Result, Ok, Err}
-use Rattle.std.{specs.List.{range_with_len}, specs.Result.{is_ok}, specs.Prelude.{OnOk, if◌then◌else◌}}
-use Rattle.std.proofs.lemmas.List.{get_or-take, get_or-drop, length-take, length-map, map-append}
-use Rattle.std.proofs.lemmas.List.FromFn.{fill_by_all, map-range_with_len_more, take-map-range_with_len}
-use Rattle.std.{proofs.Math.Nat.{div-add-mod, add-mul-mod_self_left, mod-eq_of_lt}, proofs.Math.ListN.{get_or-map}}
+use Rattle.std.{proofs.Common.{◌≡◌, ℕ, zero, suc, ◌+◌, ◌/◌, ◌%◌, ◌<◌, ◌≤◌, List, [], ◌∷◌, ◌++◌, length, map, get_or, take, drop, replicate, refl, ap, sym, ◌∙◌, arith, append_assoc, length-drop, Result, Ok, Err}, specs.List.{range_with_len}, specs.Prelude.{OnOk}}
+use Rattle.std.{proofs.lemmas.List.{get_or-take, get_or-drop, length-take, length-map, map-append}, proofs.lemmas.List.FromFn.{fill_by_all, map-range_with_len_more, take-map-range_with_len}, proofs.Math.Nat.{add-mul-mod_self_left, mod-eq_of_lt}, proofs.Math.ListN.{get_or-map}}
 use Rattle.arrays_core.specs.Building.{listed}
 
 listed_same_from : {A : Type 0} (x : A) (a n : ℕ) → replicate n x ≡ map (λ (k : ℕ). x) (range_with_len a n)
@@ -25,12 +22,6 @@ pub run_listed : {A : Type 0} (xs : List A) (first n m : ℕ) (d : A) → first 
 run_listed xs first n m d h same =
     fill_by_all (λ k. get_or xs (first + k) d) (take m (drop first xs)) n d (simp (length-take, length-drop) (omega arith))
     (λ k below. get_or-take m (drop first xs) k d (omega arith) ∙ get_or-drop first xs k d)
-
--- what a call puts behind others where it does not fail
-pub if_ok : {A T E : Type 0} (r : Result T E) (now before added wanted : List A) → now ≡ (if is_ok r then before ++ added else before) → added ≡ wanted
-    → OnOk r (now ≡ before ++ wanted)
-if_ok (Ok x) now before added wanted e same = e ∙ ap (λ xs. before ++ xs) same
-if_ok (Err x) now before added wanted e same = tt
 
 -- what a function gives, item by item
 map_listed_from : {A B : Type 0} (F : A → B) (f : ℕ → A) (a n : ℕ) → map F (map f (range_with_len a n)) ≡ map (λ k. F (f k)) (range_with_len a n)
@@ -86,9 +77,7 @@ range_shifted f a b (suc n) h =
 
 round_again : (n l k : ℕ) → l % n ≡ 0 → (l + k) % n ≡ (0 + k) % n
 round_again n l k e =
-    let whole : l ≡ n * (l / n) = let parts = div-add-mod l n in omega arith in
-    let there : l + k ≡ k + n * (l / n) = omega arith in
-    ap (λ m. m % n) there ∙ add-mul-mod_self_left k n (l / n) ∙ ap (λ m. m % n) (omega arith)
+    ap (λ m. m % n) (omega arith) ∙ add-mul-mod_self_left k n (l / n) ∙ ap (λ m. m % n) (omega arith)
 
 -- the first of them behind all, where these are whole rounds
 pub again_listed : {A : Type 0} (xs old : List A) (d : A) (n m l total : ℕ) → length xs ≡ l → total ≡ l + m → m ≤ l → l % n ≡ 0

@@ -1,7 +1,15 @@
 -- Words for worked cases.
-use Rattle.std.{proofs.Common.{ℕ, ℤ, pos, negsuc, List, [], ◌∷◌, map, Result, Ok, Err}, specs.Prelude.{◌-◌, ◌^◌}}
-use Rattle.arrays_core.{specs.declared.item.Item.TheVariants.{Num, Char}, specs.declared.item.ItemType.TheVariants.{Nums, Chars}}
-use Rattle.arrays_core.{specs.declared.item.Kind.{Kind}, specs.Arrays.{ArrayValue}}
+use Rattle.std.{proofs.Common.{◌≡◌, ℕ, ℤ, pos, negsuc, List, [], ◌∷◌, map, Result, Ok, Err}, specs.Prelude.{◌-◌, ◌^◌}}
+use Rattle.arrays_core.{specs.declared.item.Item.TheVariants.{Num, Char}, specs.declared.item.ItemType.TheVariants.{Nums, Chars}, specs.declared.item.Kind.{Kind}, specs.Arrays.{ArrayValue}}
+
+infix 68 ◌⇒◌
+-- what is computed, and what it is
+abbrev pub ◌⇒◌ : {A : Type 0} → A → A → A × A
+◌⇒◌ computed wanted = (computed, wanted)
+
+-- each case of a table computes to what is wanted: refl proves it
+abbrev pub AllSame : {A : Type 0} → List (A × A) → Type 0
+AllSame cases = map (λ c. c.0) cases ≡ map (λ c. c.1) cases
 
 -- an array of numbers from 0 up, and one of any numbers
 abbrev pub nums : List ℕ → List ℕ → ArrayValue

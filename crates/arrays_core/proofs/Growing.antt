@@ -1,9 +1,7 @@
 -- Arrays and ravels that grow.
-use Rattle.std.proofs.Common.{◌≡◌, ◌≤◌, ◌<◌, ◌+◌, ◌-◌, ℕ, List, [], ◌∷◌, ◌++◌, length, drop, get_or, All, nat_lt, inl, inr, refl, sym, ap, subst, ◌∙◌, arith}
-use Rattle.std.proofs.lemmas.Bool.{cases_Bool, ltb-true, ltb-false}
+use Rattle.std.{proofs.Common.{◌≡◌, ◌≤◌, ◌<◌, ◌+◌, ◌-◌, ℕ, List, [], ◌∷◌, ◌++◌, length, drop, get_or, All, nat_lt, inl, inr, refl, sym, ap, subst, ◌∙◌, arith}, proofs.lemmas.Bool.{cases_Bool, ltb-true, ltb-false}}
 use Rattle.std.proofs.lemmas.List.{append-nil, get_or_append_left, get_or-append-add, get_or-append_right, length-append}
-use Rattle.arrays_core.{specs.declared.item.Item.{Item}, specs.declared.item.ItemType.{ItemType}, specs.Arrays.{ArrayValue, IsArray}, specs.Items.{type_of}}
-use Rattle.arrays_core.{specs.Shapes.{size, IsWithinLimits}, specs.Growth.{FitsGrowth, grown_by, one_longer}}
+use Rattle.arrays_core.{specs.declared.item.Item.{Item}, specs.declared.item.ItemType.{ItemType}, specs.Arrays.{ArrayValue, IsArray}, specs.Items.{type_of}, specs.Shapes.{size, IsWithinLimits}, specs.Growth.{FitsGrowth, grown_by, one_longer}}
 
 -- items of two types are none
 pub none_left : (t u : ItemType) (xs : List Item) → All (λ x. type_of x ≡ t) xs → All (λ x. type_of x ≡ u) xs → (t ≡ u → ⊥) → xs ≡ []
@@ -32,8 +30,7 @@ both_typed t xs ys h k i d b = elim (cases_Bool (nat_lt i (length xs))) [
   | inl l ↦ ap type_of (get_or_append_left xs ys d i (ltb-true _ _ l)) ∙ h i d (ltb-true _ _ l)
   | inr g ↦
       let past : length xs ≤ i = (let o = ltb-false _ _ g in omega arith) in
-      let below : i - length xs < length ys = omega (arith, length-append xs ys) in
-      ap type_of (get_or-append_right xs ys (length xs) i d refl past) ∙ k (i - length xs) d below
+      ap type_of (get_or-append_right xs ys (length xs) i d refl past) ∙ k (i - length xs) d (omega (arith, length-append xs ys))
 ]
 
 -- an array that grew is an array
@@ -59,7 +56,6 @@ fits_growth a n xs h k e axis =
       within = subst IsWithinLimits shape k.within;
       one_place = omega (arith, count, places, h.one_item_a_place, k.one_item_a_place);
       typed = λ i d b.
-          let below : length a.items + i < length n.items = omega (arith, count) in
           let at : get_or n.items (length a.items + i) d ≡ get_or xs i d = ap (λ (l : List Item). get_or l (length a.items + i) d) items ∙ get_or-append-add a.items xs i d in
-          ap type_of (sym at) ∙ k.one_type (length a.items + i) d below ∙ type;
+          ap type_of (sym at) ∙ k.one_type (length a.items + i) d (omega (arith, count)) ∙ type;
     }

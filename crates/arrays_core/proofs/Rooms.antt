@@ -1,6 +1,5 @@
 -- Pieces of memory for the next power of two.
-use Rattle.std.{proofs.Common.{◌≡◌, ◌≤◌, ◌<◌, ◌+◌, ◌/◌, ◌^◌, ℕ, max, zero, suc, inl, inr, arith}, proofs.lemmas.Bool.{cases_lt}, proofs.lemmas.Nat.{pow_pos}}
-use Rattle.std.{proofs.Math.Nat.{two-pow-succ}, proofs.Math.Pow.{pow_mono}, specs.Int.{IsPowerOfTwo, IsNextPowerOfTwo}}
+use Rattle.std.{proofs.Common.{◌≡◌, ◌≤◌, ◌<◌, ◌^◌, ℕ, inl, inr, arith}, proofs.lemmas.Bool.{cases_lt}, proofs.lemmas.Nat.{pow_pos}, proofs.Math.Nat.{two-pow-succ}, proofs.Math.Pow.{pow_mono}, specs.Int.{IsPowerOfTwo, IsNextPowerOfTwo}}
 use Rattle.arrays_core.specs.Growth.{IsRoomy, IsSameRoom, HasRoom}
 
 -- the next power of two is the least that is not less
@@ -12,14 +11,9 @@ least n q p next power low =
     let is_p : p ≡ 2 ^ j = power.1 in
     elim (cases_lt j k) [
       | inl more ↦
-          let twice : 2 ^ suc j ≤ 2 ^ k = pow_mono more in
-          let double : 2 ^ suc j ≡ 2 ^ j + 2 ^ j = two-pow-succ j in
-          let some : zero < 2 ^ j = pow_pos j in
-          let half : q / 2 < max 1 n = next.2 in
-          omega (arith, is_q, is_p, twice, double, some, half, low)
+          omega (arith, is_q, is_p, pow_mono more, two-pow-succ j, pow_pos j, next.2, low)
       | inr less ↦
-          let most : 2 ^ k ≤ 2 ^ j = pow_mono less in
-          omega (arith, is_q, is_p, most)
+          omega (arith, is_q, is_p, pow_mono less)
     ]
 
 -- room for the next power of two is as much as that
@@ -29,17 +23,13 @@ roomy_of n p next some q other = least n q p other next.0 next.1
 -- where more lie as well, the next power of two of the fewer is that of the more
 pub same_next : (held items p : ℕ) → IsSameRoom held items → held ≤ items → IsNextPowerOfTwo items p → IsNextPowerOfTwo held p
 same_next held items p same fewer next =
-    let some = same.some in
-    let half : p / 2 < held = same.same p next in
-    let low : items ≤ p = next.1 in
-    (next.0, omega (arith, fewer, low), omega (arith, some, half))
+    (next.0, omega (arith, fewer, next.1), omega (arith, same.some, same.same p next))
 
 -- so there is room for the more where the fewer lie, or else in the piece that is brought
 pub brought : (held items p lies capacity : ℕ) → IsRoomy held lies → HasRoom held items capacity → held ≤ items → IsNextPowerOfTwo items p → 0 < items → lies < p → p ≤ capacity
 brought held items p lies capacity roomy room fewer next some short = elim room [
   | inl same ↦
-      let enough : p ≤ lies = roomy same.some p (same_next held items p same fewer next) in
-      absurd (omega (arith, enough, short))
+      absurd (omega (arith, roomy same.some p (same_next held items p same fewer next), short))
   | inr roomy ↦ roomy some p next
 ]
 

@@ -1,10 +1,7 @@
 -- The rows of a shape: what stands along its last axis.
-use Rattle.std.proofs.Common.{◌≡◌, ℕ, zero, suc, ◌+◌, ◌-◌, ◌*◌, ◌<◌, ◌≤◌, true, List, [], ◌∷◌, ◌++◌, length, get_or, take, map, refl, ap, sym, ◌∙◌, arith, append_assoc, Result, Ok, Err}
-use Rattle.std.{specs.List.{range_with_len}, specs.Prelude.{OnOk}, proofs.lemmas.Result.{on_ok_weaker}, proofs.lemmas.Bool.{and_from, le-leb}}
-use Rattle.std.proofs.lemmas.List.{take_more, map-append, append-nil, length-map, length_push, get_or_append_left}
-use Rattle.std.proofs.lemmas.List.FromFn.{map-range_with_len_more}
-use Rattle.arrays_core.{specs.Items.{after, all_or_first_error}, specs.Shapes.{size, indices, is_index_of, places_before, IsWithinLimits}}
-use Rattle.arrays_core.{specs.Building.{listed, with_row, IsRowOf}, proofs.Shapes.{as_long, head_of, places_below, factor_le}}
+use Rattle.std.{proofs.Common.{◌≡◌, ℕ, zero, suc, ◌+◌, ◌-◌, ◌*◌, ◌<◌, ◌≤◌, true, List, [], ◌∷◌, ◌++◌, length, get_or, take, map, refl, ap, sym, ◌∙◌, arith, append_assoc, Result, Ok, Err}, specs.List.{range_with_len}, specs.Prelude.{OnOk}, proofs.lemmas.Result.{on_ok_weaker}, proofs.lemmas.Bool.{and_from, le-leb}}
+use Rattle.std.{proofs.lemmas.List.{take_more, map-append, append-nil, length-map, length_push, get_or_append_left}, proofs.lemmas.List.FromFn.{map-range_with_len_more}}
+use Rattle.arrays_core.{specs.Items.{after, all_or_first_error}, specs.Shapes.{size, indices, is_index_of, places_before, IsWithinLimits}, specs.Building.{listed, with_row, IsRowOf}, proofs.Shapes.{as_long, head_of, places_below, factor_le}}
 use Rattle.arrays_core.proofs.Order.{length-indices, at_place, ok_more, all_given, given, CollectedTo}
 
 -- ---- one more axis at the end
@@ -19,10 +16,8 @@ places_before_row [] [] n i h = omega arith
 places_before_row [] (j ∷ row) n i h = cc
 places_before_row (m ∷ rows) [] n i h = cc
 places_before_row (m ∷ rows) (j ∷ row) n i h =
-    let sized = size_row rows n in
-    let rest = places_before_row rows row n i (head_of m j rows row h).rest in
     let whole : (j - 1) * size (rows ++ n ∷ []) + places_before (rows ++ n ∷ []) (row ++ i ∷ []) ≡ ((j - 1) * size rows + places_before rows row) * n + (i - 1) =
-    rw (sized, rest) (omega arith) in
+    rw (size_row rows n, places_before_row rows row n i (head_of m j rows row h).rest) (omega arith) in
     whole
 
 pub index_of_row : (rows row : List ℕ) (n i : ℕ) → is_index_of rows row ≡ true → 1 ≤ i → i ≤ n → is_index_of (rows ++ n ∷ []) (row ++ i ∷ []) ≡ true
@@ -71,8 +66,7 @@ pub same_row : (shape row : List ℕ) (i j : ℕ) → is_index_of shape (row ++ 
 same_row [] [] i j h low high = cc
 same_row [] (k ∷ row) i j h low high = cc
 same_row (n ∷ shape) [] i j h low high =
-    let head = head_of n i shape [] h in
-    and_from _ _ (and_from _ _ (le-leb 1 j low) (le-leb j n high)) head.rest
+    and_from _ _ (and_from _ _ (le-leb 1 j low) (le-leb j n high)) (head_of n i shape [] h).rest
 same_row (n ∷ shape) (k ∷ row) i j h low high =
     let head = head_of n k shape (row ++ i ∷ []) h in
     and_from _ _ (and_from _ _ (le-leb 1 k head.low) (le-leb k n head.high)) (same_row shape row i j head.rest low high)
@@ -104,8 +98,7 @@ all_ok (Ok y ∷ rs) xs h = all_ok_after rs xs y (all_or_first_error rs) refl h 
         → ((ys : List A) → all_or_first_error rs ≡ Ok ys → rs ≡ map (given A E) ys) → Ok y ∷ rs ≡ map (given A E) xs
     all_ok_after rs xs y (Ok ys) e h f =
         let same : xs ≡ y ∷ ys = cc in
-        let rest = f ys e in
-        rw same (ap (λ zs. Ok y ∷ zs) rest)
+        rw same (ap (λ zs. Ok y ∷ zs) (f ys e))
     all_ok_after rs xs y (Err k) e h f = cc
 
 pub with_row_none : {A E : Type 0} (items : List A) (function : ℕ → Result A E) → with_row items function 0 ≡ Ok items
@@ -148,10 +141,9 @@ with_row_then {A = A} {E = E} items now new function k n m e so_far rest =
     let split : map function (range_with_len 1 m) ≡ map function (range_with_len 1 k) ++ map (λ i. function (k + i)) (range_with_len 1 n) =
     ap (λ j. map function (range_with_len 1 j)) (sym e) ∙ range_more function 1 k n
     ∙ ap (λ rs. map function (range_with_len 1 k) ++ rs) (range_shift function 1 (1 + k) k n (omega arith)) in
-    let before : start ++ map function (range_with_len 1 k) ≡ map (given A E) now = all_ok (start ++ map function (range_with_len 1 k)) now so_far in
     ap (λ rs. all_or_first_error (start ++ rs)) split
     ∙ ap all_or_first_error (sym (append_assoc start (map function (range_with_len 1 k)) (map (λ i. function (k + i)) (range_with_len 1 n)))
-    ∙ ap (λ rs. rs ++ map (λ i. function (k + i)) (range_with_len 1 n)) before) ∙ rest
+    ∙ ap (λ rs. rs ++ map (λ i. function (k + i)) (range_with_len 1 n)) (all_ok (start ++ map function (range_with_len 1 k)) now so_far)) ∙ rest
   where
     range_shift : {B : Type 0} (f : ℕ → B) (a b k n : ℕ) → b ≡ k + a → map f (range_with_len b n) ≡ map (λ i. f (k + i)) (range_with_len a n)
     range_shift f a b k zero e = refl
@@ -204,16 +196,14 @@ pub row_collected : {A E : Type 0} (rows row : List ℕ) (n r : ℕ) (function :
     → is_index_of rows row ≡ true → places_before rows row ≡ r → with_row items (λ i. function (row ++ i ∷ [])) n ≡ Ok now
     → CollectedTo (rows ++ n ∷ []) function (r * n) items → CollectedTo (rows ++ n ∷ []) function ((r + 1) * n) now
 row_collected {A = A} {E = E} rows row n r function items now inside here made c =
-    let shape = rows ++ n ∷ [] in
-    let is = indices shape in
+    let is = indices (rows ++ n ∷ []) in
     let b = places_before rows row * n in
     let index = λ (i : ℕ). row ++ i ∷ [] in
-    let taken : take (b + n) is ≡ take b is ++ map index (range_with_len 1 n) = row_taken rows row n inside n (omega arith) in
     let long : (r + 1) * n ≡ b + n = rw here (omega arith) in
     let before : map function (take b is) ≡ map (given A E) items = all_ok (map function (take b is)) items (rw (ap (λ m. m * n) here) c.so_far) in
     record {
       so_far = ap (λ m. all_or_first_error (map function (take m is))) long
-          ∙ ap (λ xs. all_or_first_error (map function xs)) taken
+          ∙ ap (λ xs. all_or_first_error (map function xs)) (row_taken rows row n inside n (omega arith))
           ∙ ap all_or_first_error (map-append function (take b is) (map index (range_with_len 1 n))
           ∙ ap (λ xs. xs ++ map function (map index (range_with_len 1 n))) before
           ∙ ap (λ xs. map (given A E) items ++ xs) (map_map function index (range_with_len 1 n)))

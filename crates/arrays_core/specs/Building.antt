@@ -1,7 +1,6 @@
 -- Arrays that are built from their first item on.
 use Rattle.std.{specs.Prelude.{◌≡◌, ◌≤◌, ◌<◌, ◌+◌, ℕ, IsTrue, List, [], ◌∷◌, ◌++◌, map, length, get_or, Result, Ok}, specs.List.{range_with_len}}
-use Rattle.arrays_core.{specs.declared.item.Item.{Item}, specs.declared.item.ItemType.{ItemType}, specs.Items.{all_or_first_error}, specs.Limits.{most_axes}}
-use Rattle.arrays_core.specs.Shapes.{is_index_of}
+use Rattle.arrays_core.{specs.declared.item.Item.{Item}, specs.declared.item.ItemType.{ItemType}, specs.Items.{all_or_first_error}, specs.Limits.{most_axes}, specs.Shapes.{is_index_of}}
 
 -- a type, and the items so far
 pub record BuilderValue : Type 0 where

@@ -1,7 +1,6 @@
 -- Arrays that grow by one place of their first axis, and the room for that.
 use Rattle.std.{specs.Prelude.{◌≡◌, ◌≤◌, ◌<◌, ◌+◌, ◌/◌, ◌⊎◌, ℕ, List, [], ◌∷◌, ◌++◌, length, drop, All}, specs.Int.{IsNextPowerOfTwo}}
-use Rattle.arrays_core.{specs.declared.item.Item.{Item}, specs.declared.item.ItemType.{ItemType}, specs.Arrays.{ArrayValue}, specs.Items.{type_of}}
-use Rattle.arrays_core.specs.Shapes.{size, IsWithinLimits}
+use Rattle.arrays_core.{specs.declared.item.Item.{Item}, specs.declared.item.ItemType.{ItemType}, specs.Arrays.{ArrayValue}, specs.Items.{type_of}, specs.Shapes.{size, IsWithinLimits}}
 
 -- a shape with one more place of its first axis
 abbrev pub one_longer : List ℕ → List ℕ

@@ -1,7 +1,6 @@
 -- What a function or a formula gives: an array, or an error with the name in whose formula it arose.
 use Rattle.std.specs.Prelude.{◌≡◌, None, Result, Ok, Err}
-use Rattle.arrays_core.{specs.Arrays.{ArrayValue}, specs.declared.fault.ApplyFault.{ApplyFault}}
-use Rattle.arrays_core.{specs.declared.fault.ApplyFault.TheVariants.{Kind as KindFault}, specs.declared.fault.Fault.{Fault}, specs.declared.item.Kind.{Kind}}
+use Rattle.arrays_core.{specs.Arrays.{ArrayValue}, specs.declared.fault.ApplyFault.{ApplyFault}, specs.declared.fault.ApplyFault.TheVariants.{Kind as KindFault}, specs.declared.fault.Fault.{Fault}, specs.declared.item.Kind.{Kind}}
 
 abbrev pub Outcome : Type 0
 Outcome = Result ArrayValue Fault

@@ -1,12 +1,8 @@
 -- All that changes of a result is reached, where the law of its rule holds.
-use Rattle.std.proofs.Common.{◌≡◌, ℕ, List, [], ◌∷◌, length, map, replicate, refl, ap, ◌∙◌, sym, subst, arith, true, false, Bool, Option, Some, None, Result, Ok, Err, inl, inr}
-use Rattle.std.proofs.lemmas.Bool.{true≢false, cases_Bool, cond-true, cond-false, both_ways}
-use Rattle.arrays_core.{specs.declared.item.Item.{Item}, specs.declared.item.Kind.{Kind}, specs.Arrays.{ArrayValue, IsArray, item_if_there}}
-use Rattle.arrays_core.{specs.Shapes.{is_index_of}, specs.Items.{fill}}
-use Rattle.change_core.{specs.declared.reach.Reach.{Reach}, specs.declared.reach.Reach.TheVariants.{Anew}}
-use Rattle.change_core.proofs.Regions.{HasFit, bounded-fits, bounded-within, join_fits, join_unmoved}
-use Rattle.change_core.specs.Tightness.{Agrees, AllAgree, AllCovered, ArgumentChange, Covered, Each, IsTight, ReachCovers, ReachLies, blank, frames, items_read, moves, news, olds}
-use Rattle.change_core.specs.Reaches.{Fits, LiesInResult, as_reach, bounded, changed, changed_by, is_anew, is_moved, is_reached, reach_by}
+use Rattle.std.{proofs.Common.{◌≡◌, ℕ, List, [], ◌∷◌, length, map, replicate, refl, ap, ◌∙◌, sym, subst, arith, true, false, Bool, Option, Some, None, Result, Ok, Err, inl, inr}, proofs.lemmas.Bool.{true≢false, cases_Bool, cond-true, cond-false, both_ways}}
+use Rattle.arrays_core.{specs.declared.item.Item.{Item}, specs.declared.item.Kind.{Kind}, specs.Arrays.{ArrayValue, IsArray, item_if_there}, specs.Shapes.{is_index_of}, specs.Items.{fill}}
+use Rattle.change_core.{specs.declared.reach.Reach.{Reach}, specs.declared.reach.Reach.TheVariants.{Anew}, proofs.Regions.{HasFit, bounded-fits, bounded-within, join_fits, join_unmoved}}
+use Rattle.change_core.{specs.Tightness.{Agrees, AllAgree, AllCovered, ArgumentChange, Covered, Each, IsTight, ReachCovers, ReachLies, blank, frames, items_read, moves, news, olds}, specs.Reaches.{Fits, LiesInResult, as_reach, bounded, changed, changed_by, is_anew, is_moved, is_reached, reach_by}}
 use Rattle.change_core.specs.RuleModels.{RuleModel, Use}
 use Rattle.index_region.{specs.Answers.{IsPlaceOf}, specs.Boxes.{Interval, fits, is_within}, specs.Checks.{Form}}
 
@@ -75,8 +71,7 @@ items_read_same shape (c ∷ changes) [] index h cover place u = refl
 items_read_same shape (c ∷ changes) (used ∷ uses) index h cover place u =
     let each = join_unmoved shape (changed_by shape used c.moved) (changed shape uses (moves changes)) index (changed_by-fits shape used c.moved) (changed-fits shape uses (moves changes)) u in
     let first = reads_same shape c.new.shape used c.moved index (item_if_there c.old) (item_if_there c.new) (fit_of c.new c.moved h.0.fit) (read_agrees c h.0) cover.0 place each.0 in
-    let rest = items_read_same shape changes uses index h.1 cover.1 place each.1 in
-    λ i. first i ∷ rest i
+    λ i. first i ∷ (items_read_same shape changes uses index h.1 cover.1 place each.1) i
 
 frame_same : (c : ArgumentChange) → Agrees c → blank c.old ≡ blank c.new
 frame_same c h = λ i. record { item_type = h.kind i; shape = h.shape i; items = replicate (h.count i) (fill (h.kind i)) }
@@ -86,9 +81,7 @@ frames_same : (selectors : List Bool) (changes : List ArgumentChange) → AllAgr
 frames_same [] changes h u = refl
 frames_same (s ∷ selectors) [] h u = refl
 frames_same (false ∷ selectors) (c ∷ changes) h u =
-    let first = frame_same c h.0 in
-    let rest = frames_same selectors changes h.1 u in
-    λ i. first i ∷ rest i
+    λ i. (frame_same c h.0) i ∷ (frames_same selectors changes h.1 u) i
 frames_same (true ∷ selectors) (c ∷ changes) h u = selector c.moved refl u (frames_same selectors changes h.1)
   where
     selector : (m : Option (List Interval)) → c.moved ≡ m → is_anew (true ∷ selectors) (m ∷ moves changes) ≡ false → (is_anew selectors (moves changes) ≡ false → frames selectors (olds changes) ≡ frames selectors (news changes)) → frames (true ∷ selectors) (olds (c ∷ changes)) ≡ frames (true ∷ selectors) (news (c ∷ changes))

@@ -1,10 +1,7 @@
 -- A list of items filled from the front.
-use Rattle.index_region.{proofs.Walks.{walk_within}, proofs.Patched.{box_within_size, fits_within}, specs.Answers.{HasTypeOf, IsPlaceOf}}
-use Rattle.index_region.{specs.Checks.{Form, form_of}, specs.Boxes.{Interval, box_size, walk_at, fits}}
-use Rattle.std.proofs.Common.{◌≡◌, ℕ, zero, suc, ◌+◌, ◌-◌, ◌*◌, ◌<◌, ◌≤◌, List, [], ◌∷◌, length, map, get_or, take, set, replicate, refl, ap, ◌∙◌, sym, subst, arith, IsTrue, Result, Ok}
-use Rattle.std.{specs.List.{range_with_len}, proofs.lemmas.List.{take_more_set, take_all, length-set, length-replicate}}
-use Rattle.arrays_core.{specs.declared.item.Item.{Item}, specs.declared.item.ItemType.{ItemType}, specs.declared.item.Kind.{Kind}, specs.Items.{fill, type_of}}
-use Rattle.arrays_core.{specs.Arrays.{ArrayValue}, specs.Shapes.{size, IsWithinLimits, is_index_of}}
+use Rattle.index_region.{proofs.Walks.{walk_within}, proofs.Patched.{box_within_size, fits_within}, specs.Answers.{HasTypeOf, IsPlaceOf}, specs.Checks.{Form, form_of}, specs.Boxes.{Interval, box_size, walk_at, fits}}
+use Rattle.std.{proofs.Common.{◌≡◌, ℕ, zero, suc, ◌+◌, ◌-◌, ◌*◌, ◌<◌, ◌≤◌, List, [], ◌∷◌, length, map, get_or, take, set, replicate, refl, ap, ◌∙◌, sym, subst, arith, IsTrue, Result, Ok}, specs.List.{range_with_len}, proofs.lemmas.List.{take_more_set, take_all, length-set, length-replicate}}
+use Rattle.arrays_core.{specs.declared.item.Item.{Item}, specs.declared.item.ItemType.{ItemType}, specs.declared.item.Kind.{Kind}, specs.Items.{fill, type_of}, specs.Arrays.{ArrayValue}, specs.Shapes.{size, IsWithinLimits, is_index_of}}
 use Rattle.change_core.{proofs.Collected.{collected}, proofs.Walking.{prepend, prepend-nil, rest_end, rest_from, rest_ok}, specs.Meters.{ticked}}
 
 pub filled_many : (values : ArrayValue) (t : ItemType) (shape : List ℕ) (n m : ℕ) → values ≡ record { item_type = t; shape = shape; items = replicate (size shape) (fill t) } → shape ≡ n ∷ [] → n ≡ m → length values.items ≡ m

@@ -1,12 +1,9 @@
 -- What stays of an array that grows.
-use Rattle.std.proofs.Common.{◌≡◌, ℕ, zero, suc, ◌+◌, ◌<◌, ◌≤◌, List, [], ◌∷◌, ◌++◌, length, get_or, refl, ap, ◌∙◌, sym, subst, arith, true, false, Bool, Ok, Result, remove, map}
-use Rattle.std.{specs.List.{range_with_len}, proofs.lemmas.Bool.{and_parts, and_from, leb-true, le-leb, false≢true}, proofs.lemmas.List.{get_or_append_left}}
-use Rattle.arrays_core.{specs.declared.item.Item.{Item}, specs.declared.item.Kind.{Kind}, specs.declared.item.ItemType.{ItemType}}
-use Rattle.arrays_core.{specs.Arrays.{ArrayValue, IsArray, item_of}, specs.Items.{fill}, specs.Shapes.{is_index_of, places_before}}
-use Rattle.arrays_core.{proofs.Shapes.{places_below}, specs.Growth.{one_longer, grown_by, FitsGrowth}}
+use Rattle.std.{proofs.Common.{◌≡◌, ℕ, zero, suc, ◌+◌, ◌<◌, ◌≤◌, List, [], ◌∷◌, ◌++◌, length, get_or, refl, ap, ◌∙◌, sym, subst, arith, true, false, Bool, Ok, Result, remove, map}, specs.List.{range_with_len}, proofs.lemmas.Bool.{and_parts, and_from, leb-true, le-leb, false≢true}}
+use Rattle.std.proofs.lemmas.List.{get_or_append_left}
+use Rattle.arrays_core.{specs.declared.item.Item.{Item}, specs.declared.item.Kind.{Kind}, specs.declared.item.ItemType.{ItemType}, specs.Arrays.{ArrayValue, IsArray, item_of}, specs.Items.{fill}, specs.Shapes.{is_index_of, places_before}, proofs.Shapes.{places_below}, specs.Growth.{one_longer}}
 use Rattle.index_region.{specs.Checks.{Form, form_of}, specs.Axes.{places_along}}
-use Rattle.change_core.{specs.Growth.{IsGrown, AllGrew, Extends, IsGrowing, one_grows, two_grow, never, growing}, specs.Tightness.{IsTight}}
-use Rattle.change_core.{specs.RuleModels.{Growth, RuleModel, Use}, specs.Sourced.{one_rule, two_rule}}
+use Rattle.change_core.{specs.Growth.{IsGrown, AllGrew, Extends, IsGrowing, one_grows, two_grow, never, growing}, specs.Tightness.{IsTight}, specs.RuleModels.{Growth, RuleModel, Use}, specs.Sourced.{one_rule, two_rule}}
 
 pub length-longer : (shape : List ℕ) → length (one_longer shape) ≡ length shape
 length-longer [] = refl
@@ -19,8 +16,7 @@ still_inside (n ∷ shape) [] h = absurd (false≢true h)
 still_inside (n ∷ shape) (i ∷ index) h =
     let parts = and_parts _ _ h in
     let first = and_parts _ _ parts.0 in
-    let high : i ≤ n + 1 = omega (arith, leb-true i n first.1) in
-    and_from _ _ (and_from _ _ first.0 (le-leb i (n + 1) high)) parts.1
+    and_from _ _ (and_from _ _ first.0 (le-leb i (n + 1) (omega (arith, leb-true i n first.1)))) parts.1
 
 pub as_many_before : (shape index : List ℕ) → places_before (one_longer shape) index ≡ places_before shape index
 as_many_before [] index = refl
@@ -47,8 +43,7 @@ some_left (n ∷ shape) (suc axis) h s = omega arith
 -- an old place keeps its item
 pub item_kept : (old new : ArrayValue) (index : List ℕ) → IsGrown old new → IsArray old → is_index_of old.shape index ≡ true → item_of old index ≡ item_of new index
 item_kept old new index h sound inside =
-    let below = places_below old.shape index inside in
-    let there : places_before old.shape index < length old.items = omega (arith, below, sound.one_item_a_place) in
+    let there : places_before old.shape index < length old.items = omega (arith, places_below old.shape index inside, sound.one_item_a_place) in
     sym (get_or_append_left old.items h.items (fill old.item_type) (places_before old.shape index) there)
     ∙ ap (λ (k : ℕ). get_or (old.items ++ h.items) k (fill old.item_type)) (sym (as_many_before old.shape index))
     ∙ ap (λ (a : ArrayValue). item_of a index) (sym h.is)
@@ -58,10 +53,6 @@ shape_grown old new h = ap (λ (a : ArrayValue). a.shape) h.is
 
 pub type_grown : (old new : ArrayValue) → IsGrown old new → new.item_type ≡ old.item_type
 type_grown old new h = ap (λ (a : ArrayValue). a.item_type) h.is
-
--- an array that grew has an axis
-pub axis_grown : (a : ArrayValue) (xs : List Item) → FitsGrowth a xs → 0 < length (grown_by a xs).shape
-axis_grown a xs fits = omega (arith, length-longer a.shape, fits.some_axis)
 
 -- a form that is one longer
 pub longer_form : (p : RuleModel) (olds news : List ArrayValue) (f g : Form) (s : List ℕ) (t : ItemType) → f ≡ form_of s t → g ≡ form_of (one_longer s) t → 0 < length s
@@ -77,9 +68,7 @@ longer_form p olds news f g s t e k some kept = record {
 pub range_same : (u v : ℕ → Item) (from n : ℕ) → ((j : ℕ) → from ≤ j → j < from + n → u j ≡ v j) → map u (range_with_len from n) ≡ map v (range_with_len from n)
 range_same u v from zero h = refl
 range_same u v from (suc n) h =
-    let first = h from (omega arith) (omega arith) in
-    let rest = range_same u v (from + 1) n (λ j low high. h j (omega arith) (omega arith)) in
-    λ i. first i ∷ rest i
+    λ i. (h from (omega arith) (omega arith)) i ∷ (range_same u v (from + 1) n (λ j low high. h j (omega arith) (omega arith))) i
 
 -- ---- laws of one argument, and of two
 

@@ -1,11 +1,8 @@
 -- Where a result keeps the places of an argument, what is reached by a change of that alone is the changed box.
-use Rattle.std.proofs.Common.{◌≡◌, ℕ, zero, suc, ◌<◌, List, [], ◌∷◌, length, get_or, refl, ap, ◌∙◌, sym, subst, arith, true, false, Option, Some, None, Bool}
-use Rattle.std.{specs.Prelude.{Result, replicate}, proofs.lemmas.Bool.{cond-false, false≢true}}
+use Rattle.std.{proofs.Common.{◌≡◌, ℕ, zero, suc, ◌<◌, List, [], ◌∷◌, length, get_or, refl, ap, ◌∙◌, sym, subst, arith, true, false, Option, Some, None, Bool}, specs.Prelude.{Result, replicate}, proofs.lemmas.Bool.{cond-false, false≢true}}
 use Rattle.arrays_core.{specs.Arrays.{ArrayValue, IsArray}, specs.declared.item.Kind.{Kind}, specs.Shapes.{IsWithinLimits}}
 use Rattle.index_region.{specs.Boxes.{Interval, fits, join_boxes, met, unless_empty}, specs.Checks.{Form}}
-use Rattle.change_core.{specs.Tightness.{Each}, specs.declared.reach.Reach.TheVariants.{Inside}}
-use Rattle.change_core.specs.Reaches.{AllFit, bounded, changed, is_anew, as_reach, reach_by, reach_of, only_at}
-use Rattle.change_core.{specs.RuleModels.{Use, RuleModel, KeepsPlaces, shape_at, box_at}, proofs.Regions.{met_fit, fit_some}}
+use Rattle.change_core.{specs.Tightness.{Each}, specs.declared.reach.Reach.TheVariants.{Inside}, specs.Reaches.{AllFit, bounded, changed, is_anew, as_reach, reach_by, reach_of, only_at}, specs.RuleModels.{Use, RuleModel, KeepsPlaces, shape_at, box_at}, proofs.Regions.{met_fit, fit_some}}
 
 none_anew : (selectors : List Bool) (n : ℕ) → is_anew selectors (replicate n None) ≡ false
 none_anew [] n = refl

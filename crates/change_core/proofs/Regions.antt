@@ -1,10 +1,8 @@
 -- Boxes met with a result, and hulls of them.
-use Rattle.std.proofs.Common.{◌≡◌, ℕ, ◌≤◌, List, [], ◌∷◌, length, refl, ap, ◌∙◌, sym, subst, arith, true, false, Option, Some, None, inl, inr, min, max}
-use Rattle.std.proofs.lemmas.Bool.{and_parts, leb-true, false≢true, cases_Bool, cond-true, cond-false, both_ways, or_from, and_from, le-leb, le-ltb}
+use Rattle.std.{proofs.Common.{◌≡◌, ℕ, ◌≤◌, List, [], ◌∷◌, length, refl, ap, ◌∙◌, sym, subst, arith, true, false, Option, Some, None, inl, inr, min, max}, proofs.lemmas.Bool.{and_parts, leb-true, false≢true, cases_Bool, cond-true, cond-false, both_ways, or_from, and_from, le-leb, le-ltb}}
 use Rattle.arrays_core.specs.Shapes.{is_index_of}
 use Rattle.change_core.specs.Reaches.{bounded, is_moved}
-use Rattle.index_region.proofs.Boxes.{within-hull_left, within-hull_right, fits-met, fits_length}
-use Rattle.index_region.specs.Boxes.{Interval, fits, hull_of, is_empty, is_within, join_boxes, met, unless_empty}
+use Rattle.index_region.{proofs.Boxes.{within-hull_left, within-hull_right, fits-met, fits_length}, specs.Boxes.{Interval, fits, hull_of, is_empty, is_within, join_boxes, met, unless_empty}}
 
 -- a place of the result that lies in the box lies in the part of it that is in the result
 pub within-met : (shape : List ℕ) (intervals : List Interval) (index : List ℕ) → is_index_of shape index ≡ true → is_within intervals index ≡ true → is_within (met shape intervals) index ≡ true
@@ -45,12 +43,7 @@ met_fit (n ∷ shape) [] h = absurd (false≢true h)
 met_fit (n ∷ shape) (s ∷ region) h =
     let parts = and_parts _ _ h in
     let first = and_parts _ _ parts.0 in
-    let some : 1 ≤ s.0 = leb-true 1 s.0 (and_parts _ _ first.0).0 in
-    let on : s.1 ≤ n = leb-true s.1 n first.1 in
-    let low : max 1 s.0 ≡ s.0 = lower s.0 some in
-    let high : min s.1 n ≡ s.1 = upper s.1 n on in
-    let rest = met_fit shape region parts.1 in
-    λ i. (low i, high i) ∷ rest i
+    λ i. ((lower s.0 (leb-true 1 s.0 (and_parts _ _ first.0).0)) i, (upper s.1 n (leb-true s.1 n first.1)) i) ∷ (met_fit shape region parts.1) i
 
 -- a box that fits has no empty interval
 pub fit_some : (region : List Interval) (shape : List ℕ) → fits region shape ≡ true → is_empty region ≡ false

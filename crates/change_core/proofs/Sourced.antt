@@ -1,13 +1,8 @@
 -- Results whose items come from places of their arguments keep to their boxes.
-use Rattle.std.proofs.Common.{◌≡◌, ℕ, zero, suc, List, [], ◌∷◌, length, map, refl, ap, ◌∙◌, sym, subst, arith, Bool, true, false, Option, None, Result, Ok, IsOk, unwrap_or}
-use Rattle.std.{proofs.lemmas.Bool.{false≢true}, proofs.lemmas.List.{length-replicate}}
-use Rattle.arrays_core.{specs.declared.item.Item.{Item}, specs.declared.item.ItemType.{ItemType}, specs.declared.item.Kind.{Kind}}
-use Rattle.arrays_core.{specs.Arrays.{ArrayValue, IsArray, item_if_there}, specs.Items.{fill}, specs.Shapes.{is_index_of}}
-use Rattle.change_core.{specs.Tightness.{AllCovered, Covered, Each, IsTight, blank, framed, frames, items_read}, specs.Reaches.{is_moved}}
-use Rattle.change_core.specs.RuleModels.{Use}
-use Rattle.change_core.specs.Sourced.{Spread, left_of, left_used, one_rule, one_sourced, other, right_of, right_used, two_rule, two_sourced, uses_of_one, uses_of_two}
-use Rattle.index_region.{specs.ArgumentLists.{of_one_argument, of_two_arguments}, specs.Boxes.{is_within}, specs.Checks.{Form}}
-use Rattle.index_region.specs.Sources.{Source, Place, Fill, item_from}
+use Rattle.std.{proofs.Common.{◌≡◌, ℕ, zero, suc, List, [], ◌∷◌, length, map, refl, ap, ◌∙◌, sym, subst, arith, Bool, true, false, Option, None, Result, Ok, IsOk, unwrap_or}, proofs.lemmas.Bool.{false≢true}, proofs.lemmas.List.{length-replicate}}
+use Rattle.arrays_core.{specs.declared.item.Item.{Item}, specs.declared.item.ItemType.{ItemType}, specs.declared.item.Kind.{Kind}, specs.Arrays.{ArrayValue, IsArray, item_if_there}, specs.Items.{fill}, specs.Shapes.{is_index_of}}
+use Rattle.change_core.{specs.Tightness.{AllCovered, Covered, Each, IsTight, blank, framed, frames, items_read}, specs.Reaches.{is_moved}, specs.RuleModels.{Use}, specs.Sourced.{Spread, left_of, left_used, one_rule, one_sourced, other, right_of, right_used, two_rule, two_sourced, uses_of_one, uses_of_two}}
+use Rattle.index_region.{specs.ArgumentLists.{of_one_argument, of_two_arguments}, specs.Boxes.{is_within}, specs.Checks.{Form}, specs.Sources.{Source, Place, Fill, item_from}}
 
 -- an item is what its source says, so it is the same where that is read alike
 pub item_from_same : (a b c d : ArrayValue) (t : ItemType) (s : Source) → map (item_if_there a) (left_of s) ≡ map (item_if_there c) (left_of s)

@@ -1,9 +1,7 @@
 -- What may change by an argument and those after it.
-use Rattle.std.proofs.Common.{◌≡◌, ℕ, suc, zero, ◌<◌, List, [], ◌∷◌, length, drop, get_or, refl, ap, ◌∙◌, sym, subst, arith, Bool, true, false, ◌||◌, Option, Some, None}
-use Rattle.std.proofs.lemmas.List.{drop_all}
+use Rattle.std.{proofs.Common.{◌≡◌, ℕ, suc, zero, ◌<◌, List, [], ◌∷◌, length, drop, get_or, refl, ap, ◌∙◌, sym, subst, arith, Bool, true, false, ◌||◌, Option, Some, None}, proofs.lemmas.List.{drop_all}}
 use Rattle.arrays_core.specs.Arrays.{ArrayValue}
-use Rattle.change_core.{proofs.Covers.{changed-fits}, proofs.Regions.{HasFit, bounded-fits}, specs.Reaches.{AllFit, Fits, bounded, changed, is_anew}}
-use Rattle.change_core.specs.RuleModels.{FitsAt, Use, box_at}
+use Rattle.change_core.{proofs.Covers.{changed-fits}, proofs.Regions.{HasFit, bounded-fits}, specs.Reaches.{AllFit, Fits, bounded, changed, is_anew}, specs.RuleModels.{FitsAt, Use, box_at}}
 use Rattle.index_region.{proofs.Boxes.{fits_length}, specs.Boxes.{Interval, join_boxes}}
 
 abbrev pub anew_by : Bool → Option (List Interval) → Bool → Bool
@@ -49,8 +47,7 @@ pub anew_there : (selectors : List Bool) (ms : List (Option (List Interval))) (w
 anew_there selectors [] which m region l count e f h = absurd (omega arith)
 anew_there [] (n ∷ ms) which m region l count e f h = absurd (omega arith)
 anew_there (s ∷ selectors) (n ∷ ms) zero m region l count e f h =
-    let changed = sym e ∙ f in
-    λ i. is_anew (h i ∷ selectors) (changed i ∷ ms)
+    λ i. is_anew (h i ∷ selectors) ((sym e ∙ f) i ∷ ms)
 anew_there (s ∷ selectors) (n ∷ ms) (suc which) m region l count e f h = later s n (anew_there selectors ms which m region (omega arith) (omega arith) e f h)
   where
     later : (s : Bool) (n : Option (List Interval)) → is_anew selectors ms ≡ true → is_anew (s ∷ selectors) (n ∷ ms) ≡ true
@@ -92,9 +89,7 @@ changed_past shape uses ms which e = changed_nothing shape (drop which uses) ∙
 
 pub same_rank : (shape : List ℕ) (p q : Option (List Interval)) → HasFit shape p → HasFit shape q → (a b : List Interval) → p ≡ Some a → q ≡ Some b → length a ≡ length b
 same_rank shape p q hp hq a b ea eb =
-    let ha = subst (HasFit shape) ea hp in
-    let hb = subst (HasFit shape) eb hq in
-    fits_length a shape ha ∙ sym (fits_length b shape hb)
+    fits_length a shape (subst (HasFit shape) ea hp) ∙ sym (fits_length b shape (subst (HasFit shape) eb hq))
 
 -- one more argument
 pub changed_step : (shape : List ℕ) (uses : List Use) (ms : List (Option (List Interval))) (which from next : ℕ) (m rest : Option (List Interval)) → from ≡ which → next ≡ suc which → which < length ms

@@ -1,7 +1,5 @@
 -- Uses by place are covered.
-use Rattle.std.proofs.Common.{◌≡◌, ℕ, ◌-◌, ◌*◌, ◌%◌, ◌≤◌, ◌<◌, List, [], ◌∷◌, ap, ◌∙◌, subst, arith, true, Option, inl, inr, nat_lt, min}
-use Rattle.std.{proofs.lemmas.Bool.{and_parts, leb-true, ltb-false, false≢true, cases_Bool, cond-true, cond-false, lt-ltb}, proofs.lemmas.Nat.{mul-le}}
-use Rattle.std.proofs.Math.Nat.{mod-eq_of_lt}
+use Rattle.std.{proofs.Common.{◌≡◌, ℕ, ◌-◌, ◌*◌, ◌%◌, ◌≤◌, ◌<◌, List, [], ◌∷◌, ap, ◌∙◌, subst, arith, true, Option, inl, inr, nat_lt, min}, proofs.lemmas.Bool.{and_parts, leb-true, ltb-false, false≢true, cases_Bool, cond-true, cond-false, lt-ltb}, proofs.lemmas.Nat.{mul-le}, proofs.Math.Nat.{mod-eq_of_lt}}
 use Rattle.arrays_core.{specs.Shapes.{is_index_of, size, places_before, index_after}, proofs.Shapes.{places_below}, proofs.Order.{places_before-index_after}}
 use Rattle.index_region.{proofs.Least.{within-whole, cover-within}, specs.Boxes.{Interval, is_within}}
 use Rattle.change_core.{specs.Tightness.{Covered}, specs.Places.{by_place, cover_in, first_of_box, last_of_box}, specs.Reaches.{is_moved}}

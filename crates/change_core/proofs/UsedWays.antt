@@ -1,10 +1,8 @@
 -- Each way to use an argument is covered.
-use Rattle.std.proofs.Common.{◌≡◌, ℕ, suc, zero, ◌+◌, ◌≤◌, ◌<◌, List, [], ◌∷◌, ◌++◌, length, map, take, drop, set, get_or, insert, remove, refl, ap, ◌∙◌, sym, subst, arith, true, false, Bool, ◌&&◌, Some, inl, inr, nat_le, nat_lt, nat_eq, if◌then◌else◌}
-use Rattle.std.specs.List.{range_with_len}
+use Rattle.std.{proofs.Common.{◌≡◌, ℕ, suc, zero, ◌+◌, ◌≤◌, ◌<◌, List, [], ◌∷◌, ◌++◌, length, map, take, drop, set, get_or, insert, remove, refl, ap, ◌∙◌, sym, subst, arith, true, ◌&&◌, Some, inl, inr, nat_le, nat_lt, nat_eq, if◌then◌else◌}, specs.List.{range_with_len}}
 use Rattle.std.proofs.lemmas.Bool.{and_parts, leb-true, ltb-true, ltb-false, eqb-true, false≢true, cases_Bool, cond-true, cond-false, and_from, le-leb}
 use Rattle.arrays_core.specs.Shapes.{is_index_of}
-use Rattle.change_core.{specs.Tightness.{Covered, Each}, specs.Reaches.{is_moved}, specs.RuleModels.{Use}}
-use Rattle.change_core.specs.Ways.{Axis, IsSoundAxis, alike, along, back, everywhere, front, images, lengths, lines, meet_at, meets, sources, unread}
+use Rattle.change_core.{specs.Tightness.{Covered, Each}, specs.Reaches.{is_moved}, specs.RuleModels.{Use}, specs.Ways.{Axis, IsSoundAxis, alike, along, back, everywhere, front, images, lengths, lines, meet_at, meets, sources, unread}}
 use Rattle.index_region.specs.Boxes.{Interval, fits, is_within, whole_of}
 pub use Rattle.index_region.proofs.Least.{within-whole}
 
@@ -91,8 +89,7 @@ within-set d zero j image [] (s ∷ region) (i ∷ index) fit f h = absurd (fals
 within-set d zero j image (m ∷ from) (s ∷ region) (i ∷ index) fit f h =
     let parts = and_parts _ _ h in
     let p1 = and_parts _ _ parts.0 in
-    let first = leb-true 1 s.0 (and_parts _ _ (and_parts _ _ (and_parts _ _ fit).0).0).0 in
-    let there = f (omega arith) s first (leb-true s.0 j p1.0) (leb-true j s.1 p1.1) in
+    let there = f (omega arith) s (leb-true 1 s.0 (and_parts _ _ (and_parts _ _ (and_parts _ _ fit).0).0).0) (leb-true s.0 j p1.0) (leb-true j s.1 p1.1) in
     and_from _ _ (and_from _ _ (le-leb _ _ there.0) (le-leb _ _ there.1)) parts.1
 within-set d (suc axis) j image from [] [] fit f h = refl
 within-set d (suc axis) j image from (s ∷ region) [] fit f h = absurd (false≢true h)
@@ -227,8 +224,3 @@ meets-within axes region index axis (n ∷ shape) (i ∷ rest) at place h =
 pub permuted-covered : (from axes shape : List ℕ) → Covered from shape (permuted axes shape)
 permuted-covered from axes shape region index fit place =
     (meets-within axes region index 0 shape index (λ k. let e : k ≡ 0 + k = omega arith in ap (λ (m : ℕ). get_or index m 0) e) place, tt)
-
--- what is read under a test alone
-pub each_if : {A : Type 0} (P : A → Type 0) (test : Bool) (x : A) → (test ≡ true → P x) → Each P (if test then x ∷ [] else [])
-each_if P true x h = (h refl, tt)
-each_if P false x h = tt

@@ -1,9 +1,7 @@
 -- The items along the walk of a box.
-use Rattle.std.proofs.Common.{◌≡◌, ℕ, suc, zero, ◌+◌, ◌-◌, ◌/◌, ◌%◌, ◌<◌, ◌≤◌, List, [], ◌∷◌, ◌++◌, length, map, refl, ap, ◌∙◌, sym, arith, Result, Ok, Err}
-use Rattle.std.{specs.List.{range_with_len}, proofs.lemmas.List.{append_assoc, append-nil, ext_get_or, length-map}}
+use Rattle.std.{proofs.Common.{◌≡◌, ℕ, suc, zero, ◌+◌, ◌-◌, ◌/◌, ◌%◌, ◌<◌, ◌≤◌, List, [], ◌∷◌, ◌++◌, length, map, refl, ap, ◌∙◌, sym, arith, Result, Ok, Err}, specs.List.{range_with_len}, proofs.lemmas.List.{append_assoc, append-nil, ext_get_or, length-map}}
 use Rattle.std.{proofs.lemmas.List.FromFn.{get_or-map-range_with_len, length-map-range_with_len}, proofs.Math.ListN.{get_or-map}}
-use Rattle.arrays_core.{proofs.Order.{length-indices, get_or-indices}, specs.declared.item.Item.{Item}, specs.declared.item.Kind.{Kind}}
-use Rattle.arrays_core.specs.Shapes.{size, indices, index_after}
+use Rattle.arrays_core.{proofs.Order.{length-indices, get_or-indices}, specs.declared.item.Item.{Item}, specs.declared.item.Kind.{Kind}, specs.Shapes.{size, indices, index_after}}
 use Rattle.change_core.proofs.Collected.{put_first, collected, along}
 use Rattle.index_region.specs.Boxes.{Interval, box_size, walk_at, whole_of}
 

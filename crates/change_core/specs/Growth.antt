@@ -1,7 +1,6 @@
 -- Growth: arrays, arguments and results with one more place of their first axis, and the law of a rule that keeps it.
 use Rattle.std.specs.Prelude.{◌≡◌, ◌<◌, ℕ, List, [], ◌∷◌, Bool, true, false, length, Ok, Some, Option}
-use Rattle.arrays_core.{specs.declared.item.Item.{Item}, specs.Arrays.{ArrayValue, IsArray}, specs.Shapes.{is_index_of}}
-use Rattle.arrays_core.specs.Growth.{FitsGrowth, grown_by, one_longer}
+use Rattle.arrays_core.{specs.declared.item.Item.{Item}, specs.Arrays.{ArrayValue, IsArray}, specs.Shapes.{is_index_of}, specs.Growth.{FitsGrowth, grown_by, one_longer}}
 use Rattle.index_region.{specs.Boxes.{Interval}, specs.Checks.{Form}}
 use Rattle.change_core.{specs.Tightness.{Each}, specs.Reaches.{bounded}, specs.RuleModels.{Growth, RuleModel}}
 

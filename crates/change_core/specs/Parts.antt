@@ -1,8 +1,6 @@
 -- The items of a box of a result.
 use Rattle.std.{specs.Prelude.{◌≡◌, ℕ, List, map, Result, Ok, Err}, specs.List.{range_with_len}}
-use Rattle.arrays_core.{specs.declared.fault.ApplyFault.{ApplyFault}, specs.declared.fault.ApplyFault.TheVariants.{Kind as KindFault, NoMemory}}
-use Rattle.arrays_core.{specs.declared.item.Item.{Item}, specs.declared.item.ItemType.{ItemType}, specs.declared.item.Kind.{Kind}, specs.Arrays.{ArrayValue}}
-use Rattle.arrays_core.specs.Items.{all_or_first_error}
+use Rattle.arrays_core.{specs.declared.fault.ApplyFault.{ApplyFault}, specs.declared.fault.ApplyFault.TheVariants.{Kind as KindFault, NoMemory}, specs.declared.item.Item.{Item}, specs.declared.item.ItemType.{ItemType}, specs.declared.item.Kind.{Kind}, specs.Arrays.{ArrayValue}, specs.Items.{all_or_first_error}}
 use Rattle.index_region.specs.Boxes.{Interval, box_size, walk_at}
 
 -- the items of a box in row-major order, or the first error among them

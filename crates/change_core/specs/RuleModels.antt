@@ -1,7 +1,6 @@
 -- What a rule says of a function of arrays.
 use Rattle.std.specs.Prelude.{◌≡◌, ℕ, zero, suc, List, [], ◌∷◌, Bool, false, Option, Some, None, Result, Ok, Err, IsTrue, get_or}
-use Rattle.arrays_core.{specs.declared.item.Item.{Item}, specs.declared.item.ItemType.{ItemType}, specs.declared.item.Kind.{Kind}, specs.Arrays.{ArrayValue}}
-use Rattle.arrays_core.specs.Shapes.{size}
+use Rattle.arrays_core.{specs.declared.item.Item.{Item}, specs.declared.item.ItemType.{ItemType}, specs.declared.item.Kind.{Kind}, specs.Arrays.{ArrayValue}, specs.Shapes.{size}}
 use Rattle.index_region.{specs.Boxes.{Interval, fits}, specs.Checks.{Form, form_of}}
 
 -- how a result uses an argument: the index lists of the argument that an item of the result reads, and the intervals of

@@ -1,8 +1,7 @@
 -- Rules of one argument and of two, and of results whose items come from places of their arguments.
 use Rattle.std.specs.Prelude.{ℕ, zero, suc, List, [], ◌∷◌, Bool, false, Option, Some, Result, set, get_or}
 use Rattle.arrays_core.{specs.declared.item.Item.{Item}, specs.declared.item.ItemType.{ItemType}, specs.declared.item.Kind.{Kind}, specs.Arrays.{ArrayValue}}
-use Rattle.index_region.{specs.ArgumentLists.{of_one_argument, of_two_arguments}, specs.Boxes.{Interval}, specs.Checks.{Form}}
-use Rattle.index_region.specs.Sources.{Source, Place, Fill, item_from}
+use Rattle.index_region.{specs.ArgumentLists.{of_one_argument, of_two_arguments}, specs.Boxes.{Interval}, specs.Checks.{Form}, specs.Sources.{Source, Place, Fill, item_from}}
 use Rattle.change_core.specs.RuleModels.{Use, RuleModel}
 
 -- the intervals of a result for a changed box of an argument

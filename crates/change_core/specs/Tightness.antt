@@ -1,10 +1,8 @@
 -- The law of a rule: all that changes of a result lies in the box that the rule gives.
 use Rattle.std.specs.Prelude.{◌≡◌, ◌≢◌, ℕ, List, [], ◌∷◌, Bool, true, false, Option, None, Ok, IsTrue, IsOk, map, length, replicate}
-use Rattle.arrays_core.{specs.declared.item.Item.{Item}, specs.Arrays.{ArrayValue, IsArray, item_of, item_if_there}, specs.Items.{fill}}
-use Rattle.arrays_core.specs.Shapes.{is_index_of}
+use Rattle.arrays_core.{specs.declared.item.Item.{Item}, specs.Arrays.{ArrayValue, IsArray, item_of, item_if_there}, specs.Items.{fill}, specs.Shapes.{is_index_of}}
 use Rattle.index_region.{specs.Answers.{IsPlaceOf}, specs.Boxes.{Interval, is_within, fits}, specs.Checks.{Form}}
-use Rattle.change_core.{specs.declared.reach.Reach.{Reach}, specs.declared.reach.Reach.TheVariants.{Anew}, specs.RuleModels.{Use, RuleModel}}
-use Rattle.change_core.specs.Reaches.{Fits, is_moved, is_reached, reach_of, LiesInResult}
+use Rattle.change_core.{specs.declared.reach.Reach.{Reach}, specs.declared.reach.Reach.TheVariants.{Anew}, specs.RuleModels.{Use, RuleModel}, specs.Reaches.{Fits, is_moved, is_reached, reach_of, LiesInResult}}
 
 -- an array of which no item is known but how many there are
 abbrev pub blank : ArrayValue → ArrayValue

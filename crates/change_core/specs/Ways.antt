@@ -1,6 +1,5 @@
 -- The ways in which a result uses an argument.
-use Rattle.std.specs.Prelude.{ℕ, ◌+◌, ◌≤◌, List, [], ◌∷◌, ◌++◌, Some, None, if◌then◌else◌, nat_eq, length, map, take, drop, set, get_or, insert, remove, min, max}
-use Rattle.std.specs.List.{range_with_len}
+use Rattle.std.{specs.Prelude.{ℕ, ◌+◌, ◌≤◌, List, [], ◌∷◌, ◌++◌, Some, None, if◌then◌else◌, nat_eq, length, map, take, drop, set, get_or, insert, remove, min, max}, specs.List.{range_with_len}}
 use Rattle.change_core.specs.RuleModels.{Use}
 use Rattle.index_region.specs.Boxes.{Interval, whole_of}
 

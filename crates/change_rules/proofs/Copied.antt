@@ -1,6 +1,5 @@
 -- Arrays that stand for arguments.
-use Rattle.std.proofs.Common.{◌≡◌, ℕ, zero, suc, ◌+◌, ◌<◌, List, [], ◌∷◌, ◌++◌, length, take, get_or, ap, sym, subst, ◌∙◌, Option, Some, None, IfSome, arith, true, nat_lt}
-use Rattle.std.{proofs.lemmas.Bool.{ltb-true}, proofs.lemmas.List.{get_or_default, take_more}}
+use Rattle.std.{proofs.Common.{◌≡◌, ℕ, zero, suc, ◌+◌, ◌<◌, List, [], ◌∷◌, ◌++◌, length, take, get_or, ap, sym, subst, ◌∙◌, Option, Some, None, IfSome, arith, true, nat_lt}, proofs.lemmas.Bool.{ltb-true}, proofs.lemmas.List.{get_or_default, take_more}}
 use Rattle.arrays_core.specs.Arrays.{ArrayValue}
 use Rattle.change_rules.specs.Copies.{AreCopies}
 

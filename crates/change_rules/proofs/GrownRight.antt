@@ -1,17 +1,11 @@
 -- A node that grows: its new places make of the old whole evaluation the new one.
-use Rattle.std.proofs.Common.{◌≡◌, ℕ, zero, suc, ◌+◌, ◌*◌, ◌/◌, ◌%◌, ◌<◌, ◌≤◌, List, [], ◌∷◌, ◌++◌, length, map, max, min, refl, ap, ◌∙◌, sym, subst, arith, true, Bool, nat_lt, Some, Result, Ok, Err, is_ok, IfOk, inl, inr, add-zero}
-use Rattle.std.{specs.List.{range_with_len, flat_map, list_all}, proofs.lemmas.Bool.{cases_Bool, cond-true, cond-false, false≢true, ltb-true}}
-use Rattle.std.{proofs.lemmas.List.{append-nil, append_assoc, map-append}, proofs.lemmas.Nat.{div-mul-add, mod-mul-add}}
-use Rattle.arrays_core.{specs.declared.item.Item.{Item}, specs.declared.item.ItemType.{ItemType}, specs.declared.item.Kind.{Kind}}
-use Rattle.arrays_core.{specs.Arrays.{ArrayValue, IsArray, with_items}, specs.Items.{after, all_or_first_error}, proofs.Growing.{fits_growth}}
-use Rattle.arrays_core.{specs.Shapes.{indices, is_index_of}, specs.Growth.{grown_by, one_longer}, specs.Outcomes.{Outcome, fault, given}}
-use Rattle.index_region.{specs.declared.delta.Delta.{Delta}, specs.declared.delta.Delta.TheVariants.{Same, Patch, Grown, Whole}}
-use Rattle.index_region.specs.Boxes.{Interval, box_size, fits, interval_length, is_empty, met, unless_empty, walk_at, whole_of}
-use Rattle.index_region.{specs.Checks.{Form, form_of, whole}, specs.Tails.{TailValue}}
-use Rattle.change_core.{specs.Growth.{AllGrew, IsGrowing, last_interval, last_place}, specs.Tightness.{Each}, specs.Parts.{items_in}}
-use Rattle.change_core.{specs.RuleModels.{RuleModel}, proofs.Regions.{HasFit, bounded-fits}, proofs.Walking.{walk_is}}
-use Rattle.change_rules.{specs.Currency.{applied}, specs.Nodes.{grown_in, items_at, tail_delta, is_grown, is_grown_at_most}, specs.Evaluation.{evaluation}}
-use Rattle.change_rules.{proofs.Walked.{walked_is}, proofs.Refreshed.{ShowsAll, same_whole}}
+use Rattle.std.{proofs.Common.{◌≡◌, ℕ, zero, suc, ◌+◌, ◌*◌, ◌/◌, ◌%◌, ◌<◌, ◌≤◌, List, [], ◌∷◌, ◌++◌, length, map, max, min, refl, ap, ◌∙◌, sym, subst, arith, true, Bool, nat_lt, Some, Result, Ok, Err, is_ok, IfOk, inl, inr, add-zero}, specs.List.{range_with_len, flat_map, list_all}}
+use Rattle.std.{proofs.lemmas.Bool.{cases_Bool, cond-true, cond-false, false≢true, ltb-true}, proofs.lemmas.List.{append-nil, append_assoc, map-append}, proofs.lemmas.Nat.{div-mul-add, mod-mul-add}}
+use Rattle.arrays_core.{specs.declared.item.Item.{Item}, specs.declared.item.ItemType.{ItemType}, specs.declared.item.Kind.{Kind}, specs.Arrays.{ArrayValue, IsArray, with_items}, specs.Items.{after, all_or_first_error}, proofs.Growing.{fits_growth}, specs.Shapes.{indices, is_index_of}}
+use Rattle.arrays_core.{specs.Growth.{grown_by, one_longer}, specs.Outcomes.{Outcome, fault, given}}
+use Rattle.index_region.{specs.declared.delta.Delta.{Delta}, specs.declared.delta.Delta.TheVariants.{Same, Patch, Grown, Whole}, specs.Boxes.{Interval, box_size, fits, interval_length, is_empty, met, unless_empty, walk_at, whole_of}, specs.Checks.{Form, form_of, whole}, specs.Tails.{TailValue}}
+use Rattle.change_core.{specs.Growth.{AllGrew, IsGrowing, last_interval, last_place}, specs.Tightness.{Each}, specs.Parts.{items_in}, specs.RuleModels.{RuleModel}, proofs.Regions.{HasFit, bounded-fits}, proofs.Walking.{walk_is}}
+use Rattle.change_rules.{specs.Currency.{applied}, specs.Nodes.{grown_in, items_at, tail_delta, is_grown, is_grown_at_most}, specs.Evaluation.{evaluation}, proofs.Walked.{walked_is}, proofs.Refreshed.{ShowsAll, same_whole}}
 
 -- ---- the places of a shape that is one longer
 
@@ -21,10 +15,9 @@ block rest k = map (λ index. k ∷ index) rest
 blocks : (rest : List (List ℕ)) (a n : ℕ) → flat_map (block rest) (range_with_len a (suc n)) ≡ flat_map (block rest) (range_with_len a n) ++ block rest (a + n)
 blocks rest a zero = append-nil (block rest a) ∙ ap (block rest) (sym (add-zero a))
 blocks rest a (suc n) =
-    let i : a + 1 + n ≡ a + suc n = omega arith in
     ap (λ (l : List (List ℕ)). block rest a ++ l) (blocks rest (a + 1) n)
     ∙ sym (append_assoc (block rest a) (flat_map (block rest) (range_with_len (a + 1) n)) (block rest (a + 1 + n)))
-    ∙ ap (λ (k : ℕ). (block rest a ++ flat_map (block rest) (range_with_len (a + 1) n)) ++ block rest k) i
+    ∙ ap (λ (k : ℕ). (block rest a ++ flat_map (block rest) (range_with_len (a + 1) n)) ++ block rest k) (omega arith)
 
 indices_longer : (n : ℕ) (s : List ℕ) → indices ((n + 1) ∷ s) ≡ indices (n ∷ s) ++ block (indices s) (n + 1)
 indices_longer n s =
@@ -94,9 +87,7 @@ met_last n s =
 results_same : (u v : ℕ → Result Item Kind) (from n : ℕ) → ((j : ℕ) → from ≤ j → j < from + n → u j ≡ v j) → map u (range_with_len from n) ≡ map v (range_with_len from n)
 results_same u v from zero h = refl
 results_same u v from (suc n) h =
-    let first = h from (omega arith) (omega arith) in
-    let rest = results_same u v (from + 1) n (λ j low high. h j (omega arith) (omega arith)) in
-    λ i. first i ∷ rest i
+    λ i. (h from (omega arith) (omega arith)) i ∷ (results_same u v (from + 1) n (λ j low high. h j (omega arith) (omega arith))) i
 
 -- the walk of the last place is that of the other axes
 last_items : (item : List ℕ → Result Item Kind) (m : ℕ) (s : List ℕ) → items_in item ((m, m) ∷ whole_of s) ≡ all_or_first_error (map (λ index. item (m ∷ index)) (indices s))
@@ -198,18 +189,14 @@ pub grown_before : (os : List Outcome) (ds : List Delta) (ns : List ArrayValue) 
 grown_before [] [] [] h k axes sound = record { olds = []; old = refl; grew = tt; sound = tt }
 grown_before (o ∷ os) (Same ∷ ds) (n ∷ ns) h k axes sound =
     let rest = grown_before os ds ns h.1 k axes.1 sound.1 in
-    let here = h.0.becomes in
-    let ro = rest.old in
-    record { olds = n ∷ rest.olds; old = λ i. here i ∷ ro i; grew = (refl, rest.grew); sound = (sound.0, rest.sound) }
+    record { olds = n ∷ rest.olds; old = λ i. h.0.becomes i ∷ rest.old i; grew = (refl, rest.grew); sound = (sound.0, rest.sound) }
 grown_before (o ∷ os) (Grown t ∷ ds) (n ∷ ns) h k axes sound =
     let rest = grown_before os ds ns h.1 k axes.1 sound.1 in
     let part = tail_of o t n h.0.becomes in
-    let here = part.1 in
-    let ro = rest.old in
     let was : IsArray part.0 = subst (λ (x : Outcome). IfOk x IsArray) part.1 h.0.sound in
     record {
       olds = part.0 ∷ rest.olds;
-      old = λ i. here i ∷ ro i;
+      old = λ i. part.1 i ∷ rest.old i;
       grew = (record { items = t.items; fits = fits_growth part.0 n t.items was sound.0 part.2 (axes.0 refl); is = sym part.2 }, rest.grew);
       sound = (was, rest.sound);
     }

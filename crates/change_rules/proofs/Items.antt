@@ -1,14 +1,9 @@
 -- The items of a box that is all of a result.
-use Rattle.std.proofs.Common.{◌≡◌, ℕ, ◌+◌, ◌-◌, ◌*◌, ◌<◌, ◌≤◌, List, [], ◌∷◌, length, map, Result, Ok, Err, IsTrue, refl, ap, ◌∙◌, sym, subst, arith, inl, inr}
-use Rattle.std.{specs.List.{range_with_len}, proofs.lemmas.Bool.{and_parts, leb-true, false≢true, cases_order}, proofs.lemmas.Nat.{mul-le}}
-use Rattle.arrays_core.{specs.declared.fault.ApplyFault.{ApplyFault}, specs.declared.fault.ApplyFault.TheVariants.{Kind as KindFault, NoMemory}}
-use Rattle.arrays_core.{specs.declared.item.Item.{Item}, specs.declared.item.ItemType.{ItemType}, specs.declared.item.Kind.{Kind}}
-use Rattle.arrays_core.{specs.Arrays.{ArrayValue, IsAnswerTo, with_items}, specs.Outcomes.{Outcome, IsOutcomeOf}, specs.Items.{all_or_first_error}}
-use Rattle.arrays_core.specs.Shapes.{IsWithinLimits, size, indices}
-use Rattle.index_region.{specs.Boxes.{Interval, interval_length, box_size, fits, walk_at, whole_of}, specs.Checks.{Form, form_of, whole}}
-use Rattle.index_region.{proofs.Patched.{box_within_size}, proofs.Walks.{some_place}}
-use Rattle.change_core.{specs.declared.reach.Reach.{Reach}, specs.declared.reach.Reach.TheVariants.{Inside}, specs.Parts.{HoldsItems, items_in}}
-use Rattle.change_core.{specs.Reaches.{LiesInResult}, proofs.Collected.{items_are}, proofs.Filling.{few_places}, proofs.Walking.{walk_is, length-along}}
+use Rattle.std.{proofs.Common.{◌≡◌, ℕ, ◌+◌, ◌-◌, ◌*◌, ◌<◌, ◌≤◌, List, [], ◌∷◌, length, map, Result, Ok, Err, IsTrue, refl, ap, ◌∙◌, sym, subst, arith, inl, inr}, specs.List.{range_with_len}, proofs.lemmas.Bool.{and_parts, leb-true, false≢true, cases_order}, proofs.lemmas.Nat.{mul-le}}
+use Rattle.arrays_core.{specs.declared.fault.ApplyFault.{ApplyFault}, specs.declared.fault.ApplyFault.TheVariants.{Kind as KindFault, NoMemory}, specs.declared.item.Item.{Item}, specs.declared.item.ItemType.{ItemType}, specs.declared.item.Kind.{Kind}, specs.Arrays.{ArrayValue, IsAnswerTo, with_items}}
+use Rattle.arrays_core.{specs.Outcomes.{Outcome, IsOutcomeOf}, specs.Items.{all_or_first_error}, specs.Shapes.{IsWithinLimits, size, indices}}
+use Rattle.index_region.{specs.Boxes.{Interval, interval_length, box_size, fits, walk_at, whole_of}, specs.Checks.{Form, form_of, whole}, proofs.Patched.{box_within_size}, proofs.Walks.{some_place}}
+use Rattle.change_core.{specs.declared.reach.Reach.{Reach}, specs.declared.reach.Reach.TheVariants.{Inside}, specs.Parts.{HoldsItems, items_in}, specs.Reaches.{LiesInResult}, proofs.Collected.{items_are}, proofs.Filling.{few_places}, proofs.Walking.{walk_is, length-along}}
 
 -- the items that a call answered, where it gave an array
 pub given_items : (t : ItemType) (wanted : Result (List Item) Kind) (applied : Result ArrayValue ApplyFault) (o : Outcome) (a : ArrayValue)

@@ -1,13 +1,9 @@
 -- The change of a node whose result has the places of an argument, of which one place alone changed.
-use Rattle.std.proofs.Common.{◌≡◌, ℕ, ◌<◌, ◌≤◌, List, length, refl, ap, ◌∙◌, sym, subst, arith, true, Result, Ok, Err, IsTrue}
-use Rattle.std.{proofs.lemmas.List.{length-map}, proofs.lemmas.Bool.{false≢true}, specs.Prelude.{false, is_ok, is_err}}
+use Rattle.std.{proofs.Common.{◌≡◌, ℕ, ◌<◌, ◌≤◌, List, length, refl, ap, ◌∙◌, sym, subst, arith, true, Result, Ok, Err, IsTrue}, proofs.lemmas.List.{length-map}, proofs.lemmas.Bool.{false≢true}, specs.Prelude.{false, is_ok, is_err}}
 use Rattle.arrays_core.{specs.declared.item.Kind.{Kind}, specs.Arrays.{ArrayValue, IsArray}, specs.Outcomes.{Outcome}}
 use Rattle.index_region.{specs.declared.delta.Delta.{Delta}, specs.Boxes.{Interval, box_size, fits}, specs.Checks.{Form, form_of}}
-use Rattle.change_core.{specs.Tightness.{Each}, specs.declared.reach.Reach.TheVariants.{Inside}, specs.Parts.{items_in}}
-use Rattle.change_core.{specs.Reaches.{AllFit, only_at, reach_of}, specs.RuleModels.{RuleModel, KeepsPlaces, shape_at}, proofs.Filling.{few_places}}
-use Rattle.change_core.proofs.KeptPlaces.{fits_there, within_there, kept_reach}
-use Rattle.change_rules.specs.Nodes.{Argument, views, moved, all_same, all_patched_at_most, delta_in, size_in, node_delta, node_cost, patch_delta}
-use Rattle.change_rules.proofs.Nodes.{delta_reached, cost_reached}
+use Rattle.change_core.{specs.Tightness.{Each}, specs.declared.reach.Reach.TheVariants.{Inside}, specs.Parts.{items_in}, specs.Reaches.{AllFit, only_at, reach_of}, specs.RuleModels.{RuleModel, KeepsPlaces, shape_at}, proofs.Filling.{few_places}, proofs.KeptPlaces.{fits_there, within_there, kept_reach}}
+use Rattle.change_rules.{specs.Nodes.{Argument, views, moved, all_same, all_patched_at_most, delta_in, size_in, node_delta, node_cost, patch_delta}, proofs.Nodes.{delta_reached, cost_reached}}
 
 pub held_array : (old : Outcome) → false ≡ is_err old → is_ok old ≡ true
 held_array (Ok a) h = refl

@@ -1,15 +1,10 @@
 -- The change of a node makes the whole evaluation of the new arguments.
-use Rattle.std.proofs.Common.{◌≡◌, List, [], ◌∷◌, length, map, refl, ap, ◌∙◌, subst, true, Bool, ◌&&◌, ◌||◌, not, Option, inl, inr, is_ok}
-use Rattle.std.{proofs.lemmas.List.{length-map}, specs.List.{list_all, list_any}}
-use Rattle.std.proofs.lemmas.Bool.{and_parts, or_parts, cases_Bool, cond-true, cond-false, not-false}
+use Rattle.std.{proofs.Common.{◌≡◌, List, [], ◌∷◌, length, map, refl, ap, ◌∙◌, subst, true, Bool, ◌&&◌, ◌||◌, not, Option, inl, inr, is_ok}, proofs.lemmas.List.{length-map}, specs.List.{list_all, list_any}, proofs.lemmas.Bool.{and_parts, or_parts, cases_Bool, cond-true, cond-false, not-false}}
 use Rattle.arrays_core.{specs.Arrays.{IsArray}, specs.Outcomes.{Outcome}}
 use Rattle.index_region.{specs.Boxes.{Interval}, specs.declared.delta.Delta.{Delta}}
-use Rattle.change_core.{specs.Growth.{AllGrew, IsGrowing}, specs.Tightness.{Each, ReachCovers}, specs.Reaches.{AllFit, LiesInResult, reach_of}}
-use Rattle.change_core.specs.RuleModels.{RuleModel}
-use Rattle.change_rules.specs.Currency.{BringsUpToDate, HasAxis, IsEvaluation, applied}
-use Rattle.change_rules.specs.Nodes.{Argument, all_same, any_grown, delta_in, grown_delta, is_grown, is_grown_at_most, node_grows, is_whole, marks, moved, node_delta, starts_anew, views}
-use Rattle.change_rules.{specs.Evaluation.{evaluation}, proofs.GrownRight.{HaveAxes, grown_before, grown_right}}
-use Rattle.change_rules.proofs.Refreshed.{ShowsAll, arguments_before, deltas, kept_right, moved_deltas, same_deltas, same_olds, shows_all, whole_deltas}
+use Rattle.change_core.{specs.Growth.{AllGrew, IsGrowing}, specs.Tightness.{Each, ReachCovers}, specs.Reaches.{AllFit, LiesInResult, reach_of}, specs.RuleModels.{RuleModel}}
+use Rattle.change_rules.{specs.Currency.{BringsUpToDate, HasAxis, IsEvaluation, applied}, specs.Nodes.{Argument, all_same, any_grown, delta_in, grown_delta, is_grown, is_grown_at_most, node_grows, is_whole, marks, moved, node_delta, starts_anew, views}, specs.Evaluation.{evaluation}}
+use Rattle.change_rules.{proofs.GrownRight.{HaveAxes, grown_before, grown_right}, proofs.Refreshed.{ShowsAll, arguments_before, deltas, kept_right, moved_deltas, same_deltas, same_olds, shows_all, whole_deltas}}
 
 grown_deltas : (args : List Argument) → list_any is_grown (deltas args) ≡ any_grown args
 grown_deltas [] = refl

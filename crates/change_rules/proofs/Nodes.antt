@@ -1,11 +1,9 @@
 -- The change of a node by cases of what changed of its arguments.
-use Rattle.std.{proofs.Common.{◌≡◌, List, [], ◌∷◌, Bool, true, false, ◌&&◌, ◌||◌, not, is_ok, refl, ap, sym, ◌∙◌}, specs.List.{list_all, list_any}}
-use Rattle.std.proofs.lemmas.Bool.{cond-true, cond-false, false≢true, or_parts}
+use Rattle.std.{proofs.Common.{◌≡◌, List, [], ◌∷◌, Bool, true, false, ◌&&◌, ◌||◌, not, is_ok, refl, ap, sym, ◌∙◌}, specs.List.{list_all, list_any}, proofs.lemmas.Bool.{cond-true, cond-false, false≢true, or_parts}}
 use Rattle.index_region.{specs.declared.delta.Delta.{Delta}, specs.declared.delta.Delta.TheVariants.{Same, Patch, Grown, Whole}}
 use Rattle.change_core.specs.RuleModels.{RuleModel}
 use Rattle.arrays_core.specs.Outcomes.{Outcome}
-use Rattle.change_rules.specs.Nodes.{Argument, views, all_same, any_grown, all_patched_at_most, is_grown, is_whole, is_patched_at_most, grown_delta, grown_cost, starts_anew, node_delta, node_cost, moved, reached_delta, reached_cost}
-use Rattle.change_rules.proofs.Refreshed.{deltas, whole_deltas}
+use Rattle.change_rules.{specs.Nodes.{Argument, views, all_same, any_grown, all_patched_at_most, is_grown, is_whole, is_patched_at_most, grown_delta, grown_cost, starts_anew, node_delta, node_cost, moved, reached_delta, reached_cost}, proofs.Refreshed.{deltas, whole_deltas}}
 
 grown_deltas : (args : List Argument) → list_any is_grown (deltas args) ≡ any_grown args
 grown_deltas [] = refl
@@ -39,8 +37,7 @@ some_grown (Whole r ∷ ds) h k = absurd (false≢true (sym k))
 -- where arguments were patched at most and the node held an array, nothing starts anew
 not_anew : (args : List Argument) (old : Outcome) → is_ok old ≡ true → all_patched_at_most args ≡ true → starts_anew args old ≡ false
 not_anew args old ok h =
-    let whole = sym (whole_deltas args) ∙ none_whole (deltas args) (patched_deltas args ∙ h) in
-    ap (λ (b : Bool). b || not (is_ok old)) whole ∙ ap (λ (b : Bool). not b) ok
+    ap (λ (b : Bool). b || not (is_ok old)) (sym (whole_deltas args) ∙ none_whole (deltas args) (patched_deltas args ∙ h)) ∙ ap (λ (b : Bool). not b) ok
 
 -- where none starts anew and one changed otherwise, one grew
 one_grew : (args : List Argument) (old : Outcome) → all_patched_at_most args ≡ false → starts_anew args old ≡ false → any_grown args ≡ true

@@ -1,13 +1,8 @@
 -- A patch of the announced box makes the whole evaluation.
-use Rattle.index_region.{proofs.Walks.{walk_within, offset_below, walk_of_offset, offset_of_walk}, proofs.Patched.{fits_within}}
-use Rattle.index_region.{specs.Boxes.{Interval, box_offset, box_size, fits, is_within, walk_at, whole_of}, specs.Checks.{Form}}
-use Rattle.index_region.specs.Patches.{PatchValue, patched, patched_item}
-use Rattle.std.proofs.Common.{◌≡◌, ℕ, suc, zero, ◌+◌, ◌-◌, ◌*◌, ◌<◌, ◌≤◌, List, [], ◌∷◌, map, get_or, refl, ap, ◌∙◌, sym, subst, arith, IsTrue, true, false, Result, Ok, Err, ◌⊎◌, inl, inr, add-zero}
-use Rattle.std.{specs.List.{range_with_len}, proofs.lemmas.Bool.{and_parts, leb-true, false≢true, cases_Bool, cond-true, cond-false, cases_order}}
-use Rattle.std.proofs.lemmas.Nat.{mul-le}
-use Rattle.arrays_core.{specs.declared.item.Item.{Item}, specs.declared.item.Kind.{Kind}, specs.Arrays.{ArrayValue}}
-use Rattle.arrays_core.{specs.Shapes.{is_index_of, size, index_after, places_before}, specs.Items.{fill}, proofs.Shapes.{places_below}}
-use Rattle.arrays_core.proofs.Order.{index_after-places_before, places_before-index_after}
+use Rattle.index_region.{proofs.Walks.{walk_within, offset_below, walk_of_offset, offset_of_walk}, proofs.Patched.{fits_within}, specs.Boxes.{Interval, box_offset, box_size, fits, is_within, walk_at, whole_of}, specs.Checks.{Form}, specs.Patches.{PatchValue, patched, patched_item}}
+use Rattle.std.{proofs.Common.{◌≡◌, ℕ, suc, zero, ◌+◌, ◌-◌, ◌*◌, ◌<◌, ◌≤◌, List, [], ◌∷◌, map, get_or, refl, ap, ◌∙◌, sym, subst, arith, IsTrue, true, false, Result, Ok, Err, ◌⊎◌, inl, inr, add-zero}, specs.List.{range_with_len}}
+use Rattle.std.{proofs.lemmas.Bool.{and_parts, leb-true, false≢true, cases_Bool, cond-true, cond-false, cases_order}, proofs.lemmas.Nat.{mul-le}}
+use Rattle.arrays_core.{specs.declared.item.Item.{Item}, specs.declared.item.Kind.{Kind}, specs.Arrays.{ArrayValue}, specs.Shapes.{is_index_of, size, index_after, places_before}, specs.Items.{fill}, proofs.Shapes.{places_below}, proofs.Order.{index_after-places_before, places_before-index_after}}
 use Rattle.change_core.{proofs.Collected.{along, collected, put_first}, proofs.UsedWays.{within-whole}, proofs.Walking.{walk-whole, box_size-whole}}
 use Rattle.change_rules.proofs.Walked.{array_of, failing, walked}
 
@@ -24,8 +19,7 @@ collected_at d h (suc n) a ys e zero l =
     ap h (add-zero a) ∙ parts.2 ∙ ap (λ (l : List Item). Ok (get_or l 0 d)) (sym parts.4)
 collected_at d h (suc n) a ys e (suc p) l =
     let parts = put_parts (h a) (collected (map h (range_with_len (a + 1) n))) ys e in
-    let i : a + suc p ≡ a + 1 + p = omega arith in
-    ap h i ∙ collected_at d h n (a + 1) parts.1 parts.3 p (omega arith) ∙ ap (λ (l : List Item). Ok (get_or l (suc p) d)) (sym parts.4)
+    ap h (omega arith) ∙ collected_at d h n (a + 1) parts.1 parts.3 p (omega arith) ∙ ap (λ (l : List Item). Ok (get_or l (suc p) d)) (sym parts.4)
 
 pub collected_in : (d : Item) (h : ℕ → Result Item Kind) (n : ℕ) (ys : List Item) → collected (map h (range_with_len 0 n)) ≡ Ok ys → (p : ℕ) → p < n → h p ≡ Ok (get_or ys p d)
 collected_in d h n ys e p l = let z : p ≡ 0 + p = omega arith in ap h z ∙ collected_at d h n 0 ys e p l
@@ -34,9 +28,7 @@ collected_in d h n ys e p l = let z : p ≡ 0 + p = omega arith in ap h z ∙ co
 pub collected_from : (h : ℕ → Result Item Kind) (g : ℕ → Item) (n a : ℕ) → ((p : ℕ) → a ≤ p → p < a + n → h p ≡ Ok (g p)) → collected (map h (range_with_len a n)) ≡ Ok (map g (range_with_len a n))
 collected_from h g zero a f = refl
 collected_from h g (suc n) a f =
-    let rest = collected_from h g n (a + 1) (λ p l m. f p (omega arith) (omega arith)) in
-    let first : h a ≡ Ok (g a) = f a (omega arith) (omega arith) in
-    λ i. put_first (first i) (rest i)
+    λ i. put_first ((f a (omega arith) (omega arith)) i) ((collected_from h g n (a + 1) (λ p l m. f p (omega arith) (omega arith))) i)
 
 array_parts : (f : Form) (r : Result (List Item) Kind) (a : ArrayValue) → array_of f r ≡ Ok a → (ys : List Item) × (r ≡ Ok ys) × (a ≡ record { item_type = f.item_type; shape = f.shape; items = ys })
 array_parts f (Ok ys) a e = let s : record { item_type = f.item_type; shape = f.shape; items = ys } ≡ a = cc in (ys, refl, sym s)
@@ -100,8 +92,7 @@ first_error h (suc n) a k e = elim (put_err (h a) (collected (map h (range_with_
     earlier h a x p e f zero l = (x, ap h (add-zero a) ∙ e)
     earlier h a x p e f (suc q) l =
         let y = f q (omega arith) in
-        let i : a + suc q ≡ a + 1 + q = omega arith in
-        (y.0, ap h i ∙ y.1)
+        (y.0, ap h (omega arith) ∙ y.1)
 
 pub from_first : (h : ℕ → Result Item Kind) (n a : ℕ) (k : Kind) (p : ℕ) → p < n → h (a + p) ≡ Err k → ((q : ℕ) → q < p → (x : Item) × (h (a + q) ≡ Ok x)) → collected (map h (range_with_len a n)) ≡ Err k
 from_first h zero a k p l e f = absurd (omega arith)

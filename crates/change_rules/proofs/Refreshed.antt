@@ -1,18 +1,12 @@
 -- Where arguments changed in boxes, the change of a node makes the whole evaluation of the new ones.
-use Rattle.index_region.{proofs.Walks.{walk_within}, specs.declared.delta.Delta.{Delta}, specs.declared.delta.Delta.TheVariants.{Same, Patch, Grown, Whole}}
-use Rattle.index_region.{specs.Answers.{IsPlaceOf}, proofs.Patched.{patched_at}, specs.Boxes.{Interval, box_size, walk_at, whole_of}, specs.Checks.{Form}}
+use Rattle.index_region.{proofs.Walks.{walk_within}, specs.declared.delta.Delta.{Delta}, specs.declared.delta.Delta.TheVariants.{Same, Patch, Grown, Whole}, specs.Answers.{IsPlaceOf}, proofs.Patched.{patched_at}, specs.Boxes.{Interval, box_size, walk_at, whole_of}, specs.Checks.{Form}}
 use Rattle.index_region.specs.Patches.{PatchValue, patched, patched_item}
-use Rattle.std.proofs.Common.{◌≡◌, ◌≢◌, ℕ, zero, suc, ◌+◌, ◌<◌, List, [], ◌∷◌, length, map, refl, ap, ◌∙◌, sym, subst, arith, IsTrue, true, false, Bool, ◌&&◌, ◌||◌, Option, Some, None, Result, Ok, Err, is_ok, IsOk, IfOk}
-use Rattle.std.{proofs.lemmas.List.{length-map}, proofs.lemmas.List.FromFn.{length-map-range_with_len}, specs.List.{range_with_len, list_all, list_any}}
-use Rattle.std.proofs.lemmas.Bool.{false≢true, true≢false, cond-false}
-use Rattle.arrays_core.{specs.Shapes.{index_after, is_index_of, size}, specs.declared.item.Item.{Item}, specs.declared.item.Kind.{Kind}}
-use Rattle.arrays_core.{specs.Arrays.{ArrayValue, IsArray, item_of}, specs.Outcomes.{Outcome}}
-use Rattle.change_core.{specs.declared.reach.Reach.{Reach}, specs.declared.reach.Reach.TheVariants.{Unmoved, Inside, Anew}, proofs.Collected.{along, collected}}
-use Rattle.change_core.{proofs.UsedWays.{within-whole}, specs.Tightness.{Each, ReachCovers, AllAgree, ArgumentChange, Covers, moves, news, olds}}
+use Rattle.std.{proofs.Common.{◌≡◌, ◌≢◌, ℕ, zero, suc, ◌+◌, ◌<◌, List, [], ◌∷◌, length, map, refl, ap, ◌∙◌, sym, subst, arith, IsTrue, true, false, Bool, ◌&&◌, ◌||◌, Option, Some, None, Result, Ok, Err, is_ok, IsOk, IfOk}, proofs.lemmas.List.{length-map}, proofs.lemmas.List.FromFn.{length-map-range_with_len}}
+use Rattle.std.{specs.List.{range_with_len, list_all, list_any}, proofs.lemmas.Bool.{false≢true, true≢false, cond-false}}
+use Rattle.arrays_core.{specs.Shapes.{index_after, is_index_of, size}, specs.declared.item.Item.{Item}, specs.declared.item.Kind.{Kind}, specs.Arrays.{ArrayValue, IsArray, item_of}, specs.Outcomes.{Outcome}}
+use Rattle.change_core.{specs.declared.reach.Reach.{Reach}, specs.declared.reach.Reach.TheVariants.{Unmoved, Inside, Anew}, proofs.Collected.{along, collected}, proofs.UsedWays.{within-whole}, specs.Tightness.{Each, ReachCovers, AllAgree, ArgumentChange, Covers, moves, news, olds}}
 use Rattle.change_core.{specs.Reaches.{AllFit, LiesInResult, reach_of, is_moved, is_reached}, specs.RuleModels.{RuleModel}}
-use Rattle.change_rules.{proofs.PatchRight.{error_right, patch_right}, proofs.Walked.{array_of, walked, walked_is, walked_delta, walked_delta_is}}
-use Rattle.change_rules.specs.Currency.{IsEvaluation, Shows, applied}
-use Rattle.change_rules.specs.Nodes.{Argument, all_same, is_same, is_whole, moved, moved_by, patch_delta, delta_in, is_grown, views}
+use Rattle.change_rules.{proofs.PatchRight.{error_right, patch_right}, proofs.Walked.{array_of, walked, walked_is, walked_delta, walked_delta_is}, specs.Currency.{IsEvaluation, Shows, applied}, specs.Nodes.{Argument, all_same, is_same, is_whole, moved, moved_by, patch_delta, delta_in, is_grown, views}}
 use Rattle.change_rules.specs.Evaluation.{evaluation}
 
 -- an argument is what its change makes of what it was
@@ -84,29 +78,21 @@ pub arguments_before : (os : List Outcome) (ds : List Delta) (ns : List ArrayVal
 arguments_before [] [] [] h k g f sound = record { changes = []; old = refl; new = refl; moved = refl; agree = tt }
 arguments_before (o ∷ os) (Same ∷ ds) (n ∷ ns) h k g f sound =
     let rest = arguments_before os ds ns h.1 k g f.1 sound.1 in
-    let here = h.0.becomes in
-    let ro = rest.old in
-    let rn = rest.new in
-    let rm = rest.moved in
     record {
       changes = record { old = n; new = n; moved = None } ∷ rest.changes;
-      old = λ i. here i ∷ ro i;
-      new = λ i. n ∷ rn i;
-      moved = λ i. None ∷ rm i;
+      old = λ i. h.0.becomes i ∷ rest.old i;
+      new = λ i. n ∷ rest.new i;
+      moved = λ i. None ∷ rest.moved i;
       agree = (record { sound = sound.0; fit = tt; kind = refl; shape = refl; count = refl; same = λ _. refl; outside = λ index p u. refl }, rest.agree);
     }
 arguments_before (o ∷ os) (Patch p ∷ ds) (n ∷ ns) h k g f sound =
     let rest = arguments_before os ds ns h.1 k g f.1 sound.1 in
     let part = part_of o p n h.0.becomes in
-    let here = part.1 in
-    let ro = rest.old in
-    let rn = rest.new in
-    let rm = rest.moved in
     record {
       changes = record { old = part.0; new = n; moved = Some p.region } ∷ rest.changes;
-      old = λ i. here i ∷ ro i;
-      new = λ i. n ∷ rn i;
-      moved = λ i. Some p.region ∷ rm i;
+      old = λ i. part.1 i ∷ rest.old i;
+      new = λ i. n ∷ rest.new i;
+      moved = λ i. Some p.region ∷ rest.moved i;
       agree = (record { sound = sound.0; fit = f.0; count = as_many o part.0 p n part.1 part.2 h.0.sound; same = λ e. absurd cc; kind = ap (λ (v : ArrayValue). v.item_type) part.2; shape = ap (λ (v : ArrayValue). v.shape) part.2; outside = outside_patch part.0 n p part.2 }, rest.agree);
     }
 arguments_before (o ∷ os) (Grown t ∷ ds) (n ∷ ns) h k g f sound = absurd (true≢false g)
@@ -123,9 +109,7 @@ same_whole f old new h = ap (λ (rs : List (Result Item Kind)). array_of f (coll
     same_map : (f g : ℕ → Result Item Kind) (n a : ℕ) → ((p : ℕ) → p < a + n → f p ≡ g p) → map f (range_with_len a n) ≡ map g (range_with_len a n)
     same_map f g zero a h = refl
     same_map f g (suc n) a h =
-        let here = h a (omega arith) in
-        let rest = same_map f g n (a + 1) (λ p l. h p (omega arith)) in
-        λ i. here i ∷ rest i
+        λ i. (h a (omega arith)) i ∷ (same_map f g n (a + 1) (λ p l. h p (omega arith))) i
 
     same_along : (axes : List ℕ) (old new : List ℕ → Result Item Kind) → ((index : List ℕ) → IsTrue (is_index_of axes index) → old index ≡ new index) → along old (whole_of axes) ≡ along new (whole_of axes)
     same_along axes old new h = same_map (λ p. old (walk_at (whole_of axes) p)) (λ p. new (walk_at (whole_of axes) p)) (box_size (whole_of axes)) 0 (λ p l. h (walk_at (whole_of axes) p) (sym (within-whole axes (walk_at (whole_of axes) p)) ∙ walk_within (whole_of axes) p (omega arith)))
@@ -158,11 +142,10 @@ kept_right p law os ds ns (Ok a) count lies before evaluated ok =
     let ms = map moved_by ds in
     let many : length ch ≡ length p.selectors = sym (length-map ch (λ (c : ArgumentChange). c.new)) ∙ ap length (sym before.new) ∙ count in
     let was : Ok a ≡ walked (p.form (olds ch)) (p.item (olds ch)) = evaluated (olds ch) before.old ∙ sym (walked_is (p.form (olds ch)) (p.item (olds ch))) in
-    let was_ok = form_is_ok (p.form (olds ch)) (p.item (olds ch)) a was in
     let here : IsOk (p.form ns) → reach_of p ns ms ≢ Anew → Covers p (olds ch) ns (reach_of p ns ms) =
     subst (λ (v : List ArrayValue). IsOk (p.form v) → reach_of p v ms ≢ Anew → Covers p (olds ch) v (reach_of p v ms)) (sym before.new)
     (subst (λ (m : List (Option (List Interval))). IsOk (p.form (news ch)) → reach_of p (news ch) m ≢ Anew → Covers p (olds ch) (news ch) (reach_of p (news ch) m)) (sym before.moved)
-    (law ch many before.agree was_ok)) in
+    (law ch many before.agree (form_is_ok (p.form (olds ch)) (p.item (olds ch)) a was))) in
     ap (λ (d : Delta). applied d (Ok a)) (sym (walked_delta_is (p.form ns) (p.item ns) (reach_of p ns ms)))
     ∙ reached_right (p.form ns) (p.item (olds ch)) (p.item ns) (reach_of p ns ms) a lies
     (λ f e r index q u. (here (ok_form _ f e) r).outside index (subst (λ (x : Result Form Kind). IsPlaceOf x index) (sym e) q) u)

@@ -1,16 +1,10 @@
 -- What a change says is so of the result.
-use Rattle.index_region.{proofs.Walks.{walk_within, walk_of_offset, offset_below}, specs.declared.delta.Delta.{Delta}, specs.Answers.{IsPlaceOf}}
-use Rattle.index_region.{specs.Boxes.{Interval, fits, is_within, walk_at, box_offset, box_size}, specs.Checks.{Form, whole}, proofs.Patched.{fits_within}}
-use Rattle.std.proofs.Common.{◌≡◌, ℕ, inl, inr, ◌+◌, List, Option, Some, None, Result, Ok, Err, OnOk, true, refl, ap, ◌∙◌, sym, subst, arith}
-use Rattle.std.{specs.declared.alloc.AllocError.{AllocError}, proofs.lemmas.Bool.{cases_Bool, cond-true, cond-false}}
-use Rattle.arrays_core.{specs.declared.item.Item.{Item}, specs.declared.item.Kind.{Kind}, specs.Arrays.{ArrayValue}, specs.Items.{fill}}
-use Rattle.arrays_core.specs.Outcomes.{Outcome, given}
-use Rattle.change_core.{specs.declared.reach.Reach.{Reach}, specs.declared.reach.Reach.TheVariants.{Unmoved, Inside, Anew}, specs.Parts.{items_in}}
-use Rattle.change_core.{specs.Reaches.{LiesInResult, reach_of}, specs.Growth.{last_interval, last_place}, specs.RuleModels.{RuleModel}}
-use Rattle.change_core.{proofs.Regions.{HasFit, bounded-fits}, proofs.Collected.{items_are}, proofs.Covers.{reaches_inside}}
-use Rattle.change_rules.specs.Currency.{IsRight}
-use Rattle.change_rules.specs.Nodes.{Argument, views, moved, all_same, starts_anew, node_delta, patch_delta, delta_in, any_grown, grown_in, node_grows, items_at, tail_delta}
-use Rattle.change_rules.proofs.PatchRight.{collected_in, first_error}
+use Rattle.index_region.{proofs.Walks.{walk_within, walk_of_offset, offset_below}, specs.declared.delta.Delta.{Delta}, specs.Answers.{IsPlaceOf}, specs.Boxes.{Interval, fits, is_within, walk_at, box_offset, box_size}, specs.Checks.{Form, whole}, proofs.Patched.{fits_within}}
+use Rattle.std.{proofs.Common.{◌≡◌, ℕ, inl, inr, ◌+◌, List, Option, Some, None, Result, Ok, Err, OnOk, true, refl, ap, ◌∙◌, sym, subst, arith}, specs.declared.alloc.AllocError.{AllocError}, proofs.lemmas.Bool.{cases_Bool, cond-true, cond-false}}
+use Rattle.arrays_core.{specs.declared.item.Item.{Item}, specs.declared.item.Kind.{Kind}, specs.Arrays.{ArrayValue}, specs.Items.{fill}, specs.Outcomes.{Outcome, given}}
+use Rattle.change_core.{specs.declared.reach.Reach.{Reach}, specs.declared.reach.Reach.TheVariants.{Unmoved, Inside, Anew}, specs.Parts.{items_in}, specs.Reaches.{LiesInResult, reach_of}, specs.Growth.{last_interval, last_place}, specs.RuleModels.{RuleModel}, proofs.Regions.{HasFit, bounded-fits}}
+use Rattle.change_core.{proofs.Collected.{items_are}, proofs.Covers.{reaches_inside}}
+use Rattle.change_rules.{specs.Currency.{IsRight}, specs.Nodes.{Argument, views, moved, all_same, starts_anew, node_delta, patch_delta, delta_in, any_grown, grown_in, node_grows, items_at, tail_delta}, proofs.PatchRight.{collected_in, first_error}}
 
 patch_is_right : (p : RuleModel) (args : List ArrayValue) (f : Form) (region : List Interval) (r : Result (List Item) Kind) → p.form args ≡ Ok f → fits region f.shape ≡ true → items_in (p.item args) region ≡ r
     → IsRight p args (patch_delta f.item_type region r)

@@ -1,11 +1,8 @@
 -- The whole evaluation along the box of all places.
 use Rattle.std.proofs.Common.{◌≡◌, ℕ, List, map, refl, ap, ◌∙◌, Result, Ok, Err}
-use Rattle.arrays_core.{specs.declared.item.Item.{Item}, specs.declared.item.Kind.{Kind}, specs.Items.{all_or_first_error}, specs.Arrays.{with_items}}
-use Rattle.arrays_core.{specs.Shapes.{indices}, specs.Outcomes.{Outcome, fault, given}}
-use Rattle.index_region.{specs.declared.delta.Delta.{Delta}, specs.declared.delta.Delta.TheVariants.{Same, Whole}, specs.Boxes.{whole_of}}
-use Rattle.index_region.specs.Checks.{Form, whole}
-use Rattle.change_core.{specs.declared.reach.Reach.{Reach}, specs.declared.reach.Reach.TheVariants.{Unmoved, Inside, Anew}}
-use Rattle.change_core.{proofs.Collected.{collected, along, collected_is, items_are}, proofs.Walking.{walk_is}}
+use Rattle.arrays_core.{specs.declared.item.Item.{Item}, specs.declared.item.Kind.{Kind}, specs.Items.{all_or_first_error}, specs.Arrays.{with_items}, specs.Shapes.{indices}, specs.Outcomes.{Outcome, fault, given}}
+use Rattle.index_region.{specs.declared.delta.Delta.{Delta}, specs.declared.delta.Delta.TheVariants.{Same, Whole}, specs.Boxes.{whole_of}, specs.Checks.{Form, whole}}
+use Rattle.change_core.{specs.declared.reach.Reach.{Reach}, specs.declared.reach.Reach.TheVariants.{Unmoved, Inside, Anew}, proofs.Collected.{collected, along, collected_is, items_are}, proofs.Walking.{walk_is}}
 use Rattle.change_rules.specs.Nodes.{patch_delta, delta_in}
 
 abbrev pub failing : Kind → Outcome

@@ -1,9 +1,7 @@
 -- What makes a change right.
 use Rattle.std.specs.Prelude.{◌≡◌, ◌<◌, ◌⊎◌, length, true, ℕ, List, [], ◌∷◌, Ok, Err, IsTrue, IfOk, map, get_or}
-use Rattle.arrays_core.{specs.declared.item.Kind.{Kind}, specs.Arrays.{ArrayValue, IsArray}, specs.Items.{fill}, specs.Growth.{grown_by}}
-use Rattle.arrays_core.specs.Outcomes.{Outcome, fault}
-use Rattle.index_region.{specs.declared.delta.Delta.{Delta}, specs.declared.delta.Delta.TheVariants.{Same, Patch, Grown, Whole}, specs.Answers.{IsPlaceOf}}
-use Rattle.index_region.{specs.Boxes.{is_within, fits, box_offset}, specs.Checks.{Form}, specs.Tails.{TailValue}, specs.Patches.{PatchValue, patched}}
+use Rattle.arrays_core.{specs.declared.item.Kind.{Kind}, specs.Arrays.{ArrayValue, IsArray}, specs.Items.{fill}, specs.Growth.{grown_by}, specs.Outcomes.{Outcome, fault}}
+use Rattle.index_region.{specs.declared.delta.Delta.{Delta}, specs.declared.delta.Delta.TheVariants.{Same, Patch, Grown, Whole}, specs.Answers.{IsPlaceOf}, specs.Boxes.{is_within, fits, box_offset}, specs.Checks.{Form}, specs.Tails.{TailValue}, specs.Patches.{PatchValue, patched}}
 use Rattle.change_core.{specs.Growth.{last_place}, specs.RuleModels.{RuleModel}}
 use Rattle.change_rules.{specs.Evaluation.{evaluation}, specs.Nodes.{Argument, views, is_grown, items_at}}
 

@@ -1,12 +1,8 @@
 -- The change of a node, from the changes of its arguments.
-use Rattle.std.specs.Prelude.{ℕ, List, [], ◌∷◌, ◌&&◌, Bool, true, false, ◌||◌, not, Option, Some, None, Result, Ok, Err, if◌then◌else◌, map, is_ok}
-use Rattle.std.{specs.Borrow.{Bor}, specs.List.{list_all, list_any}}
-use Rattle.arrays_core.{specs.declared.item.Item.{Item}, specs.declared.item.ItemType.{ItemType}, specs.declared.item.Kind.{Kind}, specs.Arrays.{ArrayValue}}
-use Rattle.arrays_core.{specs.Items.{type_of}, specs.Shapes.{size}, specs.Outcomes.{Outcome, fault, given}}
-use Rattle.index_region.{specs.declared.delta.Delta.{Delta}, specs.declared.delta.Delta.TheVariants.{Same, Patch, Grown, Whole}}
-use Rattle.index_region.{specs.Boxes.{Interval, box_size}, specs.Checks.{Form, whole}}
-use Rattle.change_core.{specs.declared.reach.Reach.{Reach}, specs.declared.reach.Reach.TheVariants.{Unmoved, Inside, Anew}, specs.Parts.{items_in}}
-use Rattle.change_core.{specs.Growth.{last_place}, specs.Reaches.{reach_of}, specs.RuleModels.{RuleModel, form_size}}
+use Rattle.std.{specs.Prelude.{ℕ, List, [], ◌∷◌, ◌&&◌, Bool, true, false, ◌||◌, not, Option, Some, None, Result, Ok, Err, if◌then◌else◌, map, is_ok}, specs.Borrow.{Bor}, specs.List.{list_all, list_any}}
+use Rattle.arrays_core.{specs.declared.item.Item.{Item}, specs.declared.item.ItemType.{ItemType}, specs.declared.item.Kind.{Kind}, specs.Arrays.{ArrayValue}, specs.Items.{type_of}, specs.Shapes.{size}, specs.Outcomes.{Outcome, fault, given}}
+use Rattle.index_region.{specs.declared.delta.Delta.{Delta}, specs.declared.delta.Delta.TheVariants.{Same, Patch, Grown, Whole}, specs.Boxes.{Interval, box_size}, specs.Checks.{Form, whole}}
+use Rattle.change_core.{specs.declared.reach.Reach.{Reach}, specs.declared.reach.Reach.TheVariants.{Unmoved, Inside, Anew}, specs.Parts.{items_in}, specs.Growth.{last_place}, specs.Reaches.{reach_of}, specs.RuleModels.{RuleModel, form_size}}
 use Rattle.change_rules.{specs.declared.one_place.OnePlace.{OnePlace}, specs.Evaluation.{evaluation}}
 
 -- an argument as it is handed in: the array that it is now, and what changed of it

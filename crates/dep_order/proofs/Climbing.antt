@@ -1,6 +1,5 @@
 -- Going up from a node to those that refer to it.
-use Rattle.std.{proofs.Common.{◌≡◌, ℕ, ◌-◌, ◌<◌, ◌⊎◌, inl, inr, Bool, List, [], ◌∷◌, ◌++◌, sym, subst, arith}, proofs.lemmas.List.{length-append}}
-use Rattle.std.specs.Prelude.{Vec}
+use Rattle.std.{proofs.Common.{◌≡◌, ℕ, ◌-◌, ◌<◌, ◌⊎◌, inl, inr, Bool, List, [], ◌∷◌, ◌++◌, sym, subst, arith}, proofs.lemmas.List.{length-append}, specs.Prelude.{Vec}}
 use Rattle.dep_order.{specs.Reachability.{Chain, Reaches}, specs.Users.{Uses, IsWithin}}
 
 pub chain_join : {A : Type 0} (Refers : A → A → Type 0) (a : A) (xs : List A) (b : A) (ys : List A) (c : A) → Chain Refers a xs b → Chain Refers b ys c → Chain Refers a (xs ++ b ∷ ys) c
@@ -13,8 +12,7 @@ module _ {N S : Type 0} (eq : N → N → Bool) (table : List (N × Vec N S)) wh
 
   pub within_user : (height : ℕ) (node user : N) → IsWithin eq table height node → Uses eq table user node → IsWithin eq table (height - 1) user
   within_user height node user within u a via c =
-      let longer = within a (via ++ user ∷ []) (chain_join (Uses eq table) a via user [] node c u) in
-      omega (arith, longer, length-append via (user ∷ []))
+      omega (arith, within a (via ++ user ∷ []) (chain_join (Uses eq table) a via user [] node c u), length-append via (user ∷ []))
 
   -- one that reaches a user reaches the node
   pub reaches_on : (node user a : N) → Uses eq table user node → (a ≡ user) ⊎ Reaches (Uses eq table) a user → Reaches (Uses eq table) a node

@@ -1,6 +1,5 @@
 -- One more node among those that are found.
-use Rattle.std.proofs.Common.{◌≡◌, ◌⊎◌, inl, inr, Bool, true, false, cond, Option, Some, None, is_some, List, [], ◌∷◌, ◌++◌, refl, sym, ap, ◌∙◌, ⊎_elim}
-use Rattle.std.{specs.List.{Contains, list_any}, specs.Map.{keys_of, lookup}, proofs.lemmas.Map.Views.{Contains-from_any}}
+use Rattle.std.{proofs.Common.{◌≡◌, ◌⊎◌, inl, inr, Bool, true, false, cond, Option, Some, None, is_some, List, [], ◌∷◌, ◌++◌, refl, sym, ap, ◌∙◌, ⊎_elim}, specs.List.{Contains, list_any}, specs.Map.{keys_of, lookup}, proofs.lemmas.Map.Views.{Contains-from_any}}
 use Rattle.std.proofs.lemmas.List.Elements.{Contains-append_left, Contains-append_right, Contains-append_cases}
 use Rattle.indexmap.{specs.IndexMap.{insert_entry}, specs.IndexSet.{insert_key}}
 use Rattle.dep_order.{specs.Follows.{Follows}, specs.Users.{IsExact, HasNothing}, proofs.Following.{contains_here, contains_one, follows_last}}

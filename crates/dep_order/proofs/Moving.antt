@@ -1,6 +1,5 @@
 -- Entries that move into an empty map stay as they are.
-use Rattle.std.{proofs.Common.{◌≡◌, Bool, false, List, [], ◌∷◌, ◌++◌, refl, sym, ap, ◌∙◌, subst}, specs.Cmp.{IsEquivalence}, specs.Map.{keys_of}}
-use Rattle.std.{specs.List.{IsDistinct, AllByRecursion}, proofs.lemmas.List.{append_assoc, append-nil}}
+use Rattle.std.{proofs.Common.{◌≡◌, Bool, false, List, [], ◌∷◌, ◌++◌, refl, sym, ap, ◌∙◌, subst}, specs.Cmp.{IsEquivalence}, specs.Map.{keys_of}, specs.List.{IsDistinct, AllByRecursion}, proofs.lemmas.List.{append_assoc, append-nil}}
 use Rattle.indexmap.specs.IndexMap.{insert_entry, insert_all}
 
 module _ {K : Type 0} (eq : K → K → Bool) (laws : IsEquivalence eq) where

@@ -1,14 +1,7 @@
 -- One list of the table is written.
-use Rattle.std.proofs.Common.{◌≡◌, ◌≢◌, ℕ, ◌+◌, ◌<◌, ◌⊎◌, ◌↔◌, inl, inr, Bool, true, false, cond, List, [], ◌∷◌, ◌++◌, take, length, get_or, Option, Some, IsSome, refl, sym, ap, ◌∙◌, subst, ⊎_elim}
-use Rattle.std.{specs.Prelude.{Vec, filter, not}, specs.Cmp.{IsEquivalence}, specs.Map.{lookup}, specs.List.{Contains}, specs.Option.{unwrap_or, option_map}}
-use Rattle.std.{proofs.lemmas.Bool.{false≢true}, proofs.lemmas.List.{take_more}}
-use Rattle.std.proofs.lemmas.List.Elements.{Contains-append_left, Contains-append_right, Contains-append_cases}
-use Rattle.dep_order.specs.Users.{Uses, users_of, IsExact, HasRoomFor, IsReady, IsReadyFor, EndsWith, HasNoEmptyBut, TakesOneMore}
-use Rattle.dep_order.proofs.Following.{contains_here, contains_there, contains_one, contains_cases, contains_none}
-
--- a table that stays as it is
-pub uses_stay : {N S : Type 0} (eq : N → N → Bool) (before after : List (N × Vec N S)) → after ≡ before → (a b : N) → Uses eq after a b ↔ Uses eq before a b
-uses_stay {N} {S} eq before after is = subst (λ (table : List (N × Vec N S)). (a b : N) → Uses eq after a b ↔ Uses eq table a b) is (λ a b. ((λ u. u), (λ u. u)))
+use Rattle.std.{proofs.Common.{◌≡◌, ◌≢◌, ℕ, ◌+◌, ◌<◌, ◌⊎◌, ◌↔◌, inl, inr, Bool, true, false, cond, List, [], ◌∷◌, ◌++◌, take, length, get_or, Option, Some, IsSome, refl, sym, ap, ◌∙◌, subst, ⊎_elim}, specs.Prelude.{Vec, filter, not}, specs.Cmp.{IsEquivalence}, specs.Map.{lookup}, specs.List.{Contains}}
+use Rattle.std.{specs.Option.{unwrap_or, option_map}, proofs.lemmas.Bool.{false≢true}, proofs.lemmas.List.{take_more}, proofs.lemmas.List.Elements.{Contains-append_left, Contains-append_right, Contains-append_cases}}
+use Rattle.dep_order.{specs.Users.{Uses, users_of, IsExact, HasRoomFor, IsReady, IsReadyFor, EndsWith, HasNoEmptyBut, TakesOneMore}, proofs.Following.{contains_here, contains_there, contains_one, contains_cases, contains_none}}
 
 -- a list that is written over a table is written over its equal
 pub written_over : {N S : Type 0} (eq : N → N → Bool) (lent before after : List (N × Vec N S)) (reference : N) (list : Vec N S) → lent ≡ before

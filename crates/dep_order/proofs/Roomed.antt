@@ -1,9 +1,7 @@
 -- The lists that a table lacks are given to it one by one.
-use Rattle.std.proofs.Common.{◌≡◌, ◌≢◌, ◌<◌, ◌⊎◌, inl, inr, ⊎_elim, Bool, true, false, cond, List, [], ◌∷◌, ◌++◌, Option, Some, None, IsSome, is_some, refl, sym, ap, ◌∙◌, subst, length, arith}
-use Rattle.std.{specs.Cmp.{IsEquivalence}, specs.Map.{lookup}, specs.List.{Contains}, specs.Option.{unwrap_or, option_map}, proofs.lemmas.Bool.{false≢true}}
-use Rattle.std.{proofs.lemmas.List.Elements.{Contains-append_left, Contains-append_right, Contains-append_cases}, specs.Prelude.{Vec}}
-use Rattle.dep_order.{specs.Users.{users_of, IsExact, HasRoomFor}, specs.Room.{HasRoomAt, IsLarger, AreListsFor}, proofs.Noting.{cases_node, same_eq}}
-use Rattle.dep_order.proofs.Following.{contains_here, contains_one}
+use Rattle.std.{proofs.Common.{◌≡◌, ◌≢◌, ◌<◌, ◌⊎◌, inl, inr, ⊎_elim, Bool, true, false, cond, List, [], ◌∷◌, ◌++◌, Option, Some, None, IsSome, is_some, refl, sym, ap, ◌∙◌, subst, length, arith}, specs.Cmp.{IsEquivalence}, specs.Map.{lookup}, specs.List.{Contains}, specs.Option.{unwrap_or, option_map}}
+use Rattle.std.{proofs.lemmas.Bool.{false≢true}, proofs.lemmas.List.Elements.{Contains-append_left, Contains-append_right, Contains-append_cases}, specs.Prelude.{Vec}}
+use Rattle.dep_order.{specs.Users.{users_of, IsExact, HasRoomFor}, specs.Room.{HasRoomAt, IsLarger, AreListsFor}, proofs.Noting.{cases_node, same_eq}, proofs.Following.{contains_here, contains_one}}
 
 -- the last entry is found by its key, where no other has it
 pub found_last : {N V : Type 0} (eq : N → N → Bool) → IsEquivalence eq → (es : List (N × V)) (k : N) (v : V) → lookup (eq k) es ≡ None → lookup (eq k) (es ++ (k, v) ∷ []) ≡ Some v
@@ -67,13 +65,6 @@ module _ {N S : Type 0} (eq : N → N → Bool) (laws : IsEquivalence eq) (exact
   -- no list is left
   pub none_left : (table : List (N × Vec N S)) (references : List N) (lists : List (N × Vec N S)) → lists ≡ [] → AreListsFor eq table references lists → HasRoomFor eq table references
   none_left table references lists none are b c = ⊎_elim (λ r. r) (λ some. absurd (false≢true (subst (λ (es : List (N × Vec N S)). is_some (lookup (eq b) es) ≡ true) none some))) (are.enough b c)
-
-  -- no node is asked yet
-  pub none_asked : (table : List (N × Vec N S)) → AreListsFor eq table [] []
-  none_asked table = record { enough = λ b c. absurd (none b c); larger = λ b s is. absurd cc; asked = λ b some. absurd (false≢true some) }
-    where
-      none : (b : N) → Contains {X = N} [] b → ⊥
-      none b c = absurd (omega (arith, c.1))
 
   module _ (table lists now : List (N × Vec N S)) (references : List N) (node : N) (are : AreListsFor eq table references lists) where
     split : (P : N → Type 0) (b : N) → Contains (references ++ node ∷ []) b → (Contains references b → P b) → P node → P b

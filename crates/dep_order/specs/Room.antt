@@ -1,6 +1,5 @@
 -- Room that a table lacks for a change, brought along by the change.
-use Rattle.std.{specs.Prelude.{◌≡◌, ◌+◌, ◌≤◌, ◌<◌, ◌⊎◌, ℕ, Bool, List, [], Option, Some, None, IsSome, length, Vec, vec_capacity}, specs.Map.{lookup}}
-use Rattle.std.specs.List.{Contains}
+use Rattle.std.{specs.Prelude.{◌≡◌, ◌+◌, ◌≤◌, ◌<◌, ◌⊎◌, ℕ, Bool, List, [], Option, Some, None, IsSome, length, Vec, vec_capacity}, specs.Map.{lookup}, specs.List.{Contains}}
 use Rattle.indexmap.specs.IndexMap.{IndexMap, spare}
 use Rattle.dep_order.specs.Users.{users_of, TakesOneMore}
 

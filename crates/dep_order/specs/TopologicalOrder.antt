@@ -1,8 +1,6 @@
 -- A graph is the list of the nodes that each node refers to. An order has each node once, after all that it refers to.
-use Rattle.std.specs.Prelude.{◌≡◌, ℕ, ◌<◌, ◌⊎◌, Bool, true, false, List, [], length, take, slice_index, slice_index_or, nat_eq}
-use Rattle.std.specs.List.{Contains, IsDistinct}
-use Rattle.dep_order.{specs.Reachability.{IsCycle}, specs.declared.topological_order.OrderFault.{OrderFault}}
-use Rattle.dep_order.specs.declared.topological_order.OrderFault.TheVariants.{Cycle, NoMemory}
+use Rattle.std.{specs.Prelude.{◌≡◌, ℕ, ◌<◌, ◌⊎◌, Bool, true, false, List, [], length, take, slice_index, slice_index_or, nat_eq}, specs.List.{Contains, IsDistinct}}
+use Rattle.dep_order.{specs.Reachability.{IsCycle}, specs.declared.topological_order.OrderFault.{OrderFault}, specs.declared.topological_order.OrderFault.TheVariants.{Cycle, NoMemory}}
 
 -- node a refers to node b
 abbrev pub Points : List (List ℕ) → ℕ → ℕ → Type 0

@@ -1,6 +1,5 @@
 -- A table of who refers to whom: for each node, the list of those that refer to it.
-use Rattle.std.{specs.Prelude.{◌≡◌, ℕ, ◌<◌, ◌⊎◌, ◌++◌, ◌∷◌, Bool, true, List, [], length, Option, Some, None, IsSome, Vec, vec_capacity}, specs.Map.{lookup}}
-use Rattle.std.{specs.List.{Contains}, specs.Option.{unwrap_or, option_map}}
+use Rattle.std.{specs.Prelude.{◌≡◌, ℕ, ◌<◌, ◌⊎◌, ◌++◌, ◌∷◌, Bool, true, List, [], length, Option, Some, None, IsSome, Vec, vec_capacity}, specs.Map.{lookup}, specs.List.{Contains}, specs.Option.{unwrap_or, option_map}}
 use Rattle.dep_order.{specs.Reachability.{Chain}, specs.Follows.{Follows}}
 
 -- nodes that are equal by the test are the same node

@@ -1,9 +1,6 @@
 -- The blocks of lines among all lines.
-use Rattle.std.proofs.Common.{◌≡◌, ◌∙◌, ℕ, ◌+◌, ◌-◌, ◌*◌, ◌/◌, ◌%◌, ◌^◌, ◌<◌, ◌≤◌, ◌⊎◌, List, get_or, ap, sym, subst, arith, inl, inr, ℤ, refl}
-use Rattle.std.{proofs.lemmas.Nat.{div-mul-add, mod-mul-add, div_below, mod_below, mul-le}, proofs.lemmas.Bool.{cases_lt}}
-use Rattle.fold_trees.specs.LineTrees.{nth_node, slot_of, node_of, ArePartsKept, nodes_in_line}
-use Rattle.fold_trees.{specs.LineBlocks.{line_of, HaveSlots, nodes_end, block_at, line_at, HaveNodes}, specs.PartTrees.{AreLines}}
-use Rattle.fold_trees.{proofs.LineSpots.{blocks, slots_are, lines_are, nodes_are, fewer_nodes}, proofs.LineNodes.{kept_alike}}
+use Rattle.std.{proofs.Common.{◌≡◌, ◌∙◌, ℕ, ◌+◌, ◌-◌, ◌*◌, ◌/◌, ◌%◌, ◌^◌, ◌<◌, ◌≤◌, ◌⊎◌, List, get_or, ap, sym, subst, arith, inl, inr, ℤ, refl}, proofs.lemmas.Nat.{div-mul-add, mod-mul-add, div_below, mod_below, mul-le}, proofs.lemmas.Bool.{cases_lt}}
+use Rattle.fold_trees.{specs.LineTrees.{nth_node, slot_of, node_of, ArePartsKept, nodes_in_line}, specs.LineBlocks.{line_of, HaveSlots, nodes_end, block_at, line_at, HaveNodes}, specs.PartTrees.{AreLines}, proofs.LineSpots.{blocks, slots_are, lines_are, nodes_are, fewer_nodes}, proofs.LineNodes.{kept_alike}}
 
 -- ---- a line and its block
 
@@ -16,15 +13,13 @@ line_in_block count step block column below =
 -- a block before another one ends where that begins, or before
 pub units_before : (unit a b : ℕ) → a < b → a * unit + unit ≤ b * unit
 units_before unit a b less =
-    let most = mul-le (a + 1) unit b unit (omega (arith, less)) (omega arith) in
     let sum : (a + 1) * unit ≡ a * unit + unit = grind arith in
-    omega (arith, most, sum)
+    omega (arith, mul-le (a + 1) unit b unit (omega (arith, less)) (omega arith), sum)
 
 module _ (count step slots : ℕ) (are : AreLines count step slots) where
   pub block_count : slots / count / step ≡ blocks count step slots are
   block_count =
-      let all : slots / count ≡ blocks count step slots are * step + 0 = lines_are count step slots are ∙ grind arith in
-      ap (λ n. n / step) all ∙ div-mul-add (blocks count step slots are) step 0 are.apart
+      ap (λ n. n / step) (lines_are count step slots are ∙ grind arith) ∙ div-mul-add (blocks count step slots are) step 0 are.apart
 
   module _ (block : ℕ) (h : block < slots / count / step) where
     pub block_ends : block * (count * step) + count * step ≤ slots
@@ -62,9 +57,8 @@ module _ (count step slots : ℕ) (are : AreLines count step slots) where
 node_before : (count step line block meeting : ℕ) → 0 < step → line < block * step → 1 ≤ meeting → meeting < count
     → nth_node (line_at count step line) meeting < block * (nodes_in_line count * step)
 node_before count step line block meeting apart low one below =
-    let row = units_before step (meeting - 1) (nodes_in_line count) (omega (arith, one, below)) in
     let ends = units_before (nodes_in_line count * step) (line / step) block (div_below line step block apart low) in
-    omega (arith, row, ends, mod_below line step apart)
+    omega (arith, units_before step (meeting - 1) (nodes_in_line count) (omega (arith, one, below)), ends, mod_below line step apart)
 
 -- the first node of each line, if every line has this count of nodes
 pub line_node_first : (unit line : ℕ) → line / 1 * (unit * 1) + line % 1 ≡ line * unit
@@ -93,8 +87,7 @@ module _ {P : Type 0} (blank : P) (tells : P → List ℤ → Type 0) where
         let sum : (block + 1) * step ≡ block * step + step = grind arith in
         let column = line - block * step in
         let below : column < step = omega (arith, enough, high, sum) in
-        let is : line ≡ block * step + column = omega (arith, enough) in
-        let lies = ap (line_at count step) is ∙ line_in_block count step block column below in
+        let lies = ap (line_at count step) (omega (arith, enough)) ∙ line_in_block count step block column below in
         subst (λ l. ArePartsKept tells count (slot_of l slots) (node_of blank l after)) (sym lies) (here column below)
   ]
 
@@ -110,6 +103,5 @@ module _ {P : Type 0} (blank : P) (tells : P → List ℤ → Type 0) where
         kept_alike tells count (slot_of l slots) (slot_of l slots) (node_of blank l now) (node_of blank l after) (λ i p. refl)
         (λ m one high. others (nth_node l m) (omega (arith, line_node_first (nodes_in_line count) other, ends, one, high))) (kept other less)
     | inr enough ↦
-        let is : line ≡ other = omega (arith, below, enough) in
-        subst (λ k. ArePartsKept tells count (slot_of (line_at count 1 k) slots) (node_of blank (line_at count 1 k) after)) is here
+        subst (λ k. ArePartsKept tells count (slot_of (line_at count 1 k) slots) (node_of blank (line_at count 1 k) after)) (omega (arith, below, enough)) here
   ]

@@ -1,9 +1,6 @@
 -- What is kept of the parts of each line of a block, from the last parts to the first.
-use Rattle.std.proofs.Common.{◌≡◌, ◌≢◌, ◌∙◌, ℕ, zero, suc, ◌+◌, ◌-◌, ◌*◌, ◌/◌, ◌%◌, ◌^◌, ◌<◌, ◌≤◌, ◌⊎◌, min, List, get_or, ap, sym, subst, arith, inl, inr, ℤ}
-use Rattle.std.{proofs.lemmas.Nat.{pow_pos, mod-mul-add}, proofs.lemmas.Bool.{cases_lt}}
-use Rattle.fold_trees.{specs.declared.line.Line.{Line}, specs.LineTrees.{nth_node, slot_of, node_of, segment, IsKept, ArePartsKeptIn}}
-use Rattle.fold_trees.specs.LineBlocks.{line_of, nodes_end, ArePartsKeptBehind, ArePartsKeptFrom}
-use Rattle.fold_trees.proofs.Halves.{half_up, half_grows, half_doubled, half_or_same, half_times, meetings_apart, meeting_some}
+use Rattle.std.{proofs.Common.{◌≡◌, ◌≢◌, ◌∙◌, ℕ, zero, suc, ◌+◌, ◌-◌, ◌*◌, ◌/◌, ◌%◌, ◌^◌, ◌<◌, ◌≤◌, ◌⊎◌, min, List, get_or, ap, sym, subst, arith, inl, inr, ℤ}, proofs.lemmas.Nat.{pow_pos, mod-mul-add}, proofs.lemmas.Bool.{cases_lt}}
+use Rattle.fold_trees.{specs.declared.line.Line.{Line}, specs.LineTrees.{nth_node, slot_of, node_of, segment, IsKept, ArePartsKeptIn}, specs.LineBlocks.{line_of, nodes_end, ArePartsKeptBehind, ArePartsKeptFrom}, proofs.Halves.{half_up, half_grows, half_doubled, half_or_same, half_times, meetings_apart, meeting_some}}
 use Rattle.fold_trees.proofs.BlockRows.{row_away, nodes_within}
 
 -- ---- one more part that begins at a place
@@ -30,8 +27,7 @@ module _ {P : Type 0} (blank : P) (tells : P → List ℤ → Type 0) (first : L
       → ArePartsKeptBehind blank tells from half first slots nodes → ArePartsKeptBehind blank tells from (2 * half) first slots after
   kept_on told kept column below level place which inside = elim which [
     | inl behind ↦ old (λ e.
-        let same = ap (λ k. 2 ^ k) (meetings_apart level place at part (e ∙ meets)) in
-        let no : ⊥ = omega (arith, e, same, half_is, behind) in
+        let no : ⊥ = omega (arith, e, ap (λ k. 2 ^ k) (meetings_apart level place at part (e ∙ meets)), half_is, behind) in
         no) (inl behind)
     | inr here ↦ elim (half_or_same level at (omega (arith, here.1, half_is))) [
       | inl less ↦ old (λ e. let no : ⊥ = omega (arith, e, here.0, less, half_is, pow_pos at) in no) (inr (here.0, omega (arith, less, half_is)))
@@ -74,9 +70,8 @@ module _ {P : Type 0} (blank : P) (tells : P → List ℤ → Type 0) (from : �
         let here : place * (2 * 2 ^ level) ≡ from = omega (arith, low, not_behind) in
         elim (cases_lt at (suc level)) [
           | inl wide ↦
-              let more = half_grows at level (omega (arith, wide)) in
               absurd (elim last [
-                | inl ends ↦ let no : ⊥ = omega (arith, more, ends, here, inside, half_is) in no
+                | inl ends ↦ let no : ⊥ = omega (arith, half_grows at level (omega (arith, wide)), ends, here, inside, half_is) in no
                 | inr uneven ↦ uneven (whole (omega (arith, wide)) here)
               ])
           | inr narrow ↦ kept column below level place (inr (here, omega (arith, half_doubled level at (omega (arith, narrow)), half_is))) inside
@@ -124,9 +119,8 @@ module _ {P : Type 0} (blank : P) (tells : P → List ℤ → Type 0) (from half
       → IsKept tells first.count (slot_of (line_of first column) slots) (node_of blank (line_of first column) nodes) (place * (2 * 2 ^ low)) (2 ^ low)
       → tells (node_of blank (line_of first column) nodes (start + half / 2)) (segment (slot_of (line_of first column) slots) start half)
   told_at start place is ends this =
-      let meeting : place * (2 * 2 ^ low) + 2 ^ low ≡ start + half / 2 = omega (arith, is, half_is) in
       let long : min (2 * 2 ^ low) (first.count - place * (2 * 2 ^ low)) ≡ half = omega (arith, is, half_is, ends) in
-      subst (λ m. tells (node_of blank (line_of first column) nodes m) (segment (slot_of (line_of first column) slots) start half)) meeting
+      subst (λ m. tells (node_of blank (line_of first column) nodes m) (segment (slot_of (line_of first column) slots) start half)) (omega (arith, is, half_is))
       (subst (tells (node_of blank (line_of first column) nodes (place * (2 * 2 ^ low) + 2 ^ low)))
       (λ i. segment (slot_of (line_of first column) slots) (sym is i) (long i))
       (this (omega (arith, is, half_is, ends, pow_pos low))))

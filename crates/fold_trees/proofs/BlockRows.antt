@@ -1,24 +1,18 @@
 -- The slots and the nodes of a block of lines, row by row.
-use Rattle.std.proofs.Common.{◌≡◌, ◌≢◌, ◌∙◌, ℕ, ◌+◌, ◌-◌, ◌*◌, ◌<◌, ◌≤◌, ◌⊎◌, List, length, get_or, set, ap, sym, subst, arith, inl, inr}
-use Rattle.std.{proofs.lemmas.Nat.{mul-le}, proofs.lemmas.Bool.{cases_lt, cases_eq}, proofs.lemmas.List.{get_or-set_same, get_or-set_other, get_or_read}}
-use Rattle.fold_trees.{specs.declared.line.Line.{Line}, specs.LineTrees.{slot_at, nth_node, node_of, IsIn}}
-use Rattle.fold_trees.specs.LineBlocks.{line_of, slots_end, HaveSlots, nodes_end, HaveNodes}
+use Rattle.std.{proofs.Common.{◌≡◌, ◌≢◌, ◌∙◌, ℕ, ◌+◌, ◌-◌, ◌*◌, ◌<◌, ◌≤◌, ◌⊎◌, List, length, get_or, set, ap, sym, subst, arith, inl, inr}, proofs.lemmas.Nat.{mul-le}, proofs.lemmas.Bool.{cases_lt, cases_eq}, proofs.lemmas.List.{get_or-set_same, get_or-set_other, get_or_read}}
+use Rattle.fold_trees.{specs.declared.line.Line.{Line}, specs.LineTrees.{slot_at, nth_node, node_of, IsIn}, specs.LineBlocks.{line_of, HaveSlots, nodes_end, HaveNodes}}
 
 -- ---- where they lie
 
 -- so many rows of a step
 pub rows_end : (row rows step : ℕ) → row < rows → row * step + step ≤ rows * step
 rows_end row rows step below =
-    let most = mul-le (row + 1) step rows step (omega (arith, below)) (omega arith) in
     let sum : (row + 1) * step ≡ row * step + step = grind arith in
-    omega (arith, most, sum)
+    omega (arith, mul-le (row + 1) step rows step (omega (arith, below)) (omega arith), sum)
 
 -- the slots of a place in all lines
 pub slot_row : (first : Line) (slots place : ℕ) → HaveSlots first slots → place < first.count → slot_at first place + first.step ≤ slots
 slot_row first slots place has below = omega (arith, rows_end place first.count first.step below, has.end)
-
-pub slots_within : (first : Line) (place : ℕ) → place < first.count → slot_at first place + first.step ≤ slots_end first
-slots_within first place below = omega (arith, rows_end place first.count first.step below)
 
 -- those of one line
 pub line_slot : (first : Line) (column place : ℕ) → slot_at (line_of first column) place ≡ slot_at first place + column
@@ -61,11 +55,9 @@ row_away first column k m below some one other =
     let at = line_node first column k in
     elim (cases_lt k m) [
       | inl before ↦
-          let row = rows_end (k - 1) (m - 1) first.step (omega (arith, before, some)) in
-          inl (omega (arith, row, at, below))
+          inl (omega (arith, rows_end (k - 1) (m - 1) first.step (omega (arith, before, some)), at, below))
       | inr behind ↦
-          let row = rows_end (m - 1) (k - 1) first.step (omega (arith, behind, other, one)) in
-          inr (omega (arith, row, at))
+          inr (omega (arith, rows_end (m - 1) (k - 1) first.step (omega (arith, behind, other, one)), at))
     ]
 
 -- in the same row and others, those of the lines from a column on are outside its first nodes
@@ -76,8 +68,7 @@ column_away first column k a b below high =
     elim (cases_lt (a - 1) (b - 1)) [
       | inl before ↦ inl (omega (arith, rows_end (a - 1) (b - 1) first.step before, at, below))
       | inr behind ↦
-          let more = mul-le (b - 1) first.step (a - 1) first.step (omega (arith, behind)) (omega arith) in
-          inr (omega (arith, more, at, high))
+          inr (omega (arith, mul-le (b - 1) first.step (a - 1) first.step (omega (arith, behind)) (omega arith), at, high))
     ]
 
 -- ---- one line after another

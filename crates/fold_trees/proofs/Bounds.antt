@@ -1,6 +1,5 @@
 -- The least and the greatest of numbers of 64 bits, and of one more.
-use Rattle.std.{proofs.Common.{◌≡◌, refl, sym, arith, Bool, true, false, ◌&&◌, ℤ, ◌≤ℤ◌}, specs.Int.{int_max, int_min}, proofs.lemmas.Int.{ints, clamps}}
-use Rattle.std.proofs.lemmas.Bool.{and_from, and_parts}
+use Rattle.std.{proofs.Common.{◌≡◌, refl, sym, arith, Bool, true, false, ◌&&◌, ℤ, ◌≤ℤ◌}, specs.Int.{int_max, int_min}, proofs.lemmas.Int.{ints, clamps}, proofs.lemmas.Bool.{and_from, and_parts}}
 use Rattle.item_fns.{specs.Numbers.{is_number}, proofs.Within.{in_64_bits, is_in_64_bits}}
 
 same_test : (p q : Bool) → (p ≡ true → q ≡ true) → (q ≡ true → p ≡ true) → p ≡ q

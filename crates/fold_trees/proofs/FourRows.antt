@@ -1,23 +1,19 @@
 -- The nodes of four numbers of a line of a block are set.
-use Rattle.std.proofs.Common.{◌≡◌, ◌≢◌, ◌∙◌, ℕ, ℤ, List, ◌+◌, ◌-◌, ◌*◌, ◌<◌, ◌≤◌, ◌⊎◌, length, get_or, set, ap, sym, subst, arith, inl, inr}
-use Rattle.std.{proofs.lemmas.Bool.{cases_eq}, proofs.lemmas.List.{length-set, get_or-set_same, get_or-set_other}, proofs.lemmas.Nat.{same_from_place}}
-use Rattle.fold_trees.{specs.declared.line.Line.{Line}, specs.LineTrees.{nth_node, slot_of, segment, node_of, AreFourKept}, specs.LineBlocks.{line_of}}
-use Rattle.fold_trees.proofs.BlockRows.{line_node}
+use Rattle.std.{proofs.Common.{◌≡◌, ◌≢◌, ◌∙◌, ℕ, ℤ, List, ◌+◌, ◌-◌, ◌*◌, ◌<◌, ◌≤◌, ◌⊎◌, length, get_or, set, ap, sym, subst, arith, inl, inr}, proofs.lemmas.Bool.{cases_eq}, proofs.lemmas.List.{length-set, get_or-set_same, get_or-set_other}, proofs.lemmas.Nat.{same_from_place}}
+use Rattle.fold_trees.{specs.declared.line.Line.{Line}, specs.LineTrees.{nth_node, slot_of, segment, node_of, AreFourKept}, specs.LineBlocks.{line_of}, proofs.BlockRows.{line_node}}
 
 module _ (first : Line) (from : ℕ) where
   pub second_row : nth_node first (from + 2) ≡ nth_node first (from + 1) + first.step
   second_row =
       let here = ap (λ n. n * first.step) (let e : from + 1 - 1 ≡ from = omega arith in e) in
-      let next = ap (λ n. n * first.step) (let e : from + 2 - 1 ≡ from + 1 = omega arith in e) in
       let sum : (from + 1) * first.step ≡ from * first.step + first.step = grind arith in
-      omega (arith, here, next, sum)
+      omega (arith, here, ap (λ n. n * first.step) (let e : from + 2 - 1 ≡ from + 1 = omega arith in e), sum)
 
   pub third_row : nth_node first (from + 3) ≡ nth_node first (from + 1) + 2 * first.step
   third_row =
       let here = ap (λ n. n * first.step) (let e : from + 1 - 1 ≡ from = omega arith in e) in
-      let next = ap (λ n. n * first.step) (let e : from + 3 - 1 ≡ from + 2 = omega arith in e) in
       let sum : (from + 2) * first.step ≡ from * first.step + 2 * first.step = grind arith in
-      omega (arith, here, next, sum)
+      omega (arith, here, ap (λ n. n * first.step) (let e : from + 3 - 1 ≡ from + 2 = omega arith in e), sum)
 
 module _ {P : Type 0} (blank : P) (first : Line) (from k here : ℕ) (nodes : List P) (a b d : P) (below : k < first.step) (here_is : here ≡ nth_node first (from + 1) + k)
     (fits : here + 2 * first.step < length nodes) where
@@ -71,8 +67,7 @@ module _ {P : Type 0} (blank : P) (first : Line) (from k here : ℕ) (nodes : Li
   apart column m more q inside other is e =
       let less = ap (λ n. n * first.step) (let e : from + 1 - 1 ≡ from = omega arith in e) in
       let sum : (from + more) * first.step ≡ from * first.step + more * first.step = grind arith in
-      let same = same_from_place (m - 1) column (from + more) k first.step inside below (omega (arith, e, is, here_is, less, sum, line_node first column m)) in
-      other same.1
+      other (same_from_place (m - 1) column (from + more) k first.step inside below (omega (arith, e, is, here_is, less, sum, line_node first column m))).1
 
   stays : (column m : ℕ) → column < first.step → column ≢ k → node_of blank (line_of first column) with_four m ≡ node_of blank (line_of first column) nodes m
   stays column m inside other =

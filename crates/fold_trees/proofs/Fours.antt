@@ -1,8 +1,6 @@
 -- The parts of the next four numbers of a line.
-use Rattle.std.proofs.Common.{◌≡◌, ◌∙◌, ℕ, ℤ, List, zero, suc, ◌+◌, ◌-◌, ◌*◌, ◌/◌, ◌%◌, ◌^◌, ◌<◌, ◌≤◌, ◌⊎◌, min, get_or, ap, sym, subst, arith, inl, inr}
-use Rattle.std.{proofs.lemmas.Bool.{cases_lt, cases_eq}, proofs.lemmas.Nat.{pow_pos, mul-le}}
-use Rattle.fold_trees.{specs.declared.line.Line.{Line}, specs.LineTrees.{nth_node, slot_of, segment, node_of, ArePartsKeptIn, ArePartsKeptUpTo, AreFourKept}}
-use Rattle.fold_trees.{specs.LineBlocks.{line_of, ArePartsKeptBehind, ArePartsKeptFrom}, proofs.BlockRows.{line_node}}
+use Rattle.std.{proofs.Common.{◌≡◌, ◌∙◌, ℕ, ℤ, List, zero, suc, ◌+◌, ◌-◌, ◌*◌, ◌/◌, ◌%◌, ◌^◌, ◌<◌, ◌≤◌, ◌⊎◌, min, get_or, ap, sym, subst, arith, inl, inr}, proofs.lemmas.Bool.{cases_lt, cases_eq}, proofs.lemmas.Nat.{pow_pos, mul-le}}
+use Rattle.fold_trees.{specs.declared.line.Line.{Line}, specs.LineTrees.{nth_node, slot_of, segment, node_of, ArePartsKeptIn, ArePartsKeptUpTo, AreFourKept}, specs.LineBlocks.{line_of, ArePartsKeptBehind, ArePartsKeptFrom}, proofs.BlockRows.{line_node}}
 
 module _ {P : Type 0} (tells : P → List ℤ → Type 0) (from count : ℕ) (x : ℕ → ℤ) (n : ℕ → P) (four : from % 4 ≡ 0) (full : from + 4 ≤ count) (told : AreFourKept tells x n from) where
   -- a part at one of the three meetings
@@ -27,9 +25,8 @@ module _ {P : Type 0} (tells : P → List ℤ → Type 0) (from count : ℕ) (x 
       ]
       by (suc zero) low high = told_at (suc zero) place from 4 (omega (arith, low, high)) (omega arith) (omega arith) told.all
       by (suc (suc more)) low high =
-          let p = pow_pos more in
           let power : 2 ^ suc (suc more) ≡ 4 * 2 ^ more = grind arith in
-          let no : ⊥ = omega (arith, p, power, low, high) in
+          let no : ⊥ = omega (arith, pow_pos more, power, low, high) in
           absurd no
 
 -- ---- behind those that a line whose numbers are neighbours has before
@@ -72,20 +69,6 @@ module _ {P : Type 0} (blank : P) (tells : P → List ℤ → Type 0) (from : �
       let power : 2 ^ suc level ≡ 2 * 2 ^ level = grind arith in
       let e : place * (2 * 2 ^ suc level) ≡ 4 * (place * 2 ^ level) = ap (λ u. place * (2 * u)) power ∙ grind arith in
       omega (arith, e, below, low, four)
-
-  -- where the line has no four numbers more, no part begins behind the place
-  pub four_missing : first.count < from + 4 → ArePartsKeptBehind blank tells from 1 first slots nodes
-  four_missing few column below level place which inside = elim which [
-    | inl behind ↦ elim (cases_lt (place * (2 * 2 ^ level)) (from + 4)) [
-      | inl before ↦ let no : ⊥ = none level behind before inside in absurd no
-      | inr later ↦ kept column below level place later inside
-    ]
-    | inr here ↦ let no : ⊥ = omega (arith, here.1, pow_pos level) in absurd no
-  ]
-    where
-      none : (level : ℕ) → from < place * (2 * 2 ^ level) → place * (2 * 2 ^ level) < from + 4 → place * (2 * 2 ^ level) + 2 ^ level < first.count → ⊥
-      none zero behind before inside = omega (arith, behind, inside, few, four)
-      none (suc more) behind before inside = omega (arith, narrow more place before (omega (arith, behind)), behind)
 
   -- else they are kept, and the nodes behind stay
   pub four_before : (after : List P) → from + 4 ≤ first.count

@@ -1,6 +1,5 @@
 -- How wide the halves of parts are, and where they meet.
-use Rattle.std.{proofs.Common.{◌≡◌, ◌∙◌, ℕ, suc, ◌+◌, ◌-◌, ◌*◌, ◌^◌, ◌<◌, ◌≤◌, ◌⊎◌, ap, sym, arith, inl, inr}, proofs.lemmas.Nat.{pow_pos, pow-add}}
-use Rattle.std.{proofs.Math.Nat.{pow-le-pow_right}, proofs.lemmas.Bool.{cases_lt}}
+use Rattle.std.{proofs.Common.{◌≡◌, ◌∙◌, ℕ, suc, ◌+◌, ◌-◌, ◌*◌, ◌^◌, ◌<◌, ◌≤◌, ◌⊎◌, ap, sym, arith, inl, inr}, proofs.lemmas.Nat.{pow_pos, pow-add}, proofs.Math.Nat.{pow-le-pow_right}, proofs.lemmas.Bool.{cases_lt}}
 
 -- steps of a line that are apart
 pub steps_apart : (a b step : ℕ) → 0 < step → a * step ≡ b * step → a ≡ b
@@ -35,11 +34,9 @@ odd_multiples a b i j e = elim (cases_lt i j) [
     uneven : (a b i j : ℕ) → i < j → (2 * a + 1) * 2 ^ i ≡ (2 * b + 1) * 2 ^ j → ⊥
     uneven a b i j less e =
         let more = j - i - 1 in
-        let is : j ≡ suc more + i = omega (arith, less) in
-        let power : 2 ^ j ≡ 2 * 2 ^ more * 2 ^ i = ap (λ k. 2 ^ k) is ∙ pow-add 2 (suc more) i ∙ ap (λ p. p * 2 ^ i) (grind arith) in
+        let power : 2 ^ j ≡ 2 * 2 ^ more * 2 ^ i = ap (λ k. 2 ^ k) (omega (arith, less)) ∙ pow-add 2 (suc more) i ∙ ap (λ p. p * 2 ^ i) (grind arith) in
         let all : (2 * b + 1) * 2 ^ j ≡ 2 * ((2 * b + 1) * 2 ^ more) * 2 ^ i = ap (λ p. (2 * b + 1) * p) power ∙ grind arith in
-        let same = steps_apart (2 * a + 1) (2 * ((2 * b + 1) * 2 ^ more)) (2 ^ i) (pow_pos i) (e ∙ all) in
-        omega (arith, same)
+        omega (arith, steps_apart (2 * a + 1) (2 * ((2 * b + 1) * 2 ^ more)) (2 ^ i) (pow_pos i) (e ∙ all))
 
 -- ---- how wide they are
 

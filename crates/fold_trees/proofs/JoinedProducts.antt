@@ -1,10 +1,7 @@
 -- The products of endings join as their lists do, and so does what is kept of them.
-use Rattle.std.{proofs.Common.{◌≡◌, ap, sym, subst, ◌∙◌, arith, inl, inr, List, [], ◌∷◌, ◌++◌, ◌^◌, ℤ, pos, ◌*ℤ◌, ◌⊎◌}, specs.Int.{int_min, int_max}}
-use Rattle.std.proofs.lemmas.Int.{ints, clamps, by_lt_z}
+use Rattle.std.{proofs.Common.{◌≡◌, ap, sym, subst, ◌∙◌, arith, inl, inr, List, [], ◌∷◌, ◌++◌, ◌^◌, ℤ, pos, ◌*ℤ◌, ◌⊎◌}, specs.Int.{int_min, int_max}, proofs.lemmas.Int.{ints, clamps, by_lt_z}}
 use Rattle.item_fns.proofs.Products.{times_assoc}
-use Rattle.fold_trees.specs.declared.product.Product.{Product}
-use Rattle.fold_trees.specs.Products.{Products, products_of_none, before, products_of, joined_products, AreOrdered, AreFar, kept_products, TellsProducts}
-use Rattle.fold_trees.proofs.Multiples.{between, bounds_times, stretched}
+use Rattle.fold_trees.{specs.declared.product.Product.{Product}, specs.Products.{Products, products_of_none, before, products_of, joined_products, AreOrdered, AreFar, kept_products, TellsProducts}, proofs.Multiples.{between, bounds_times, stretched}}
 
 pub products_eq : (a b : Products) → a.total ≡ b.total → a.least ≡ b.least → a.greatest ≡ b.greatest → a ≡ b
 products_eq a b e f g = λ i. record { total = e i; least = f i; greatest = g i }
@@ -14,8 +11,6 @@ ordered_none = record { least_total = omega (arith, ints); total_greatest = omeg
 
 pub ordered_before : (z : ℤ) (s : Products) → AreOrdered s → AreOrdered (before z s)
 ordered_before z s h =
-    let low = h.least_zero in
-    let high = h.zero_greatest in
     record {
       least_total = omega (arith, ints, clamps);
       total_greatest = omega (arith, ints, clamps);
@@ -30,8 +25,6 @@ ordered_of (z ∷ rest) = ordered_before z (products_of rest) (ordered_of rest)
 pub ordered_join : (a b : Products) → AreOrdered a → AreOrdered b → AreOrdered (joined_products a b)
 ordered_join a b h k =
     let inside = between a.least a.total a.greatest b.total h.least_total h.total_greatest in
-    let low = k.least_zero in
-    let high = k.zero_greatest in
     record {
       least_total = omega (arith, ints, clamps, inside.0);
       total_greatest = omega (arith, ints, clamps, inside.1);
@@ -41,20 +34,12 @@ ordered_join a b h k =
 
 none_join : (s : Products) → AreOrdered s → joined_products products_of_none s ≡ s
 none_join s h =
-    let h1 = h.least_total in
-    let h2 = h.total_greatest in
-    let h3 = h.least_zero in
-    let h4 = h.zero_greatest in
     products_eq _ _ (omega (arith, ints)) (omega (arith, ints, clamps)) (omega (arith, ints, clamps))
 
 before_join : (z : ℤ) (a b : Products) → AreOrdered a → before z (joined_products a b) ≡ joined_products (before z a) b
 before_join z a b h =
-    let low = h.least_zero in
-    let high = h.zero_greatest in
     let assoc = times_assoc z a.total b.total in
     let bounds = bounds_times a.least a.greatest (z *ℤ a.total) b.total (omega (arith, ints)) in
-    let least = bounds.least in
-    let greatest = bounds.greatest in
     products_eq _ _ (sym assoc) (omega (arith, ints, clamps)) (omega (arith, ints, clamps))
 
 pub products_append : (xs ys : List ℤ) → products_of (xs ++ ys) ≡ joined_products (products_of xs) (products_of ys)
@@ -65,14 +50,10 @@ products_append (z ∷ xs) ys = ap (before z) (products_append xs ys) ∙ before
 
 pub far_behind : (a b : Products) → AreFar b → AreFar (joined_products a b)
 far_behind a b h =
-    let whole = h.as_they_are in
-    let negated = h.negated in
     record { as_they_are = omega (arith, ints, clamps); negated = omega (arith, ints, clamps) }
 
 pub far_before : (a b : Products) → AreOrdered a → (b.total ≡ pos 0 → ⊥) → AreFar a → AreFar (joined_products a b)
 far_before a b h some far =
-    let whole = far.as_they_are in
-    let negated = far.negated in
     elim (stretched a.least a.greatest b.total some h.least_zero h.zero_greatest) [
       | inl same ↦ let low = same.0 in let high = same.1 in record { as_they_are = omega (arith, ints, clamps); negated = omega (arith, ints, clamps) }
       | inr other ↦ let low = other.0 in let high = other.1 in record { as_they_are = omega (arith, ints, clamps); negated = omega (arith, ints, clamps) }
@@ -128,8 +109,6 @@ tells_join a b s m n h k j = record {
 -- what is far behind a list is kept as it is
 told_far : (b : Product) → (b.below ≡ 2 ^ 63) × (b.above ≡ 2 ^ 63) → AreFar (kept_products b)
 told_far b h =
-    let below = h.0 in
-    let above = h.1 in
     record { as_they_are = omega (arith, ints, clamps); negated = omega (arith, ints, clamps) }
 
 pub far_joined : (a b : Product) (m n : Products) → (b.below ≡ 2 ^ 63) × (b.above ≡ 2 ^ 63) → TellsProducts a m → TellsProducts b n → TellsProducts b (joined_products m n)

@@ -1,7 +1,6 @@
 -- The sums of endings join as their lists do, and so does what is kept of them.
 use Rattle.std.{proofs.Common.{◌≡◌, ap, sym, subst, ◌∙◌, arith, inl, inr, List, [], ◌∷◌, ◌++◌, ℤ}, proofs.lemmas.Int.{ints, clamps}}
-use Rattle.fold_trees.specs.declared.summary.Summary.{Summary}
-use Rattle.fold_trees.specs.Sums.{Sums, sums_of_none, sums_of, single, join, IsOrdered, told_sums, IsFar, IsSummaryOf}
+use Rattle.fold_trees.{specs.declared.summary.Summary.{Summary}, specs.Sums.{Sums, sums_of_none, sums_of, single, join, IsOrdered, told_sums, IsFar, IsSummaryOf}}
 
 pub sums_eq : (a b : Sums) → a.total ≡ b.total → a.least ≡ b.least → a.greatest ≡ b.greatest → a ≡ b
 sums_eq a b e f g = λ i. record { total = e i; least = f i; greatest = g i }
@@ -11,24 +10,14 @@ join_assoc a b c = sums_eq _ _ (omega (arith, ints)) (omega (arith, ints, clamps
 
 pub join_none : (s : Sums) → IsOrdered s → join s sums_of_none ≡ s
 join_none s h =
-    let h1 = h.least_zero in
-    let h2 = h.zero_greatest in
     sums_eq _ _ (omega (arith, ints)) (omega (arith, ints, clamps)) (omega (arith, ints, clamps))
 
 pub none_join : (s : Sums) → IsOrdered s → join sums_of_none s ≡ s
 none_join s h =
-    let h1 = h.least_total in
-    let h2 = h.total_greatest in
     sums_eq _ _ (omega (arith, ints)) (omega (arith, ints, clamps)) (omega (arith, ints, clamps))
 
 pub ordered_join : (a b : Sums) → IsOrdered a → IsOrdered b → IsOrdered (join a b)
 ordered_join a b h k =
-    let h1 = h.least_total in
-    let h2 = h.total_greatest in
-    let k1 = k.least_total in
-    let k2 = k.total_greatest in
-    let k3 = k.least_zero in
-    let k4 = k.zero_greatest in
     record {
       least_total = omega (arith, ints, clamps);
       total_greatest = omega (arith, ints, clamps);

@@ -1,6 +1,5 @@
 -- The fold of a list of truth values and of a later one after it.
-use Rattle.std.proofs.Common.{◌≡◌, ◌<◌, List, [], ◌∷◌, ◌++◌, length, refl, ap, sym, ◌∙◌, arith, inl, inr, ℤ, pos, Bool, Result, Ok, Err, ◌⊎◌}
-use Rattle.std.{specs.Prelude.{IfOk, IfErr}, proofs.lemmas.List.{length-append}}
+use Rattle.std.{proofs.Common.{◌≡◌, ◌<◌, List, [], ◌∷◌, ◌++◌, length, refl, ap, sym, ◌∙◌, arith, inl, inr, ℤ, pos, Bool, Result, Ok, Err, ◌⊎◌}, specs.Prelude.{IfOk, IfErr}, proofs.lemmas.List.{length-append}}
 use Rattle.arrays_core.{specs.declared.item.Kind.{Kind}, specs.declared.item.Kind.TheVariants.{Domain}, specs.Items.{and_then}}
 use Rattle.item_fns.{specs.Numbers.{as_truth, truth, on_truths, logical}, specs.Folds.{folded, IsAssociative}, proofs.Associative.{is_truth, domain_truth}}
 use Rattle.fold_trees.{specs.Parts.{truth_value}, proofs.JoinedFolds.{both, joined}}

@@ -1,9 +1,6 @@
 -- What is kept of the parts of a line, from the first parts to the last.
-use Rattle.std.proofs.Common.{◌≡◌, ◌≢◌, ◌∙◌, ℕ, zero, suc, ◌+◌, ◌-◌, ◌*◌, ◌/◌, ◌%◌, ◌^◌, ◌<◌, ◌≤◌, ◌⊎◌, ◌++◌, min, List, length, set, ap, sym, subst, arith, inl, inr, ℤ}
-use Rattle.std.{proofs.lemmas.Nat.{pow_pos, mod-mul-add, div-add-mod'}, proofs.lemmas.Bool.{cases_lt}}
-use Rattle.fold_trees.specs.declared.line.Line.{Line}
-use Rattle.fold_trees.specs.LineTrees.{slot_at, nth_node, node_of, segment, IsKept, ArePartsKeptIn, ArePartsKeptBeside, ArePartsKeptUpTo}
-use Rattle.fold_trees.{proofs.Segments.{segment_split}, proofs.Halves.{half_up, half_grows, half_or_same, half_times, meetings_apart, meeting_some}}
+use Rattle.std.{proofs.Common.{◌≡◌, ◌≢◌, ◌∙◌, ℕ, zero, suc, ◌+◌, ◌-◌, ◌*◌, ◌/◌, ◌%◌, ◌^◌, ◌<◌, ◌≤◌, ◌⊎◌, ◌++◌, min, List, length, set, ap, sym, subst, arith, inl, inr, ℤ}, proofs.lemmas.Nat.{pow_pos, mod-mul-add, div-add-mod'}, proofs.lemmas.Bool.{cases_lt}}
+use Rattle.fold_trees.{specs.declared.line.Line.{Line}, specs.LineTrees.{slot_at, nth_node, node_of, segment, IsKept, ArePartsKeptIn, ArePartsKeptBeside, ArePartsKeptUpTo}, proofs.Segments.{segment_split}, proofs.Halves.{half_up, half_grows, half_or_same, half_times, meetings_apart, meeting_some}}
 use Rattle.fold_trees.proofs.LineNodes.{node_here, node_other}
 
 -- ---- where the slots and the nodes of a line lie whose numbers are neighbours
@@ -38,9 +35,8 @@ module _ {P : Type 0} (blank : P) (tells : P → List ℤ → Type 0) (l : Line)
   told_at : (start place : ℕ) → start ≡ place * (2 * 2 ^ low) → start + half ≤ end → IsKept tells l.count x (node_of blank l nodes) (place * (2 * 2 ^ low)) (2 ^ low)
       → tells (node_of blank l nodes (start + half / 2)) (segment x start half)
   told_at start place is ends this =
-      let meeting : place * (2 * 2 ^ low) + 2 ^ low ≡ start + half / 2 = omega (arith, is, half_is) in
       let long : min (2 * 2 ^ low) (l.count - place * (2 * 2 ^ low)) ≡ half = omega (arith, is, half_is, ends, below) in
-      subst (λ m. tells (node_of blank l nodes m) (segment x start half)) meeting
+      subst (λ m. tells (node_of blank l nodes m) (segment x start half)) (omega (arith, is, half_is))
       (subst (tells (node_of blank l nodes (place * (2 * 2 ^ low) + 2 ^ low))) (λ i. segment x (sym is i) (long i))
       (this (omega (arith, is, half_is, ends, below, pow_pos low))))
 

@@ -1,7 +1,5 @@
 -- The parts that are joined for a place of a line, one for each width.
-use Rattle.std.proofs.Common.{◌≡◌, ℕ, suc, ◌+◌, ◌*◌, ◌/◌, ◌%◌, ◌^◌, ◌<◌, ◌≤◌, ◌++◌, ◌∷◌, [], ℤ, List, length, get_or, sym, subst, arith, inl, inr}
-use Rattle.std.{proofs.Math.Nat.{pow-le-pow_right}, proofs.lemmas.Bool.{cases_lt, cases_eq}}
-use Rattle.std.proofs.lemmas.List.{length-append, get_or_append_left, get_or_push}
+use Rattle.std.{proofs.Common.{◌≡◌, ℕ, suc, ◌+◌, ◌*◌, ◌/◌, ◌%◌, ◌^◌, ◌<◌, ◌≤◌, ◌++◌, ◌∷◌, [], ℤ, List, length, get_or, sym, subst, arith, inl, inr}, proofs.Math.Nat.{pow-le-pow_right}, proofs.lemmas.Bool.{cases_lt, cases_eq}, proofs.lemmas.List.{length-append, get_or_append_left, get_or_push}}
 use Rattle.fold_trees.{specs.LineTrees.{numbers_of_block, block_up}, proofs.LineParts.{IsClimb, odd_block, even_block}}
 
 -- each part tells the numbers of its block
@@ -16,10 +14,9 @@ told_more tells count x place parts s each told level blank below = elim (cases_
       subst (λ p. tells p (numbers_of_block count x (block_up place (suc level)) (2 ^ suc level))) (sym (get_or_append_left parts (s ∷ []) blank level less)) (each level blank less)
   | inr enough ↦
       let is : level ≡ length parts = omega (arith, length-append parts (s ∷ []), below, enough) in
-      let double : 2 * 2 ^ length parts ≡ 2 ^ suc (length parts) = grind arith in
       subst (λ p. tells p (numbers_of_block count x (block_up place (suc level)) (2 ^ suc level))) (sym (get_or_push parts s blank level (sym is)))
       (subst (λ k. tells s (numbers_of_block count x (block_up place (suc k)) (2 ^ suc k))) (sym is)
-      (subst (λ w. tells s (numbers_of_block count x (block_up place (length parts) / 2) w)) double told))
+      (subst (λ w. tells s (numbers_of_block count x (block_up place (length parts) / 2) w)) (grind arith) told))
 ]
 
 -- a width below the count is that of a part
@@ -41,9 +38,7 @@ module _ (place block width : ℕ) (climb : IsClimb place block width) where
       elim (cases_eq (block % 2) 0) [
         | inl even ↦ let at = even_block block width even in omega (arith, is, at.0, climb.low)
         | inr odd ↦
-            let one : block % 2 ≡ 1 = omega (arith, odd) in
-            let at = odd_block block width one in
-            omega (arith, is, at.0, climb.low)
+            omega (arith, is, (odd_block block width (omega (arith, odd))).0, climb.low)
       ]
 
   -- a line that does not reach it ends with the block
@@ -53,8 +48,6 @@ module _ (place block width : ℕ) (climb : IsClimb place block width) where
       elim (cases_eq (block % 2) 0) [
         | inl even ↦ let at = even_block block width even in (even, omega (arith, is, at.0, short))
         | inr odd ↦
-            let one : block % 2 ≡ 1 = omega (arith, odd) in
-            let at = odd_block block width one in
-            let no : ⊥ = omega (arith, is, at.0, climb.low, inside, short) in
+            let no : ⊥ = omega (arith, is, (odd_block block width (omega (arith, odd))).0, climb.low, inside, short) in
             absurd no
       ]

@@ -1,9 +1,6 @@
 -- What is kept of the parts of a line, while it is joined anew.
-use Rattle.std.proofs.Common.{◌≡◌, ◌≢◌, ◌∙◌, ℕ, ◌+◌, ◌-◌, ◌*◌, ◌/◌, ◌%◌, ◌^◌, ◌<◌, ◌≤◌, ◌⊎◌, min, List, length, get_or, set, ap, sym, subst, arith, inl, inr, ℤ}
-use Rattle.std.{proofs.lemmas.Nat.{pow_pos}, proofs.lemmas.Bool.{cases_lt, cases_eq}, proofs.lemmas.List.{get_or-set_same, get_or-set_other}}
-use Rattle.fold_trees.specs.declared.line.Line.{Line}
-use Rattle.fold_trees.specs.LineTrees.{nth_node, node_of, segment, numbers_of_block, IsKept, ArePartsKept, ArePartsKeptIn, ArePartsKeptBeside, other_half}
-use Rattle.fold_trees.{proofs.LineParts.{IsClimb, climb_up, odd_block, even_block}, proofs.Segments.{segment_same}}
+use Rattle.std.{proofs.Common.{◌≡◌, ◌≢◌, ◌∙◌, ℕ, ◌+◌, ◌-◌, ◌*◌, ◌/◌, ◌%◌, ◌^◌, ◌<◌, ◌≤◌, ◌⊎◌, min, List, length, get_or, set, ap, sym, subst, arith, inl, inr, ℤ}, proofs.lemmas.Nat.{pow_pos}, proofs.lemmas.Bool.{cases_lt, cases_eq}, proofs.lemmas.List.{get_or-set_same, get_or-set_other}}
+use Rattle.fold_trees.{specs.declared.line.Line.{Line}, specs.LineTrees.{nth_node, node_of, segment, numbers_of_block, IsKept, ArePartsKept, ArePartsKeptIn, ArePartsKeptBeside, other_half}, proofs.LineParts.{IsClimb, climb_up, odd_block, even_block}, proofs.Segments.{segment_same}}
 use Rattle.fold_trees.proofs.Halves.{steps_apart, half_grows, half_doubled, half_below, meetings_apart, meeting_some}
 
 -- for the parts that a place is not in, and for those that are not wider than this
@@ -19,8 +16,7 @@ module _ {P : Type 0} (blank : P) (l : Line) (nodes : List P) where
   pub node_other : (m k : ℕ) (s : P) → 0 < l.step → 1 ≤ m → 1 ≤ k → k ≢ m → get_or (set nodes (nth_node l m) s) (nth_node l k) blank ≡ get_or nodes (nth_node l k) blank
   node_other m k s some h g other =
       get_or-set_other nodes (nth_node l m) (nth_node l k) s blank (λ e. other (
-      let same = steps_apart (k - 1) (m - 1) l.step some (omega (arith, e)) in
-      omega (arith, same, h, g)))
+      omega (arith, steps_apart (k - 1) (m - 1) l.step some (omega (arith, e)), h, g)))
 
 -- ---- a step up from a place
 
@@ -187,8 +183,7 @@ module _ {P : Type 0} (tells : P → List ℤ → Type 0) where
   kept_replaced at count x y node stays kept level place beside inside =
       let from = place * (2 * 2 ^ level) in
       let half = 2 ^ level in
-      let long = min (2 * half) (count - from) in
-      let same = segment_same x y from long (λ i low high.
+      let same = segment_same x y from (min (2 * half) (count - from)) (λ i low high.
       let below : i < count = omega (arith, low, high) in
       let apart : i ≢ at = λ e. elim beside [
         | inl after ↦ omega (arith, after, low, e)
@@ -197,19 +192,6 @@ module _ {P : Type 0} (tells : P → List ℤ → Type 0) where
       sym (stays i below apart)) in
       subst (tells (node (from + half))) same (kept level place inside)
 
-  -- where a line has one more number, the parts without it are those of the shorter line
-  pub kept_longer : (count : ℕ) (x y : ℕ → ℤ) (node : ℕ → P) → ((i : ℕ) → i < count - 1 → y i ≡ x i) → ArePartsKept tells (count - 1) x node → ArePartsKeptBeside tells (count - 1) count y node
-  kept_longer count x y node same kept level place beside inside = elim beside [
-    | inl after ↦ let no : ⊥ = omega (arith, after, inside) in absurd no
-    | inr before ↦
-        let from = place * (2 * 2 ^ level) in
-        let half = 2 ^ level in
-        let whole : min (2 * half) (count - 1 - from) ≡ min (2 * half) (count - from) = omega (arith, before) in
-        let long = min (2 * half) (count - from) in
-        let alike = segment_same x y from long (λ i low high. sym (same i (omega (arith, low, high, before)))) in
-        subst (tells (node (from + half))) (ap (segment x from) whole ∙ alike) (kept level place (omega (arith, before, pow_pos level)))
-  ]
-
   -- where the numbers and the nodes of a line stay, what is kept of its parts does
   pub kept_alike : (count : ℕ) (x y : ℕ → ℤ) (m n : ℕ → P) → ((i : ℕ) → i < count → y i ≡ x i)
       → ((meeting : ℕ) → 1 ≤ meeting → meeting < count → n meeting ≡ m meeting) → ArePartsKept tells count x m → ArePartsKept tells count y n
@@ -217,6 +199,5 @@ module _ {P : Type 0} (tells : P → List ℤ → Type 0) where
       let from = place * (2 * 2 ^ level) in
       let half = 2 ^ level in
       let long = min (2 * half) (count - from) in
-      let alike = segment_same x y from long (λ i low high. sym (same i (omega (arith, low, high)))) in
       subst (λ s. tells s (segment y from long)) (sym (nodes (from + half) (omega (arith, half_grows 0 level (omega arith))) inside))
-      (subst (tells (m (from + half))) alike (kept level place inside))
+      (subst (tells (m (from + half))) (segment_same x y from long (λ i low high. sym (same i (omega (arith, low, high))))) (kept level place inside))

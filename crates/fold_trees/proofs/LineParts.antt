@@ -1,6 +1,5 @@
 -- Parts of a line of numbers: where they begin, and the way up from a place.
-use Rattle.std.proofs.Common.{◌≡◌, ◌≢◌, ◌∙◌, ℕ, ℤ, zero, suc, ◌+◌, ◌-◌, ◌*◌, ◌/◌, ◌%◌, ◌^◌, ◌<◌, ◌≤◌, ◌++◌, min, refl, ap, sym, arith, inl, inr}
-use Rattle.std.{specs.Int.{IsNextPowerOfTwo}, proofs.lemmas.Nat.{pow_pos, pow-add}, proofs.Math.Nat.{pow-le-pow_right}}
+use Rattle.std.{proofs.Common.{◌≡◌, ◌≢◌, ◌∙◌, ℕ, ℤ, zero, suc, ◌+◌, ◌-◌, ◌*◌, ◌/◌, ◌%◌, ◌^◌, ◌<◌, ◌≤◌, ◌++◌, min, refl, ap, sym, arith, inl, inr}, specs.Int.{IsNextPowerOfTwo}, proofs.lemmas.Nat.{pow_pos, pow-add}, proofs.Math.Nat.{pow-le-pow_right}}
 use Rattle.std.proofs.lemmas.Bool.{cases_lt, cases_eq, eq-eqb, ne_eqb, cond-true, cond-false}
 use Rattle.fold_trees.{specs.LineTrees.{IsPart, other_half, AreSameIn, replaced, segment, numbers_of_block}, proofs.Segments.{segment_split}}
 
@@ -25,9 +24,7 @@ least_part from width long p part some few next = elim (cases_lt part.level e) [
       let two : 0 < 2 = omega arith in
       let more : 2 ^ part.level ≤ 2 ^ below = pow-le-pow_right two (omega arith) in
       let positive = pow_pos below in
-      let width_is = part.width_is in
-      let half = next.2 in
-      let no : ⊥ = omega (arith, half, few) in
+      let no : ⊥ = omega (arith, next.2, few) in
       absurd no
   | inr within ↦
       let rest = part.level - e in
@@ -35,8 +32,6 @@ least_part from width long p part some few next = elim (cases_lt part.level e) [
       let pieces : 2 ^ part.level ≡ 2 ^ rest * 2 ^ e = ap (λ k. 2 ^ k) all ∙ pow-add 2 rest e in
       let two : 0 < 2 = omega arith in
       let less : 2 ^ e ≤ 2 ^ part.level = pow-le-pow_right two within in
-      let width_is = part.width_is in
-      let p_is = next.0.1 in
       record {
         level = e;
         place = part.place * 2 ^ rest;
@@ -54,22 +49,6 @@ least_part from width long p part some few next = elim (cases_lt part.level e) [
 pub half_level : (level p : ℕ) → p ≡ 2 ^ level → 2 ≤ p → (less : ℕ) × (p ≡ 2 * 2 ^ less)
 half_level zero p is some = let no : ⊥ = omega (arith, is, some) in absurd no
 half_level (suc less) p is some = let double : 2 ^ suc less ≡ 2 * 2 ^ less = grind arith in (less, is ∙ double)
-
--- a power of two whose half is 1
-pub one_level : (level p : ℕ) → p ≡ 2 ^ level → p / 2 ≡ 1 → level ≡ 1
-one_level zero p is half = let no : ⊥ = omega (arith, is, half) in absurd no
-one_level (suc zero) p is half = refl
-one_level (suc (suc more)) p is half =
-    let double : 2 ^ suc (suc more) ≡ 4 * 2 ^ more = grind arith in
-    let positive = pow_pos more in
-    let no : ⊥ = omega (arith, is, half) in
-    absurd no
-
--- one whose half is more
-pub more_levels : (level p : ℕ) → p ≡ 2 ^ level → 2 ≤ p → (p / 2 ≡ 1 → ⊥) → (less : ℕ) × (p ≡ 2 * (2 * 2 ^ less)) × (level ≡ suc (suc less))
-more_levels zero p is some half = let no : ⊥ = omega (arith, is, some) in absurd no
-more_levels (suc zero) p is some half = let one : p / 2 ≡ 1 = omega (arith, is) in absurd (half one)
-more_levels (suc (suc more)) p is some half = let double : 2 ^ suc (suc more) ≡ 2 * (2 * 2 ^ more) = grind arith in (more, is ∙ double, refl)
 
 -- ---- a part and the one twice as wide
 
@@ -111,10 +90,9 @@ module _ (count : ℕ) (x : ℕ → ℤ) (block width : ℕ) where
       let first : block * width ≡ start = omega (arith, at.0, at.2) in
       let whole : min width (count - block * width) ≡ width = omega (arith, below) in
       let next : block * width + width ≡ start + width = omega (arith, at.0, at.2) in
-      let all : width + min width (count - (block * width + width)) ≡ min (2 * width) (count - start) = omega (arith, at.0, at.2, below) in
       (λ i. segment x (first i) (whole i) ++ segment x (next i) (min width (count - (block * width + width))))
       ∙ sym (segment_split x start width (min width (count - (block * width + width))))
-      ∙ ap (segment x start) all
+      ∙ ap (segment x start) (omega (arith, at.0, at.2, below))
 
   pub widen_alone : block % 2 ≡ 0 → block * width < count → count ≤ block * width + width → numbers_of_block count x block width ≡ numbers_of_block count x (block / 2) (2 * width)
   widen_alone even some last =
@@ -148,8 +126,7 @@ climb_up place block width climb = record {
     within = elim (cases_eq (block % 2) 0) [
       | inl even ↦ let at = even_block block width even in (omega (arith, at.0, at.2, climb.low), omega (arith, at.0, at.2, climb.high))
       | inr odd ↦
-          let is : block % 2 ≡ 1 = omega (arith, odd) in
-          let at = odd_block block width is in
+          let at = odd_block block width (omega (arith, odd)) in
           (omega (arith, at.0, at.2, climb.low), omega (arith, at.0, at.2, climb.high))
     ]
 
@@ -192,7 +169,6 @@ other_half_same place block width x z climb i low high = sym (replaced_other x p
     apart e = elim (cases_eq (block % 2) 0) [
       | inl even ↦ let at = even_block block width even in omega (arith, at.0, at.1, low, high, e, climb.low, climb.high)
       | inr odd ↦
-          let is : block % 2 ≡ 1 = omega (arith, odd) in
-          let at = odd_block block width is in
+          let at = odd_block block width (omega (arith, odd)) in
           omega (arith, at.0, at.1, low, high, e, climb.low, climb.high)
     ]

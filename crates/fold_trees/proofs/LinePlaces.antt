@@ -1,6 +1,5 @@
 -- Which line a place of all numbers is on, and where on it.
-use Rattle.std.proofs.Common.{◌≡◌, ◌∙◌, ℕ, ◌+◌, ◌*◌, ◌/◌, ◌%◌, ◌<◌, ◌≤◌, sym, ap, arith}
-use Rattle.std.proofs.lemmas.Nat.{div-add-mod', div-mul-add, mod-mul-add, mul-add-lt, div_below, mod_below, mul-le}
+use Rattle.std.{proofs.Common.{◌≡◌, ◌∙◌, ℕ, ◌+◌, ◌*◌, ◌/◌, ◌%◌, ◌<◌, ◌≤◌, sym, ap, arith}, proofs.lemmas.Nat.{div-add-mod', div-mul-add, mod-mul-add, mul-add-lt, div_below, mod_below, mul-le}}
 use Rattle.fold_trees.{specs.PartTrees.{AreLines}, specs.ArrayLines.{line_through}, proofs.LineSpots.{spot, spot_is, blocks, slots_are, lines_are}}
 
 -- a block of lines has some places
@@ -11,24 +10,12 @@ module _ (count step : ℕ) (some : 0 < count) (apart : 0 < step) where
   -- how many blocks of lines come before a place
   blocks_before : (block place first : ℕ) → place < count → first < step → (block * (count * step) + (place * step + first)) / (count * step) ≡ block
   blocks_before block place first p f =
-      let within = mul-add-lt place step first count p f in
-      div-mul-add block (count * step) (place * step + first) (omega (arith, within))
-
-  -- a spot is on its line
-  pub spot_line : (line place : ℕ) → place < count → line_through count step (spot count step line place) ≡ line
-  spot_line line place p =
-      let first = line % step in
-      let low = mod_below line step apart in
-      let behind : spot count step line place ≡ line / step * (count * step) + (place * step + first) = grind arith in
-      let block = ap (λ k. k / (count * step)) behind ∙ blocks_before (line / step) place first p low in
-      let rest = ap (λ k. k % step) (spot_is count step line place) ∙ mod-mul-add (line / step * count + place) step first low in
-      (λ i. block i * step + rest i) ∙ div-add-mod' line step
+      div-mul-add block (count * step) (place * step + first) (omega (arith, mul-add-lt place step first count p f))
 
   -- at its place
   pub spot_place : (line place : ℕ) → place < count → spot count step line place / step % count ≡ place
   spot_place line place p =
-      let low = mod_below line step apart in
-      let row = ap (λ k. k / step) (spot_is count step line place) ∙ div-mul-add (line / step * count + place) step (line % step) low in
+      let row = ap (λ k. k / step) (spot_is count step line place) ∙ div-mul-add (line / step * count + place) step (line % step) (mod_below line step apart) in
       ap (λ k. k % count) row ∙ mod-mul-add (line / step) count place p
 
   -- the blocks before a place are counted in two steps
@@ -51,8 +38,7 @@ module _ (count step : ℕ) (some : 0 < count) (apart : 0 < step) where
       let block = k / step / count in
       let low = mod_below k step apart in
       let row = ap (λ l. l / step) (line_counted k) ∙ div-mul-add block step first low in
-      let rest = ap (λ l. l % step) (line_counted k) ∙ mod-mul-add block step first low in
-      (λ i. row i * (count * step) + rest i + k / step % count * step)
+      (λ i. row i * (count * step) + (ap (λ l. l % step) (line_counted k) ∙ mod-mul-add block step first low) i + k / step % count * step)
       ∙ grind arith ∙ ap (λ r. r * step + first) (div-add-mod' (k / step) count) ∙ div-add-mod' k step
 
   -- no more lines come before it than places

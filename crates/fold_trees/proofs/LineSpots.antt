@@ -1,6 +1,5 @@
 -- Where the slots and the nodes of different lines lie.
-use Rattle.std.proofs.Common.{◌≡◌, ◌≢◌, ◌∙◌, ℕ, ◌+◌, ◌-◌, ◌*◌, ◌/◌, ◌%◌, ◌^◌, ◌<◌, ◌≤◌, sym, ap, arith}
-use Rattle.std.proofs.lemmas.Nat.{div-add-mod', div-mul-add, same_from_place, mul-add-lt, div_below, mod_below, mul-le}
+use Rattle.std.{proofs.Common.{◌≡◌, ◌≢◌, ◌∙◌, ℕ, ◌+◌, ◌-◌, ◌*◌, ◌/◌, ◌%◌, ◌^◌, ◌<◌, ◌≤◌, sym, ap, arith}, proofs.lemmas.Nat.{div-add-mod', div-mul-add, same_from_place, mul-add-lt, div_below, mod_below, mul-le}}
 use Rattle.fold_trees.{specs.LineTrees.{nth_node, HasSlots, IsIn, nodes_in_line}, specs.PartTrees.{AreLines}, specs.LineBlocks.{line_at}}
 
 -- the spot of a place of a line among lines that have so many each
@@ -16,8 +15,7 @@ pub same_line : (unit step a b i j : ℕ) → 0 < step → i < unit → j < unit
 same_line unit step a b i j some p q e =
     let both = same_from_place (a / step * unit + i) (a % step) (b / step * unit + j) (b % step) step (mod_below a step some) (mod_below b step some)
     (sym (spot_is unit step a i) ∙ e ∙ spot_is unit step b j) in
-    let blocks = same_from_place (a / step) i (b / step) j unit p q both.0 in
-    sym (div-add-mod' a step) ∙ (λ k. blocks.0 k * step + both.1 k) ∙ div-add-mod' b step
+    sym (div-add-mod' a step) ∙ (λ k. (same_from_place (a / step) i (b / step) j unit p q both.0).0 k * step + both.1 k) ∙ div-add-mod' b step
 
 -- all spots lie within
 pub spot_inside : (unit step blocks line place : ℕ) → 0 < step → line < blocks * step → place < unit → spot unit step line place < blocks * (unit * step)
@@ -38,8 +36,7 @@ module _ (count step slots : ℕ) (are : AreLines count step slots) where
 
   pub lines_are : slots / count ≡ blocks * step
   lines_are =
-      let all : slots ≡ blocks * step * count + 0 = slots_are ∙ grind arith in
-      ap (λ n. n / count) all ∙ div-mul-add (blocks * step) count 0 are.some
+      ap (λ n. n / count) (slots_are ∙ grind arith) ∙ div-mul-add (blocks * step) count 0 are.some
 
   pub all_slots : slots ≡ slots / count * count
   all_slots = slots_are ∙ grind arith ∙ ap (λ n. n * count) (sym lines_are)
@@ -50,8 +47,7 @@ module _ (count step slots : ℕ) (are : AreLines count step slots) where
 
   pub fewer_nodes : (unit nodes : ℕ) → unit ≤ count → nodes ≡ slots / count * unit → nodes ≤ slots
   fewer_nodes unit nodes few sized =
-      let less = mul-le (slots / count) unit (slots / count) count (omega arith) few in
-      omega (arith, less, sized, all_slots)
+      omega (arith, mul-le (slots / count) unit (slots / count) count (omega arith) few, sized, all_slots)
 
   module _ (line : ℕ) (h : line < slots / count) where
     pub line_below : line < blocks * step

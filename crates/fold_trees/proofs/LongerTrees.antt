@@ -1,9 +1,6 @@
 -- All lines lie between one another, and each takes one more number.
-use Rattle.std.proofs.Common.{◌≡◌, ◌∙◌, ℕ, ◌+◌, ◌-◌, ◌*◌, ◌/◌, ◌%◌, ◌^◌, ◌<◌, ◌≤◌, ℤ, pos, List, ◌++◌, length, get_or, sym, ap, subst, arith}
-use Rattle.std.{proofs.lemmas.List.{length-append, get_or_append_left}, proofs.lemmas.Nat.{div_below, div-mul-add, mod-mul-add}}
-use Rattle.fold_trees.{specs.LineTrees.{slot_at, nth_node, slot_of, shorter, IsIn, node_of, ArePartsKept, nodes_in_line}, specs.LineBlocks.{line_at}}
-use Rattle.fold_trees.{specs.PartTrees.{AreLines, AreLineTrees}, proofs.LinePlaces.{some_places}, proofs.LineSpots.{spot, slot_within, node_within, in_both}}
-use Rattle.fold_trees.proofs.LineNodes.{kept_alike}
+use Rattle.std.{proofs.Common.{◌≡◌, ◌∙◌, ℕ, ◌+◌, ◌-◌, ◌*◌, ◌/◌, ◌%◌, ◌^◌, ◌<◌, ◌≤◌, ℤ, pos, List, ◌++◌, length, get_or, sym, ap, subst, arith}, proofs.lemmas.List.{length-append, get_or_append_left}, proofs.lemmas.Nat.{div_below, div-mul-add, mod-mul-add}}
+use Rattle.fold_trees.{specs.LineTrees.{slot_at, nth_node, slot_of, shorter, IsIn, node_of, ArePartsKept, nodes_in_line}, specs.LineBlocks.{line_at}, specs.PartTrees.{AreLines, AreLineTrees}, proofs.LinePlaces.{some_places}, proofs.LineSpots.{spot, slot_within, node_within, in_both}, proofs.LineNodes.{kept_alike}}
 
 -- ---- where the lines lie
 
@@ -32,8 +29,7 @@ one_block count step slots some apart is = record {
 -- are those of as many lines as the step
 pub lines_in_block : (count step slots : ℕ) → 0 < count → slots ≡ count * step → slots / count ≡ step
 lines_in_block count step slots some is =
-    let whole : slots ≡ step * count + 0 = is ∙ grind arith in
-    ap (λ n. n / count) whole ∙ div-mul-add step count 0 some
+    ap (λ n. n / count) (is ∙ grind arith) ∙ div-mul-add step count 0 some
 
 -- both lists are long enough for each of them
 pub in_block : (count step numbers nodes line : ℕ) → 0 < count → 0 < step → numbers ≡ count * step → nodes ≡ nodes_in_line count * step → line < step → numbers < 2 ^ 62
@@ -100,7 +96,6 @@ module _ {P : Type 0} (blank : P) (tells : P → List ℤ → Type 0) (count ste
   -- as many nodes as the longer lines have
   pub nodes_long : length numbers ≡ step → length more ≡ length numbers → length (nodes ++ more) ≡ nodes_in_line (count + 1) * step
   nodes_long wide is =
-      let some = old.lines.some in
       let sum : (nodes_in_line count + 1) * step ≡ nodes_in_line count * step + step = grind arith in
-      let whole : nodes_in_line count + 1 ≡ nodes_in_line (count + 1) = omega (arith, some) in
+      let whole : nodes_in_line count + 1 ≡ nodes_in_line (count + 1) = omega (arith, old.lines.some) in
       omega (arith, length-append nodes more, held_nodes blank tells count step slots nodes old between, is, wide, sum) ∙ ap (λ n. n * step) whole

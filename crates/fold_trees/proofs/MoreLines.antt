@@ -1,6 +1,5 @@
 -- Lines behind others.
-use Rattle.std.proofs.Common.{◌≡◌, ◌∙◌, ℕ, ◌+◌, ◌*◌, ◌/◌, ◌%◌, ◌^◌, ◌<◌, ◌≤◌, sym, ap, arith}
-use Rattle.std.proofs.lemmas.Nat.{div-add-mod', div-mul-add, mod-mul-add, mod_below, mul-le}
+use Rattle.std.{proofs.Common.{◌≡◌, ◌∙◌, ℕ, ◌+◌, ◌*◌, ◌/◌, ◌%◌, ◌^◌, ◌<◌, ◌≤◌, sym, ap, arith}, proofs.lemmas.Nat.{div-add-mod', div-mul-add, mod-mul-add, mod_below, mul-le}}
 use Rattle.fold_trees.{specs.PartTrees.{AreLines}, proofs.LinePlaces.{some_places}, proofs.LineSpots.{spot, blocks, slots_are, lines_are, all_slots}}
 
 -- the spots of a line behind whole blocks
@@ -9,8 +8,7 @@ spot_behind unit step blocks line place some =
     let low = mod_below line step some in
     let parts : blocks * step + line ≡ (blocks + line / step) * step + line % step = ap (λ k. blocks * step + k) (sym (div-add-mod' line step)) ∙ grind arith in
     let row = ap (λ k. k / step) parts ∙ div-mul-add (blocks + line / step) step (line % step) low in
-    let first = ap (λ k. k % step) parts ∙ mod-mul-add (blocks + line / step) step (line % step) low in
-    (λ i. row i * (unit * step) + first i + place * step) ∙ grind arith
+    (λ i. row i * (unit * step) + (ap (λ k. k % step) parts ∙ mod-mul-add (blocks + line / step) step (line % step) low) i + place * step) ∙ grind arith
 
 -- the lines of two lists are whole lines of both
 module _ (count step slots more : ℕ) (old : AreLines count step slots) (new : AreLines count step more) where
@@ -51,12 +49,10 @@ few_in_all old new count unit numbers less some many few =
     let parts = div-add-mod' numbers count in
     let new_slots : new * count ≡ numbers / count * count = ap (λ n. n * count) many in
     let sum : (old + new) * count ≡ old * count + new * count = grind arith in
-    let wide : (old + new) * 1 ≤ (old + new) * count = mul-le (old + new) 1 (old + new) count (omega arith) (omega (arith, some)) in
-    let fewer : (old + new) * unit ≤ (old + new) * count = mul-le (old + new) unit (old + new) count (omega arith) less in
     record {
-      lines_few = omega (arith, parts, new_slots, sum, wide, few);
+      lines_few = omega (arith, parts, new_slots, sum, mul-le (old + new) 1 (old + new) count (omega arith) (omega (arith, some)), few);
       slots_few = omega (arith, parts, new_slots, sum, few);
-      nodes_few = omega (arith, parts, new_slots, sum, fewer, few);
+      nodes_few = omega (arith, parts, new_slots, sum, mul-le (old + new) unit (old + new) count (omega arith) less, few);
     }
 
 -- of lines of this length, and of later lines

@@ -1,8 +1,6 @@
 -- The trees of lines behind others.
-use Rattle.std.proofs.Common.{◌≡◌, ◌∙◌, ℕ, ◌+◌, ◌-◌, ◌*◌, ◌/◌, ◌%◌, ◌<◌, ℤ, pos, List, ◌++◌, length, get_or, sym, ap, subst, arith, inl, inr}
-use Rattle.std.{proofs.lemmas.Bool.{cases_lt}, proofs.lemmas.List.{length-append, get_or_append_left, get_or-append-add}}
-use Rattle.fold_trees.{specs.LineTrees.{slot_at, nth_node, slot_of, node_of, ArePartsKept, nodes_in_line}, specs.LineBlocks.{line_at}}
-use Rattle.fold_trees.{specs.PartTrees.{AreLines, AreLineTrees}, proofs.LineNodes.{kept_alike}, proofs.LineSpots.{spot, all_slots, slot_within, node_within}}
+use Rattle.std.{proofs.Common.{◌≡◌, ◌∙◌, ℕ, ◌+◌, ◌-◌, ◌*◌, ◌/◌, ◌%◌, ◌<◌, ℤ, pos, List, ◌++◌, length, get_or, sym, ap, subst, arith, inl, inr}, proofs.lemmas.Bool.{cases_lt}, proofs.lemmas.List.{length-append, get_or_append_left, get_or-append-add}}
+use Rattle.fold_trees.{specs.LineTrees.{slot_at, nth_node, slot_of, node_of, ArePartsKept, nodes_in_line}, specs.LineBlocks.{line_at}, specs.PartTrees.{AreLines, AreLineTrees}, proofs.LineNodes.{kept_alike}, proofs.LineSpots.{spot, all_slots, slot_within, node_within}}
 use Rattle.fold_trees.proofs.MoreLines.{spot_after, whole_behind, lines_behind}
 
 module _ {P : Type 0} (blank : P) (tells : P → List ℤ → Type 0) (count step : ℕ)
@@ -48,13 +46,12 @@ module _ {P : Type 0} (blank : P) (tells : P → List ℤ → Type 0) (count ste
   pub more_trees : AreLineTrees blank tells count step (slots ++ more) (nodes ++ more_nodes)
   more_trees =
       let long = length-append slots more in
-      let beside = new.lines in
-      let lines = ap (λ n. n / count) long ∙ lines_behind count step (length slots) (length more) there beside in
+      let lines = ap (λ n. n / count) long ∙ lines_behind count step (length slots) (length more) there new.lines in
       record {
         lines = record {
           some = old.lines.some;
           apart = old.lines.apart;
-          whole = ap (λ n. n % (count * step)) long ∙ whole_behind count step (length slots) (length more) there beside;
+          whole = ap (λ n. n % (count * step)) long ∙ whole_behind count step (length slots) (length more) there new.lines;
         };
         sized = length-append nodes more_nodes ∙ (λ i. old.sized i + new.sized i) ∙ grind arith ∙ ap (λ n. n * nodes_in_line count) (sym lines);
         kept = λ k h. elim (cases_lt k old_lines) [

@@ -1,7 +1,6 @@
 -- Multiples of numbers, and their order.
 use borrow.Author.Differences.{up, down}
-use Rattle.std.{proofs.Common.{◌≡◌, refl, ◌∙◌, ℕ, zero, suc, ◌+◌, ◌≤◌, arith, inl, inr, ◌⊎◌, ℤ, pos, negsuc, neg_ℤ, ◌*ℤ◌, ◌≤ℤ◌}, specs.Int.{int_min, int_max}}
-use Rattle.std.{proofs.Math.Nat.{mul-le-mul_right}, proofs.lemmas.Int.{ints, clamps, by_lt_z}}
+use Rattle.std.{proofs.Common.{◌≡◌, refl, ◌∙◌, ℕ, zero, suc, ◌+◌, ◌≤◌, arith, inl, inr, ◌⊎◌, ℤ, pos, negsuc, neg_ℤ, ◌*ℤ◌, ◌≤ℤ◌}, specs.Int.{int_min, int_max}, proofs.Math.Nat.{mul-le-mul_right}, proofs.lemmas.Int.{ints, clamps, by_lt_z}}
 
 -- as many times as the difference from 0
 up_by : (a b : ℤ) (n : ℕ) → a ≤ℤ b → (a *ℤ pos n) ≤ℤ (b *ℤ pos n)

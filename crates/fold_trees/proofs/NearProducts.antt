@@ -1,6 +1,5 @@
 -- What is kept of products is near 0, so that 128 bits hold what two of them are together.
-use Rattle.std.{proofs.Common.{◌^◌, ◌≤◌, arith, ℤ, pos, neg_ℤ, ◌*ℤ◌, ◌≤ℤ◌, SFits, unsigned_abs}, specs.Int.{w64, w128}, proofs.Math.Nat.{mul-le-mul}}
-use Rattle.std.proofs.lemmas.Int.{ints, clamps, unsigned_abs-mul, fits_signed_from_abs}
+use Rattle.std.{proofs.Common.{◌^◌, ◌≤◌, arith, ℤ, pos, neg_ℤ, ◌*ℤ◌, ◌≤ℤ◌, SFits, unsigned_abs}, specs.Int.{w64, w128}, proofs.Math.Nat.{mul-le-mul}, proofs.lemmas.Int.{ints, clamps, unsigned_abs-mul, fits_signed_from_abs}}
 use Rattle.fold_trees.{specs.declared.product.Product.{Product}, specs.Products.{Products, joined_products, kept_products, TellsProducts}}
 
 pub record AreNear (s : Products) : Type 0 where
@@ -10,10 +9,6 @@ pub record AreNear (s : Products) : Type 0 where
 
 pub are_near : (s : Product) (m : Products) → TellsProducts s m → AreNear (kept_products s)
 are_near s m h =
-    let below = h.below in
-    let above = h.above in
-    let low = h.sound.least_total in
-    let high = h.sound.total_greatest in
     record { total = omega (arith, ints); least = omega (arith, ints); greatest = omega (arith, ints) }
 
 pub near_times : (x y : ℤ) → unsigned_abs x ≤ 2 ^ 63 → unsigned_abs y ≤ 2 ^ 63 → unsigned_abs (x *ℤ y) ≤ 2 ^ 126
@@ -30,8 +25,6 @@ pub join_within : (a b : Products) → AreNear a → AreNear b → IsWithin126 (
 join_within a b h k =
     let one = near_times a.least b.total h.least k.total in
     let other = near_times a.greatest b.total h.greatest k.total in
-    let low = k.least in
-    let high = k.greatest in
     record { low = omega (arith, ints, clamps); high = omega (arith, ints, clamps) }
 
 -- what is nearer keeps their join within 62 bits

@@ -1,15 +1,13 @@
 -- The numbers of a list that is one line.
-use Rattle.std.{proofs.Common.{◌≡◌, ◌∙◌, ℕ, ◌+◌, ◌*◌, ◌/◌, ◌%◌, ◌<◌, ℤ, pos, length, set, ap, sym, arith}, proofs.lemmas.List.{length-set, take_all}}
-use Rattle.std.proofs.Math.Nat.{div-eq_of_lt}
+use Rattle.std.{proofs.Common.{◌≡◌, ◌∙◌, ℕ, ◌+◌, ◌*◌, ◌/◌, ◌%◌, ◌<◌, ℤ, pos, length, set, ap, sym, arith}, proofs.lemmas.List.{length-set, take_all}, proofs.Math.Nat.{div-eq_of_lt}}
 use Rattle.item_fns.{specs.Folds.{strided, line_start}, proofs.RightFolds.{strided_run}}
 use Rattle.fold_trees.{specs.ArrayLines.{TreesValue, line_through, numbers_of_line, numbers_through, with_number}, specs.PartTrees.{IsOneLine}}
 
 pub numbers_of_one : (t : TreesValue) → IsOneLine t → 0 < length t.numbers → numbers_of_line t 0 ≡ t.numbers
 numbers_of_one t one some =
     let all : t.count ≡ length t.numbers = omega (arith, one.long, some) in
-    let first : line_start 1 (length t.numbers) 0 ≡ 0 = omega arith in
     (λ i. strided (pos 0) t.numbers (line_start (one.near i) (all i) 0) (one.near i) (all i))
-    ∙ ap (λ k. strided (pos 0) t.numbers k 1 (length t.numbers)) first
+    ∙ ap (λ k. strided (pos 0) t.numbers k 1 (length t.numbers)) (omega arith)
     ∙ sym (strided_run (pos 0) t.numbers 0 (length t.numbers) (omega arith))
     ∙ take_all (length t.numbers) t.numbers (omega arith)
 

@@ -1,27 +1,14 @@
 -- The products of the endings of a list tell its product from the right.
-use Rattle.std.proofs.Common.{◌≡◌, ◌^◌, ◌<◌, length, List, [], ◌∷◌, refl, ap, sym, ◌∙◌, arith, inl, inr, Bool, true, false, ◌&&◌, if◌then◌else◌, ℤ, pos, neg_ℤ, ◌-ℤ◌, ◌*ℤ◌, ◌≤ℤ◌, Ok, Err}
-use Rattle.std.{specs.Int.{int_max}, specs.List.{All}, proofs.lemmas.Int.{ints, clamps}, proofs.lemmas.List.Elements.{All-head, All-tail}}
-use Rattle.std.proofs.lemmas.Bool.{and_from, and_parts, cases_Bool, cond-true, cond-false}
+use Rattle.std.{proofs.Common.{◌≡◌, ◌<◌, length, List, [], ◌∷◌, refl, ap, sym, ◌∙◌, arith, Bool, true, false, ◌&&◌, if◌then◌else◌, ℤ, ◌*ℤ◌, Ok, Err}, specs.List.{All}, proofs.lemmas.Int.{ints, clamps}, proofs.lemmas.List.Elements.{All-head, All-tail}, proofs.lemmas.Bool.{and_from, cond-true}}
 use Rattle.arrays_core.{specs.declared.item.Kind.TheVariants.{Limit}, specs.Items.{and_then}}
 use Rattle.function_names.specs.declared.scalar.Scalar2.TheVariants.{Times}
 use Rattle.item_fns.{specs.Numbers.{dyadic_on_numbers, number_or_limit, is_number}, specs.Folds.{folded}, proofs.Within.{Within, in_64_bits, is_in_64_bits}}
-use Rattle.fold_trees.{specs.Products.{Products, products_of_none, before, products_of, product_told}, proofs.JoinedProducts.{ordered_of}}
-use Rattle.fold_trees.proofs.Bounds.{one_more}
+use Rattle.fold_trees.{specs.Products.{Products, products_of_none, before, products_of, product_told}, proofs.JoinedProducts.{ordered_of}, proofs.Bounds.{one_more}}
 
 -- ---- what is told
 
 pub told_within : (s : Products) → Within s.least → Within s.greatest → product_told s ≡ Ok s.total
 told_within s h k = cond-true _ (Ok s.total) (Err Limit) (and_from _ _ (is_in_64_bits s.least h) (is_in_64_bits s.greatest k))
-
-pub told_beyond : (s : Products) → pos (2 ^ 63) ≤ℤ int_max s.greatest (neg_ℤ s.least -ℤ pos 1) → product_told s ≡ Err Limit
-told_beyond s h = elim (cases_Bool (is_number s.least && is_number s.greatest)) [
-  | inl good ↦
-      let both = and_parts (is_number s.least) (is_number s.greatest) good in
-      let low = (in_64_bits s.least both.0).low in
-      let high = (in_64_bits s.greatest both.1).high in
-      absurd (omega (arith, ints, clamps))
-  | inr bad ↦ cond-false _ (Ok s.total) (Err Limit) bad
-]
 
 -- ---- the product from the right
 
@@ -33,11 +20,10 @@ then_times false z t = refl
 one_number : (z : ℤ) → is_number z ≡ true → product_told (before z products_of_none) ≡ Ok z
 one_number z e =
     let h = in_64_bits z e in
-    let once : z *ℤ pos 1 ≡ z = omega (arith, ints) in
     told_within (before z products_of_none)
     (record { low = omega (arith, ints, clamps, h.low); high = omega (arith, ints, clamps, h.high) })
     (record { low = omega (arith, ints, clamps, h.low); high = omega (arith, ints, clamps, h.high) })
-    ∙ ap Ok once
+    ∙ ap Ok (omega (arith, ints))
 
 pub told_folded : (z : ℤ) (rest : List ℤ) → All (λ x. is_number x ≡ true) (z ∷ rest)
     → product_told (products_of (z ∷ rest)) ≡ folded (dyadic_on_numbers Times) (z ∷ rest)

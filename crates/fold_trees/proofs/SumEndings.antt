@@ -1,6 +1,5 @@
 -- The sums of the endings of a list tell its sum from the right.
-use Rattle.std.proofs.Common.{◌≡◌, ◌<◌, length, List, [], ◌∷◌, refl, ap, sym, ◌∙◌, arith, Bool, true, false, ◌&&◌, if◌then◌else◌, ℤ, ◌+ℤ◌, Ok, Err}
-use Rattle.std.{specs.Int.{int_max, int_min}, specs.List.{All}, proofs.lemmas.Int.{ints, clamps}, proofs.lemmas.List.Elements.{All-head, All-tail}}
+use Rattle.std.{proofs.Common.{◌≡◌, ◌<◌, length, List, [], ◌∷◌, refl, ap, sym, ◌∙◌, arith, Bool, true, false, ◌&&◌, if◌then◌else◌, ℤ, ◌+ℤ◌, Ok, Err}, specs.Int.{int_max, int_min}, specs.List.{All}, proofs.lemmas.Int.{ints, clamps}, proofs.lemmas.List.Elements.{All-head, All-tail}}
 use Rattle.std.proofs.lemmas.Bool.{and_from, cond-true}
 use Rattle.arrays_core.{specs.declared.item.Kind.TheVariants.{Limit}, specs.Items.{and_then}}
 use Rattle.function_names.specs.declared.scalar.Scalar2.TheVariants.{Plus}
@@ -16,11 +15,10 @@ one_number : (z : ℤ) → is_number z ≡ true → sum_told (sums_of (z ∷ [])
 one_number z e =
     let s = sums_of (z ∷ []) in
     let h = in_64_bits z e in
-    let total : s.total ≡ z = omega (arith, ints) in
     cond-true _ (Ok s.total) (Err Limit) (and_from _ _
     (is_in_64_bits s.least (record { low = omega (arith, ints, clamps, h.low); high = omega (arith, ints, clamps, h.high) }))
     (is_in_64_bits s.greatest (record { low = omega (arith, ints, clamps, h.low); high = omega (arith, ints, clamps, h.high) })))
-    ∙ ap Ok total
+    ∙ ap Ok (omega (arith, ints))
 
 -- the sum from the right
 told_folded : (z : ℤ) (rest : List ℤ) → All (λ x. is_number x ≡ true) (z ∷ rest) → sum_told (sums_of (z ∷ rest)) ≡ folded (dyadic_on_numbers Plus) (z ∷ rest)
@@ -29,8 +27,6 @@ told_folded z (y ∷ rest) h =
     let s = sums_of (y ∷ rest) in
     let all = sums_of (z ∷ y ∷ rest) in
     let order = ordered_of (y ∷ rest) in
-    let low = order.least_total in
-    let high = order.total_greatest in
     let least : all.least ≡ int_min s.least (z +ℤ s.total) = omega (arith, ints, clamps) in
     let greatest : all.greatest ≡ int_max s.greatest (z +ℤ s.total) = omega (arith, ints, clamps) in
     (λ i. if is_number (least i) && is_number (greatest i) then Ok (z +ℤ s.total) else Err Limit)

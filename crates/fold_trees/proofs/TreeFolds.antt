@@ -1,13 +1,10 @@
 -- The numbers of a line, and their fold.
-use Rattle.std.{proofs.Common.{◌≡◌, ◌∙◌, ℕ, ◌/◌, ◌%◌, ◌<◌, ℤ, pos, List, length, get_or, set, sym, ap, arith, inl, inr, Result}, proofs.lemmas.Bool.{cases_eq}}
-use Rattle.std.proofs.lemmas.List.{get_or-set_same, get_or-set_other}
+use Rattle.std.{proofs.Common.{◌≡◌, ◌∙◌, ℕ, ◌/◌, ◌%◌, ◌<◌, ℤ, pos, List, length, get_or, set, sym, ap, arith, inl, inr, Result}, proofs.lemmas.Bool.{cases_eq}, proofs.lemmas.List.{get_or-set_same, get_or-set_other}}
 use Rattle.arrays_core.specs.declared.item.Kind.{Kind}
 use Rattle.function_names.specs.declared.scalar.Scalar2.{Scalar2}
 use Rattle.item_fns.{specs.Folds.{folded}, specs.Items.{number_item}, specs.Numbers.{dyadic_on_numbers}, proofs.ItemFolds.{number_items_folded}}
-use Rattle.fold_trees.{specs.ArrayLines.{line_through, numbers_through, with_number}, specs.PartTrees.{AreLines}}
-use Rattle.fold_trees.{proofs.LineParts.{replaced_here, replaced_other}, proofs.LinePlaces.{place_spot, spot_place}}
-use Rattle.fold_trees.{specs.LineTrees.{slot_at, slot_of, replaced, segment}, specs.FoldTrees.{IsReductionBy}, proofs.Segments.{segment_same, listed_segment}}
-use Rattle.fold_trees.specs.LineBlocks.{line_at}
+use Rattle.fold_trees.{specs.ArrayLines.{line_through, numbers_through, with_number}, specs.PartTrees.{AreLines}, proofs.LineParts.{replaced_here, replaced_other}, proofs.LinePlaces.{place_spot, spot_place}, specs.LineTrees.{slot_at, slot_of, replaced, segment}, specs.FoldTrees.{IsReductionBy}}
+use Rattle.fold_trees.{proofs.Segments.{segment_same, listed_segment}, specs.LineBlocks.{line_at}}
 
 -- the fold of some numbers is their reduction
 pub reduction_of : (f : Scalar2) (zs : List ℤ) (r : Result ℤ Kind) → 0 < length zs → r ≡ folded (dyadic_on_numbers f) zs → IsReductionBy f zs r

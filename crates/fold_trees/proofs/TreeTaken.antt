@@ -1,7 +1,6 @@
 -- Lines that lie between one another take one more number each, one line after another.
-use Rattle.std.{proofs.Common.{◌≡◌, ◌≢◌, ◌∙◌, ℕ, ◌+◌, ◌-◌, ◌<◌, ◌≤◌, ℤ, List, length, get_or, refl, sym, subst, arith, inl, inr}, proofs.lemmas.Bool.{cases_eq}}
-use Rattle.fold_trees.{specs.declared.line.Line.{Line}, specs.LineTrees.{slot_of, shorter, nth_node, node_of, ArePartsKept}, proofs.LineSpots.{nodes_apart}}
-use Rattle.fold_trees.{proofs.LineNodes.{kept_alike}, specs.LineBlocks.{line_at}}
+use Rattle.std.{proofs.Common.{◌≡◌, ◌≢◌, ◌∙◌, ℕ, ◌+◌, ◌<◌, ◌≤◌, ℤ, List, length, get_or, refl, sym, subst, arith, inl, inr}, proofs.lemmas.Bool.{cases_eq}}
+use Rattle.fold_trees.{specs.declared.line.Line.{Line}, specs.LineTrees.{slot_of, nth_node, node_of, ArePartsKept}, proofs.LineSpots.{nodes_apart}, proofs.LineNodes.{kept_alike}, specs.LineBlocks.{line_at}}
 
 -- one line has taken its last number; nodes of no place of it stay
 pub record IsTaken {P : Type 0} (blank : P) (tells : P → List ℤ → Type 0) (l : Line) (numbers : List ℤ) (nodes after : List P) : Type 0 where
@@ -17,14 +16,6 @@ pub record AreTakenTo {P : Type 0} (blank : P) (tells : P → List ℤ → Type 
 
 module _ {P : Type 0} (blank : P) (tells : P → List ℤ → Type 0) (count step : ℕ) (numbers : List ℤ) (nodes now : List P) (line : ℕ)
     (taken : AreTakenTo blank tells count step numbers nodes now line) where
-  -- what is kept of a line that has not
-  pub rest_kept : ArePartsKept tells (count - 1) (slot_of (shorter (line_at count step line)) numbers) (node_of blank (shorter (line_at count step line)) nodes)
-      → ArePartsKept tells (count - 1) (slot_of (shorter (line_at count step line)) numbers) (node_of blank (shorter (line_at count step line)) now)
-  rest_kept =
-      let l = shorter (line_at count step line) in
-      kept_alike tells (count - 1) (slot_of l numbers) (slot_of l numbers) (node_of blank l nodes) (node_of blank l now) (λ i p. refl)
-      (λ m low high. taken.rest line m (omega arith) low (omega (arith, high)))
-
   -- the next line takes its number
   pub taken_on : (after : List P) → 0 < step → IsTaken blank tells (line_at count step line) numbers now after
       → AreTakenTo blank tells count step numbers nodes after (line + 1)

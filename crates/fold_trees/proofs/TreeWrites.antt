@@ -1,9 +1,6 @@
 -- A number is put at a place of all lines.
-use Rattle.std.proofs.Common.{◌≡◌, ◌≢◌, ◌∙◌, ℕ, ◌*◌, ◌/◌, ◌%◌, ◌<◌, ◌≤◌, ℤ, pos, List, length, get_or, set, sym, ap, subst, arith, inl, inr}
-use Rattle.std.{proofs.lemmas.Bool.{cases_eq}, proofs.lemmas.List.{ext_get_or, length-set, get_or-set_same, get_or-set_other}, proofs.lemmas.Nat.{mod_below}}
-use Rattle.fold_trees.{specs.ArrayLines.{line_through}, specs.PartTrees.{AreLines, AreLineTrees}, proofs.LineParts.{replaced_here, replaced_other}}
-use Rattle.fold_trees.{proofs.LinePlaces.{place_spot}, specs.declared.line.Line.{Line}}
-use Rattle.fold_trees.specs.LineTrees.{slot_at, slot_of, replaced, HasSlots, nth_node, node_of, ArePartsKept, nodes_in_line}
+use Rattle.std.{proofs.Common.{◌≡◌, ◌≢◌, ◌∙◌, ℕ, ◌*◌, ◌/◌, ◌%◌, ◌<◌, ◌≤◌, ℤ, pos, List, length, get_or, set, sym, ap, subst, arith, inl, inr}, proofs.lemmas.Bool.{cases_eq}, proofs.lemmas.List.{ext_get_or, length-set, get_or-set_same, get_or-set_other}, proofs.lemmas.Nat.{mod_below}}
+use Rattle.fold_trees.{specs.ArrayLines.{line_through}, specs.PartTrees.{AreLines, AreLineTrees}, proofs.LineParts.{replaced_here, replaced_other}, proofs.LinePlaces.{place_spot}, specs.declared.line.Line.{Line}, specs.LineTrees.{slot_at, slot_of, replaced, HasSlots, nth_node, node_of, ArePartsKept, nodes_in_line}}
 use Rattle.fold_trees.{proofs.LineSpots.{nodes_apart, slots_apart}, proofs.Halves.{steps_apart}, proofs.LineNodes.{kept_alike}, specs.LineBlocks.{line_at}}
 
 module _ (l : Line) (numbers : List ℤ) (has : HasSlots l (length numbers)) where

@@ -1,7 +1,6 @@
 -- The trees of the lines of an array, a kind for each function.
 use Rattle.function_names.specs.declared.scalar.Scalar2.TheVariants.{Plus, Times, Maximum, Minimum, And, Or}
-use Rattle.fold_trees.{specs.FoldTrees.{FoldsValue, NewFoldsValue, NextFoldsValue}, specs.declared.fold_trees.Trees.{Trees}}
-use Rattle.fold_trees.{specs.declared.fold_trees.Lines.{Lines}, specs.declared.fold_trees.Places.{Places}}
+use Rattle.fold_trees.{specs.FoldTrees.{FoldsValue, NewFoldsValue, NextFoldsValue}, specs.declared.fold_trees.Trees.{Trees}, specs.declared.fold_trees.Lines.{Lines}, specs.declared.fold_trees.Places.{Places}}
 use Rattle.fold_trees.specs.declared.fold_trees.Trees.TheVariants as trees
 use Rattle.fold_trees.specs.declared.fold_trees.Lines.TheVariants as lines
 use Rattle.fold_trees.specs.declared.fold_trees.Places.TheVariants as places

@@ -1,9 +1,8 @@
 -- What was joined for another number at a place of the lines of an array.
 use Rattle.std.specs.Prelude.{ℕ, ◌-◌, ◌<◌, ℤ, length}
 use Rattle.function_names.{specs.declared.scalar.Scalar2.{Scalar2}, specs.declared.scalar.Scalar2.TheVariants.{Plus, Times, Maximum, Minimum, And, Or}}
-use Rattle.fold_trees.{specs.declared.joined.Joined.{Joined}, specs.declared.joined.JoinedParts.{JoinedParts}}
-use Rattle.fold_trees.{specs.ArrayLines.{TreesValue, numbers_through, with_number}, specs.FoldTrees.{FoldsValue, IsReductionBy, IsWithinDigitsOf}}
-use Rattle.fold_trees.{specs.Parts.{IsFold, IsTruthFold}, specs.Sums.{IsSumKept}, specs.Products.{IsKeptOf}, specs.PartTrees.{AreJoinedFor}}
+use Rattle.fold_trees.{specs.declared.joined.Joined.{Joined}, specs.declared.joined.JoinedParts.{JoinedParts}, specs.ArrayLines.{TreesValue, numbers_through, with_number}, specs.FoldTrees.{FoldsValue, IsReductionBy, IsWithinDigitsOf}, specs.Parts.{IsFold, IsTruthFold}, specs.Sums.{IsSumKept}, specs.Products.{IsKeptOf}}
+use Rattle.fold_trees.specs.PartTrees.{AreJoinedFor}
 
 -- the parts of the line that a place is on, where the number there is another, in the list of the function that folds it
 abbrev pub ArePartsFor : Scalar2 → TreesValue → (place : ℕ) → ℤ → JoinedParts → Type 0

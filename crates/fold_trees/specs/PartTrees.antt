@@ -1,8 +1,7 @@
 -- The trees of all lines of an array along one axis, in a list of numbers and a list of nodes.
 use Rattle.std.specs.Prelude.{◌≡◌, ℕ, ◌+◌, ◌*◌, ◌/◌, ◌%◌, ◌^◌, ◌<◌, max, ℤ, List, [], length}
 use Rattle.arrays_core.specs.Growth.{IsRoomy, HasRoom}
-use Rattle.fold_trees.{specs.ArrayLines.{TreesValue, line_count, line_through}, specs.LineTrees.{nodes_in_line, slot_of, replaced, AreJoined}}
-use Rattle.fold_trees.specs.LineBlocks.{line_at, AreAllKept}
+use Rattle.fold_trees.{specs.ArrayLines.{TreesValue, line_count, line_through}, specs.LineTrees.{nodes_in_line, slot_of, replaced, AreJoined}, specs.LineBlocks.{line_at, AreAllKept}}
 
 -- a count of numbers fills whole blocks of lines
 pub record AreLines (count step numbers : ℕ) : Type 0 where

@@ -1,6 +1,5 @@
 -- What is kept of a list of numbers of which the sum is asked for.
-use Rattle.std.specs.Prelude.{◌≡◌, ◌^◌, true, ℤ, pos, ◌+ℤ◌, ◌-ℤ◌, ◌≤ℤ◌, neg_ℤ, List, [], ◌∷◌, ◌&&◌, if◌then◌else◌, Result, Ok, Err, ◌⊎◌}
-use Rattle.std.{specs.Int.{int_max, int_min}, specs.List.{All}}
+use Rattle.std.{specs.Prelude.{◌≡◌, ◌^◌, true, ℤ, pos, ◌+ℤ◌, ◌-ℤ◌, ◌≤ℤ◌, neg_ℤ, List, [], ◌∷◌, ◌&&◌, if◌then◌else◌, Result, Ok, Err, ◌⊎◌}, specs.Int.{int_max, int_min}, specs.List.{All}}
 use Rattle.arrays_core.{specs.declared.item.Kind.{Kind}, specs.declared.item.Kind.TheVariants.{Limit}}
 use Rattle.item_fns.specs.Numbers.{is_number}
 use Rattle.fold_trees.specs.declared.summary.Summary.{Summary}

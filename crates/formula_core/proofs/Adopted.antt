@@ -1,11 +1,7 @@
 -- A list takes its changes one after another, from the last to the first.
-use Rattle.std.proofs.Common.{◌≡◌, ◌≢◌, ℕ, ◌<◌, ◌≤◌, List, [], ◌∷◌, ◌++◌, None, Err, length, set, get_or, refl, sym, ap, ◌∙◌, subst, arith}
-use Rattle.std.proofs.lemmas.List.{length-append, length-set, get_or-set_other, get_or_append_left, get_or_default, get_or-map}
-use Rattle.std.proofs.Math.Seq.{get_or-append_seam}
+use Rattle.std.{proofs.Common.{◌≡◌, ◌≢◌, ℕ, ◌<◌, ◌≤◌, List, [], ◌∷◌, ◌++◌, None, Err, length, set, get_or, refl, sym, ap, ◌∙◌, subst, arith}, proofs.lemmas.List.{length-append, length-set, get_or-set_other, get_or_append_left, get_or_default, get_or-map}, proofs.Math.Seq.{get_or-append_seam}}
 use Rattle.arrays_core.{specs.declared.item.Kind.TheVariants.{Value}, specs.Outcomes.{fault}}
-use Rattle.formula_core.{specs.declared.kept.Kept.{Kept}, specs.declared.kept.NodeChange.{NodeChange}, specs.declared.table.Node.{Node}}
-use Rattle.formula_core.specs.Changes.{each_with}
-use Rattle.formula_core.specs.Holdings.{Holding, holding, holdings_of, nodes_of, not_worked_out, no_change, taking, node_taking, adopted, IsFit, AllChangesFit}
+use Rattle.formula_core.{specs.declared.kept.Kept.{Kept}, specs.declared.kept.NodeChange.{NodeChange}, specs.declared.table.Node.{Node}, specs.Changes.{each_with}, specs.Holdings.{Holding, holding, holdings_of, nodes_of, not_worked_out, no_change, taking, node_taking, adopted, IsFit, AllChangesFit}}
 use Rattle.formula_core.specs.declared.table.Node.TheVariants as node
 
 -- changes of elements, what they make of these, that they fit, and what is said where there is none
@@ -68,11 +64,3 @@ pub held_taken : (changes : List NodeChange) (nodes : List Kept) → holdings_of
 held_taken [] nodes = refl
 held_taken (d ∷ changes) [] = refl
 held_taken (d ∷ changes) (k ∷ nodes) = ap (λ (hs : List Holding). taking d (holding k) ∷ hs) (held_taken changes nodes)
-
-pub all_left : (changes : List NodeChange) (nodes : List Kept) → length changes ≡ length nodes → AllChangesFit changes (holdings_of nodes)
-    → IsLeft NodeChange Kept node_taking (λ d k. IsFit d (holding k)) no_change no_node changes nodes (each_with node_taking changes nodes)
-all_left changes nodes each fit = record {
-  few = omega (arith, each);
-  fit = λ k below. subst (λ (h : Holding). IsFit (get_or changes k no_change) h) (get_or-map holding nodes k no_node not_worked_out (omega (arith, below, each))) (fit k below);
-  same = refl;
-}

@@ -1,18 +1,14 @@
 -- Only what the names in a tree show matters to what it gives, to its change and to what that costs.
-use Rattle.std.proofs.Common.{◌≡◌, ℕ, ◌+◌, List, [], ◌∷◌, ◌++◌, Bool, true, false, Result, Ok, Err, refl, ap, ◌∙◌, subst, sym}
-use Rattle.std.{specs.List.{Contains, list_all, sum_by}, proofs.lemmas.Bool.{cond-true}}
-use Rattle.std.{proofs.lemmas.List.Elements.{Contains-append_left, Contains-append_right, Contains-push}, proofs.lemmas.List.Sums.{sum_by-append, sum_by_push}}
-use Rattle.apl_expr.specs.Trees.{Tree, Const, Name, Monad, Dyad, Index, Reduce, Scan, Outer, Inner, Positions, NoPositions, Empty, Filled}
-use Rattle.apl_expr.{specs.declared.functions.Function1.{Function1}, specs.declared.functions.Function2.{Function2}}
+use Rattle.std.{proofs.Common.{◌≡◌, ℕ, ◌+◌, List, [], ◌∷◌, ◌++◌, Bool, true, false, Result, Ok, Err, refl, ap, ◌∙◌, subst, sym}, specs.List.{Contains, list_all, sum_by}, proofs.lemmas.Bool.{cond-true}, proofs.lemmas.List.Elements.{Contains-append_left, Contains-append_right, Contains-push}}
+use Rattle.std.proofs.lemmas.List.Sums.{sum_by-append, sum_by_push}
+use Rattle.apl_expr.{specs.Trees.{Tree, Const, Name, Monad, Dyad, Index, Reduce, Scan, Outer, Inner, Positions, NoPositions, Empty, Filled}, specs.declared.functions.Function1.{Function1}, specs.declared.functions.Function2.{Function2}}
 use Rattle.arrays_core.{specs.Arrays.{ArrayValue}, specs.declared.fault.Fault.{Fault}, specs.Outcomes.{Outcome}}
 use Rattle.index_region.{specs.declared.delta.Delta.{Delta}, specs.declared.delta.Delta.TheVariants.{Same}}
 use Rattle.change_core.specs.RuleModels.{RuleModel}
 use Rattle.change_rules.specs.Nodes.{is_same}
 use Rattle.selection_fns.specs.Index.{index_rule}
-use Rattle.formula_core.specs.Meaning.{eval, eval_positions, applied1, applied2, indexed, in_front, empty_in_front, names_in, names_in_positions}
-use Rattle.formula_core.{specs.Tables.{inside, inside_positions, subtrees}, specs.Rules.{right_rule, both_rule}}
-use Rattle.formula_core.specs.Changes.{NamesChange, arguments, operation_delta, operation_cost, written, values_of, change, changes, cost_at, operation_size, tree_size}
-use Rattle.formula_core.specs.Plans.{node_cost_at, tree_cost}
+use Rattle.formula_core.{specs.Meaning.{eval, eval_positions, applied1, applied2, indexed, in_front, empty_in_front, names_in, names_in_positions}, specs.Tables.{inside, inside_positions, subtrees}, specs.Rules.{right_rule, both_rule}}
+use Rattle.formula_core.{specs.Changes.{NamesChange, arguments, operation_delta, operation_cost, written, values_of, change, changes, cost_at, operation_size, tree_size}, specs.Plans.{node_cost_at, tree_cost}}
 use Rattle.apl_expr.specs.declared.functions.Function1.TheVariants as function1
 use Rattle.apl_expr.specs.declared.functions.Function2.TheVariants as function2
 
@@ -123,22 +119,6 @@ mutual
       let others = changes_alike ps c d (in_right _ (names_in e) (names_in_positions ps) h) in
       λ i. first i ∷ others i
 
--- so is what the change of its own node costs
-pub cost_alike : (t : Tree) (c d : NamesChange) → ((x : List ℕ) → Contains (names_in t) x → IsAlikeAt c d x) → cost_at c t ≡ cost_at d t
-cost_alike (Const l) c d h = refl
-cost_alike (Name x) c d h = refl
-cost_alike (Monad f r) c d h = monad_alike operation_cost c d (function1.Monad f) r h (change_alike r c d h)
-cost_alike (Dyad f l r) c d h =
-    dyad_alike operation_cost c d (function2.Dyad f) l r h (change_alike l c d (in_left _ (names_in l) (names_in r) h)) (change_alike r c d (in_right _ (names_in l) (names_in r) h))
-cost_alike (Index l ps) c d h =
-    index_alike operation_cost c d l ps h (change_alike l c d (in_left _ (names_in l) (names_in_positions ps) h)) (changes_alike ps c d (in_right _ (names_in l) (names_in_positions ps) h))
-cost_alike (Reduce f k r) c d h = monad_alike operation_cost c d (function1.Reduce f k) r h (change_alike r c d h)
-cost_alike (Scan f k r) c d h = monad_alike operation_cost c d (function1.Scan f k) r h (change_alike r c d h)
-cost_alike (Outer f l r) c d h =
-    dyad_alike operation_cost c d (function2.Outer f) l r h (change_alike l c d (in_left _ (names_in l) (names_in r) h)) (change_alike r c d (in_right _ (names_in l) (names_in r) h))
-cost_alike (Inner f g l r) c d h =
-    dyad_alike operation_cost c d (function2.Inner f g) l r h (change_alike l c d (in_left _ (names_in l) (names_in r) h)) (change_alike r c d (in_right _ (names_in l) (names_in r) h))
-
 -- the sum over two lists and one tree more
 sum_of_parts : (g : Tree → ℕ) (ts us : List Tree) (t : Tree) → sum_by g (ts ++ (us ++ t ∷ [])) ≡ sum_by g ts + (sum_by g us + g t)
 sum_of_parts g ts us t = sum_by-append g ts (us ++ t ∷ []) ∙ ap (λ n. sum_by g ts + n) (sum_by_push g us t)
@@ -174,51 +154,6 @@ module _ (P : List ℕ → Type 0) (f g : Tree → ℕ) (same : (t : Tree) → (
         let first = sums_alike e (in_left _ (names_in e) (names_in_positions ps) h) in
         let others = position_sums_alike ps (in_right _ (names_in e) (names_in_positions ps) h) in
         sum_by-append f (inside e) (inside_positions ps) ∙ ((λ i. first i + others i) ∙ sym (sum_by-append g (inside e) (inside_positions ps)))
-
-  -- so it does with the tree itself
-  pub subtree_sums_alike : (t : Tree) → ((x : List ℕ) → Contains (names_in t) x → P x) → sum_by f (subtrees t) ≡ sum_by g (subtrees t)
-  subtree_sums_alike (Name x) h = ap (λ n. 0 + n) (same (Name x) h)
-  subtree_sums_alike (Const l) h = ap (λ n. 0 + n) (same (Const l) h)
-  subtree_sums_alike (Monad k r) h = sums_alike (Monad k r) h
-  subtree_sums_alike (Dyad k l r) h = sums_alike (Dyad k l r) h
-  subtree_sums_alike (Index l ps) h = sums_alike (Index l ps) h
-  subtree_sums_alike (Reduce k j r) h = sums_alike (Reduce k j r) h
-  subtree_sums_alike (Scan k j r) h = sums_alike (Scan k j r) h
-  subtree_sums_alike (Outer k l r) h = sums_alike (Outer k l r) h
-  subtree_sums_alike (Inner k j l r) h = sums_alike (Inner k j l r) h
-
--- and what the changes of all nodes in it cost
-pub costs_alike : (t : Tree) (c d : NamesChange) → ((x : List ℕ) → Contains (names_in t) x → IsAlikeAt c d x) → sum_by (cost_at c) (inside t) ≡ sum_by (cost_at d) (inside t)
-costs_alike t c d h = sums_alike (λ x. IsAlikeAt c d x) (cost_at c) (cost_at d) (λ u k. cost_alike u c d k) t h
-
-one_sized : (p : RuleModel) {r s : Outcome} → r ≡ s → operation_size p (arguments (r ∷ [])) ≡ operation_size p (arguments (s ∷ []))
-one_sized p right = λ i. operation_size p (arguments (right i ∷ []))
-
-two_sized : (p : RuleModel) {l m r s : Outcome} → l ≡ m → r ≡ s → operation_size p (arguments (l ∷ r ∷ [])) ≡ operation_size p (arguments (m ∷ s ∷ []))
-two_sized p left right = λ i. operation_size p (arguments (left i ∷ right i ∷ []))
-
--- where the names in a tree show the same, what it gives has as many places
-pub size_alike : (t : Tree) (a b : List ℕ → Outcome) → ((x : List ℕ) → Contains (names_in t) x → a x ≡ b x) → tree_size a t ≡ tree_size b t
-size_alike (Const l) a b h = refl
-size_alike (Name x) a b h = refl
-size_alike (Monad f r) a b h = one_sized (right_rule (function1.Monad f)) (eval_alike r a b h)
-size_alike (Dyad f l r) a b h = two_sized (both_rule (function2.Dyad f)) (eval_alike l a b (in_left _ (names_in l) (names_in r) h)) (eval_alike r a b (in_right _ (names_in l) (names_in r) h))
-size_alike (Index l ps) a b h =
-    let left = eval_alike l a b (in_left _ (names_in l) (names_in_positions ps) h) in
-    let positions = values_alike ps a b (in_right _ (names_in l) (names_in_positions ps) h) in
-    λ i. operation_size (index_rule (written ps)) (arguments (left i ∷ positions i))
-size_alike (Reduce f k r) a b h = one_sized (right_rule (function1.Reduce f k)) (eval_alike r a b h)
-size_alike (Scan f k r) a b h = one_sized (right_rule (function1.Scan f k)) (eval_alike r a b h)
-size_alike (Outer f l r) a b h = two_sized (both_rule (function2.Outer f)) (eval_alike l a b (in_left _ (names_in l) (names_in r) h)) (eval_alike r a b (in_right _ (names_in l) (names_in r) h))
-size_alike (Inner f g l r) a b h = two_sized (both_rule (function2.Inner f g)) (eval_alike l a b (in_left _ (names_in l) (names_in r) h)) (eval_alike r a b (in_right _ (names_in l) (names_in r) h))
-
-node_cost_alike : (is_new : Bool) (t : Tree) (c d : NamesChange) → ((x : List ℕ) → Contains (names_in t) x → IsAlikeAt c d x) → node_cost_at is_new c t ≡ node_cost_at is_new d t
-node_cost_alike true t c d h = size_alike t c.new d.new (λ x o. (h x o).new)
-node_cost_alike false t c d h = cost_alike t c d h
-
--- a tree, new or not, costs the same where the names in it showed, show and changed the same
-pub tree_cost_alike : (is_new : Bool) (t : Tree) (c d : NamesChange) → ((x : List ℕ) → Contains (names_in t) x → IsAlikeAt c d x) → tree_cost is_new c t ≡ tree_cost is_new d t
-tree_cost_alike is_new t c d h = subtree_sums_alike (λ x. IsAlikeAt c d x) (node_cost_at is_new c) (node_cost_at is_new d) (λ u k. node_cost_alike is_new u c d k) t h
 
 -- an operation of whose arguments nothing changed does not change, and costs nothing
 pub operation_unchanged : (p : RuleModel) (r : Result (List ArrayValue) Fault) (ds : List Delta) (held : Outcome) → list_all is_same ds ≡ true

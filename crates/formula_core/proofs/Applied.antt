@@ -1,12 +1,9 @@
 -- A tree of a function before its argument, or between its arguments, is the same whichever case of a tree that is.
 use Rattle.std.{proofs.Common.{◌≡◌, ℕ, List, [], ◌∷◌, ◌++◌, Bool, true, None, refl}, specs.Option.{option_map_or}}
-use Rattle.apl_expr.{specs.Trees.{Tree, before_argument, between_arguments}, specs.declared.functions.Function1.{Function1}}
-use Rattle.apl_expr.specs.declared.functions.Function2.{Function2}
+use Rattle.apl_expr.{specs.Trees.{Tree, before_argument, between_arguments}, specs.declared.functions.Function1.{Function1}, specs.declared.functions.Function2.{Function2}}
 use Rattle.arrays_core.specs.Outcomes.{Outcome}
-use Rattle.formula_core.specs.Changes.{NamesChange, arguments, change, cost_at, operation_cost, operation_delta, operation_size, tree_size}
-use Rattle.formula_core.{specs.Formulas.{is_operation}, specs.Joins.{least_joins, least_joins_of, most_joins, most_joins_of}}
-use Rattle.formula_core.{specs.Meaning.{applied1, applied2, eval, names_in}, specs.Plans.{node_change, node_cost_at}, specs.Rules.{both_rule, right_rule}}
-use Rattle.formula_core.{specs.Sums.{summed_at, summed_in, total_of}, specs.Tables.{inside}}
+use Rattle.formula_core.{specs.Changes.{NamesChange, arguments, change, cost_at, operation_cost, operation_delta, operation_size, tree_size}, specs.Formulas.{is_operation}, specs.Joins.{least_joins, least_joins_of, most_joins, most_joins_of}, specs.Meaning.{applied1, applied2, eval, names_in}}
+use Rattle.formula_core.{specs.Plans.{node_change, node_cost_at}, specs.Rules.{both_rule, right_rule}, specs.Sums.{summed_at, summed_in, total_of}, specs.Tables.{inside}}
 use Rattle.apl_expr.specs.declared.functions.Function1.TheVariants as function1
 use Rattle.apl_expr.specs.declared.functions.Function2.TheVariants as function2
 

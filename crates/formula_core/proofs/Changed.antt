@@ -1,27 +1,15 @@
 -- The change of a node makes of what it held what it now gives.
-use Rattle.std.proofs.Common.{◌≡◌, ℕ, suc, ◌+◌, ◌<◌, List, [], ◌∷◌, ◌++◌, length, map, Bool, true, false, ◌||◌, Result, Ok, Err, IfOk, refl, sym, ap, ◌∙◌, subst, arith, inl, inr}
-use Rattle.std.{proofs.lemmas.List.{length-append, length-map}, specs.List.{list_all, list_any, range_with_len}}
+use Rattle.std.{proofs.Common.{◌≡◌, ℕ, suc, ◌+◌, ◌<◌, List, [], ◌∷◌, ◌++◌, length, map, Bool, true, false, ◌||◌, Result, Ok, Err, IfOk, refl, sym, ap, ◌∙◌, subst, arith, inl, inr}, proofs.lemmas.List.{length-append, length-map}, specs.List.{list_all, list_any, range_with_len}}
 use Rattle.std.proofs.lemmas.Bool.{false≢true, cases_Bool, cond-true, cond-false}
-use Rattle.apl_expr.specs.Trees.{Tree, Index, before_argument, between_arguments, Positions, NoPositions, Empty, Filled}
-use Rattle.apl_expr.{specs.declared.functions.Function1.{Function1}, specs.declared.functions.Function2.{Function2}}
-use Rattle.arrays_core.{specs.Arrays.{ArrayValue, IsArray, with_items}, specs.Growth.{grown_by, one_longer}, specs.Items.{after, all_or_first_error}}
-use Rattle.arrays_core.{specs.Shapes.{indices, size}, proofs.Growing.{size_longer}, proofs.Order.{length-indices}, specs.declared.fault.Fault.{Fault}}
-use Rattle.arrays_core.{specs.declared.item.Item.{Item}, specs.declared.item.ItemType.{ItemType}, specs.declared.item.Kind.{Kind}}
-use Rattle.arrays_core.specs.Outcomes.{Outcome, given}
-use Rattle.index_region.{specs.declared.delta.Delta.{Delta}, specs.declared.delta.Delta.TheVariants.{Same, Patch, Grown, Whole}}
-use Rattle.index_region.{specs.Boxes.{fits, walk_at, box_size}, specs.Checks.{Form, whole}, specs.Patches.{PatchValue, FitsPatch, patched}}
-use Rattle.index_region.specs.Tails.{TailValue, FitsTail}
-use Rattle.change_core.{specs.Growth.{IsGrowing, last_place}, specs.Tightness.{ReachCovers, Each}, specs.Reaches.{AllFit}, specs.RuleModels.{RuleModel}}
-use Rattle.change_core.proofs.Covers.{reaches_inside}
-use Rattle.change_rules.specs.Currency.{applied, Shows, HasAxis, IsRight, IsRightPatch, IsRightTail}
-use Rattle.change_rules.{specs.Nodes.{Argument, views, moved, is_same, is_whole, all_same, items_at, node_delta}, specs.Evaluation.{evaluation}}
-use Rattle.change_rules.{proofs.NodeRight.{brings_up_to_date}, proofs.Right.{node_is_right}}
+use Rattle.apl_expr.{specs.Trees.{Tree, Index, before_argument, between_arguments, Positions, NoPositions, Empty, Filled}, specs.declared.functions.Function1.{Function1}, specs.declared.functions.Function2.{Function2}}
+use Rattle.arrays_core.{specs.Arrays.{ArrayValue, IsArray, with_items}, specs.Growth.{grown_by, one_longer}, specs.Items.{after, all_or_first_error}, specs.Shapes.{indices, size}, proofs.Growing.{size_longer}, proofs.Order.{length-indices}, specs.declared.fault.Fault.{Fault}, specs.declared.item.Item.{Item}}
+use Rattle.arrays_core.{specs.declared.item.ItemType.{ItemType}, specs.declared.item.Kind.{Kind}, specs.Outcomes.{Outcome, given}}
+use Rattle.index_region.{specs.declared.delta.Delta.{Delta}, specs.declared.delta.Delta.TheVariants.{Same, Patch, Grown, Whole}, specs.Boxes.{fits, walk_at, box_size}, specs.Checks.{Form, whole}, specs.Patches.{PatchValue, FitsPatch, patched}, specs.Tails.{TailValue, FitsTail}}
+use Rattle.change_core.{specs.Growth.{IsGrowing, last_place}, specs.Tightness.{ReachCovers, Each}, specs.Reaches.{AllFit}, specs.RuleModels.{RuleModel}, proofs.Covers.{reaches_inside}}
+use Rattle.change_rules.{specs.Currency.{applied, Shows, HasAxis, IsRight, IsRightPatch, IsRightTail}, specs.Nodes.{Argument, views, moved, is_same, is_whole, all_same, items_at, node_delta}, specs.Evaluation.{evaluation}, proofs.NodeRight.{brings_up_to_date}, proofs.Right.{node_is_right}}
 use Rattle.selection_fns.{specs.Index.{Position, count_written, written_positions, index_rule}, specs.Laws.Index.{length-selectors}}
-use Rattle.formula_core.{specs.Meaning.{eval, eval_positions, applied1, applied2, in_front, empty_in_front, indexed}, specs.Rules.{right_rule, both_rule}}
-use Rattle.formula_core.specs.Changes.{NamesChange, argument_in_front, arguments, result_of, result_delta, operation_delta, written, values_of, change, changes, FitsIn, FitsNow}
-use Rattle.formula_core.{proofs.Applied.{change_before, change_between, eval_before, eval_between}, proofs.Covering.{rules_cover, rules_grow}}
-use Rattle.formula_core.{proofs.Fitting.{fit_now, axis_lies}, proofs.Meant.{right_meant, both_meant, index_meant}}
-use Rattle.formula_core.proofs.Values.{HaveValues, no_values, paired, values_more, delta_by_values}
+use Rattle.formula_core.{specs.Meaning.{eval, eval_positions, applied1, applied2, in_front, empty_in_front, indexed}, specs.Rules.{right_rule, both_rule}, specs.Changes.{NamesChange, argument_in_front, arguments, result_of, result_delta, operation_delta, written, values_of, change, changes, FitsIn, FitsNow}}
+use Rattle.formula_core.{proofs.Applied.{change_before, change_between, eval_before, eval_between}, proofs.Covering.{rules_cover, rules_grow}, proofs.Fitting.{fit_now, axis_lies}, proofs.Meant.{right_meant, both_meant, index_meant}, proofs.Values.{HaveValues, no_values, paired, values_more, delta_by_values}}
 use Rattle.apl_expr.specs.declared.expr.Monadic.TheVariants as monadic
 use Rattle.apl_expr.specs.declared.functions.Function1.TheVariants as function1
 use Rattle.apl_expr.specs.declared.expr.Dyadic.TheVariants as dyadic

@@ -1,21 +1,15 @@
 -- What is counted where an expression is worked out once is what its functions cost.
-use Rattle.std.proofs.Common.{◌≡◌, ◌∙◌, ◌+◌, ◌<◌, ◌≤◌, ℕ, zero, suc, List, [], ◌∷◌, ◌++◌, length, map, drop, get_or, true, is_ok, Option, Some, None, Result, Ok, Err, IsOk, refl, sym, ap, subst, arith, IfOk}
-use Rattle.std.{specs.Prelude.{OnErr}, specs.declared.alloc.AllocError.{AllocError}, specs.List.{sum_by}, proofs.lemmas.Bool.{false≢true}}
-use Rattle.std.{proofs.lemmas.List.{drop_more}, proofs.lemmas.List.Sums.{sum_by-append, sum_by_push}}
+use Rattle.std.{proofs.Common.{◌≡◌, ◌∙◌, ◌+◌, ◌<◌, ◌≤◌, ℕ, zero, suc, List, [], ◌∷◌, ◌++◌, length, map, drop, get_or, true, is_ok, Option, Some, None, Result, Ok, Err, IsOk, refl, sym, ap, subst, arith, IfOk}, specs.Prelude.{OnErr}, specs.declared.alloc.AllocError.{AllocError}, specs.List.{sum_by}}
+use Rattle.std.{proofs.lemmas.Bool.{false≢true}, proofs.lemmas.List.{drop_more}, proofs.lemmas.List.Sums.{sum_by-append, sum_by_push}}
 use Rattle.apl_expr.{specs.declared.expr.Expr.{Expr}, specs.declared.functions.Function1.{Function1}, specs.declared.functions.Function2.{Function2}}
 use Rattle.apl_expr.specs.Trees.{Tree, Const, Name, Monad, Dyad, Index, Reduce, Scan, Outer, Inner, before_argument, between_arguments, Literal, Positions, tree_of, position_of, positions_of}
-use Rattle.arrays_core.{specs.Arrays.{ArrayValue, with_items}, specs.Items.{and_then, all_or_first_error}, specs.Shapes.{size, indices}}
-use Rattle.arrays_core.{specs.declared.fault.Fault.{Fault}, specs.declared.item.Item.{Item}, specs.declared.item.Kind.{Kind}, specs.Outcomes.{given, Outcome}}
+use Rattle.arrays_core.{specs.Arrays.{ArrayValue, with_items}, specs.Items.{and_then, all_or_first_error}, specs.Shapes.{size, indices}, specs.declared.fault.Fault.{Fault}, specs.declared.item.Item.{Item}, specs.declared.item.Kind.{Kind}, specs.Outcomes.{given, Outcome}}
 use Rattle.index_region.specs.Checks.{Form, whole}
 use Rattle.change_core.{specs.Meters.{ticked}, specs.RuleModels.{RuleModel, form_size}}
 use Rattle.selection_fns.specs.Index.{Position, index_rule}
-use Rattle.formula_core.specs.declared.evaluation.Evaluated.{Evaluated}
-use Rattle.formula_core.specs.Changes.{at_rest, arguments, operation_size, result_of, tree_size, values_of, written}
-use Rattle.formula_core.specs.Counts.{cost_in, cost_in_positions, AreItemsCounted, ArePositionsCounted, IsCounted, IsTreeCounted}
-use Rattle.formula_core.{specs.Meaning.{applied1, applied2, eval, eval_positions, in_front, of_right, of_both}, specs.Evaluated.{array_in, outcome_of}}
-use Rattle.formula_core.{specs.Plans.{tree_cost}, specs.Rules.{right_rule, both_rule}, specs.Tables.{inside, inside_positions}}
-use Rattle.formula_core.proofs.Applied.{eval_before, eval_between, inside_before, inside_between, size_before, size_between}
-use Rattle.formula_core.{proofs.Changed.{monad_meant, dyad_meant, indexing_meant}, proofs.Indexing.{error_stands, value_written}}
+use Rattle.formula_core.{specs.declared.evaluation.Evaluated.{Evaluated}, specs.Changes.{at_rest, arguments, operation_size, result_of, tree_size, values_of, written}, specs.Counts.{cost_in, cost_in_positions, AreItemsCounted, ArePositionsCounted, IsCounted, IsTreeCounted}}
+use Rattle.formula_core.{specs.Meaning.{applied1, applied2, eval, eval_positions, in_front, of_right, of_both}, specs.Evaluated.{array_in, outcome_of}, specs.Plans.{tree_cost}, specs.Rules.{right_rule, both_rule}, specs.Tables.{inside, inside_positions}}
+use Rattle.formula_core.{proofs.Applied.{eval_before, eval_between, inside_before, inside_between, size_before, size_between}, proofs.Changed.{monad_meant, dyad_meant, indexing_meant}, proofs.Indexing.{error_stands, value_written}}
 
 -- what two steps give, the first gives, and the second
 first_given : {A B E : Type 0} (r : Result A E) (next : A → Result B E) → is_ok (and_then r next) ≡ true → is_ok r ≡ true
@@ -113,16 +107,6 @@ module _ (names : List ℕ → Outcome) where
         least = λ h. subst (λ n. ticked before n ≤ after) (sym parts)
             (then before now after (cost_in names b) (tree_size names t) (first.least (first_given (eval b names) (λ y. given (of_right f y)) (ap is_ok (sym (eval_before names f b)) ∙ h))) (least_items (eval t names) (tree_size names t) now after gives is sized items h));
       }
-
-  -- what it is answered, and what that counts
-  pub monad_given : (f : Function1) (b : Tree) (right : Outcome) (r : Result (Result Evaluated Fault) AllocError) → right ≡ eval b names → IfOk r (λ o. outcome_of o ≡ applied1 f right) → IfOk r (λ o. outcome_of o ≡ eval (before_argument f b) names)
-  monad_given f b right (Ok gives) is given = given ∙ (ap (applied1 f) is ∙ sym (eval_before names f b))
-  monad_given f b right (Err e) is given = tt
-
-  pub monad_answered : {A : Type 0} (f : Function1) (b : Tree) (before now after : ℕ) (right : A) (r : Result (Result Evaluated Fault) AllocError) → IsTreeCounted names b before now (Ok right)
-      → IfOk r (λ o. outcome_of o ≡ eval (before_argument f b) names) → IfOk r (λ o. AreItemsCounted o now after) → OnErr r (after ≡ now) → IsTreeCounted names (before_argument f b) before after r
-  monad_answered f b before now after right (Ok gives) first is items same = monad_counted f b before now after right gives gives first is items
-  monad_answered f b before now after right (Err e) first is items same = record { most = omega (arith, first.most, same, monad_cost f b); least = tt }
 
   pub dyad_counted : {A B D : Type 0} (f : Function2) (a b : Tree) (before now then_now after : ℕ) (right : A) (left : B) (gives : Result Evaluated Fault) (told : D) → IsTreeCounted names b before now (Ok right)
       → IsTreeCounted names a now then_now (Ok left) → outcome_of gives ≡ eval (between_arguments f a b) names → AreItemsCounted gives then_now after

@@ -1,15 +1,11 @@
 -- The laws of the rule of each function of an expression.
 use Rattle.apl_expr.{specs.declared.functions.Function1.{Function1}, specs.declared.functions.Function2.{Function2}}
 use Rattle.change_core.{specs.Growth.{IsGrowing}, specs.Tightness.{IsTight, ReachCovers}, proofs.Covers.{covers}, proofs.Growing.{never_grows}}
-use Rattle.scalar_fns.{specs.Laws.EachMonadic.{each_monadic_tight}, specs.Laws.EachMonadicGrowth.{each_monadic_growing}}
-use Rattle.scalar_fns.{specs.Laws.EachDyadic.{each_dyadic_tight}, specs.Laws.EachDyadicGrowth.{each_dyadic_growing}}
-use Rattle.structural_fns.{specs.Laws.Reshape.{reshape_tight}, specs.Laws.Ravel.{ravel_tight}, specs.Laws.Catenate.{catenate_tight}}
-use Rattle.structural_fns.{specs.Laws.Take.{take_tight}, specs.Laws.Drop.{drop_tight}, specs.Laws.Reverse.{reverse_tight}, specs.Laws.Rotate.{rotate_tight}}
-use Rattle.structural_fns.{specs.Laws.Transpose.{transpose_tight}, specs.Laws.DyadicTranspose.{transpose_by_tight}}
-use Rattle.selection_fns.{specs.Laws.Shape.{shape_tight}, specs.Laws.IndexGenerator.{generator_tight}, specs.Laws.Replicate.{replicate_tight}}
-use Rattle.selection_fns.{specs.Index.{index_rule}, specs.Laws.Index.{index_tight}, specs.Laws.IndexGrowth.{index_growing}}
-use Rattle.search_fns.{specs.Laws.IndexOf.{index_of_tight}, specs.Laws.Member.{member_tight}, specs.Laws.Encode.{encode_tight}}
-use Rattle.search_fns.specs.Laws.Decode.{decode_tight}
+use Rattle.scalar_fns.{specs.Laws.EachMonadic.{each_monadic_tight}, specs.Laws.EachMonadicGrowth.{each_monadic_growing}, specs.Laws.EachDyadic.{each_dyadic_tight}, specs.Laws.EachDyadicGrowth.{each_dyadic_growing}}
+use Rattle.structural_fns.{specs.Laws.Reshape.{reshape_tight}, specs.Laws.Ravel.{ravel_tight}, specs.Laws.Catenate.{catenate_tight}, specs.Laws.Take.{take_tight}, specs.Laws.Drop.{drop_tight}, specs.Laws.Reverse.{reverse_tight}, specs.Laws.Rotate.{rotate_tight}, specs.Laws.Transpose.{transpose_tight}}
+use Rattle.structural_fns.specs.Laws.DyadicTranspose.{transpose_by_tight}
+use Rattle.selection_fns.{specs.Laws.Shape.{shape_tight}, specs.Laws.IndexGenerator.{generator_tight}, specs.Laws.Replicate.{replicate_tight}, specs.Index.{index_rule}, specs.Laws.Index.{index_tight}, specs.Laws.IndexGrowth.{index_growing}}
+use Rattle.search_fns.{specs.Laws.IndexOf.{index_of_tight}, specs.Laws.Member.{member_tight}, specs.Laws.Encode.{encode_tight}, specs.Laws.Decode.{decode_tight}}
 use Rattle.reduce_fns.{specs.Laws.Reduce.{reduce_tight}, specs.Laws.LinesGrowth.{reduce_growing}}
 use Rattle.scan_fns.{specs.Laws.Scan.{scan_tight}, specs.Laws.ScanGrowth.{scan_growing}}
 use Rattle.operator_fns.{specs.Laws.OuterProduct.{outer_tight}, specs.Laws.OuterProductGrowth.{outer_growing}, specs.Laws.InnerProduct.{inner_tight}}

@@ -1,7 +1,5 @@
 -- Binary digits.
-use Rattle.std.proofs.Common.{◌≡◌, ℕ, zero, suc, ◌+◌, ◌*◌, ◌^◌, ◌<◌, ◌≤◌, Bool, cond, nat_le, ap, subst, arith, inl, inr}
-use Rattle.std.{specs.List.{count_by, range_with_len}, proofs.lemmas.Bool.{cases_Bool, leb-false}, proofs.lemmas.List.Sums.{sum_by-cons}}
-use Rattle.std.{proofs.Math.Nat.{pow-succ'}, proofs.Math.Pow.{pow-lt}}
+use Rattle.std.{proofs.Common.{◌≡◌, ℕ, zero, suc, ◌+◌, ◌*◌, ◌^◌, ◌<◌, ◌≤◌, Bool, cond, nat_le, ap, subst, arith, inl, inr}, specs.List.{count_by, range_with_len}, proofs.lemmas.Bool.{cases_Bool, leb-false}, proofs.lemmas.List.Sums.{sum_by-cons}, proofs.Math.Nat.{pow-succ'}, proofs.Math.Pow.{pow-lt}}
 use Rattle.formula_core.specs.Joins.{binary_digits}
 
 higher : (a b : ℕ) → 2 ^ a ≤ 2 ^ (a + b)

@@ -1,16 +1,13 @@
 -- The operands of an operation, gathered for its rule where none of them is an error.
-use Rattle.std.proofs.Common.{◌≡◌, ℕ, suc, ◌+◌, ◌≤◌, List, [], ◌∷◌, length, map, Bool, ◌&&◌, Option, Some, None, is_some, Result, Ok, Err, refl, sym, ap, ◌∙◌, subst, IfOk, OnOk, false, if◌then◌else◌, arith}
-use Rattle.std.{specs.Borrow.{Bor}, specs.List.{list_all}, specs.Result.{result_err}, specs.declared.alloc.AllocError.{AllocError}}
+use Rattle.std.{proofs.Common.{◌≡◌, ℕ, suc, ◌+◌, ◌≤◌, List, [], ◌∷◌, length, map, Bool, ◌&&◌, Option, Some, None, is_some, Result, Ok, Err, refl, sym, ap, ◌∙◌, subst, IfOk, OnOk, false, if◌then◌else◌, arith}, specs.Borrow.{Bor}, specs.List.{list_all}, specs.Result.{result_err}}
+use Rattle.std.specs.declared.alloc.AllocError.{AllocError}
 use Rattle.arrays_core.{specs.Arrays.{ArrayValue}, specs.declared.fault.Fault.{Fault}, specs.Outcomes.{Outcome}}
 use Rattle.index_region.{specs.declared.delta.Delta.{Delta}, specs.declared.delta.Delta.TheVariants.{Same, Patch, Grown, Whole}}
 use Rattle.change_core.{specs.Reaches.{Fits, AllFit}, specs.Meters.{ticked}, specs.RuleModels.{RuleModel}}
 use Rattle.change_rules.{specs.Nodes.{Argument, is_error as shows_error, views, moved, moved_by, is_same, node_delta, node_cost}, specs.Currency.{HasAxis}}
 use Rattle.selection_fns.specs.Index.{count_written}
-use Rattle.formula_core.{specs.declared.input.Input.{Input}, specs.declared.input.Input.TheVariants.{Good, Bad}, specs.Rules.{with_change, IsRefreshed}}
-use Rattle.formula_core.specs.Changes.{FitsNow, argument_in_front, arguments, operation_delta, operation_cost}
-use Rattle.formula_core.specs.Inputs.{shown, stays, delta_of, HasFit, AllHaveFit, IsOperationChange, written_inputs, arrays_among, last_error}
-use Rattle.formula_core.{proofs.Fitting.{axis_lies}, proofs.Stepping.{stays_same}}
-use Rattle.formula_core.proofs.Values.{HaveValues, no_values, values_more, delta_by_values, cost_by_values}
+use Rattle.formula_core.{specs.declared.input.Input.{Input}, specs.declared.input.Input.TheVariants.{Good, Bad}, specs.Rules.{with_change, IsRefreshed}, specs.Changes.{FitsNow, argument_in_front, arguments, operation_delta, operation_cost}}
+use Rattle.formula_core.{specs.Inputs.{shown, stays, delta_of, HasFit, AllHaveFit, IsOperationChange, written_inputs, arrays_among, last_error}, proofs.Fitting.{axis_lies}, proofs.Stepping.{stays_same}, proofs.Values.{HaveValues, no_values, values_more, delta_by_values, cost_by_values}}
 
 -- the operands are all arrays, and this is what they are
 record IsGathered (inputs : List Input) : Type 0 where

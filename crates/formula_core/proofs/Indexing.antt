@@ -1,29 +1,14 @@
 -- The positions of an index, one after another.
-use Rattle.std.proofs.Common.{◌≡◌, ℕ, zero, suc, ◌+◌, ◌<◌, List, [], ◌∷◌, ◌++◌, length, map, drop, get_or, Option, Some, None, is_some, Err, refl, ap, sym, arith}
-use Rattle.std.proofs.lemmas.List.{drop_more}
+use Rattle.std.{proofs.Common.{◌≡◌, ℕ, zero, suc, ◌+◌, ◌<◌, List, [], ◌∷◌, ◌++◌, length, map, drop, get_or, Option, Some, None, is_some, Err, refl, ap, sym, arith}, proofs.lemmas.List.{drop_more}}
 use Rattle.apl_expr.{specs.declared.expr.Expr.{Expr}, specs.Trees.{tree_of, position_of, positions_of}}
 use Rattle.arrays_core.{specs.declared.fault.Fault.{Fault}, specs.Outcomes.{Outcome}}
 use Rattle.selection_fns.specs.Index.{Position, count_written, written_positions}
-use Rattle.formula_core.{specs.declared.evaluation.Evaluated.{Evaluated}, specs.Evaluated.{array_in, position_in, written_arrays}}
-use Rattle.formula_core.specs.Meaning.{eval, eval_positions, in_front, empty_in_front, names_in, names_in_positions}
-
--- the names in one more position, which is written or not
-pub names_written : (ps : List (Option Expr)) (k : ℕ) (e : Expr) → k < length ps → get_or ps k None ≡ Some e
-    → names_in_positions (positions_of (map position_of (drop k ps))) ≡ names_in (tree_of e) ++ names_in_positions (positions_of (map position_of (drop (k + 1) ps)))
-names_written ps k e below is = rw (drop_more ps k None below, is) refl
-
-pub names_empty : (ps : List (Option Expr)) (k : ℕ) → k < length ps → get_or ps k None ≡ None
-    → names_in_positions (positions_of (map position_of (drop k ps))) ≡ names_in_positions (positions_of (map position_of (drop (k + 1) ps)))
-names_empty ps k below is = rw (drop_more ps k None below, is) refl
+use Rattle.formula_core.{specs.declared.evaluation.Evaluated.{Evaluated}, specs.Evaluated.{array_in, position_in, written_arrays}, specs.Meaning.{eval, eval_positions, in_front, empty_in_front, names_in, names_in_positions}}
 
 -- the value of one more position
 pub value_written : (names : List ℕ → Outcome) (ps : List (Option Expr)) (k : ℕ) (e : Expr) → k < length ps → get_or ps k None ≡ Some e
     → eval_positions (positions_of (map position_of (drop k ps))) names ≡ in_front (eval (tree_of e) names) (eval_positions (positions_of (map position_of (drop (k + 1) ps))) names)
 value_written names ps k e below is = rw (drop_more ps k None below, is) refl
-
-pub value_empty : (names : List ℕ → Outcome) (ps : List (Option Expr)) (k : ℕ) → k < length ps → get_or ps k None ≡ None
-    → eval_positions (positions_of (map position_of (drop k ps))) names ≡ empty_in_front (eval_positions (positions_of (map position_of (drop (k + 1) ps))) names)
-value_empty names ps k below is = rw (drop_more ps k None below, is) refl
 
 -- which positions are written and the arrays of those make the positions again
 pub written_again : (ps : List (Option Evaluated)) → written_positions (map is_some ps) (written_arrays ps) ≡ map position_in ps

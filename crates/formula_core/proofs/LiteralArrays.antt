@@ -1,12 +1,8 @@
 -- What a literal gives, and which literal gives an array.
-use Rattle.std.proofs.Common.{◌≡◌, ℕ, ℤ, ◌≤◌, List, [], ◌∷◌, length, map, All, Bool, true, false, Result, Ok, Err, IfOk, refl, sym, ap, ◌∙◌, arith, if◌then◌else◌}
-use Rattle.std.{specs.Prelude.{nat_le}, proofs.lemmas.List.{length-map}, proofs.lemmas.List.Elements.{All-nil, All-cons, All-map}}
-use Rattle.std.proofs.lemmas.Bool.Decides.{nat_tests}
+use Rattle.std.{proofs.Common.{◌≡◌, ℕ, ℤ, ◌≤◌, List, [], ◌∷◌, length, map, All, Bool, true, false, Result, Ok, Err, IfOk, refl, sym, ap, ◌∙◌, arith, if◌then◌else◌}, specs.Prelude.{nat_le}, proofs.lemmas.List.{length-map}, proofs.lemmas.List.Elements.{All-nil, All-cons, All-map}, proofs.lemmas.Bool.Decides.{nat_tests}}
 use Rattle.apl_expr.specs.Trees.{Literal, Numbers, Text}
-use Rattle.arrays_core.{specs.declared.item.Item.{Item}, specs.declared.item.Item.TheVariants.{Num, Char}}
-use Rattle.arrays_core.{specs.declared.item.ItemType.TheVariants.{Nums, Chars}, specs.declared.item.Kind.{Kind}, specs.declared.item.Kind.TheVariants.{Limit}}
-use Rattle.arrays_core.{specs.Arrays.{ArrayValue, IsArray, scalar_of, vector_of, character_scalar_of, text_of}, specs.Items.{type_of}}
-use Rattle.arrays_core.{specs.Limits.{longest_axis}, specs.Outcomes.{given}}
+use Rattle.arrays_core.{specs.declared.item.Item.{Item}, specs.declared.item.Item.TheVariants.{Num, Char}, specs.declared.item.ItemType.TheVariants.{Nums, Chars}, specs.declared.item.Kind.{Kind}, specs.declared.item.Kind.TheVariants.{Limit}}
+use Rattle.arrays_core.{specs.Arrays.{ArrayValue, IsArray, scalar_of, vector_of, character_scalar_of, text_of}, specs.Items.{type_of}, specs.Limits.{longest_axis}, specs.Outcomes.{given}}
 use Rattle.index_region.specs.Arguments.{number_of}
 use Rattle.formula_core.{specs.Constants.{character_of, literal_of_items}, specs.Meaning.{array_of}}
 

@@ -1,8 +1,7 @@
 -- The whole evaluation of a function's rule is what the function gives.
 use Rattle.std.proofs.Common.{◌≡◌, ℕ, List, [], ◌∷◌, Result, Ok, Err, refl}
 use Rattle.apl_expr.{specs.declared.functions.Function1.{Function1}, specs.declared.functions.Function2.{Function2}}
-use Rattle.arrays_core.{specs.Arrays.{ArrayValue, collect}, specs.declared.item.Item.{Item}, specs.declared.item.ItemType.TheVariants.{Nums}}
-use Rattle.arrays_core.{specs.declared.item.Kind.{Kind}, specs.Outcomes.{given}}
+use Rattle.arrays_core.{specs.Arrays.{ArrayValue, collect}, specs.declared.item.Item.{Item}, specs.declared.item.ItemType.TheVariants.{Nums}, specs.declared.item.Kind.{Kind}, specs.Outcomes.{given}}
 use Rattle.scalar_fns.specs.ScalarExtension.{common, for_shape}
 use Rattle.index_region.specs.Checks.{form_of, whole}
 use Rattle.selection_fns.specs.Index.{index_whole, written_positions, index_rule}

@@ -1,16 +1,13 @@
 -- The totals of lines of which one place each changed: no more are worked out than places changed.
-use Rattle.std.proofs.Common.{◌≡◌, ℕ, zero, suc, ◌+◌, ◌-◌, ◌<◌, ◌≤◌, true, is_ok, List, [], ◌∷◌, length, drop, remove, min, max, Some, None, Result, Ok, Err, ap, ◌∙◌, subst, sym, refl, arith, inl, inr}
-use Rattle.std.{proofs.lemmas.Bool.{cases_Bool, cond-false, cond-true, eqb-true, false≢true}, proofs.lemmas.List.Edits.{length-remove}}
-use Rattle.std.proofs.Math.Nat.{mul-le-mul}
+use Rattle.std.{proofs.Common.{◌≡◌, ℕ, zero, suc, ◌+◌, ◌-◌, ◌<◌, ◌≤◌, true, is_ok, List, [], ◌∷◌, length, drop, remove, min, max, Some, None, Result, Ok, Err, ap, ◌∙◌, subst, sym, refl, arith, inl, inr}, proofs.lemmas.Bool.{cases_Bool, cond-false, cond-true, eqb-true, false≢true}}
+use Rattle.std.{proofs.lemmas.List.Edits.{length-remove}, proofs.Math.Nat.{mul-le-mul}}
 use Rattle.arrays_core.{specs.Arrays.{ArrayValue}, specs.Shapes.{size}, specs.declared.item.Kind.{Kind}, specs.Outcomes.{Outcome}}
 use Rattle.function_names.specs.Axes.{axis_at}
 use Rattle.reduce_fns.{specs.declared.reduce.Reduce.{Reduce}, specs.Reduce.{reduce_form}, specs.Laws.ReducedShapes.{reduce_facts}}
-use Rattle.index_region.{specs.declared.delta.Delta.TheVariants.{Patch, Grown}, specs.Boxes.{Interval, box_size, fits, is_empty, join_boxes, met, unless_empty}}
-use Rattle.index_region.{specs.Checks.{Form}, specs.Patches.{PatchValue}, specs.Tails.{TailValue}, proofs.Boxes.{fits_length}}
+use Rattle.index_region.{specs.declared.delta.Delta.TheVariants.{Patch, Grown}, specs.Boxes.{Interval, box_size, fits, is_empty, join_boxes, met, unless_empty}, specs.Checks.{Form}, specs.Patches.{PatchValue}, specs.Tails.{TailValue}, proofs.Boxes.{fits_length}}
 use Rattle.change_core.{specs.RuleModels.{form_size}, specs.Reaches.{as_reach, reach_by, reach_of}}
 use Rattle.change_rules.{specs.Nodes.{Argument, reached_cost, size_in}, proofs.Nodes.{cost_reached}}
-use Rattle.sum_rules.{specs.Totals.{is_narrow, is_one_a_line, box_of_lines, new_items, total_rule}, proofs.ChangedTotals.{cost_grown}}
-use Rattle.sum_rules.proofs.OneAxis.{size_with_one}
+use Rattle.sum_rules.{specs.Totals.{is_narrow, is_one_a_line, box_of_lines, new_items, total_rule}, proofs.ChangedTotals.{cost_grown}, proofs.OneAxis.{size_with_one}}
 use Rattle.formula_core.specs.Changes.{FitsNow, operation_cost}
 
 -- ---- a box without an axis

@@ -1,6 +1,5 @@
 -- The origin of an error that is lent.
-use Rattle.std.{proofs.Common.{◌≡◌, ℕ, List, true, false, Option, Some, None, refl, sym, ap, ◌∙◌}, specs.Prelude.{is_some}, specs.Borrow.{Bor}}
-use Rattle.std.proofs.lemmas.Bool.{false≢true}
+use Rattle.std.{proofs.Common.{◌≡◌, ℕ, List, true, false, Option, Some, None, refl, sym, ap, ◌∙◌}, specs.Prelude.{is_some}, specs.Borrow.{Bor}, proofs.lemmas.Bool.{false≢true}}
 use Rattle.arrays_core.{specs.declared.fault.Fault.{Fault}, specs.declared.item.Kind.{Kind}}
 use Rattle.formula_core.specs.Outcomes.{arisen_in, held_fault, lent_fault}
 

@@ -1,10 +1,7 @@
 -- The node at a place of a table stands for the tree at that place.
-use Rattle.std.proofs.Common.{◌≡◌, ℕ, zero, suc, ◌+◌, ◌<◌, ◌≤◌, Option, Some, None, List, [], ◌∷◌, ◌++◌, length, map, get_or, refl, sym, ap, ◌∙◌, subst, arith, append_assoc}
-use Rattle.std.{specs.Option.{option_map}, proofs.lemmas.List.{length-append, append-nil}}
+use Rattle.std.{proofs.Common.{◌≡◌, ℕ, zero, suc, ◌+◌, ◌<◌, ◌≤◌, Option, Some, None, List, [], ◌∷◌, ◌++◌, length, map, get_or, refl, sym, ap, ◌∙◌, subst, arith, append_assoc}, specs.Option.{option_map}, proofs.lemmas.List.{length-append, append-nil}}
 use Rattle.apl_expr.specs.Trees.{Tree, Index, before_argument, between_arguments, positions_of}
-use Rattle.formula_core.{specs.declared.table.Operand.{Operand}, specs.declared.table.Node.{Node}}
-use Rattle.formula_core.specs.Tables.{tree_at, tree_of_operand, tree_of_node, trees_after, IsOperand, AreOperands, IsNode, IsTable}
-use Rattle.formula_core.proofs.Tabled.{at_last, operand_front, operands_front}
+use Rattle.formula_core.{specs.declared.table.Operand.{Operand}, specs.declared.table.Node.{Node}, specs.Tables.{tree_at, tree_of_operand, tree_of_node, trees_after, IsOperand, AreOperands, IsNode, IsTable}, proofs.Tabled.{at_last, operand_front, operands_front}}
 use Rattle.formula_core.specs.declared.table.Operand.TheVariants as operand
 use Rattle.formula_core.specs.declared.table.Node.TheVariants as node
 
@@ -52,21 +49,3 @@ pub node_at : (names place : ℕ) (nodes : List Node) → IsTable names place no
 node_at names place [] table k below n is = absurd (omega (arith, below))
 node_at names place (m ∷ nodes) table zero below n is = subst (λ (x : Node). IsNode names (place + 0) x) is (subst (λ (i : ℕ). IsNode names i m) (omega arith) table.0)
 node_at names place (m ∷ nodes) table (suc k) below n is = subst (λ (i : ℕ). IsNode names i n) (omega arith) (node_at names (suc place) nodes table.1 k (omega (arith, below)) n is)
-
--- what stands before a place stands before a later one
-operand_later : (names place later : ℕ) (o : Operand) → place ≤ later → IsOperand names place o → IsOperand names later o
-operand_later names place later (operand.Literal l) more h = tt
-operand_later names place later (operand.Name k) more h = h
-operand_later names place later (operand.Node k) more h = omega (arith, more, h)
-
-operands_later : (names place later : ℕ) (os : List (Option Operand)) → place ≤ later → AreOperands names place os → AreOperands names later os
-operands_later names place later [] more h = tt
-operands_later names place later (None ∷ os) more h = operands_later names place later os more h
-operands_later names place later (Some o ∷ os) more h = (operand_later names place later o more h.0, operands_later names place later os more h.1)
-
-pub node_later : (names place later : ℕ) (n : Node) → place ≤ later → IsNode names place n → IsNode names later n
-node_later names place later (node.Constant l) more h = tt
-node_later names place later (node.Name k) more h = h
-node_later names place later (node.Monad f b) more h = operand_later names place later b more h
-node_later names place later (node.Dyad f a b) more h = (operand_later names place later a more h.0, operand_later names place later b more h.1)
-node_later names place later (node.Index a os) more h = (operand_later names place later a more h.0, operands_later names place later os.items more h.1)

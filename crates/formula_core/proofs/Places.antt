@@ -1,17 +1,12 @@
 -- One place is all that changes of a node.
-use Rattle.std.proofs.Common.{◌≡◌, ◌∙◌, ℕ, ◌<◌, List, [], ◌∷◌, length, get_or, false, Option, Some, None, Result, Ok, Err, IfOk, IfSome, refl, sym, ap, arith}
-use Rattle.std.{specs.Borrow.{Bor}, specs.declared.alloc.AllocError.{AllocError}, proofs.lemmas.List.Elements.{All-cons, All-nil}}
+use Rattle.std.{proofs.Common.{◌≡◌, ◌∙◌, ℕ, ◌<◌, List, [], ◌∷◌, length, get_or, false, Option, Some, None, Result, Ok, Err, IfOk, IfSome, refl, sym, ap, arith}, specs.Borrow.{Bor}, specs.declared.alloc.AllocError.{AllocError}, proofs.lemmas.List.Elements.{All-cons, All-nil}}
 use Rattle.apl_expr.specs.Trees.{Tree}
-use Rattle.arrays_core.{specs.Arrays.{ArrayValue, IsArray}, specs.Items.{type_of}, specs.Outcomes.{Outcome}, specs.declared.item.Item.{Item}}
-use Rattle.arrays_core.specs.declared.item.Kind.{Kind}
+use Rattle.arrays_core.{specs.Arrays.{ArrayValue, IsArray}, specs.Items.{type_of}, specs.Outcomes.{Outcome}, specs.declared.item.Item.{Item}, specs.declared.item.Kind.{Kind}}
 use Rattle.index_region.{specs.declared.delta.Delta.{Delta}, specs.Boxes.{Interval, box_size}, proofs.Patched.{patched_sound}}
 use Rattle.change_core.{specs.RuleModels.{RuleModel}, specs.Meters.{MeterValue}}
 use Rattle.change_rules.{specs.declared.one_place.OnePlace.{OnePlace}, specs.Currency.{applied}, specs.Nodes.{place_delta, delta_of_place}}
-use Rattle.formula_core.{specs.declared.input.Input.TheVariants.{Good}, specs.declared.kept.Kept.{Kept}, specs.declared.stage.Stage.{Stage}}
-use Rattle.formula_core.{specs.declared.table.Node.{Node}, specs.Changes.{NamesChange, FitsIn}}
-use Rattle.formula_core.{specs.Holdings.{Holding, holdings_of, not_worked_out, place_change}, specs.Inputs.{IsOperationChange}, specs.Joins.{least_joins}}
-use Rattle.formula_core.{specs.Meaning.{eval}, specs.Rules.{IsRefreshed}, specs.Stages.{IsStaged, IsStep, IsNodeStep}, specs.Sums.{summed_at, totalled}}
-use Rattle.formula_core.{specs.Tables.{tree_at, tree_of_node}, proofs.Planned.{next_held, next_fits, next_step}, proofs.Summed.{summed_by, totalled_summed}}
+use Rattle.formula_core.{specs.declared.input.Input.TheVariants.{Good}, specs.declared.kept.Kept.{Kept}, specs.declared.stage.Stage.{Stage}, specs.declared.table.Node.{Node}, specs.Changes.{NamesChange, FitsIn}, specs.Holdings.{Holding, holdings_of, not_worked_out, place_change}, specs.Inputs.{IsOperationChange}}
+use Rattle.formula_core.{specs.Joins.{least_joins}, specs.Meaning.{eval}, specs.Rules.{IsRefreshed}, specs.Stages.{IsStaged, IsStep, IsNodeStep}, specs.Sums.{summed_at, totalled}, specs.Tables.{tree_at, tree_of_node}, proofs.Planned.{next_held, next_fits, next_step}, proofs.Summed.{summed_by, totalled_summed}}
 
 -- what it makes of an array is an array
 given_sound : (region : List Interval) (given : Result Item Kind) (o : Outcome) → box_size region ≡ 1 → IfOk o IsArray → FitsIn (place_delta region given) o → IfOk (applied (place_delta region given) o) IsArray

@@ -1,13 +1,9 @@
 -- A formula is its table.
-use Rattle.std.proofs.Common.{◌≡◌, ℕ, ◌+◌, ◌-◌, ◌<◌, true, false, Box, Global, List, [], ◌∷◌, ◌++◌, length, map, take, get_or, refl, sym, ap, ◌∙◌, subst, arith, append_assoc, cond}
-use Rattle.std.{specs.List.{count_by}, proofs.lemmas.List.{length-append, map-append}, proofs.lemmas.List.Elements.{All-nil, All-push, All-head, All-tail}}
-use Rattle.std.proofs.lemmas.List.Sums.{sum_by-append, count_by_more_yes, count_by_more_no}
+use Rattle.std.{proofs.Common.{◌≡◌, ℕ, ◌+◌, ◌-◌, ◌<◌, true, false, Box, Global, List, [], ◌∷◌, ◌++◌, length, map, take, get_or, refl, sym, ap, ◌∙◌, subst, arith, append_assoc, cond}, specs.List.{count_by}, proofs.lemmas.List.{length-append, map-append}}
+use Rattle.std.{proofs.lemmas.List.Elements.{All-nil, All-push, All-head, All-tail}, proofs.lemmas.List.Sums.{sum_by-append, count_by_more_yes, count_by_more_no}}
 use Rattle.apl_expr.specs.Trees.{Tree, Const, Name, Monad, Dyad, Index, Reduce, Scan, Outer, Inner, Numbers}
-use Rattle.formula_core.{specs.declared.constant.Constant.{Constant}, specs.declared.table.Operand.{Operand}, specs.declared.table.Node.{Node}}
-use Rattle.formula_core.specs.Meaning.{names_in}
-use Rattle.formula_core.specs.Tables.{inside, inside_positions, subtrees, tree_at, tree_of_node, tree_of_operand, trees_after, applies, IsNode, IsTable, IsLowered}
-use Rattle.formula_core.{specs.declared.kept.Kept.{Kept}, specs.Holdings.{Holding, holding, holdings_of, nodes_of, not_worked_out, AreNotWorkedOut}}
-use Rattle.formula_core.{specs.Formulas.{root_of, IsTableOf, is_operation, operations}, proofs.Applied.{operation_before, operation_between}}
+use Rattle.formula_core.{specs.declared.constant.Constant.{Constant}, specs.declared.table.Operand.{Operand}, specs.declared.table.Node.{Node}, specs.Meaning.{names_in}, specs.Tables.{inside, inside_positions, subtrees, tree_at, tree_of_node, tree_of_operand, trees_after, applies, IsNode, IsTable, IsLowered}}
+use Rattle.formula_core.{specs.declared.kept.Kept.{Kept}, specs.Holdings.{Holding, holding, holdings_of, nodes_of, not_worked_out, AreNotWorkedOut}, specs.Formulas.{root_of, IsTableOf, is_operation, operations}, proofs.Applied.{operation_before, operation_between}}
 use Rattle.formula_core.proofs.Tabled.{trees_long, trees_more, table_more, at_last}
 use Rattle.formula_core.specs.declared.table.Operand.TheVariants as operand
 use Rattle.formula_core.specs.declared.table.Node.TheVariants as node

@@ -1,20 +1,14 @@
 -- The change of an operation, worked out from what its operands give, is the change of its tree.
-use Rattle.std.proofs.Common.{◌≡◌, ℕ, ◌+◌, ◌≤◌, List, [], ◌∷◌, ◌++◌, map, Bool, true, false, ◌&&◌, Option, Some, None, is_some, Result, Ok, Err, refl, sym, ap, ◌∙◌, subst, IfOk, if◌then◌else◌}
-use Rattle.std.{specs.List.{list_all}, specs.declared.alloc.AllocError.{AllocError}, proofs.lemmas.Bool.{false≢true}}
-use Rattle.apl_expr.{specs.Trees.{Tree, Index, before_argument, between_arguments, positions_of}, specs.declared.functions.Function1.{Function1}}
-use Rattle.apl_expr.specs.declared.functions.Function2.{Function2}
+use Rattle.std.{proofs.Common.{◌≡◌, ℕ, ◌+◌, ◌≤◌, List, [], ◌∷◌, ◌++◌, map, Bool, true, false, ◌&&◌, Option, Some, None, is_some, Result, Ok, Err, refl, sym, ap, ◌∙◌, subst, IfOk, if◌then◌else◌}, specs.List.{list_all}, specs.declared.alloc.AllocError.{AllocError}, proofs.lemmas.Bool.{false≢true}}
+use Rattle.apl_expr.{specs.Trees.{Tree, Index, before_argument, between_arguments, positions_of}, specs.declared.functions.Function1.{Function1}, specs.declared.functions.Function2.{Function2}}
 use Rattle.arrays_core.{specs.Arrays.{ArrayValue}, specs.declared.fault.Fault.{Fault}, specs.Outcomes.{Outcome}}
 use Rattle.index_region.{specs.declared.delta.Delta.{Delta}, specs.declared.delta.Delta.TheVariants.{Same, Patch, Grown, Whole}}
 use Rattle.change_core.specs.RuleModels.{RuleModel}
 use Rattle.change_rules.specs.Nodes.{is_same, is_whole}
 use Rattle.selection_fns.specs.Index.{index_rule}
-use Rattle.formula_core.{specs.declared.input.Input.{Input}, specs.declared.input.Input.TheVariants.{Good, Bad}, specs.Meaning.{eval}}
-use Rattle.formula_core.specs.Rules.{right_rule, both_rule}
-use Rattle.formula_core.specs.Changes.{NamesChange, arguments, result_of, result_delta, result_cost, operation_delta, operation_cost, operation_size, written, values_of, change, changes, cost_at, tree_size}
-use Rattle.formula_core.specs.Inputs.{shown, stays, delta_of, written_inputs, AllHaveFit, IsInput, IsOperationChange}
-use Rattle.formula_core.specs.Stages.{GivesItsTree, GiveTheirTrees, IsStep}
-use Rattle.formula_core.proofs.Applied.{change_before, change_between, cost_before, cost_between, eval_before, eval_between, size_before, size_between}
-use Rattle.formula_core.proofs.Changed.{all_arrays, monad_meant, dyad_meant, indexing_meant}
+use Rattle.formula_core.{specs.declared.input.Input.{Input}, specs.declared.input.Input.TheVariants.{Good, Bad}, specs.Meaning.{eval}, specs.Rules.{right_rule, both_rule}}
+use Rattle.formula_core.{specs.Changes.{NamesChange, arguments, result_of, result_delta, result_cost, operation_delta, operation_cost, operation_size, written, values_of, change, changes, cost_at, tree_size}, specs.Inputs.{shown, stays, delta_of, written_inputs, AllHaveFit, IsInput, IsOperationChange}}
+use Rattle.formula_core.{specs.Stages.{GivesItsTree, GiveTheirTrees, IsStep}, proofs.Applied.{change_before, change_between, cost_before, cost_between, eval_before, eval_between, size_before, size_between}, proofs.Changed.{all_arrays, monad_meant, dyad_meant, indexing_meant}}
 
 -- each operand gives what it should
 abbrev pub AllInputs : List Outcome → List Delta → List Input → Type 0

@@ -1,20 +1,14 @@
 -- How the change of a node is worked out from what stands before it.
-use Rattle.std.proofs.Common.{◌≡◌, ℕ, zero, suc, ◌+◌, ◌<◌, List, [], ◌∷◌, ◌++◌, length, map, take, get_or, Bool, true, false, Option, Some, None, Result, Ok, Err, refl, sym, ap, ◌∙◌, subst, arith, IfOk, OnOk}
-use Rattle.std.{specs.List.{Contains}, specs.Option.{option_map}, proofs.lemmas.Bool.{false≢true}, proofs.lemmas.List.{get_or-map, get_or_default, map_more}}
-use Rattle.std.specs.declared.alloc.AllocError.{AllocError}
+use Rattle.std.{proofs.Common.{◌≡◌, ℕ, zero, suc, ◌+◌, ◌<◌, List, [], ◌∷◌, ◌++◌, length, map, take, get_or, Bool, true, false, Option, Some, None, Result, Ok, Err, refl, sym, ap, ◌∙◌, subst, arith, IfOk, OnOk}, specs.List.{Contains}, specs.Option.{option_map}, proofs.lemmas.Bool.{false≢true}}
+use Rattle.std.{proofs.lemmas.List.{get_or-map, get_or_default, map_more}, specs.declared.alloc.AllocError.{AllocError}}
 use Rattle.apl_expr.specs.Trees.{Tree, Const, Name, Monad, Dyad, Index, Reduce, Scan, Outer, Inner, Numbers, positions_of}
 use Rattle.arrays_core.{specs.Arrays.{IsArray}, specs.declared.item.Kind.TheVariants.{Value}, specs.Outcomes.{Outcome, fault}}
 use Rattle.index_region.{specs.declared.delta.Delta.{Delta}, specs.declared.delta.Delta.TheVariants.{Same, Patch, Grown, Whole}}
 use Rattle.change_rules.{specs.Currency.{applied}, specs.Nodes.{is_same}}
-use Rattle.formula_core.{specs.declared.input.Input.{Input}, specs.declared.input.Input.TheVariants.{Good, Bad}, specs.declared.stage.Stage.{Stage}}
-use Rattle.formula_core.{specs.declared.table.Operand.{Operand}, specs.declared.table.Node.{Node}, specs.Meaning.{eval}}
-use Rattle.formula_core.specs.Tables.{tree_at, tree_of_operand, tree_of_node, IsOperand, AreOperands, IsNode}
-use Rattle.formula_core.specs.Changes.{NamesChange, change, changes, values_of, FitsIn, FitsNow, IsNameChanged}
-use Rattle.formula_core.{specs.Inputs.{shown, HasFit, IsAllOrNothing, IsInput}, specs.Holdings.{Holding, holding_at, holdings_of, not_worked_out, no_change}}
-use Rattle.formula_core.{specs.Plans.{node_change, AreInputs}, specs.Rules.{with_change}}
-use Rattle.formula_core.{specs.Stages.{IsStaged, IsTaken, IsLiteralChange, GiveTheirTrees, IsStep}, specs.Formulas.{is_operation}, proofs.Fitting.{fit_now}}
-use Rattle.formula_core.proofs.LiteralArrays.{literal_is_array}
-use Rattle.formula_core.{proofs.Changed.{AllChanged, monad_changed, dyad_changed, index_changed, IsChanged, IsTreeChanged}, proofs.Stepping.{ready_more}}
+use Rattle.formula_core.{specs.declared.input.Input.{Input}, specs.declared.input.Input.TheVariants.{Good, Bad}, specs.declared.stage.Stage.{Stage}, specs.declared.table.Operand.{Operand}, specs.declared.table.Node.{Node}, specs.Meaning.{eval}}
+use Rattle.formula_core.{specs.Tables.{tree_at, tree_of_operand, tree_of_node, IsOperand, AreOperands, IsNode}, specs.Changes.{NamesChange, change, changes, values_of, FitsIn, FitsNow, IsNameChanged}, specs.Inputs.{shown, HasFit, IsAllOrNothing, IsInput}}
+use Rattle.formula_core.{specs.Holdings.{Holding, holding_at, holdings_of, not_worked_out, no_change}, specs.Plans.{node_change, AreInputs}, specs.Rules.{with_change}, specs.Stages.{IsStaged, IsTaken, IsLiteralChange, GiveTheirTrees, IsStep}, specs.Formulas.{is_operation}, proofs.Fitting.{fit_now}}
+use Rattle.formula_core.{proofs.LiteralArrays.{literal_is_array}, proofs.Changed.{AllChanged, monad_changed, dyad_changed, index_changed, IsChanged, IsTreeChanged}, proofs.Stepping.{ready_more}}
 use Rattle.formula_core.specs.declared.table.Operand.TheVariants as operand
 use Rattle.formula_core.specs.declared.table.Node.TheVariants as node
 
@@ -141,13 +135,6 @@ pub position_ready : (is_new : Bool) (c : NamesChange) (f : Option Operand → O
 position_ready is_new c f os k x is i below at h one =
     subst (λ (ts : List (Option Tree)). GiveTheirTrees is_new c ts (is ++ i ∷ [])) (sym (map_more f os k None below))
     (ready_more is_new c (map f (take k os)) is (f (get_or os k None)) i h (subst (λ (o : Option Operand). GiveTheirTrees is_new c (f o ∷ []) (i ∷ [])) (sym at) one))
-
--- the change of a name that is the whole tree
-whole_name : (old now : Outcome) (d : Delta) → IsAllOrNothing d → is_same d ≡ false → applied d old ≡ now → d ≡ Whole now
-whole_name old now Same none same is = absurd (false≢true (sym same))
-whole_name old now (Patch p) none same is = absurd none
-whole_name old now (Grown t) none same is = absurd none
-whole_name old now (Whole r) none same is = ap (λ o. Whole o) is
 
 -- a step of a node that applies no function costs nothing
 free_step : (is_new : Bool) (c : NamesChange) (t : Tree) (meter : ℕ) (d : Delta) → d ≡ node_change is_new c t → is_operation t ≡ false → IsStep is_new c t meter meter (Ok (d, 0))

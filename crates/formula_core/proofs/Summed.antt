@@ -1,23 +1,17 @@
 -- The sums that totals keep follow the changes of their arguments.
-use Rattle.std.proofs.Common.{◌≡◌, ℕ, List, length, Box, Global, Bool, true, false, Option, Some, None, is_some, Result, Ok, Err, IfOk, refl, sym, ap, ◌∙◌, subst, inl, inr}
-use Rattle.std.{specs.declared.alloc.AllocError.{AllocError}, specs.Option.{option_map, option_map_or}}
+use Rattle.std.{proofs.Common.{◌≡◌, ℕ, List, length, Box, Global, Bool, true, false, Option, Some, None, is_some, Result, Ok, Err, IfOk, refl, sym, ap, ◌∙◌, subst, inl, inr}, specs.declared.alloc.AllocError.{AllocError}, specs.Option.{option_map, option_map_or}}
 use Rattle.std.proofs.lemmas.Bool.{false≢true, cases_Bool, cond-true, cond-false}
 use Rattle.apl_expr.specs.Trees.{Tree}
 use Rattle.arrays_core.{specs.Arrays.{ArrayValue}, specs.Growth.{grown_by}, proofs.Growing.{rank_longer}, specs.Outcomes.{Outcome}}
 use Rattle.function_names.{specs.Axes.{axis_at}, specs.declared.scalar.Scalar2.{Scalar2}}
 use Rattle.reduce_fns.specs.declared.reduce.Reduce.{Reduce}
-use Rattle.index_region.{specs.declared.delta.Delta.{Delta}, specs.declared.delta.Delta.TheVariants.{Same, Patch, Grown, Whole}}
-use Rattle.index_region.{specs.Patches.{PatchValue, patched}, specs.Tails.{TailValue, FitsTail}}
+use Rattle.index_region.{specs.declared.delta.Delta.{Delta}, specs.declared.delta.Delta.TheVariants.{Same, Patch, Grown, Whole}, specs.Patches.{PatchValue, patched}, specs.Tails.{TailValue, FitsTail}}
 use Rattle.change_rules.{specs.Currency.{applied}, specs.Nodes.{is_same, is_whole}}
 use Rattle.fold_trees.specs.ArrayLines.{TreesValue}
-use Rattle.sum_rules.{specs.LineSums.{StandFor, SummedValue, keeps_sums, grown_sums, summed}, specs.NewLines.{NewLinesValue, FitsSums as FitBehind}}
-use Rattle.sum_rules.{specs.Totals.{StoodBefore, StoodFor}, proofs.KeptSums.{kept_parts}}
-use Rattle.formula_core.{specs.declared.input.Input.{Input}, specs.declared.input.Input.TheVariants.{Good, Bad}, specs.declared.stage.Stage.{Stage}}
-use Rattle.formula_core.{specs.declared.sums.SumsDelta.{SumsDelta}, specs.declared.table.Operand.{Operand}, specs.declared.table.Node.{Node}}
-use Rattle.formula_core.{specs.Meaning.{eval}, specs.Tables.{tree_of_operand, tree_of_node, IsOperand, IsNode}, specs.Changes.{NamesChange, change, FitsIn}}
-use Rattle.formula_core.{specs.Inputs.{shown, delta_of, IsInput}, specs.Stages.{IsStaged, GivesItsTree, IsKeptBy, IsMadeBy, IsSumsStep}}
-use Rattle.formula_core.specs.Sums.{summed_in, summed_at, total_of, totalled, WasGrown, WasPatched, WasSummed, AreNewSums, FitsInSums, IsJoinedFrom, IsSumsDelta, IsSummedFor}
-use Rattle.formula_core.{proofs.Applied.{summed_before, summed_between}, proofs.Steps.{operand_changed}}
+use Rattle.sum_rules.{specs.LineSums.{StandFor, SummedValue, keeps_sums, grown_sums, summed}, specs.NewLines.{NewLinesValue, FitsSums as FitBehind}, specs.Totals.{StoodBefore, StoodFor}, proofs.KeptSums.{kept_parts}}
+use Rattle.formula_core.{specs.declared.input.Input.{Input}, specs.declared.input.Input.TheVariants.{Good, Bad}, specs.declared.stage.Stage.{Stage}, specs.declared.sums.SumsDelta.{SumsDelta}, specs.declared.table.Operand.{Operand}, specs.declared.table.Node.{Node}, specs.Meaning.{eval}}
+use Rattle.formula_core.{specs.Tables.{tree_of_operand, tree_of_node, IsOperand, IsNode}, specs.Changes.{NamesChange, change, FitsIn}, specs.Inputs.{shown, delta_of, IsInput}, specs.Stages.{IsStaged, GivesItsTree, IsKeptBy, IsMadeBy, IsSumsStep}}
+use Rattle.formula_core.{specs.Sums.{summed_in, summed_at, total_of, totalled, WasGrown, WasPatched, WasSummed, AreNewSums, FitsInSums, IsJoinedFrom, IsSumsDelta, IsSummedFor}, proofs.Applied.{summed_before, summed_between}, proofs.Steps.{operand_changed}}
 use Rattle.formula_core.specs.declared.sums.SumsDelta.TheVariants as sums
 use Rattle.formula_core.specs.declared.table.Node.TheVariants as node
 

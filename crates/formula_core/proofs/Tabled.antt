@@ -1,14 +1,9 @@
 -- What a table stands for, as names and nodes are added.
-use Rattle.std.proofs.Common.{◌≡◌, ℕ, suc, ◌+◌, ◌<◌, ◌≤◌, List, [], ◌∷◌, ◌++◌, length, map, take, get_or, add-one, Box, Global, Option, Some, None, refl, sym, ap, ◌∙◌, subst, arith, append_assoc}
-use Rattle.std.{specs.Prelude.{Result, Ok, Err, OnOk, IfOk}, specs.Option.{option_map}, proofs.lemmas.List.{length-append, map-append, get_or_append_left}}
-use Rattle.std.{proofs.Math.Seq.{take-suc}, specs.Global.{Vec}}
-use Rattle.apl_expr.specs.declared.expr.Expr.{Expr}
-use Rattle.apl_expr.specs.Trees.{Tree, Const, Name, Index, before_argument, between_arguments, Numbers, position_of, positions_of, Literal}
-use Rattle.apl_expr.{specs.declared.functions.Function1.{Function1}, specs.declared.functions.Function2.{Function2}}
-use Rattle.formula_core.{specs.declared.constant.Constant.{Constant}, specs.declared.table.Operand.{Operand}, specs.declared.table.Node.{Node}}
-use Rattle.formula_core.specs.Meaning.{names_in, names_in_positions}
-use Rattle.formula_core.specs.Tables.{inside, inside_positions, tree_at, tree_of_operand, tree_of_node, trees_after, IsOperand, AreOperands, IsNode, IsTable, IsLowered, ArePositionsLowered}
-use Rattle.formula_core.proofs.Applied.{inside_before, inside_between, names_before, names_between}
+use Rattle.std.{proofs.Common.{◌≡◌, ℕ, suc, ◌+◌, ◌<◌, ◌≤◌, List, [], ◌∷◌, ◌++◌, length, map, take, get_or, add-one, Box, Global, Option, Some, None, refl, sym, ap, ◌∙◌, subst, arith, append_assoc}, specs.Prelude.{Result, Ok, Err, OnOk, IfOk}, specs.Option.{option_map}}
+use Rattle.std.{proofs.lemmas.List.{length-append, map-append, get_or_append_left}, proofs.Math.Seq.{take-suc}, specs.Global.{Vec}}
+use Rattle.apl_expr.{specs.declared.expr.Expr.{Expr}, specs.Trees.{Tree, Const, Name, Index, before_argument, between_arguments, Numbers, position_of, positions_of, Literal}, specs.declared.functions.Function1.{Function1}, specs.declared.functions.Function2.{Function2}}
+use Rattle.formula_core.{specs.declared.constant.Constant.{Constant}, specs.declared.table.Operand.{Operand}, specs.declared.table.Node.{Node}, specs.Meaning.{names_in, names_in_positions}}
+use Rattle.formula_core.{specs.Tables.{inside, inside_positions, tree_at, tree_of_operand, tree_of_node, trees_after, IsOperand, AreOperands, IsNode, IsTable, IsLowered, ArePositionsLowered}, proofs.Applied.{inside_before, inside_between, names_before, names_between}}
 use Rattle.formula_core.specs.declared.table.Operand.TheVariants as operand
 use Rattle.formula_core.specs.declared.table.Node.TheVariants as node
 
@@ -101,24 +96,6 @@ module _ (names names' : List (List ℕ)) (old mid new : List Node) (n : Node) (
         table = λ count h old_table. subst (λ (ns : List Node). IsTable count 0 ns) (sym is) (table_more count 0 mid n (table count h old_table) (subst (λ (k : ℕ). IsNode count k n) (omega arith) (below count h)));
         below = λ count h. omega (arith, ap (λ ns. length ns) is, length-append mid (n ∷ []));
       }
-
-pub lowered_const : (names : List (List ℕ)) (old : List Node) (literal : Box Constant Global) (l : Literal) → literal.value ≡ l → IsLowered names names old old (Const l) (operand.Literal literal)
-lowered_const names old literal l is = record {
-  named = sym (append_none names);
-  trees = λ later. sym (append_none (trees_after (names ++ later) [] old));
-  stands = λ later. ap (λ c. Const c) is;
-  table = λ count h t. t;
-  below = λ count h. tt;
-}
-
-pub lowered_name : (names names' : List (List ℕ)) (old : List Node) (x : List ℕ) → names' ≡ names ++ x ∷ [] → IsLowered names names' old old (Name x) (operand.Name (length names))
-lowered_name names names' old x is = record {
-  named = is;
-  trees = λ later. sym (append_none (trees_after (names' ++ later) [] old));
-  stands = λ later. ap (λ ns. Name (get_or (ns ++ later) (length names) [])) is ∙ ap (λ y. Name y) (ap (λ ns. get_or ns (length names) []) (append_assoc names (x ∷ []) later) ∙ at_last [] names x later);
-  table = λ count h t. t;
-  below = λ count h. omega (arith, h, ap (λ ns. length ns) is, length-append names (x ∷ []));
-}
 
 pub lowered_monad : (names names' : List (List ℕ)) (old mid new : List Node) (f : Function1) (b : Tree) (right : Operand) → IsLowered names names' old mid b right → new ≡ mid ++ node.Monad f right ∷ []
     → IsLowered names names' old new (before_argument f b) (operand.Node (length mid))

@@ -1,26 +1,17 @@
 -- How many sums are joined for totals.
-use Rattle.std.proofs.Common.{◌≡◌, ℕ, ◌+◌, ◌-◌, ◌*◌, ◌≤◌, ◌<◌, min, nat_lt, Bool, true, false, ◌&&◌, ◌||◌, is_ok, is_some, List, [], ◌∷◌, Some, None, Result, Ok, Err, IfOk, refl, sym, ap, ◌∙◌, subst, arith, inl, inr, length, if◌then◌else◌}
-use Rattle.std.{specs.Borrow.{Bor}, specs.declared.alloc.AllocError.{AllocError}}
-use Rattle.std.proofs.lemmas.Bool.{and_from, and_parts, cases_Bool, cond-false, cond-true, eqb-true, false≢true, le-ltb, lt-ltb, ltb-false, ltb-true}
-use Rattle.std.{proofs.lemmas.Result.{IfOk-weaker}, proofs.Math.Nat.{mul-le-mul, mul-le-mul_left, mul-le-mul_right}}
+use Rattle.std.{proofs.Common.{◌≡◌, ℕ, ◌+◌, ◌-◌, ◌*◌, ◌≤◌, ◌<◌, min, nat_lt, Bool, true, false, ◌&&◌, ◌||◌, is_ok, is_some, List, [], ◌∷◌, Some, None, Result, Ok, Err, IfOk, refl, sym, ap, ◌∙◌, subst, arith, inl, inr, length, if◌then◌else◌}, specs.Borrow.{Bor}, specs.declared.alloc.AllocError.{AllocError}}
+use Rattle.std.{proofs.lemmas.Bool.{and_from, and_parts, cases_Bool, cond-false, cond-true, eqb-true, false≢true, le-ltb, lt-ltb, ltb-false, ltb-true}, proofs.lemmas.Result.{IfOk-weaker}, proofs.Math.Nat.{mul-le-mul, mul-le-mul_left, mul-le-mul_right}}
 use Rattle.apl_expr.specs.declared.functions.Function1.{Function1}
-use Rattle.arrays_core.{specs.Arrays.{ArrayValue}, specs.Growth.{grown_by, one_longer}, specs.Shapes.{size}, proofs.Growing.{rank_longer}}
-use Rattle.arrays_core.specs.Outcomes.{Outcome}
-use Rattle.index_region.{specs.Arguments.{is_of_numbers}, specs.Tails.{TailValue}, specs.declared.delta.Delta.{Delta}}
-use Rattle.index_region.{specs.declared.delta.Delta.TheVariants.{Same, Patch, Grown, Whole}, specs.Patches.{FitsPatch, PatchValue, patched}}
-use Rattle.index_region.{proofs.Patched.{box_within_size}, proofs.Walks.{some_place}}
+use Rattle.arrays_core.{specs.Arrays.{ArrayValue}, specs.Growth.{grown_by, one_longer}, specs.Shapes.{size}, proofs.Growing.{rank_longer}, specs.Outcomes.{Outcome}}
+use Rattle.index_region.{specs.Arguments.{is_of_numbers}, specs.Tails.{TailValue}, specs.declared.delta.Delta.{Delta}, specs.declared.delta.Delta.TheVariants.{Same, Patch, Grown, Whole}, specs.Patches.{FitsPatch, PatchValue, patched}, proofs.Patched.{box_within_size}, proofs.Walks.{some_place}}
 use Rattle.function_names.{specs.Axes.{axis_at, is_axis}, specs.declared.along.Along.{Along}}
 use Rattle.reduce_fns.specs.declared.reduce.Reduce.{Reduce}
 use Rattle.fold_trees.specs.FoldTrees.{has_trees}
 use Rattle.change_core.specs.Meters.{ticked}
 use Rattle.change_rules.specs.Nodes.{is_error}
-use Rattle.sum_rules.specs.LineSums.{SummedValue, keeps_sums, length_along, line_length, line_step, most_without_tree}
-use Rattle.sum_rules.specs.Totals.{AreFolds, AreFoldsWithin, HasAllJoins, HasJoins, is_narrow, new_items, total_rule}
-use Rattle.sum_rules.{proofs.KeptSums.{along_axis, kept_parts}, proofs.MorePlaces.{between, longer}}
-use Rattle.formula_core.{specs.declared.input.Input.TheVariants.{Good}, specs.Changes.{FitsNow, operation_cost}}
-use Rattle.formula_core.{specs.Joins.{binary_digits, had_trees, has_trees_for, least_joins_of}, specs.Rules.{right_rule}, specs.Stages.{AreTotalsJoined}}
-use Rattle.formula_core.{specs.Sums.{AreSumsKept, IsSummedFor, total_of}, proofs.Digits.{few_within_digits, within_digits}}
-use Rattle.formula_core.{proofs.Narrow.{grown_within, patch_within}, proofs.Summed.{kept_of}}
+use Rattle.sum_rules.{specs.LineSums.{SummedValue, keeps_sums, length_along, line_length, line_step, most_without_tree}, specs.Totals.{AreFolds, AreFoldsWithin, HasAllJoins, HasJoins, is_narrow, new_items, total_rule}, proofs.KeptSums.{along_axis, kept_parts}, proofs.MorePlaces.{between, longer}}
+use Rattle.formula_core.{specs.declared.input.Input.TheVariants.{Good}, specs.Changes.{FitsNow, operation_cost}, specs.Joins.{binary_digits, had_trees, has_trees_for, least_joins_of}, specs.Rules.{right_rule}, specs.Stages.{AreTotalsJoined}, specs.Sums.{AreSumsKept, IsSummedFor, total_of}}
+use Rattle.formula_core.{proofs.Digits.{few_within_digits, within_digits}, proofs.Narrow.{grown_within, patch_within}, proofs.Summed.{kept_of}}
 use Rattle.apl_expr.specs.declared.functions.Function1.TheVariants as function1
 
 -- a total follows the rule of its fold

@@ -1,11 +1,9 @@
 -- The change of a node, from its arguments, is that from the plain values: what these are now and what changed of each, wherever that lies.
-use Rattle.std.{proofs.Common.{◌≡◌, ℕ, List, [], ◌∷◌, map, Bool, ◌&&◌, ◌||◌, not, Option, is_ok, refl, ap, if◌then◌else◌}, specs.Borrow.{Bor}}
-use Rattle.std.specs.List.{list_all, list_any}
+use Rattle.std.{proofs.Common.{◌≡◌, ℕ, List, [], ◌∷◌, map, Bool, ◌&&◌, ◌||◌, not, Option, is_ok, refl, ap, if◌then◌else◌}, specs.Borrow.{Bor}, specs.List.{list_all, list_any}}
 use Rattle.arrays_core.{specs.Arrays.{ArrayValue}, specs.Outcomes.{Outcome}}
 use Rattle.index_region.{specs.declared.delta.Delta.{Delta}, specs.declared.delta.Delta.TheVariants.{Same, Whole}, specs.Boxes.{Interval}}
 use Rattle.change_core.specs.RuleModels.{RuleModel, form_size}
-use Rattle.change_rules.specs.Nodes.{Argument, views, moved, moved_by, marks, is_same, is_whole, is_grown, is_grown_at_most, any_grown, all_same, node_delta, node_cost, grown_in, grown_size, reached_delta, reached_cost}
-use Rattle.change_rules.specs.Evaluation.{evaluation}
+use Rattle.change_rules.{specs.Nodes.{Argument, views, moved, moved_by, marks, is_same, is_whole, is_grown, is_grown_at_most, any_grown, all_same, node_delta, node_cost, grown_in, grown_size, reached_delta, reached_cost}, specs.Evaluation.{evaluation}}
 use Rattle.formula_core.specs.Changes.{result_delta, result_cost}
 
 -- arrays, each with what changed of it, as arguments

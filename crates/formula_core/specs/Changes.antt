@@ -1,14 +1,10 @@
 -- What a change of the names changes of the result of each node of a formula that holds results.
-use Rattle.std.specs.Prelude.{◌≡◌, ◌<◌, ℕ, List, [], ◌∷◌, ◌&&◌, ◌||◌, not, Bool, true, false, length, map, drop, is_ok, Result, Ok, Err, if◌then◌else◌}
-use Rattle.std.specs.List.{list_all, list_any}
+use Rattle.std.{specs.Prelude.{◌≡◌, ◌<◌, ℕ, List, [], ◌∷◌, ◌&&◌, ◌||◌, not, Bool, true, false, length, map, drop, is_ok, Result, Ok, Err, if◌then◌else◌}, specs.List.{list_all, list_any}}
 use Rattle.apl_expr.specs.Trees.{Tree, Const, Name, Monad, Dyad, Index, Reduce, Scan, Outer, Inner, Positions, NoPositions, Empty, Filled}
 use Rattle.arrays_core.{specs.Arrays.{ArrayValue}, specs.Shapes.{size}, specs.declared.fault.Fault.{Fault}, specs.Outcomes.{Outcome}}
-use Rattle.index_region.{specs.declared.delta.Delta.{Delta}, specs.declared.delta.Delta.TheVariants.{Same, Patch, Grown, Whole}, specs.Patches.{FitsPatch}}
-use Rattle.index_region.specs.Tails.{TailValue, FitsTail}
+use Rattle.index_region.{specs.declared.delta.Delta.{Delta}, specs.declared.delta.Delta.TheVariants.{Same, Patch, Grown, Whole}, specs.Patches.{FitsPatch}, specs.Tails.{TailValue, FitsTail}}
 use Rattle.change_core.specs.RuleModels.{RuleModel, form_size}
-use Rattle.change_rules.specs.Currency.{applied}
-use Rattle.change_rules.specs.Nodes.{is_same, is_whole, is_grown, is_grown_at_most, moved_by, grown_in, grown_size, reached_delta, reached_cost}
-use Rattle.change_rules.specs.Evaluation.{evaluation}
+use Rattle.change_rules.{specs.Currency.{applied}, specs.Nodes.{is_same, is_whole, is_grown, is_grown_at_most, moved_by, grown_in, grown_size, reached_delta, reached_cost}, specs.Evaluation.{evaluation}}
 use Rattle.selection_fns.specs.Index.{index_rule}
 use Rattle.formula_core.{specs.Meaning.{eval}, specs.Rules.{right_rule, both_rule}}
 use Rattle.apl_expr.specs.declared.functions.Function1.TheVariants as function1

@@ -1,9 +1,7 @@
 -- A literal of a formula, by what it gives.
 use Rattle.std.{specs.Prelude.{◌≡◌, ℕ, List, Result, Ok, Err, map}, specs.Global.{Box}}
 use Rattle.apl_expr.{specs.declared.expr.Literal.{Literal as WrittenLiteral}, specs.Trees.{Literal, Numbers, Text, literal_of}}
-use Rattle.arrays_core.{specs.declared.item.Item.{Item}, specs.declared.item.Item.TheVariants.{Num, Char}, specs.declared.item.ItemType.{ItemType}}
-use Rattle.arrays_core.{specs.declared.item.ItemType.TheVariants.{Nums, Chars}, specs.declared.fault.Fault.{Fault}, specs.Outcomes.{given}}
-use Rattle.arrays_core.specs.Arrays.{ArrayValue}
+use Rattle.arrays_core.{specs.declared.item.Item.{Item}, specs.declared.item.Item.TheVariants.{Num, Char}, specs.declared.item.ItemType.{ItemType}, specs.declared.item.ItemType.TheVariants.{Nums, Chars}, specs.declared.fault.Fault.{Fault}, specs.Outcomes.{given}, specs.Arrays.{ArrayValue}}
 use Rattle.index_region.specs.Arguments.{number_of}
 use Rattle.formula_core.specs.Meaning.{array_of}
 

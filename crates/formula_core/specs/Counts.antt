@@ -3,8 +3,7 @@ use Rattle.std.{specs.Prelude.{◌≡◌, ℕ, ◌+◌, ◌≤◌, List, Result,
 use Rattle.apl_expr.specs.Trees.{Tree, Positions}
 use Rattle.arrays_core.{specs.Shapes.{size}, specs.declared.fault.Fault.{Fault}, specs.Outcomes.{Outcome}}
 use Rattle.change_core.specs.Meters.{ticked}
-use Rattle.formula_core.{specs.declared.evaluation.Evaluated.{Evaluated}, specs.Changes.{tree_size}, specs.Meaning.{eval, eval_positions}}
-use Rattle.formula_core.{specs.Evaluated.{array_in}, specs.Tables.{inside, inside_positions}}
+use Rattle.formula_core.{specs.declared.evaluation.Evaluated.{Evaluated}, specs.Changes.{tree_size}, specs.Meaning.{eval, eval_positions}, specs.Evaluated.{array_in}, specs.Tables.{inside, inside_positions}}
 
 -- what the functions in a tree cost, where the names show these: for each the size of its result
 abbrev pub cost_in : (List ℕ → Outcome) → Tree → ℕ

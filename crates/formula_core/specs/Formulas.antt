@@ -1,8 +1,7 @@
 -- What a contract sees of a formula: a table of nodes with a result at each.
 use Rattle.std.{specs.Prelude.{◌≡◌, ◌-◌, ℕ, List, [], Bool, true, false, length, get_or, map}, specs.List.{count_by}}
 use Rattle.apl_expr.specs.Trees.{Tree, Const, Name}
-use Rattle.formula_core.{specs.declared.table.Node.{Node}, specs.Holdings.{Holding, holding_at, not_worked_out}, specs.Meaning.{names_in}}
-use Rattle.formula_core.specs.Tables.{tree_at, trees_after, subtrees, IsTable}
+use Rattle.formula_core.{specs.declared.table.Node.{Node}, specs.Holdings.{Holding, holding_at, not_worked_out}, specs.Meaning.{names_in}, specs.Tables.{tree_at, trees_after, subtrees, IsTable}}
 use Rattle.arrays_core.specs.Outcomes.{Outcome}
 
 -- its tree, that it was not worked out yet, and what the node of each tree that has one holds, the tree's own last

@@ -5,9 +5,7 @@ use Rattle.index_region.{specs.declared.delta.Delta.{Delta}, specs.declared.delt
 use Rattle.change_rules.{specs.Currency.{applied}, specs.declared.one_place.OnePlace.{OnePlace}, specs.Nodes.{delta_of_place}}
 use Rattle.sum_rules.specs.LineSums.{SummedValue}
 use Rattle.apl_expr.specs.Trees.{Tree}
-use Rattle.formula_core.{specs.declared.kept.Kept.{Kept}, specs.declared.kept.NodeChange.{NodeChange}, specs.declared.sums.SumsDelta.{SumsDelta}}
-use Rattle.formula_core.{specs.declared.table.Node.{Node}, specs.Changes.{FitsIn, each_with}, specs.Meaning.{eval}}
-use Rattle.formula_core.specs.Sums.{summed_at, resummed, FitsInSums}
+use Rattle.formula_core.{specs.declared.kept.Kept.{Kept}, specs.declared.kept.NodeChange.{NodeChange}, specs.declared.sums.SumsDelta.{SumsDelta}, specs.declared.table.Node.{Node}, specs.Changes.{FitsIn, each_with}, specs.Meaning.{eval}, specs.Sums.{summed_at, resummed, FitsInSums}}
 use Rattle.formula_core.specs.declared.sums.SumsDelta.TheVariants as sums
 
 -- what a node holds: its result, and the array whose lines it keeps as trees, with their fold, if it does

@@ -1,12 +1,10 @@
 -- What a contract sees of what a name or a node gives, with what changed of it.
-use Rattle.std.specs.Prelude.{◌≡◌, ◌+◌, ◌≤◌, ℕ, List, [], ◌∷◌, Bool, true, false, not, Option, Some, None, Result, Ok, Err, IfOk, map}
-use Rattle.std.{specs.Result.{result_err}, specs.declared.alloc.AllocError.{AllocError}}
+use Rattle.std.{specs.Prelude.{◌≡◌, ◌+◌, ◌≤◌, ℕ, List, [], ◌∷◌, Bool, true, false, not, Option, Some, None, Result, Ok, Err, IfOk, map}, specs.Result.{result_err}, specs.declared.alloc.AllocError.{AllocError}}
 use Rattle.arrays_core.{specs.declared.fault.Fault.{Fault}, specs.Outcomes.{Outcome}}
 use Rattle.index_region.{specs.declared.delta.Delta.{Delta}, specs.declared.delta.Delta.TheVariants.{Same, Patch, Grown, Whole}}
 use Rattle.change_core.{specs.Meters.{ticked}, specs.RuleModels.{RuleModel}}
 use Rattle.change_rules.specs.Nodes.{Argument, is_same, is_error}
-use Rattle.formula_core.{specs.declared.input.Input.{Input}, specs.declared.input.Input.TheVariants.{Good, Bad}}
-use Rattle.formula_core.specs.Changes.{FitsNow, arguments, operation_delta, operation_cost}
+use Rattle.formula_core.{specs.declared.input.Input.{Input}, specs.declared.input.Input.TheVariants.{Good, Bad}, specs.Changes.{FitsNow, arguments, operation_delta, operation_cost}}
 
 -- the array or the error
 abbrev pub shown : Input → Outcome

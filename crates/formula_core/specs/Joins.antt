@@ -1,14 +1,12 @@
 -- How many sums of parts a change of the names joins, to sum up lines of numbers.
-use Rattle.std.specs.Prelude.{ℕ, ◌-◌, ◌*◌, ◌^◌, min, nat_le, nat_lt, Bool, ◌&&◌, ◌||◌, is_ok, Ok, Err, length, if◌then◌else◌}
-use Rattle.std.{specs.List.{count_by, range_with_len, sum_by}, specs.Option.{option_map_or}}
+use Rattle.std.{specs.Prelude.{ℕ, ◌-◌, ◌*◌, ◌^◌, min, nat_le, nat_lt, Bool, ◌&&◌, ◌||◌, is_ok, Ok, Err, length, if◌then◌else◌}, specs.List.{count_by, range_with_len, sum_by}, specs.Option.{option_map_or}}
 use Rattle.apl_expr.specs.Trees.{Tree, Const, Name, Monad, Dyad, Index, Scan, Outer, Inner}
 use Rattle.arrays_core.{specs.Arrays.{ArrayValue}, specs.Outcomes.{Outcome}}
 use Rattle.index_region.{specs.Arguments.{is_of_numbers}, specs.declared.delta.Delta.{Delta}, specs.declared.delta.Delta.TheVariants.{Grown}}
 use Rattle.function_names.specs.Axes.{axis_at}
 use Rattle.reduce_fns.specs.declared.reduce.Reduce.{Reduce}
 use Rattle.sum_rules.{specs.LineSums.{length_along, most_without_tree}, specs.Totals.{new_items, is_narrow}}
-use Rattle.formula_core.{specs.Changes.{NamesChange}, specs.Meaning.{eval}, specs.Plans.{node_change, node_cost_at}, specs.Sums.{total_of}}
-use Rattle.formula_core.specs.Tables.{subtrees}
+use Rattle.formula_core.{specs.Changes.{NamesChange}, specs.Meaning.{eval}, specs.Plans.{node_change, node_cost_at}, specs.Sums.{total_of}, specs.Tables.{subtrees}}
 use Rattle.apl_expr.specs.Trees as tree
 use Rattle.apl_expr.specs.declared.functions.Function1.TheVariants as function1
 

@@ -1,16 +1,11 @@
 -- What an expression means, where the names show these arrays and errors.
 use Rattle.std.specs.Prelude.{ℕ, List, [], ◌∷◌, ◌++◌, Some, None, Result, Ok}
-use Rattle.apl_expr.specs.Trees.{Tree, Const, Name, Monad, Dyad, Index, Reduce, Scan, Outer, Inner, Positions, NoPositions, Empty, Filled, Literal, Numbers, Text}
-use Rattle.apl_expr.{specs.declared.expr.Monadic.{Monadic}, specs.declared.expr.Dyadic.{Dyadic}, specs.declared.functions.Function1.{Function1}}
+use Rattle.apl_expr.{specs.Trees.{Tree, Const, Name, Monad, Dyad, Index, Reduce, Scan, Outer, Inner, Positions, NoPositions, Empty, Filled, Literal, Numbers, Text}, specs.declared.expr.Monadic.{Monadic}, specs.declared.expr.Dyadic.{Dyadic}, specs.declared.functions.Function1.{Function1}}
 use Rattle.apl_expr.specs.declared.functions.Function2.{Function2}
-use Rattle.arrays_core.{specs.Items.{and_then}, specs.Arrays.{ArrayValue, scalar_of, vector_of, character_scalar_of, text_of}, specs.declared.item.Kind.{Kind}}
-use Rattle.arrays_core.{specs.declared.fault.Fault.{Fault}, specs.Outcomes.{Outcome, given}}
+use Rattle.arrays_core.{specs.Items.{and_then}, specs.Arrays.{ArrayValue, scalar_of, vector_of, character_scalar_of, text_of}, specs.declared.item.Kind.{Kind}, specs.declared.fault.Fault.{Fault}, specs.Outcomes.{Outcome, given}}
 use Rattle.scalar_fns.specs.ScalarExtension.{monadic_on_array, dyadic_on_arrays}
-use Rattle.structural_fns.{specs.Reshape.{reshape_whole}, specs.Ravel.{ravel_whole}, specs.Catenate.{catenate_whole}, specs.Take.{take_whole}}
-use Rattle.structural_fns.{specs.Drop.{drop_whole}, specs.Reverse.{reverse_whole}, specs.Rotate.{rotate_whole}, specs.Transpose.{transpose_whole}}
-use Rattle.structural_fns.specs.DyadicTranspose.{transpose_by_whole}
-use Rattle.selection_fns.{specs.Shape.{shape_whole}, specs.IndexGenerator.{generator_whole}, specs.Replicate.{replicate_whole}}
-use Rattle.selection_fns.specs.Index.{Position, index_whole}
+use Rattle.structural_fns.{specs.Reshape.{reshape_whole}, specs.Ravel.{ravel_whole}, specs.Catenate.{catenate_whole}, specs.Take.{take_whole}, specs.Drop.{drop_whole}, specs.Reverse.{reverse_whole}, specs.Rotate.{rotate_whole}, specs.Transpose.{transpose_whole}, specs.DyadicTranspose.{transpose_by_whole}}
+use Rattle.selection_fns.{specs.Shape.{shape_whole}, specs.IndexGenerator.{generator_whole}, specs.Replicate.{replicate_whole}, specs.Index.{Position, index_whole}}
 use Rattle.search_fns.{specs.IndexOf.{index_of_whole}, specs.Member.{member_whole}, specs.Encode.{encode_whole}, specs.Decode.{decode_whole}}
 use Rattle.reduce_fns.specs.Reduce.{reduce_whole}
 use Rattle.scan_fns.specs.Scan.{scan_whole}

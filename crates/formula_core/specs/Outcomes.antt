@@ -1,7 +1,6 @@
 -- What a name shows: an array, or an error with the name in whose formula it arose.
 use Rattle.std.{specs.Prelude.{ℕ, List, Option, Some, None, is_some, Result, Ok, Err, if◌then◌else◌}, specs.Borrow.{Bor}}
-use Rattle.arrays_core.{specs.Arrays.{ArrayValue}, specs.Outcomes.{Outcome, fault}, specs.declared.fault.Fault.{Fault}}
-use Rattle.arrays_core.specs.declared.item.Kind.TheVariants.{Value}
+use Rattle.arrays_core.{specs.Arrays.{ArrayValue}, specs.Outcomes.{Outcome, fault}, specs.declared.fault.Fault.{Fault}, specs.declared.item.Kind.TheVariants.{Value}}
 
 -- what a lent array or an error says
 abbrev pub read : Result (Bor ArrayValue) Fault → Outcome

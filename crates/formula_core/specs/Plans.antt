@@ -5,9 +5,8 @@ use Rattle.arrays_core.specs.Arrays.{IsArray}
 use Rattle.index_region.{specs.declared.delta.Delta.{Delta}, specs.declared.delta.Delta.TheVariants.{Whole}}
 use Rattle.change_core.specs.Meters.{ticked}
 use Rattle.change_rules.specs.Nodes.{is_error}
-use Rattle.formula_core.{specs.declared.input.Input.{Input}, specs.Meaning.{eval, names_in}, specs.Tables.{subtrees, tree_at}, specs.Formulas.{FormulaValue}}
-use Rattle.formula_core.{specs.Changes.{NamesChange, change, cost_at, tree_size, IsNameChanged}, specs.Inputs.{IsInput}}
-use Rattle.formula_core.{specs.Holdings.{holding_at, no_change, adopted, AllChangesFit}, specs.declared.kept.NodeChange.{NodeChange}}
+use Rattle.formula_core.{specs.declared.input.Input.{Input}, specs.Meaning.{eval, names_in}, specs.Tables.{subtrees, tree_at}, specs.Formulas.{FormulaValue}, specs.Changes.{NamesChange, change, cost_at, tree_size, IsNameChanged}, specs.Inputs.{IsInput}, specs.Holdings.{holding_at, no_change, adopted, AllChangesFit}}
+use Rattle.formula_core.specs.declared.kept.NodeChange.{NodeChange}
 
 -- the changes of nodes, from the first on, and what they cost; of all nodes once the plan is whole
 pub record PlanValue : Type 0 where

@@ -1,7 +1,6 @@
 -- How far a plan has come.
 use Rattle.std.{specs.Prelude.{◌≡◌, ◌<◌, ℕ, List, true, length, take}, specs.List.{count_by}}
-use Rattle.formula_core.{specs.declared.kept.NodeChange.{NodeChange}, specs.Changes.{NamesChange}, specs.Formulas.{FormulaValue, is_operation}}
-use Rattle.formula_core.{specs.Plans.{PlanValue}, specs.Stages.{IsBegun}, specs.Tables.{subtrees, tree_at}}
+use Rattle.formula_core.{specs.declared.kept.NodeChange.{NodeChange}, specs.Changes.{NamesChange}, specs.Formulas.{FormulaValue, is_operation}, specs.Plans.{PlanValue}, specs.Stages.{IsBegun}, specs.Tables.{subtrees, tree_at}}
 
 -- how many operations are among the nodes that have a change
 abbrev pub operations_among : FormulaValue → List NodeChange → ℕ

@@ -1,6 +1,5 @@
 -- What the next change of a formula is worked out from, and the change of its node.
-use Rattle.std.specs.Prelude.{◌≡◌, ◌+◌, ◌≤◌, ◌<◌, ℕ, List, [], ◌∷◌, ◌++◌, Bool, true, false, Option, Some, None, Result, IfOk, length, map, take, get_or}
-use Rattle.std.{specs.declared.alloc.AllocError.{AllocError}, specs.List.{Contains, sum_by}}
+use Rattle.std.{specs.Prelude.{◌≡◌, ◌+◌, ◌≤◌, ◌<◌, ℕ, List, [], ◌∷◌, ◌++◌, Bool, true, false, Option, Some, None, Result, IfOk, length, map, take, get_or}, specs.declared.alloc.AllocError.{AllocError}, specs.List.{Contains, sum_by}}
 use Rattle.apl_expr.specs.Trees.{Tree}
 use Rattle.arrays_core.{specs.Arrays.{IsArray}, specs.declared.item.Kind.TheVariants.{Value}, specs.Outcomes.{Outcome, fault, given}}
 use Rattle.reduce_fns.specs.declared.reduce.Reduce.{Reduce}
@@ -8,14 +7,10 @@ use Rattle.index_region.{specs.declared.delta.Delta.{Delta}, specs.declared.delt
 use Rattle.change_core.specs.Meters.{ticked, MeterValue}
 use Rattle.change_rules.{specs.Currency.{applied}, specs.Nodes.{is_whole, is_error}}
 use Rattle.sum_rules.{specs.LineSums.{SummedValue}, specs.Totals.{total_rule}}
-use Rattle.formula_core.{specs.declared.input.Input.{Input}, specs.declared.input.Input.TheVariants.{Bad}, specs.declared.stage.Stage.{Stage}}
-use Rattle.formula_core.{specs.declared.table.Operand.{Operand}, specs.Meaning.{array_of, eval}}
-use Rattle.formula_core.specs.Tables.{tree_at, tree_of_node, trees_after, subtrees, IsTable}
-use Rattle.formula_core.{specs.Holdings.{Holding, holding_at, holdings_of, nodes_of, not_worked_out, no_change, taking, IsFit}, specs.Formulas.{FormulaValue}}
-use Rattle.formula_core.{specs.Changes.{NamesChange, change, arguments, operation_cost, IsNameChanged}, specs.Inputs.{shown, delta_of, IsInput}}
-use Rattle.formula_core.{specs.Joins.{most_joins_of, least_joins_of, most_joins, least_joins}, specs.Plans.{node_change, node_cost_at, AreInputs, IsNameSound}}
-use Rattle.formula_core.{specs.Sums.{summed_at, resummed, FitsInSums}, specs.declared.sums.SumsDelta.{SumsDelta}}
-use Rattle.formula_core.{specs.declared.sums.SumsDelta.TheVariants.{Whole}, specs.declared.table.Node.{Node}, specs.declared.kept.NodeChange.{NodeChange}}
+use Rattle.formula_core.{specs.declared.input.Input.{Input}, specs.declared.input.Input.TheVariants.{Bad}, specs.declared.stage.Stage.{Stage}, specs.declared.table.Operand.{Operand}, specs.Meaning.{array_of, eval}, specs.Tables.{tree_at, tree_of_node, trees_after, subtrees, IsTable}}
+use Rattle.formula_core.{specs.Holdings.{Holding, holding_at, holdings_of, nodes_of, not_worked_out, no_change, taking, IsFit}, specs.Formulas.{FormulaValue}, specs.Changes.{NamesChange, change, arguments, operation_cost, IsNameChanged}, specs.Inputs.{shown, delta_of, IsInput}}
+use Rattle.formula_core.{specs.Joins.{most_joins_of, least_joins_of, most_joins, least_joins}, specs.Plans.{node_change, node_cost_at, AreInputs, IsNameSound}, specs.Sums.{summed_at, resummed, FitsInSums}, specs.declared.sums.SumsDelta.{SumsDelta}, specs.declared.sums.SumsDelta.TheVariants.{Whole}}
+use Rattle.formula_core.{specs.declared.table.Node.{Node}, specs.declared.kept.NodeChange.{NodeChange}}
 use Rattle.formula_core.specs.declared.table.Operand.TheVariants as operand
 
 -- what the node of a tree held, with its change, is what the tree gives now; the results are arrays or errors

@@ -3,13 +3,10 @@ use Rattle.std.{specs.Prelude.{◌≡◌, ℕ, List, true, false, Option, Some, 
 use Rattle.apl_expr.{specs.Trees.{Tree, Const, Name, Monad, Dyad, Index, Scan, Outer, Inner}, specs.declared.functions.Function1.{Function1}}
 use Rattle.arrays_core.{specs.Arrays.{ArrayValue}, specs.Growth.{grown_by}, specs.Outcomes.{Outcome}}
 use Rattle.reduce_fns.specs.declared.reduce.Reduce.{Reduce}
-use Rattle.index_region.{specs.declared.delta.Delta.{Delta}, specs.declared.delta.Delta.TheVariants.{Patch as PatchDelta, Grown as GrownDelta}}
-use Rattle.index_region.{specs.Patches.{PatchValue, FitsPatch, patched}, specs.Tails.{TailValue, FitsTail}}
+use Rattle.index_region.{specs.declared.delta.Delta.{Delta}, specs.declared.delta.Delta.TheVariants.{Patch as PatchDelta, Grown as GrownDelta}, specs.Patches.{PatchValue, FitsPatch, patched}, specs.Tails.{TailValue, FitsTail}}
 use Rattle.change_rules.{specs.Currency.{applied}, specs.Nodes.{is_whole}}
-use Rattle.sum_rules.{specs.LineSums.{SummedValue, keeps_sums, summed, patched_sums, grown_sums}, specs.JoinedPatches.{IsJoinedWith}}
-use Rattle.sum_rules.specs.NewLines.{FitsSums as FitBehind}
-use Rattle.formula_core.{specs.declared.sums.SumsDelta.{SumsDelta}, specs.declared.sums.SumsDelta.TheVariants.{Same, Patch, Grown, Whole}}
-use Rattle.formula_core.{specs.Changes.{FitsIn}, specs.declared.table.Node.{Node}, specs.declared.table.Operand.{Operand}, specs.Meaning.{eval}}
+use Rattle.sum_rules.{specs.LineSums.{SummedValue, keeps_sums, summed, patched_sums, grown_sums}, specs.JoinedPatches.{IsJoinedWith}, specs.NewLines.{FitsSums as FitBehind}}
+use Rattle.formula_core.{specs.declared.sums.SumsDelta.{SumsDelta}, specs.declared.sums.SumsDelta.TheVariants.{Same, Patch, Grown, Whole}, specs.Changes.{FitsIn}, specs.declared.table.Node.{Node}, specs.declared.table.Operand.{Operand}, specs.Meaning.{eval}}
 use Rattle.fold_trees.specs.FoldTrees.{has_trees}
 use Rattle.apl_expr.specs.Trees as tree
 use Rattle.apl_expr.specs.declared.functions.Function1.TheVariants as function1

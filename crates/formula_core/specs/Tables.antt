@@ -1,6 +1,5 @@
 -- A formula as a table of nodes, each after those whose results it takes: what each node stands for.
-use Rattle.std.specs.Prelude.{◌≡◌, ◌<◌, ◌≤◌, ℕ, suc, List, [], ◌∷◌, ◌++◌, Bool, true, false, Option, Some, None, length, map, get_or}
-use Rattle.std.specs.Option.{option_map}
+use Rattle.std.{specs.Prelude.{◌≡◌, ◌<◌, ◌≤◌, ℕ, suc, List, [], ◌∷◌, ◌++◌, Bool, true, false, Option, Some, None, length, map, get_or}, specs.Option.{option_map}}
 use Rattle.apl_expr.specs.Trees.{Tree, Const, Name, Monad, Dyad, Index, Reduce, Scan, Outer, Inner, before_argument, between_arguments, Positions, NoPositions, Empty, Filled, Numbers, positions_of}
 use Rattle.formula_core.{specs.declared.table.Operand.{Operand}, specs.declared.table.Node.{Node}, specs.Meaning.{names_in, names_in_positions}}
 use Rattle.formula_core.specs.declared.table.Operand.TheVariants as operand

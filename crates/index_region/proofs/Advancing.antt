@@ -1,7 +1,5 @@
 -- The walk of a box, from each index list to the next one.
-use Rattle.std.proofs.Common.{◌≡◌, ℕ, ◌+◌, ◌*◌, ◌/◌, ◌%◌, ◌<◌, ◌≤◌, List, [], ◌∷◌, arith, true, false, Bool, sym, ap, ◌∙◌, refl, inl, inr}
-use Rattle.std.proofs.lemmas.Bool.{cond-true, cond-false, lt-ltb, le-ltb, cases_order}
-use Rattle.std.proofs.lemmas.Nat.{div-add-mod', div-mul-add, mod-mul-add, mod_below, div_below, mul-le}
+use Rattle.std.{proofs.Common.{◌≡◌, ℕ, ◌+◌, ◌*◌, ◌/◌, ◌%◌, ◌<◌, ◌≤◌, List, [], ◌∷◌, arith, true, false, Bool, sym, ap, ◌∙◌, refl, inl, inr}, proofs.lemmas.Bool.{cond-true, cond-false, lt-ltb, le-ltb, cases_order}, proofs.lemmas.Nat.{div-add-mod', div-mul-add, mod-mul-add, mod_below, div_below, mul-le}}
 use Rattle.index_region.{specs.Boxes.{Interval, interval_length, box_size, walk_at}, proofs.Walks.{rest_positive}, specs.Advancing.{stepped, next_in}}
 
 -- what is there after a step

@@ -1,8 +1,6 @@
 -- Boxes made an axis at a time.
-use Rattle.std.proofs.Common.{◌≡◌, ℕ, ◌+◌, ◌-◌, ◌*◌, ◌/◌, ◌%◌, ◌<◌, ◌≤◌, List, [], ◌∷◌, ◌++◌, length, take, drop, set, remove, get_or, arith, true, false, Bool, ◌&&◌, sym, ap, ◌∙◌, subst, refl, min, max, suc, zero, nat_le, nat_eq, length-take-le, inl, inr, add-one, append_assoc, if◌then◌else◌}
-use Rattle.std.specs.List.{list_all}
-use Rattle.std.proofs.lemmas.Bool.{and_parts, and_from, or_parts, leb-true, le-leb, ltb-false, eqb-true, eq-eqb, ne_eqb, false≢true, cases_Bool, cond-true, cond-false}
-use Rattle.std.{proofs.lemmas.Nat.{div-add-mod', mod_below, le-div}, proofs.Math.Nat.{div-mul-le_self, div-lt_iff_lt-mul}}
+use Rattle.std.{proofs.Common.{◌≡◌, ℕ, ◌+◌, ◌-◌, ◌*◌, ◌/◌, ◌%◌, ◌<◌, ◌≤◌, List, [], ◌∷◌, ◌++◌, length, take, drop, set, remove, get_or, arith, true, false, Bool, ◌&&◌, sym, ap, ◌∙◌, subst, refl, min, max, suc, zero, nat_le, nat_eq, length-take-le, inl, inr, add-one, append_assoc, if◌then◌else◌}, specs.List.{list_all}}
+use Rattle.std.{proofs.lemmas.Bool.{and_parts, and_from, or_parts, leb-true, le-leb, ltb-false, eqb-true, eq-eqb, ne_eqb, false≢true, cases_Bool, cond-true, cond-false}, proofs.lemmas.Nat.{div-add-mod', mod_below, le-div}, proofs.Math.Nat.{div-mul-le_self, div-lt_iff_lt-mul}}
 use Rattle.std.proofs.lemmas.List.{take_more, take_all, length-drop}
 use Rattle.arrays_core.specs.Shapes.{size, index_after}
 use Rattle.index_region.specs.Boxes.{Interval, is_within, is_box, fits, hull_of, meet_of, whole_of, met, is_empty, cover, cover_between}
@@ -76,8 +74,7 @@ pub fits-met : (axes : List ℕ) (region : List Interval) → is_empty (met axes
 fits-met [] region h = refl
 fits-met (n ∷ axes) [] h =
     let parts = or_parts _ _ h in
-    let some : 1 ≤ n = ltb-false n 1 parts.0 in
-    and_from _ _ (and_from _ _ (le-leb 1 n some) (le-leb n n (omega arith))) (fits-met axes [] parts.1)
+    and_from _ _ (and_from _ _ (le-leb 1 n (ltb-false n 1 parts.0)) (le-leb n n (omega arith))) (fits-met axes [] parts.1)
 fits-met (n ∷ axes) (s ∷ region) h =
     let parts = or_parts _ _ h in
     let some : max 1 s.0 ≤ min s.1 n = ltb-false (min s.1 n) (max 1 s.0) parts.0 in
@@ -90,9 +87,7 @@ met_box axes region few h = fits_box (met axes region) axes few (fits-met axes r
 pub fits-whole : (axes : List ℕ) → 0 < size axes → fits (whole_of axes) axes ≡ true
 fits-whole [] h = refl
 fits-whole (n ∷ axes) h =
-    let rest : 0 < size axes = grind arith in
-    let some : 1 ≤ n = grind arith in
-    and_from _ _ (and_from _ _ (le-leb 1 n some) (le-leb n n (omega arith))) (fits-whole axes rest)
+    and_from _ _ (and_from _ _ (le-leb 1 n (grind arith)) (le-leb n n (omega arith))) (fits-whole axes (grind arith))
 
 -- the box that covers places of a shape lies in it
 pub fits-cover : (axes : List ℕ) (p q : ℕ) → p ≤ q → q < size axes → fits (cover axes p q) axes ≡ true

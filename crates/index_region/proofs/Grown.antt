@@ -1,9 +1,6 @@
 -- Arrays with a tail behind them.
-use Rattle.std.proofs.Common.{◌≡◌, ℕ, ◌+◌, ◌-◌, ◌<◌, ◌≤◌, List, ◌++◌, length, get_or, All, Option, Box, refl, ap, ◌∙◌, sym, subst, arith}
-use Rattle.std.proofs.lemmas.List.{get_or_append_left, get_or-append_right, get_or_default, length-append}
-use Rattle.arrays_core.{specs.declared.item.Item.{Item}, specs.Arrays.{ArrayValue, IsArray}, specs.declared.item.ItemType.{ItemType}}
-use Rattle.arrays_core.{specs.Growth.{grown_by, FitsGrowth, HasRoom, IsRoomFor, RoomValue}, specs.Items.{fill, type_of}, specs.Shapes.{size, IsWithinLimits}}
-use Rattle.arrays_core.proofs.Growing.{fits_growth, grown_sound, size_longer}
+use Rattle.std.{proofs.Common.{◌≡◌, ℕ, ◌+◌, ◌-◌, ◌<◌, ◌≤◌, List, ◌++◌, length, get_or, All, Option, Box, refl, ap, ◌∙◌, sym, subst, arith}, proofs.lemmas.List.{get_or_append_left, get_or-append_right, get_or_default, length-append}}
+use Rattle.arrays_core.{specs.declared.item.Item.{Item}, specs.Arrays.{ArrayValue, IsArray}, specs.declared.item.ItemType.{ItemType}, specs.Growth.{grown_by, FitsGrowth, HasRoom, IsRoomFor, RoomValue}, specs.Items.{fill, type_of}, specs.Shapes.{size, IsWithinLimits}, proofs.Growing.{grown_sound, size_longer}}
 use Rattle.index_region.specs.Tails.{FitsTail, IsRoomBehind, IsTail, TailValue}
 
 -- what fits are the items of one more place within the limits
@@ -22,36 +19,16 @@ pub room_for : {A : Type 0} (a : ArrayValue) (t : TailValue) (room : Option (Box
     → IsRoomFor r a (length t.items)
 room_for a t room r h fits behind brought =
     let longer = size_longer a.shape fits.some_axis in
-    let shape = ap size fits.shaped in
-    let places : size t.shape ≡ length a.items + length t.items = omega (arith, longer, shape, h.one_item_a_place, fits.one_place) in
-    let held : size t.shape - length t.items ≡ length a.items = omega (arith, places) in
+    let places : size t.shape ≡ length a.items + length t.items = omega (arith, longer, ap size fits.shaped, h.one_item_a_place, fits.one_place) in
     let is = brought (size t.shape - length t.items) (size t.shape) behind in
     record {
       typed = is.0 ∙ fits.typed;
-      room = subst (λ (n : ℕ). HasRoom (length a.items) n r.places) places (subst (λ (n : ℕ). HasRoom n (size t.shape) r.places) held is.1);
+      room = subst (λ (n : ℕ). HasRoom (length a.items) n r.places) places (subst (λ (n : ℕ). HasRoom n (size t.shape) r.places) (omega (arith, places)) is.1);
     }
-
--- there are as many items as the tail's shape has places
-pub tail_long : (a : ArrayValue) (t : TailValue) → IsArray a → FitsTail a t → length a.items + length t.items ≡ size t.shape
-tail_long a t h fits =
-    let longer = size_longer a.shape fits.some_axis in
-    let shape = ap size fits.shaped in
-    omega (arith, longer, shape, h.one_item_a_place, fits.one_place)
 
 -- an array with a tail behind it is an array
 pub tail_sound : (a : ArrayValue) (t : TailValue) → IsArray a → FitsTail a t → IsTail t → IsArray (grown_by a t.items)
 tail_sound a t h fits tail = grown_sound a t.items h (grows_by a t fits tail)
-
--- a tail of the shape and type of an array that has its items behind those of another fits that one
-pub fits_tail : (a n : ArrayValue) (t : TailValue) → IsArray a → IsArray n → grown_by a t.items ≡ n → 0 < length n.shape → t.shape ≡ n.shape → t.item_type ≡ n.item_type → FitsTail a t
-fits_tail a n t h k e axis shape type =
-    let grown = fits_growth a n t.items h k e axis in
-    record {
-      some_axis = grown.some_axis;
-      shaped = shape ∙ ap (λ (v : ArrayValue). v.shape) (sym e);
-      one_place = grown.one_place;
-      typed = type ∙ ap (λ (v : ArrayValue). v.item_type) (sym e);
-    }
 
 -- the item at a place of the array
 pub item_before : (a : ArrayValue) (xs : List Item) (p : ℕ) → IsArray a → 1 ≤ p → p ≤ size a.shape → get_or a.items (p - 1) (fill a.item_type) ≡ get_or (a.items ++ xs) (p - 1) (fill a.item_type)
@@ -60,7 +37,6 @@ item_before a xs p h low high = sym (get_or_append_left a.items xs (fill a.item_
 -- and at one behind it
 pub item_behind : (a : ArrayValue) (xs : List Item) (p : ℕ) (d : Item) → IsArray a → size a.shape < p → p ≤ length (a.items ++ xs) → get_or xs (p - size a.shape - 1) d ≡ get_or (a.items ++ xs) (p - 1) (fill a.item_type)
 item_behind a xs p d h low high =
-    let long = h.one_item_a_place in
     let count = length-append a.items xs in
     let k : p - 1 - length a.items ≡ p - size a.shape - 1 = omega arith in
     let below : p - size a.shape - 1 < length xs = omega arith in

@@ -1,10 +1,7 @@
 -- The least boxes: that hold two boxes, or some places of a shape.
-use Rattle.std.proofs.Common.{◌≡◌, ℕ, suc, zero, ◌+◌, ◌-◌, ◌*◌, ◌/◌, ◌%◌, ◌<◌, ◌≤◌, List, [], ◌∷◌, length, refl, sym, ap, subst, ◌∙◌, arith, true, Bool, ◌&&◌, inl, inr, min, max, nat_le, nat_eq, map}
-use Rattle.std.specs.List.{list_all}
-use Rattle.std.proofs.lemmas.Bool.{and_parts, and_from, leb-true, le-leb, eqb-true, eqb-false, false≢true, cases_Bool, cond-true, cond-false, cases_order}
-use Rattle.std.proofs.lemmas.Nat.{div-mul-add, mod-mul-add, mod_below, div-add-mod', mul-le}
-use Rattle.arrays_core.{specs.Shapes.{size, is_index_of, places_before, index_after}, proofs.Shapes.{places_below}}
-use Rattle.arrays_core.proofs.Order.{index_after-within, places_before-index_after}
+use Rattle.std.{proofs.Common.{◌≡◌, ℕ, suc, zero, ◌+◌, ◌-◌, ◌*◌, ◌/◌, ◌%◌, ◌<◌, ◌≤◌, List, [], ◌∷◌, length, refl, sym, ap, subst, ◌∙◌, arith, true, Bool, ◌&&◌, inl, inr, min, max, nat_le, nat_eq, map}, specs.List.{list_all}}
+use Rattle.std.{proofs.lemmas.Bool.{and_parts, and_from, leb-true, le-leb, eqb-true, eqb-false, false≢true, cases_Bool, cond-true, cond-false, cases_order}, proofs.lemmas.Nat.{div-mul-add, mod-mul-add, mod_below, div-add-mod', mul-le}}
+use Rattle.arrays_core.{specs.Shapes.{size, is_index_of, places_before, index_after}, proofs.Shapes.{places_below}, proofs.Order.{index_after-within, places_before-index_after}}
 use Rattle.index_region.{specs.Boxes.{Interval, is_within, hull_of, whole_of, cover}, specs.BoxLaws.{LiesIn, HoldsPlaces}}
 
 -- ---- the hull
@@ -160,10 +157,9 @@ ends_hold (suc n ∷ axes) (t ∷ other) some first last (i ∷ index) h =
     let w = size axes in
     let positive : 0 < w = later_positive (suc n) w 0 some in
     let here = on_parts (1, suc n) i (whole_of axes) index h in
-    let start : 0 ≡ 0 * w + 0 = omega arith in
     let rows : suc n * w ≡ n * w + w = grind arith in
     let end : suc n * w - 1 ≡ n * w + (w - 1) = omega (arith, rows, positive) in
-    let low = on_row t other axes (suc n) 0 0 positive (subst (λ place. is_within (t ∷ other) (index_after (suc n ∷ axes) place) ≡ true) start first) in
+    let low = on_row t other axes (suc n) 0 0 positive (subst (λ place. is_within (t ∷ other) (index_after (suc n ∷ axes) place) ≡ true) (omega arith) first) in
     let high = on_row t other axes (suc n) n (w - 1) (omega (arith, positive)) (subst (λ place. is_within (t ∷ other) (index_after (suc n ∷ axes) place) ≡ true) end last) in
     on_from t i other index (omega (arith, low.low, here.low)) (omega (arith, high.high, here.high)) (ends_hold axes other positive low.rest high.rest index here.rest)
 

@@ -1,6 +1,5 @@
 -- Boxes of one place.
-use Rattle.std.{proofs.Common.{◌≡◌, ℕ, ◌+◌, ◌-◌, ◌≤◌, List, [], ◌∷◌, suc, length, map, true, refl, ap, arith}, proofs.Math.Nat.{zero-div, zero-mod}}
-use Rattle.std.proofs.lemmas.Bool.{and_parts, and_from, le-leb, false≢true}
+use Rattle.std.{proofs.Common.{◌≡◌, ℕ, ◌+◌, ◌-◌, ◌≤◌, List, [], ◌∷◌, suc, length, map, true, refl, ap, arith}, proofs.Math.Nat.{zero-div, zero-mod}, proofs.lemmas.Bool.{and_parts, and_from, le-leb, false≢true}}
 use Rattle.arrays_core.{specs.Limits.{most_axes}, specs.Shapes.{is_index_of}}
 use Rattle.index_region.{specs.Boxes.{Interval, box_size, walk_at, fits, is_box}, proofs.Boxes.{fits_box}}
 
@@ -42,7 +41,5 @@ as_long (n ∷ shape) (i ∷ index) h = ap (λ (k : ℕ). suc k) (as_long shape 
 pub walk_first : (region : List Interval) → walk_at region 0 ≡ map (λ s. s.0) region
 walk_first [] = refl
 walk_first (s ∷ region) =
-    let steps = zero-div (box_size region) in
-    let left = zero-mod (box_size region) in
     let here : s.0 + 0 ≡ s.0 = omega arith in
-    rw (steps, left, here) (ap (λ (index : List ℕ). s.0 ∷ index) (walk_first region))
+    rw (zero-div (box_size region), zero-mod (box_size region), here) (ap (λ (index : List ℕ). s.0 ∷ index) (walk_first region))

@@ -1,9 +1,7 @@
 -- The walk of a box keeps the order of the ravel of a shape in which the box lies.
-use Rattle.std.proofs.Common.{◌≡◌, ℕ, ◌+◌, ◌-◌, ◌*◌, ◌/◌, ◌%◌, ◌<◌, ◌≤◌, List, [], ◌∷◌, arith, true, inl, inr}
-use Rattle.std.{proofs.lemmas.Bool.{and_parts, leb-true, false≢true, cases_order}, proofs.lemmas.Nat.{mod_below, div-add-mod', mul-le}}
+use Rattle.std.{proofs.Common.{◌≡◌, ℕ, ◌+◌, ◌-◌, ◌*◌, ◌/◌, ◌%◌, ◌<◌, ◌≤◌, List, [], ◌∷◌, arith, true, inl, inr}, proofs.lemmas.Bool.{and_parts, leb-true, false≢true, cases_order}, proofs.lemmas.Nat.{mod_below, div-add-mod', mul-le}}
 use Rattle.arrays_core.{specs.Shapes.{size, places_before}, proofs.Shapes.{places_below}}
-use Rattle.index_region.{specs.Boxes.{Interval, box_size, interval_length, walk_at, fits}, proofs.Walks.{rest_positive, walk_within}}
-use Rattle.index_region.proofs.Patched.{fits_within}
+use Rattle.index_region.{specs.Boxes.{Interval, box_size, interval_length, walk_at, fits}, proofs.Walks.{rest_positive, walk_within}, proofs.Patched.{fits_within}}
 
 -- a row before another row is wholly before it
 rows_apart : (i j w a b : ℕ) → i < j → a < w → i * w + a < j * w + b

@@ -1,9 +1,6 @@
 -- What is known where checks have passed.
-use Rattle.std.proofs.Common.{◌≡◌, ◌≤◌, ℕ, Bool, true, false, List, [], ◌∷◌, ◌++◌, length, get_or, Result, Ok, Err, refl, sym, ap, arith}
-use Rattle.std.{specs.Prelude.{nat_le}, proofs.lemmas.Bool.{and_parts, and_from, leb-true, le-leb}}
-use Rattle.std.proofs.lemmas.List.Sums.{list_all-from_AllPass, AllPass-from_list_all}
-use Rattle.arrays_core.{specs.Limits.{most_axes, longest_axis, most_places}, specs.declared.item.Item.{Item}, specs.declared.item.ItemType.{ItemType}}
-use Rattle.arrays_core.{specs.declared.item.Kind.{Kind}, specs.declared.item.Kind.TheVariants.{Limit}, specs.Arrays.{ArrayValue}, specs.Items.{type_of}}
+use Rattle.std.{proofs.Common.{◌≡◌, ◌≤◌, ℕ, Bool, true, false, List, [], ◌∷◌, ◌++◌, length, get_or, Result, Ok, Err, refl, sym, ap, arith}, specs.Prelude.{nat_le}, proofs.lemmas.Bool.{and_parts, and_from, leb-true, le-leb}, proofs.lemmas.List.Sums.{list_all-from_AllPass, AllPass-from_list_all}}
+use Rattle.arrays_core.{specs.Limits.{most_axes, longest_axis, most_places}, specs.declared.item.Item.{Item}, specs.declared.item.ItemType.{ItemType}, specs.declared.item.Kind.{Kind}, specs.declared.item.Kind.TheVariants.{Limit}, specs.Arrays.{ArrayValue}, specs.Items.{type_of}}
 use Rattle.arrays_core.{specs.Shapes.{is_index_of, size, IsWithinLimits}, specs.Building.{IsRowOf}}
 use Rattle.index_region.{specs.Checks.{form_of, check, Form, limited, is_within_limits}, specs.Answers.{IsPlaceOf, IsRowIn, HasTypeOf}}
 

@@ -1,12 +1,8 @@
 -- Places in row-major order, and patched arrays.
-use Rattle.std.proofs.Common.{◌≡◌, ℕ, ◌+◌, ◌-◌, ◌*◌, ◌<◌, ◌≤◌, ◌^◌, List, [], ◌∷◌, arith, mul_comm, IsTrue, ap, sym, ◌∙◌, refl, true, Some, None, get_or, nat_le, nat_lt, length, ◌&&◌, w64, All, if◌then◌else◌, inl, inr}
-use Rattle.std.{proofs.lemmas.List.{get_or_past}, proofs.lemmas.Nat.{mul-add-lt, mul-le}}
-use Rattle.std.proofs.lemmas.Bool.{and_parts, and_from, leb-true, le-leb, false≢true, cases_Bool, ltb-true, ltb-false, cond-true, cond-false, both_ways}
-use Rattle.std.proofs.lemmas.List.FromFn.{get_or-map-range_with_len, length-map-range_with_len}
-use Rattle.arrays_core.{specs.declared.item.Item.{Item}, specs.declared.item.ItemType.{ItemType}, specs.declared.item.ItemType.TheVariants.{Nums, Chars}}
-use Rattle.arrays_core.{specs.Arrays.{ArrayValue, IsArray, item_of, item_if_there}, specs.Items.{fill, type_of}}
-use Rattle.arrays_core.{specs.Shapes.{size, is_index_of, places_before, index_after}, proofs.Shapes.{places_below}}
-use Rattle.arrays_core.proofs.Order.{index_after-places_before, index_after-within}
+use Rattle.std.{proofs.Common.{◌≡◌, ℕ, ◌+◌, ◌-◌, ◌*◌, ◌<◌, ◌≤◌, ◌^◌, List, [], ◌∷◌, arith, mul_comm, IsTrue, ap, sym, ◌∙◌, refl, true, Some, None, get_or, nat_le, nat_lt, length, ◌&&◌, w64, All, if◌then◌else◌, inl, inr}, proofs.lemmas.List.{get_or_past}, proofs.lemmas.Nat.{mul-add-lt, mul-le}}
+use Rattle.std.{proofs.lemmas.Bool.{and_parts, and_from, leb-true, le-leb, false≢true, cases_Bool, ltb-true, ltb-false, cond-true, cond-false, both_ways}, proofs.lemmas.List.FromFn.{get_or-map-range_with_len, length-map-range_with_len}}
+use Rattle.arrays_core.{specs.declared.item.Item.{Item}, specs.declared.item.ItemType.{ItemType}, specs.declared.item.ItemType.TheVariants.{Nums, Chars}, specs.Arrays.{ArrayValue, IsArray, item_of, item_if_there}, specs.Items.{fill, type_of}, specs.Shapes.{size, is_index_of, places_before, index_after}}
+use Rattle.arrays_core.{proofs.Shapes.{places_below}, proofs.Order.{index_after-places_before, index_after-within}}
 use Rattle.index_region.{specs.Boxes.{Interval, is_within, box_offset, box_size, fits}, specs.Patches.{PatchValue, FitsPatch, IsPatch, patched, patched_item}}
 use mir.Val.{Fits}
 

@@ -1,6 +1,5 @@
 -- The index lists of a row, with another index on one axis.
-use Rattle.std.proofs.Common.{◌≡◌, ℕ, zero, suc, ◌<◌, pos, negsuc, true, List, [], ◌∷◌, ◌++◌, length, get_or, set, remove, refl, ap, arith}
-use Rattle.std.proofs.lemmas.Bool.{and_parts, leb-true, false≢true}
+use Rattle.std.{proofs.Common.{◌≡◌, ℕ, zero, suc, ◌<◌, pos, negsuc, true, List, [], ◌∷◌, ◌++◌, length, get_or, set, remove, refl, ap, arith}, proofs.lemmas.Bool.{and_parts, leb-true, false≢true}}
 use Rattle.function_names.{specs.Axes.{is_axis, axis_at}, specs.declared.along.Along.{Along}, specs.declared.along.Along.TheVariants.{First, Last, Axis}}
 
 -- an axis before the last

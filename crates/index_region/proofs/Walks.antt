@@ -1,7 +1,5 @@
 -- The walk of a box in row-major order: its index lists and how many come before each correspond one to one.
-use Rattle.std.proofs.Common.{◌≡◌, ℕ, ◌+◌, ◌-◌, ◌*◌, ◌/◌, ◌%◌, ◌<◌, ◌≤◌, List, [], ◌∷◌, refl, arith, true, IsTrue}
-use Rattle.std.proofs.lemmas.Bool.{and_parts, and_from, leb-true, le-leb, false≢true}
-use Rattle.std.proofs.lemmas.Nat.{div_below, mod_below, div-add-mod', div-mul-add, mod-mul-add, mul-le}
+use Rattle.std.{proofs.Common.{◌≡◌, ℕ, ◌+◌, ◌-◌, ◌*◌, ◌/◌, ◌%◌, ◌<◌, ◌≤◌, List, [], ◌∷◌, refl, arith, true, IsTrue}, proofs.lemmas.Bool.{and_parts, and_from, leb-true, le-leb, false≢true}, proofs.lemmas.Nat.{div_below, mod_below, div-add-mod', div-mul-add, mod-mul-add, mul-le}}
 use Rattle.index_region.{specs.Boxes.{Interval, box_size, box_offset, interval_length, is_within, walk_at, fits}, proofs.Patched.{row_below}}
 
 -- a box with a place has one on each of its later axes
@@ -21,10 +19,8 @@ pub offset_of_walk : (region : List Interval) (p : ℕ) → p < box_size region 
 offset_of_walk [] p h = omega arith
 offset_of_walk (s ∷ region) p h =
     let w = box_size region in
-    let positive = rest_positive p (interval_length s) w h in
-    let rest = offset_of_walk region (p % w) (mod_below p w positive) in
     let first : s.0 + p / w - s.0 ≡ p / w = omega arith in
-    rw (first, rest) (div-add-mod' p w)
+    rw (first, offset_of_walk region (p % w) (mod_below p w (rest_positive p (interval_length s) w h))) (div-add-mod' p w)
 
 pub offset_below : (region : List Interval) (index : List ℕ) → is_within region index ≡ true → box_offset region index < box_size region
 offset_below [] [] h = omega arith

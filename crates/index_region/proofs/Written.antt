@@ -1,12 +1,8 @@
 -- The items of a patch, written into an array one after another.
-use Rattle.std.proofs.Common.{◌≡◌, ◌≢◌, ℕ, ◌+◌, ◌<◌, List, nat_eq, length, set, get_or, refl, ap, ◌∙◌, sym, arith, true, false, Bool, ◌&&◌, nat_lt, if◌then◌else◌, inl, inr}
-use Rattle.std.{proofs.lemmas.List.{get_or-set_same, get_or-set_other, ext_get_or, length-set}, proofs.lemmas.List.FromFn.{length-map-range_with_len}}
+use Rattle.std.{proofs.Common.{◌≡◌, ◌≢◌, ℕ, ◌+◌, ◌<◌, List, nat_eq, length, set, get_or, refl, ap, ◌∙◌, sym, arith, true, false, Bool, ◌&&◌, nat_lt, if◌then◌else◌, inl, inr}, proofs.lemmas.List.{get_or-set_same, get_or-set_other, ext_get_or, length-set}, proofs.lemmas.List.FromFn.{length-map-range_with_len}}
 use Rattle.std.proofs.lemmas.Bool.{cases_Bool, eqb-true, eqb-false, ltb-true, ltb-false, lt-ltb, le-ltb}
-use Rattle.arrays_core.{specs.declared.item.Item.{Item}, specs.Arrays.{ArrayValue, IsArray}, specs.Items.{fill}}
-use Rattle.arrays_core.{specs.Shapes.{size, is_index_of, places_before, index_after}, proofs.Shapes.{places_below}}
-use Rattle.arrays_core.proofs.Order.{index_after-places_before, places_before-index_after}
-use Rattle.index_region.{specs.Boxes.{is_within, box_offset, box_size, walk_at}, specs.Patches.{PatchValue, FitsPatch, patched, patched_item}}
-use Rattle.index_region.{proofs.Patched.{fits_within, patched_place}, proofs.Walks.{walk_within, offset_of_walk, offset_below, walk_of_offset}}
+use Rattle.arrays_core.{specs.declared.item.Item.{Item}, specs.Arrays.{ArrayValue, IsArray}, specs.Items.{fill}, specs.Shapes.{size, is_index_of, places_before, index_after}, proofs.Shapes.{places_below}, proofs.Order.{index_after-places_before, places_before-index_after}}
+use Rattle.index_region.{specs.Boxes.{is_within, box_offset, box_size, walk_at}, specs.Patches.{PatchValue, FitsPatch, patched, patched_item}, proofs.Patched.{fits_within, patched_place}, proofs.Walks.{walk_within, offset_of_walk, offset_below, walk_of_offset}}
 
 -- the item at a place once the first items of the patch are written
 abbrev pub written : ArrayValue → PatchValue → ℕ → ℕ → Item

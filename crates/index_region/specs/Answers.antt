@@ -1,11 +1,8 @@
 -- How calls answer what the definitions say.
 use Rattle.smallvec.specs.SmallVec.{SmallVec}
 use Rattle.std.specs.Prelude.{◌≡◌, IsTrue, ℕ, zero, suc, List, Result, Ok, Err}
-use Rattle.arrays_core.{specs.declared.item.Item.{Item}, specs.declared.item.ItemType.{ItemType}, specs.declared.item.Kind.{Kind}, specs.Arrays.{ArrayValue}}
-use Rattle.arrays_core.{specs.Items.{type_of}, specs.Shapes.{IsWithinLimits, is_index_of}, specs.Building.{IsRowOf}}
-use Rattle.index_region.specs.declared.source.Source.{Source as SourceValue}
-use Rattle.index_region.{specs.declared.source.Source.TheVariants.{Place as PlaceValue, Fill as FillValue}, specs.Checks.{Form, form_of}}
-use Rattle.index_region.specs.Sources.{Source, Place, Fill}
+use Rattle.arrays_core.{specs.declared.item.Item.{Item}, specs.declared.item.ItemType.{ItemType}, specs.declared.item.Kind.{Kind}, specs.Arrays.{ArrayValue}, specs.Items.{type_of}, specs.Shapes.{IsWithinLimits, is_index_of}, specs.Building.{IsRowOf}}
+use Rattle.index_region.{specs.declared.source.Source.{Source as SourceValue}, specs.declared.source.Source.TheVariants.{Place as PlaceValue, Fill as FillValue}, specs.Checks.{Form, form_of}, specs.Sources.{Source, Place, Fill}}
 
 -- the shape that was asked for, inline and within the limits, and the type; or the error
 abbrev pub IsFormAnswerTo : Result Form Kind → Result (SmallVec ℕ × ItemType) Kind → Type 0

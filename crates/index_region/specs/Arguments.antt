@@ -1,7 +1,6 @@
 -- What checks ask of an argument.
 use Rattle.std.{specs.Prelude.{nat_eq, nat_le, ℤ, pos, int_le, Bool, true, false, not, ◌||◌, List, map, length}, specs.List.{list_all}}
-use Rattle.arrays_core.{specs.declared.item.Item.{Item}, specs.declared.item.Item.TheVariants.{Num, Char}, specs.declared.item.ItemType.{ItemType}}
-use Rattle.arrays_core.{specs.declared.item.ItemType.TheVariants.{Nums, Chars}, specs.Arrays.{ArrayValue}}
+use Rattle.arrays_core.{specs.declared.item.Item.{Item}, specs.declared.item.Item.TheVariants.{Num, Char}, specs.declared.item.ItemType.{ItemType}, specs.declared.item.ItemType.TheVariants.{Nums, Chars}, specs.Arrays.{ArrayValue}}
 
 abbrev pub is_scalar : ArrayValue → Bool
 is_scalar a = nat_eq (length a.shape) 0

@@ -1,6 +1,5 @@
 -- Boxes of places: an interval on each axis.
-use Rattle.std.specs.Prelude.{ℕ, ◌+◌, ◌-◌, ◌*◌, ◌/◌, ◌%◌, List, [], ◌∷◌, Bool, ◌&&◌, nat_le, nat_lt, nat_eq, length, map, min, max, Option, Some, None, if◌then◌else◌}
-use Rattle.std.{specs.List.{list_all, list_any}, specs.Cmp.Lexicographic.{pointwise}}
+use Rattle.std.{specs.Prelude.{ℕ, ◌+◌, ◌-◌, ◌*◌, ◌/◌, ◌%◌, List, [], ◌∷◌, Bool, ◌&&◌, nat_le, nat_lt, nat_eq, length, map, min, max, Option, Some, None, if◌then◌else◌}, specs.List.{list_all, list_any}, specs.Cmp.Lexicographic.{pointwise}}
 use Rattle.arrays_core.{specs.Limits.{most_axes}, specs.Shapes.{index_after}}
 
 -- the first and the last place of an axis, counted from 1

@@ -1,8 +1,6 @@
 -- The checks of a primitive, and its whole result.
 use Rattle.std.{specs.Prelude.{ℕ, nat_le, Bool, ◌&&◌, if◌then◌else◌, List, length, Result, Ok, Err}, specs.List.{list_all}}
-use Rattle.arrays_core.{specs.declared.item.Item.{Item}, specs.declared.item.ItemType.{ItemType}, specs.declared.item.Kind.{Kind}}
-use Rattle.arrays_core.{specs.declared.item.Kind.TheVariants.{Limit}, specs.Limits.{most_axes, longest_axis, most_places}, specs.Items.{and_then}}
-use Rattle.arrays_core.{specs.Shapes.{size}, specs.Arrays.{ArrayValue, collect}}
+use Rattle.arrays_core.{specs.declared.item.Item.{Item}, specs.declared.item.ItemType.{ItemType}, specs.declared.item.Kind.{Kind}, specs.declared.item.Kind.TheVariants.{Limit}, specs.Limits.{most_axes, longest_axis, most_places}, specs.Items.{and_then}, specs.Shapes.{size}, specs.Arrays.{ArrayValue, collect}}
 
 -- a check: where it fails, its kind is the error
 abbrev pub check : {A : Type 0} → Bool → Kind → Result A Kind → Result A Kind

@@ -1,7 +1,6 @@
 -- What an array is seen with: nothing, a patch over it, or a tail behind it.
 use Rattle.arrays_core.{specs.Arrays.{ArrayValue, IsArray}, specs.Growth.{grown_by}}
-use Rattle.index_region.{specs.declared.seen.Laid.{Laid}, specs.declared.seen.Laid.TheVariants.{Nothing, Over, Behind}}
-use Rattle.index_region.{specs.Patches.{FitsPatch, IsPatch, patched}, specs.Tails.{FitsTail, IsTail}}
+use Rattle.index_region.{specs.declared.seen.Laid.{Laid}, specs.declared.seen.Laid.TheVariants.{Nothing, Over, Behind}, specs.Patches.{FitsPatch, IsPatch, patched}, specs.Tails.{FitsTail, IsTail}}
 
 -- the array as it is seen
 abbrev pub seen : ArrayValue → Laid → ArrayValue

@@ -1,7 +1,6 @@
 -- An array with the items of a box replaced.
 use Rattle.std.{specs.Prelude.{◌≡◌, true, ℕ, length, All, List, if◌then◌else◌, map, get_or}, specs.List.{range_with_len}}
-use Rattle.arrays_core.{specs.declared.item.Item.{Item}, specs.declared.item.ItemType.{ItemType}, specs.Arrays.{ArrayValue, item_of}}
-use Rattle.arrays_core.{specs.Items.{fill, type_of}, specs.Shapes.{size, index_after}}
+use Rattle.arrays_core.{specs.declared.item.Item.{Item}, specs.declared.item.ItemType.{ItemType}, specs.Arrays.{ArrayValue, item_of}, specs.Items.{fill, type_of}, specs.Shapes.{size, index_after}}
 use Rattle.index_region.specs.Boxes.{Interval, is_within, box_offset, box_size, fits}
 
 -- new items for the places of a box, in row-major order

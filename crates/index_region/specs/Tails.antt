@@ -1,7 +1,6 @@
 -- What an array grows by at the end of its first axis.
 use Rattle.std.specs.Prelude.{◌≡◌, ◌<◌, ◌-◌, ℕ, List, Option, Some, None, Box, length, drop, All}
-use Rattle.arrays_core.{specs.declared.item.Item.{Item}, specs.declared.item.ItemType.{ItemType}, specs.Arrays.{ArrayValue}}
-use Rattle.arrays_core.{specs.Growth.{one_longer, HasRoom, IsSameRoom, RoomValue}, specs.Items.{type_of}, specs.Shapes.{size, IsWithinLimits}}
+use Rattle.arrays_core.{specs.declared.item.Item.{Item}, specs.declared.item.ItemType.{ItemType}, specs.Arrays.{ArrayValue}, specs.Growth.{one_longer, HasRoom, IsSameRoom, RoomValue}, specs.Items.{type_of}, specs.Shapes.{size, IsWithinLimits}}
 
 -- the items of one more place of the first axis in row-major order, their type, and the shape that the array has with them
 pub record TailValue : Type 0 where

@@ -1,6 +1,5 @@
 -- The functions of two numbers that are associative.
-use Rattle.std.proofs.Common.{◌≡◌, refl, ap, sym, ◌∙◌, arith, ℤ, pos, Bool, true, false, ◌&&◌, ◌||◌, if◌then◌else◌, Result, Ok, Err}
-use Rattle.std.{specs.Int.{int_max, int_min}, specs.Ordering.{int_eq}, proofs.lemmas.Int.{ints, clamps}}
+use Rattle.std.{proofs.Common.{◌≡◌, refl, ap, sym, ◌∙◌, arith, ℤ, pos, Bool, true, false, ◌&&◌, ◌||◌, if◌then◌else◌, Result, Ok, Err}, specs.Int.{int_max, int_min}, specs.Ordering.{int_eq}, proofs.lemmas.Int.{ints, clamps}}
 use Rattle.arrays_core.{specs.declared.item.Kind.{Kind}, specs.declared.item.Kind.TheVariants.{Domain, Limit}, specs.Items.{and_then}}
 use Rattle.function_names.specs.declared.scalar.Scalar2.TheVariants.{Maximum, Minimum, And, Or}
 use Rattle.item_fns.{specs.Numbers.{dyadic_on_numbers, as_truth, truth, on_truths, logical}, specs.Folds.{IsAssociative}}

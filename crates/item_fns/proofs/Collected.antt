@@ -1,9 +1,7 @@
 -- Numbers that a rule gives place by place, as an array.
-use Rattle.std.proofs.Common.{◌≡◌, ℕ, ◌<◌, List, [], ◌∷◌, length, get_or, map, refl, ap, sym, ◌∙◌, arith, ℤ, pos, Result, Ok, Err}
-use Rattle.std.{proofs.lemmas.List.{length-map, ext_get_or, get_or_default}, proofs.Math.ListN.{get_or-map}}
-use Rattle.arrays_core.{specs.declared.item.Item.{Item}, specs.declared.item.Item.TheVariants.{Num}, specs.declared.item.ItemType.TheVariants.{Nums}}
-use Rattle.arrays_core.{specs.declared.item.Kind.{Kind}, specs.Items.{all_or_first_error, after}, specs.Shapes.{size, indices, index_after}}
-use Rattle.arrays_core.{specs.Arrays.{collect, with_items}, proofs.Order.{length-indices, get_or-indices}}
+use Rattle.std.{proofs.Common.{◌≡◌, ℕ, ◌<◌, List, [], ◌∷◌, length, get_or, map, refl, ap, sym, ◌∙◌, arith, ℤ, pos, Result, Ok, Err}, proofs.lemmas.List.{length-map, ext_get_or, get_or_default}, proofs.Math.ListN.{get_or-map}}
+use Rattle.arrays_core.{specs.declared.item.Item.{Item}, specs.declared.item.Item.TheVariants.{Num}, specs.declared.item.ItemType.TheVariants.{Nums}, specs.declared.item.Kind.{Kind}, specs.Items.{all_or_first_error, after}, specs.Shapes.{size, indices, index_after}, specs.Arrays.{collect, with_items}}
+use Rattle.arrays_core.proofs.Order.{length-indices, get_or-indices}
 use Rattle.item_fns.{specs.Items.{number_item}, specs.NumberLists.{number_items}}
 
 items_collected : (rs : List (Result ℤ Kind)) → all_or_first_error (map number_item rs) ≡ number_items (all_or_first_error rs)

@@ -1,7 +1,6 @@
 -- The error that a `?` passes on.
 use Rattle.std.{proofs.Common.{◌≡◌, ap, Ok, Err, Result, ℤ, List, Vec}, specs.Result.{IsErr, IsErrAnd}}
-use Rattle.arrays_core.{specs.declared.item.Kind.{Kind}, specs.declared.fault.ApplyFault.{ApplyFault}}
-use Rattle.arrays_core.specs.declared.fault.ApplyFault.TheVariants.{Kind as KindFault}
+use Rattle.arrays_core.{specs.declared.item.Kind.{Kind}, specs.declared.fault.ApplyFault.{ApplyFault}, specs.declared.fault.ApplyFault.TheVariants.{Kind as KindFault}}
 use Rattle.item_fns.specs.NumberLists.{IsListAnswerTo}
 
 pub passed_on : {A : Type 0} (r : Result A Kind) (k : Kind) → IsErr r × IsErrAnd r (λ e. e ≡ k) → r ≡ Err k

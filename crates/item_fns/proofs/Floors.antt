@@ -1,11 +1,8 @@
 -- Quotients that are rounded down, against those toward zero.
-use Rattle.std.proofs.Common.{◌≡◌, ℕ, zero, suc, ◌+◌, ◌*◌, ◌/◌, ◌%◌, ◌^◌, min, refl, ap, ◌∙◌, inl, inr, arith, ℤ, pos, negsuc, neg_ℤ, ◌-ℤ◌, Bool, true, false, cond, Result, Ok, Err, ltb, int_lt, int_div}
-use Rattle.std.{specs.Prelude.{nat_lt}, specs.Ordering.{int_eq}, proofs.lemmas.Bool.Decides.{Decides-int_eq, nat_tests}}
-use Rattle.std.{proofs.lemmas.Bool.{cases_lt, le-ltb, true≢false, false_from_ne_true}, proofs.lemmas.Int.{ints}}
-use Rattle.std.proofs.lemmas.Nat.{mod_below, div-mul-add, div-add-mod'}
+use Rattle.std.{proofs.Common.{◌≡◌, ℕ, zero, suc, ◌+◌, ◌/◌, ◌%◌, ◌^◌, min, refl, ap, ◌∙◌, inl, inr, arith, ℤ, pos, negsuc, neg_ℤ, ◌-ℤ◌, Bool, true, false, cond, Result, Ok, Err, int_lt, int_div}, specs.Prelude.{nat_lt}, specs.Ordering.{int_eq}, proofs.lemmas.Bool.Decides.{Decides-int_eq, nat_tests}}
+use Rattle.std.{proofs.lemmas.Bool.{cases_lt, le-ltb, true≢false, false_from_ne_true}, proofs.lemmas.Int.{ints}, proofs.lemmas.Nat.{div-mul-add}}
 use Rattle.arrays_core.{specs.declared.item.Kind.{Kind}, specs.declared.item.Kind.TheVariants.{Limit}}
-use Rattle.item_fns.specs.Numbers.{residue, floor_div, number_or_limit, is_number}
-use Rattle.item_fns.proofs.Residues.{next_mod, negative_divisor_whole, negative_dividend_whole}
+use Rattle.item_fns.{specs.Numbers.{residue, floor_div, number_or_limit, is_number}, proofs.Residues.{next_mod, negative_divisor_whole, negative_dividend_whole}}
 use mathlib.Core.Bool.{beq}
 
 pub not_zero : (b : ℤ) → (b ≡ pos 0 → ⊥) → int_eq b (pos 0) ≡ false
@@ -26,9 +23,7 @@ negative_one_less q = omega (arith, ints)
 -- it is so where the signs differ and something is left
 pub one_above : (a b : ℤ) → (b ≡ pos 0 → ⊥) → beq (int_lt a (pos 0)) (int_lt b (pos 0)) ≡ false → (residue b a ≡ pos 0 → ⊥) → IsOneAbove a b
 one_above (pos a) (pos b) some differ left =
-    let no_a : ltb a 0 ≡ false = le-ltb a 0 (omega arith) in
-    let no_b : ltb b 0 ≡ false = le-ltb b 0 (omega arith) in
-    let same = rw (no_a, no_b) at differ in absurd (true≢false same)
+    let same = rw (le-ltb a 0 (omega arith), le-ltb b 0 (omega arith)) at differ in absurd (true≢false same)
 one_above (negsuc a) (negsuc b) some differ left = absurd (true≢false differ)
 one_above (pos a) (negsuc b) some differ left =
     elim (cases_lt 0 (a % suc b)) [
@@ -39,14 +34,10 @@ one_above (pos a) (negsuc b) some differ left =
     ]
 one_above (negsuc a) (pos zero) some differ left = absurd (some refl)
 one_above (negsuc a) (pos (suc b)) some differ left =
-    let nonzero = not_zero (pos (suc b)) some in
     elim (next_mod a (suc b) (omega arith)) [
-      | inl whole ↦ absurd (left (rw nonzero (negative_dividend_whole a b whole.1)))
+      | inl whole ↦ absurd (left (rw (not_zero (pos (suc b)) some) (negative_dividend_whole a b whole.1)))
       | inr more ↦
-          let e = div-add-mod' a (suc b) in
-          let below = mod_below (suc a) (suc b) (omega arith) in
-          let s : suc a ≡ a / suc b * suc b + (a % suc b + 1) = omega arith in
-          let same : suc a / suc b ≡ a / suc b = ap (λ n. n / suc b) s ∙ div-mul-add (a / suc b) (suc b) (a % suc b + 1) (omega arith) in
+          let same : suc a / suc b ≡ a / suc b = ap (λ n. n / suc b) (omega arith) ∙ div-mul-add (a / suc b) (suc b) (a % suc b + 1) (omega arith) in
           record { magnitude = a / suc b; quotient = ap (λ q. neg_ℤ (pos q)) same; floor = negative_one_less (a / suc b) }
     ]
 

@@ -1,6 +1,5 @@
 -- Results at each place of two lists.
-use Rattle.std.proofs.Common.{◌≡◌, ℕ, ◌<◌, ◌==◌, false, List, length, get_or, map, refl, ap, sym, ◌∙◌, inl, inr, arith, ℤ, pos, Result, Ok}
-use Rattle.std.{proofs.lemmas.Bool.{eq-eqb, eqb-true, false_from_ne_true, cases_Bool}, proofs.lemmas.List.{length-map, ext_get_or, get_or-map}}
+use Rattle.std.{proofs.Common.{◌≡◌, ℕ, ◌<◌, ◌==◌, false, List, length, get_or, map, refl, ap, sym, ◌∙◌, inl, inr, arith, ℤ, pos, Result, Ok}, proofs.lemmas.Bool.{eq-eqb, eqb-true, false_from_ne_true, cases_Bool}, proofs.lemmas.List.{length-map, ext_get_or, get_or-map}}
 use Rattle.std.proofs.lemmas.List.FromFn.{length-map-range_with_len, get_or-map-range_with_len}
 use Rattle.arrays_core.specs.declared.item.Kind.{Kind}
 use Rattle.item_fns.specs.NumberLists.{number_at, paired_length, results_by}

@@ -1,6 +1,5 @@
 -- Where the identity of a function leaves a number, or a truth value, as it is.
-use Rattle.std.proofs.Common.{◌≡◌, ℕ, suc, ◌*◌, ◌/◌, ◌^◌, refl, ap, ◌∙◌, arith, Bool, true, false, ltb, Ok, ℤ, pos, negsuc, neg_ℤ, ◌+ℤ◌, ◌-ℤ◌, ◌*ℤ◌, SFits, w64}
-use Rattle.std.{proofs.Math.Nat.{div-one, pow-zero}, proofs.lemmas.Grind.{pow_more}, proofs.lemmas.Int.{ints, clamps}, proofs.lemmas.Bool.{lt-ltb}}
+use Rattle.std.{proofs.Common.{◌≡◌, ℕ, suc, ◌*◌, ◌/◌, ◌^◌, refl, ap, ◌∙◌, arith, Bool, true, false, ltb, Ok, ℤ, pos, negsuc, neg_ℤ, ◌+ℤ◌, ◌-ℤ◌, ◌*ℤ◌, SFits, w64}, proofs.Math.Nat.{div-one, pow-zero}, proofs.lemmas.Grind.{pow_more}, proofs.lemmas.Int.{ints, clamps}, proofs.lemmas.Bool.{lt-ltb}}
 use Rattle.function_names.specs.declared.scalar.Scalar2.TheVariants.{Plus, Minus, Times, Divide, Power, Residue, Maximum, Minimum, Less, LessOrEqual, Equal, GreaterOrEqual, Greater, NotEqual, And, Or}
 use Rattle.item_fns.{specs.Numbers.{number_or_limit, dyadic_on_numbers, truth}, specs.Identities.{least, greatest}, proofs.Residues.{quotient_whole}}
 

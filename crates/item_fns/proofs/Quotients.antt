@@ -1,9 +1,7 @@
 -- Quotients by the machine's remainder, and those by -1.
-use Rattle.std.proofs.Common.{◌≡◌, ◌/◌, ◌%◌, ◌^◌, ◌<◌, ◌≤◌, suc, true, Ok, nat_lt, SFits, unsigned_abs, refl, ap, sym, ◌∙◌, inl, arith, ℤ, pos, negsuc, neg_ℤ, ◌+ℤ◌, ◌-ℤ◌, ◌*ℤ◌, false, of_z, w64, int_rem, int_div}
-use Rattle.std.{proofs.Math.IntN.{*ℤ_comm}, proofs.lemmas.Int.{ints, quot-rem, rem_below, fits_signed_from_abs}, proofs.lemmas.Bool.{lt-ltb}}
-use Rattle.std.specs.Ordering.{int_eq}
-use Rattle.item_fns.{specs.Numbers.{residue, floor_div, quotient, number_or_limit}, proofs.Residues.{as_it_is, whole_quotient, quotient_whole}}
-use Rattle.item_fns.proofs.Signs.{zero_of_bits}
+use Rattle.std.{proofs.Common.{◌≡◌, ◌/◌, ◌%◌, ◌^◌, ◌<◌, ◌≤◌, suc, true, Ok, nat_lt, SFits, unsigned_abs, refl, ap, sym, ◌∙◌, inl, arith, ℤ, pos, negsuc, neg_ℤ, ◌+ℤ◌, ◌-ℤ◌, ◌*ℤ◌, false, of_z, w64, int_rem, int_div}, proofs.Math.IntN.{*ℤ_comm}, proofs.lemmas.Int.{ints, quot-rem, rem_below, fits_signed_from_abs}}
+use Rattle.std.{proofs.lemmas.Bool.{lt-ltb}, specs.Ordering.{int_eq}}
+use Rattle.item_fns.{specs.Numbers.{residue, floor_div, quotient, number_or_limit}, proofs.Residues.{as_it_is, whole_quotient, quotient_whole}, proofs.Signs.{zero_of_bits}}
 
 nothing_left : (a p r : ℤ) → a -ℤ p ≡ pos 0 → p +ℤ r ≡ a → r ≡ pos 0
 nothing_left a p r h e = omega (arith, ints)

@@ -1,8 +1,6 @@
 -- Residues by the signs of the two numbers.
-use Rattle.std.proofs.Common.{◌≡◌, ℕ, zero, suc, ◌+◌, ◌*◌, ◌/◌, ◌%◌, ◌<◌, min, refl, ap, sym, ◌∙◌, ◌⊎◌, inl, inr, arith, ℤ, pos, negsuc, neg_ℤ, ◌+ℤ◌, ◌-ℤ◌, ◌*ℤ◌, Err, true, false, not, ltb, of_z, w64, int_lt, int_rem, int_div}
-use Rattle.std.{specs.Ordering.{int_eq}, specs.Int.{div_ceil}, proofs.lemmas.Bool.Decides.{Decides-int_eq}, proofs.lemmas.Int.{ints}}
-use Rattle.std.proofs.lemmas.Bool.{cases_lt, le-ltb, false≢true, true≢false, false_from_ne_true}
-use Rattle.std.proofs.lemmas.Nat.{mod_below, mod-mul-add, div-mul-add, div-add-mod'}
+use Rattle.std.{proofs.Common.{◌≡◌, ℕ, zero, suc, ◌+◌, ◌*◌, ◌/◌, ◌%◌, ◌<◌, min, refl, ap, sym, ◌∙◌, ◌⊎◌, inl, inr, arith, ℤ, pos, negsuc, neg_ℤ, ◌+ℤ◌, ◌-ℤ◌, ◌*ℤ◌, Err, true, false, not, of_z, w64, int_lt, int_rem, int_div}, specs.Ordering.{int_eq}, specs.Int.{div_ceil}, proofs.lemmas.Bool.Decides.{Decides-int_eq}}
+use Rattle.std.{proofs.lemmas.Int.{ints}, proofs.lemmas.Bool.{cases_lt, le-ltb, false≢true, true≢false, false_from_ne_true}, proofs.lemmas.Nat.{mod_below, mod-mul-add, div-mul-add, div-add-mod'}}
 use Rattle.item_fns.{specs.Numbers.{residue, floor_div, quotient, number_or_limit}, proofs.Signs.{is_not_zero}}
 use Rattle.arrays_core.specs.declared.item.Kind.TheVariants.{Domain}
 use mathlib.Core.Bool.{beq}
@@ -11,16 +9,12 @@ use lib.IntN.{nat_abs, pos-*ℤ-negsuc, negsuc-*ℤ-pos}
 -- the remainder of the next number
 pub next_mod : (b d : ℕ) → 0 < d → ((suc b % d ≡ 0) × (b % d + 1 ≡ d)) ⊎ (suc b % d ≡ b % d + 1)
 next_mod b d h =
-    let e = div-add-mod' b d in
-    let l = mod_below b d h in
     elim (cases_lt (b % d + 1) d) [
       | inl lt ↦
-          let s : suc b ≡ b / d * d + (b % d + 1) = omega arith in
-          inr (ap (λ n. n % d) s ∙ mod-mul-add (b / d) d (b % d + 1) lt)
+          inr (ap (λ n. n % d) (omega arith) ∙ mod-mul-add (b / d) d (b % d + 1) lt)
       | inr ge ↦
           let last : b % d + 1 ≡ d = omega arith in
-          let s : suc b ≡ (b / d + 1) * d + 0 = omega arith in
-          inl (ap (λ n. n % d) s ∙ mod-mul-add (b / d + 1) d 0 h, last)
+          inl (ap (λ n. n % d) (omega arith) ∙ mod-mul-add (b / d + 1) d 0 h, last)
     ]
 
 pub both_positive : (b a : ℕ) → pos b -ℤ pos (suc a) *ℤ pos (b / suc a) ≡ pos (b % suc a)
@@ -28,18 +22,15 @@ both_positive b a = let e = div-add-mod' b (suc a) in omega (arith, ints)
 
 pub both_negative : (b a : ℕ) → negsuc b -ℤ negsuc a *ℤ pos (suc b / suc a) ≡ neg_ℤ (pos (suc b % suc a))
 both_negative b a =
-    let e = div-add-mod' (suc b) (suc a) in
     rw (negsuc-*ℤ-pos a (suc b / suc a)) (omega (arith, ints))
 
 pub negative_dividend : (b a : ℕ) → suc b % suc a ≡ b % suc a + 1
     → negsuc b -ℤ pos (suc a) *ℤ negsuc (b / suc a) ≡ neg_ℤ (pos (suc b % suc a)) +ℤ pos (suc a)
 negative_dividend b a h =
-    let e = div-add-mod' b (suc a) in
     rw (pos-*ℤ-negsuc (suc a) (b / suc a), h) (omega (arith, ints))
 
 pub negative_dividend_whole : (b a : ℕ) → b % suc a + 1 ≡ suc a → negsuc b -ℤ pos (suc a) *ℤ negsuc (b / suc a) ≡ pos 0
 negative_dividend_whole b a h =
-    let e = div-add-mod' b (suc a) in
     rw (pos-*ℤ-negsuc (suc a) (b / suc a)) (omega (arith, ints))
 
 negative_product : (a q : ℕ) → negsuc a *ℤ neg_ℤ (pos q) ≡ pos (suc a * q)
@@ -49,14 +40,12 @@ negative_product a (suc q) = refl
 pub negative_divisor : (b a : ℕ) → 0 < b % suc a
     → pos b -ℤ negsuc a *ℤ neg_ℤ (pos (div_ceil b (suc a))) ≡ pos (b % suc a) +ℤ negsuc a
 negative_divisor b a h =
-    let e = div-add-mod' b (suc a) in
     let up : b / suc a + min 1 (b % suc a) ≡ b / suc a + 1 = omega arith in
     rw (negative_product a (b / suc a + min 1 (b % suc a)), up) (omega (arith, ints))
 
 pub negative_divisor_whole : (b a : ℕ) → b % suc a ≡ 0
     → pos b -ℤ negsuc a *ℤ neg_ℤ (pos (div_ceil b (suc a))) ≡ pos 0
 negative_divisor_whole b a h =
-    let e = div-add-mod' b (suc a) in
     let up : b / suc a + min 1 (b % suc a) ≡ b / suc a = omega arith in
     rw (negative_product a (b / suc a + min 1 (b % suc a)), up) (omega (arith, ints))
 
@@ -72,22 +61,17 @@ pub corrected : (a b rest : ℤ) → (of_z w64 a ≡ 0 → ⊥) → rest ≡ int
     → not (beq (int_lt rest (pos 0)) (int_lt a (pos 0))) ≡ true → rest +ℤ a ≡ residue a b
 corrected (pos zero) b rest some is far differ = absurd (some refl)
 corrected (pos (suc a)) (pos b) rest some is far differ =
-    let no : ltb (b % suc a) 0 ≡ false = le-ltb (b % suc a) 0 (omega arith) in
-    let no_a : ltb (suc a) 0 ≡ false = le-ltb (suc a) 0 (omega arith) in
-    let same = rw (is, no, no_a) at differ in absurd (false≢true same)
+    let same = rw (is, le-ltb (b % suc a) 0 (omega arith), le-ltb (suc a) 0 (omega arith)) at differ in absurd (false≢true same)
 corrected (pos (suc a)) (negsuc b) rest some is far differ =
-    let nonzero = is_not_zero (pos (suc a)) some in
     elim (next_mod b (suc a) (omega arith)) [
       | inl whole ↦ absurd (far (ap (of_z w64) (is ∙ ap (λ r. neg_ℤ (pos r)) (whole.0))))
-      | inr more ↦ rw (is, nonzero) (sym (negative_dividend b a more))
+      | inr more ↦ rw (is, is_not_zero (pos (suc a)) some) (sym (negative_dividend b a more))
     ]
 corrected (negsuc a) (pos b) rest some is far differ =
     let r : b % suc a ≡ 0 → ⊥ = λ e. far (ap (of_z w64) (is ∙ ap pos e)) in
     ap (λ z. z +ℤ negsuc a) is ∙ sym (negative_divisor b a (nonzero_place (b % suc a) r))
 corrected (negsuc a) (negsuc b) rest some is far differ =
-    let k = nonzero_rest (suc b % suc a) (λ e. far (ap (of_z w64) is ∙ e)) in
-    let negative : rest ≡ negsuc k.0 = is ∙ ap (λ r. neg_ℤ (pos r)) k.1 in
-    let same = rw negative at differ in absurd (false≢true same)
+    let same = rw (is ∙ ap (λ r. neg_ℤ (pos r)) (nonzero_rest (suc b % suc a) (λ e. far (ap (of_z w64) is ∙ e))).1) at differ in absurd (false≢true same)
 
 pub as_it_is : (a b rest : ℤ) → (of_z w64 a ≡ 0 → ⊥) → rest ≡ int_rem b a
     → (rest ≡ pos 0) ⊎ (not (beq (int_lt rest (pos 0)) (int_lt a (pos 0))) ≡ false) → rest ≡ residue a b
@@ -96,16 +80,14 @@ as_it_is (pos (suc a)) (pos b) rest some is how =
     let nonzero = is_not_zero (pos (suc a)) some in rw (is, nonzero) (sym (both_positive b a))
 as_it_is (negsuc a) (negsuc b) rest some is how = is ∙ sym (both_negative b a)
 as_it_is (pos (suc a)) (negsuc b) rest some is how =
-    let nonzero = is_not_zero (pos (suc a)) some in
     elim (next_mod b (suc a) (omega arith)) [
-      | inl whole ↦ is ∙ ap (λ r. neg_ℤ (pos r)) whole.0 ∙ (rw nonzero (sym (negative_dividend_whole b a whole.1)))
+      | inl whole ↦ is ∙ ap (λ r. neg_ℤ (pos r)) whole.0 ∙ (rw (is_not_zero (pos (suc a)) some) (sym (negative_dividend_whole b a whole.1)))
       | inr more ↦
           let one : b % suc a + 1 ≡ suc (b % suc a) = omega arith in
           let negative : rest ≡ negsuc (b % suc a) = is ∙ ap (λ r. neg_ℤ (pos r)) (more ∙ one) in
-          let no_a : ltb (suc a) 0 ≡ false = le-ltb (suc a) 0 (omega arith) in
           elim how [
             | inl none ↦ let bad : negsuc (b % suc a) ≡ pos 0 = sym negative ∙ none in absurd (cc)
-            | inr same ↦ let bad = rw (negative, no_a) at same in absurd (true≢false bad)
+            | inr same ↦ let bad = rw (negative, le-ltb (suc a) 0 (omega arith)) at same in absurd (true≢false bad)
           ]
     ]
 as_it_is (negsuc a) (pos b) rest some is how =
@@ -114,8 +96,7 @@ as_it_is (negsuc a) (pos b) rest some is how =
           let z : b % suc a ≡ 0 = ap nat_abs (sym is ∙ none) in
           is ∙ ap pos z ∙ sym (negative_divisor_whole b a z)
       | inr same ↦
-          let no : ltb (b % suc a) 0 ≡ false = le-ltb (b % suc a) 0 (omega arith) in
-          let bad = rw (is, no) at same in absurd (true≢false bad)
+          let bad = rw (is, le-ltb (b % suc a) 0 (omega arith)) at same in absurd (true≢false bad)
     ]
 
 -- where nothing is left, a division toward zero is one that rounds down
@@ -154,5 +135,4 @@ quotient_whole a b some none =
 
 pub quotient_broken : (a b : ℤ) → int_eq b (pos 0) ≡ false → (residue b a ≡ pos 0 → ⊥) → quotient a b ≡ Err Domain
 quotient_broken a b some left =
-    let tested : int_eq (residue b a) (pos 0) ≡ false = false_from_ne_true _ (λ t. left ((Decides-int_eq (residue b a) (pos 0)).0 t)) in
-    rw (tested, some) refl
+    rw (false_from_ne_true _ (λ t. left ((Decides-int_eq (residue b a) (pos 0)).0 t)), some) refl

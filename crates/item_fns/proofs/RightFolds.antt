@@ -1,6 +1,5 @@
 -- Folds of lists that are not empty, from the last entry to the first.
-use Rattle.std.proofs.Common.{◌≡◌, ℕ, zero, suc, ◌+◌, ◌-◌, ◌*◌, ◌<◌, ◌≤◌, List, [], ◌∷◌, length, get_or, drop, take, refl, ap, sym, ◌∙◌, arith, Result, Ok, Err}
-use Rattle.std.proofs.lemmas.List.{drop_more, get_or-take, get_or-drop, length-drop, length-take, ext_get_or}
+use Rattle.std.{proofs.Common.{◌≡◌, ℕ, zero, suc, ◌+◌, ◌-◌, ◌*◌, ◌<◌, ◌≤◌, List, [], ◌∷◌, length, get_or, drop, take, refl, ap, sym, ◌∙◌, arith, Result, Ok, Err}, proofs.lemmas.List.{drop_more, get_or-take, get_or-drop, length-drop, length-take, ext_get_or}}
 use Rattle.std.proofs.lemmas.List.FromFn.{length-map-range_with_len, get_or-map-range_with_len}
 use Rattle.arrays_core.{specs.declared.item.Kind.{Kind}, specs.Items.{and_then}}
 use Rattle.item_fns.specs.Folds.{strided, folded}
@@ -21,15 +20,13 @@ module _ {A : Type 0} (f : A → A → Result A Kind) where
   error_stands [] k e h g = absurd (omega arith)
   error_stands (x ∷ xs) zero e h g = g
   error_stands (x ∷ xs) (suc k) e h g =
-      let later = error_stands xs k e (omega arith) g in
-      fold_more x xs (omega arith) ∙ (rw later refl)
+      fold_more x xs (omega arith) ∙ (rw (error_stands xs k e (omega arith) g) refl)
 
 -- one entry more in front
 pub rest_more : {A : Type 0} (f : A → A → Result A Kind) (xs : List A) (d : A) (j : ℕ) (y : A) → j + 1 < length xs → folded f (drop (j + 1) xs) ≡ Ok y
     → folded f (drop j xs) ≡ f (get_or xs j d) y
 rest_more f xs d j y h e =
-    let split : drop j xs ≡ get_or xs j d ∷ drop (j + 1) xs = drop_more xs j d (omega arith) in
-    ap (folded f) split
+    ap (folded f) (drop_more xs j d (omega arith))
     ∙ fold_more f (get_or xs j d) (drop (j + 1) xs) (omega (arith, length-drop (j + 1) xs))
     ∙ (rw e refl)
 

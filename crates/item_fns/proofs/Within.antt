@@ -1,6 +1,5 @@
 -- Numbers of 64 bits.
-use Rattle.std.proofs.Common.{◌≡◌, ◌^◌, refl, sym, arith, ltb, Bool, true, false, if◌then◌else◌, ℤ, pos, negsuc, ◌≤ℤ◌, SFits, w64, Ok, Err}
-use Rattle.std.{proofs.lemmas.Int.{ints}, proofs.lemmas.Bool.{lt-ltb, ltb-true}}
+use Rattle.std.{proofs.Common.{◌≡◌, ◌^◌, refl, sym, arith, ltb, Bool, true, false, if◌then◌else◌, ℤ, pos, negsuc, ◌≤ℤ◌, SFits, w64, Ok, Err}, proofs.lemmas.Int.{ints}, proofs.lemmas.Bool.{lt-ltb, ltb-true}}
 use Rattle.arrays_core.{specs.declared.item.Kind.{Kind}, specs.declared.item.Kind.TheVariants.{Limit}}
 use Rattle.item_fns.{specs.Numbers.{number_or_limit, is_number}, specs.Identities.{least, greatest}}
 

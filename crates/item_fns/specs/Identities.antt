@@ -1,7 +1,6 @@
 -- What a reduction of no items gives.
 use Rattle.std.specs.Prelude.{◌-◌, ◌^◌, ℤ, pos, negsuc, Option, Some, None}
-use Rattle.function_names.specs.declared.scalar.Scalar2.{Scalar2}
-use Rattle.function_names.specs.declared.scalar.Scalar2.TheVariants.{Plus, Minus, Times, Divide, Power, Residue, Maximum, Minimum, Less, LessOrEqual, Equal, GreaterOrEqual, Greater, NotEqual, And, Or, Nand, Nor}
+use Rattle.function_names.{specs.declared.scalar.Scalar2.{Scalar2}, specs.declared.scalar.Scalar2.TheVariants.{Plus, Minus, Times, Divide, Power, Residue, Maximum, Minimum, Less, LessOrEqual, Equal, GreaterOrEqual, Greater, NotEqual, And, Or, Nand, Nor}}
 
 -- the least and the greatest number of 64 bits
 abbrev pub least : ℤ

@@ -1,9 +1,7 @@
 -- The scalar functions on items: a character is a domain error, but for equality.
 use Rattle.std.specs.Prelude.{◌==◌, ℤ, Bool, false, not, Result, Ok, Err}
-use Rattle.arrays_core.{specs.declared.item.Item.{Item}, specs.declared.item.Item.TheVariants.{Num, Char}, specs.declared.item.Kind.{Kind}}
-use Rattle.arrays_core.specs.declared.item.Kind.TheVariants.{Domain}
-use Rattle.function_names.{specs.declared.scalar.Scalar1.{Scalar1}, specs.declared.scalar.Scalar2.{Scalar2}}
-use Rattle.function_names.specs.declared.scalar.Scalar2.TheVariants.{Equal, NotEqual}
+use Rattle.arrays_core.{specs.declared.item.Item.{Item}, specs.declared.item.Item.TheVariants.{Num, Char}, specs.declared.item.Kind.{Kind}, specs.declared.item.Kind.TheVariants.{Domain}}
+use Rattle.function_names.{specs.declared.scalar.Scalar1.{Scalar1}, specs.declared.scalar.Scalar2.{Scalar2}, specs.declared.scalar.Scalar2.TheVariants.{Equal, NotEqual}}
 use Rattle.item_fns.specs.Numbers.{monadic_on_number, dyadic_on_numbers, truth}
 
 -- a number as an item, or the error

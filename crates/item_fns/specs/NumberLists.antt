@@ -1,7 +1,6 @@
 -- Scalar functions of plain lists of numbers.
 use Rattle.std.{specs.Prelude.{◌≡◌, ℕ, ◌==◌, ℤ, pos, List, length, map, get_or, if◌then◌else◌, Result, Ok, Err, Vec}, specs.List.{range_with_len}}
-use Rattle.arrays_core.{specs.declared.item.Item.{Item}, specs.declared.item.Item.TheVariants.{Num}, specs.declared.item.Kind.{Kind}}
-use Rattle.arrays_core.{specs.declared.fault.ApplyFault.{ApplyFault}, specs.declared.fault.ApplyFault.TheVariants.{Kind as KindFault, NoMemory}}
+use Rattle.arrays_core.{specs.declared.item.Item.{Item}, specs.declared.item.Item.TheVariants.{Num}, specs.declared.item.Kind.{Kind}, specs.declared.fault.ApplyFault.{ApplyFault}, specs.declared.fault.ApplyFault.TheVariants.{Kind as KindFault, NoMemory}}
 use Rattle.function_names.{specs.declared.scalar.Scalar1.{Scalar1}, specs.declared.scalar.Scalar2.{Scalar2}}
 use Rattle.item_fns.specs.Numbers.{monadic_on_number, dyadic_on_numbers}
 

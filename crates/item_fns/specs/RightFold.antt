@@ -1,7 +1,6 @@
 -- The right fold of a list of items.
 use Rattle.std.specs.Prelude.{ℤ, List, [], ◌∷◌, Option, Some, None, Result, Ok, Err}
-use Rattle.arrays_core.{specs.declared.item.Item.{Item}, specs.declared.item.Item.TheVariants.{Num}, specs.declared.item.Kind.{Kind}}
-use Rattle.arrays_core.{specs.declared.item.Kind.TheVariants.{Domain}, specs.Items.{and_then}}
+use Rattle.arrays_core.{specs.declared.item.Item.{Item}, specs.declared.item.Item.TheVariants.{Num}, specs.declared.item.Kind.{Kind}, specs.declared.item.Kind.TheVariants.{Domain}, specs.Items.{and_then}}
 use Rattle.function_names.specs.declared.scalar.Scalar2.{Scalar2}
 use Rattle.item_fns.{specs.Identities.{identity_of}, specs.Items.{dyadic_on_items}}
 

@@ -1,20 +1,13 @@
 -- Inner products of numbers, by the numbers as they lie.
-use Rattle.std.proofs.Common.{◌≡◌, ◌≢◌, ℕ, zero, suc, ◌+◌, ◌-◌, ◌*◌, ◌/◌, ◌%◌, ◌<◌, ◌≤◌, Bool, true, false, cond, eqb, ◌||◌, List, [], ◌∷◌, ◌++◌, length, get_or, map, take, drop, ℤ, pos, Result, Ok, Err, refl, ap, sym, subst, ◌∙◌, arith, inl, inr}
-use Rattle.std.{specs.List.{range_with_len}, proofs.lemmas.Bool.Decides.{eqb_tells}}
-use Rattle.arrays_core.{specs.declared.item.Item.TheVariants.{Num}, specs.declared.item.ItemType.TheVariants.{Nums}, specs.declared.item.Kind.{Kind}}
-use Rattle.arrays_core.{specs.declared.item.Kind.TheVariants.{Length}, specs.Items.{fill, and_then}}
-use Rattle.arrays_core.{specs.Shapes.{size, is_index_of, index_after, places_before}, specs.Arrays.{ArrayValue, collect}}
-use Rattle.arrays_core.{proofs.Shapes.{places_below, factor_le}, proofs.Order.{places_before-index_after, index_after-within}}
+use Rattle.std.{proofs.Common.{◌≡◌, ◌≢◌, ℕ, zero, suc, ◌+◌, ◌-◌, ◌*◌, ◌/◌, ◌%◌, ◌<◌, ◌≤◌, Bool, true, false, cond, eqb, ◌||◌, List, [], ◌∷◌, ◌++◌, length, get_or, map, take, drop, ℤ, pos, Result, Ok, Err, refl, ap, sym, subst, ◌∙◌, arith, inl, inr}, specs.List.{range_with_len}, proofs.lemmas.Bool.Decides.{eqb_tells}}
+use Rattle.arrays_core.{specs.declared.item.Item.TheVariants.{Num}, specs.declared.item.ItemType.TheVariants.{Nums}, specs.declared.item.Kind.{Kind}, specs.declared.item.Kind.TheVariants.{Length}, specs.Items.{fill, and_then}, specs.Shapes.{size, is_index_of, index_after, places_before}}
+use Rattle.arrays_core.{specs.Arrays.{ArrayValue, collect}, proofs.Shapes.{places_below, factor_le}, proofs.Order.{places_before-index_after, index_after-within}}
 use Rattle.function_names.specs.declared.scalar.Scalar2.{Scalar2}
-use Rattle.item_fns.{specs.Numbers.{dyadic_on_numbers}, specs.Items.{dyadic_on_items, number_item}, specs.NumberLists.{number_items}, specs.Folds.{folded}}
-use Rattle.item_fns.{proofs.ItemFolds.{folded_numbers}, specs.RightFold.{fold_right}}
+use Rattle.item_fns.{specs.Numbers.{dyadic_on_numbers}, specs.Items.{dyadic_on_items, number_item}, specs.NumberLists.{number_items}, specs.Folds.{folded}, proofs.ItemFolds.{folded_numbers}, specs.RightFold.{fold_right}}
 use Rattle.scalar_fns.specs.ScalarExtension.{extended}
 use Rattle.index_region.{specs.Checks.{form_of, Form, whole, limited}, specs.Arguments.{has_one_item}, proofs.Passing.{gives, limited_gives}}
-use Rattle.operator_fns.specs.InnerProduct.{row_rank, row_length, column_length, inner_length, inner_form, inner_item, inner_whole, all_or_last_error}
-use Rattle.operator_fns.specs.RowByColumn.{entry, all_met, folded_all, row_at, column_at, cell, IsGridOf, grid_of}
-use Rattle.operator_fns.{specs.Laws.JoinedIndices.{parts, size-append}, proofs.Joined.{number_there}, proofs.Meetings.{length-met}}
-use Rattle.operator_fns.specs.Laws.InnerPlaces.{extended_one, extended_many, row_place, column_place, last_axis, rank_of_rows, lengths_of}
-use Rattle.operator_fns.{proofs.Inners.{products_met, fold_of_some}, proofs.Outers.{as_many}}
+use Rattle.operator_fns.{specs.InnerProduct.{row_rank, row_length, column_length, inner_length, inner_form, inner_item, inner_whole, all_or_last_error}, specs.RowByColumn.{entry, all_met, folded_all, row_at, column_at, cell, IsGridOf, grid_of}, specs.Laws.JoinedIndices.{parts, size-append}}
+use Rattle.operator_fns.{proofs.Joined.{number_there}, proofs.Meetings.{length-met}, specs.Laws.InnerPlaces.{extended_one, extended_many, row_place, column_place, last_axis, rank_of_rows, lengths_of}, proofs.Inners.{products_met, fold_of_some}, proofs.Outers.{as_many}}
 use Rattle.reduce_fns.{proofs.Lines.{size-drop-le}, proofs.Placewise.{collected_same}}
 
 -- ---- folds of numbers are folds of items
@@ -63,9 +56,8 @@ one_row : (shape : List ℕ) → size shape ≡ 1 → size (take (length shape -
 one_row [] h = omega arith
 one_row (n ∷ shape) h =
     let k = length (n ∷ shape) - 1 in
-    let split = last_axis (n ∷ shape) (omega arith) in
     let whole : size (take k (n ∷ shape)) * size (get_or (n ∷ shape) k 1 ∷ []) ≡ 1 =
-    sym (size-append (take k (n ∷ shape)) (get_or (n ∷ shape) k 1 ∷ [])) ∙ ap size (sym split) ∙ h in
+    sym (size-append (take k (n ∷ shape)) (get_or (n ∷ shape) k 1 ∷ [])) ∙ ap size (sym (last_axis (n ∷ shape) (omega arith))) ∙ h in
     factor_le _ _ 1 whole (omega arith)
 
 -- ---- entries of a row and of a column
@@ -122,8 +114,7 @@ column_entry b ys long is_b some column count k inside column_long low =
     elim (eqb_tells (length b.items) 1) [
       | inl one ↦
           let single : size b.shape ≡ 1 = omega (arith, one.1) in
-          let smaller = size-drop-le 1 b.shape (omega arith) in
-          let none : p ≡ 0 = omega (arith, places_below columns column inside, smaller.1) in
+          let none : p ≡ 0 = omega (arith, places_below columns column inside, (size-drop-le 1 b.shape (omega arith)).1) in
           let place : p + k * 0 ≡ 0 = rw none (omega arith) in
           subst (λ w. ColumnEntry b ys column k p (cond w 0 (size columns))) (sym one.0)
           (record {

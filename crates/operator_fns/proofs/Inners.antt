@@ -1,12 +1,10 @@
 -- Rows and columns of arrays, and inner products.
-use Rattle.std.proofs.Common.{◌≡◌, ℕ, ◌+◌, ◌<◌, List, [], ◌∷◌, ◌++◌, length, map, take, drop, Result, Ok, Err, refl, ap, sym, ◌∙◌, arith}
-use Rattle.std.{specs.List.{range_with_len}, proofs.lemmas.List.{ext_get_or}, proofs.lemmas.List.FromFn.{length-map-range_with_len, get_or-map-range_with_len}}
+use Rattle.std.{proofs.Common.{◌≡◌, ℕ, ◌+◌, ◌<◌, List, [], ◌∷◌, ◌++◌, length, map, take, drop, Result, Ok, Err, refl, ap, sym, ◌∙◌, arith}, specs.List.{range_with_len}, proofs.lemmas.List.{ext_get_or}, proofs.lemmas.List.FromFn.{length-map-range_with_len, get_or-map-range_with_len}}
 use Rattle.arrays_core.{specs.declared.item.Item.{Item}, specs.declared.item.Kind.{Kind}, specs.Items.{and_then}, specs.Arrays.{ArrayValue}}
 use Rattle.function_names.specs.declared.scalar.Scalar2.{Scalar2}
 use Rattle.scalar_fns.specs.ScalarExtension.{extended}
 use Rattle.item_fns.{specs.Items.{dyadic_on_items}, specs.Folds.{folded}, specs.RightFold.{fold_right}, proofs.ItemFolds.{some_folded}}
-use Rattle.operator_fns.{specs.InnerProduct.{row_rank, inner_length, inner_item, all_or_last_error, products}, specs.RowByColumn.{all_met, folded_all}}
-use Rattle.operator_fns.proofs.Meetings.{length-met, met_at}
+use Rattle.operator_fns.{specs.InnerProduct.{row_rank, inner_length, inner_item, all_or_last_error, products}, specs.RowByColumn.{all_met, folded_all}, proofs.Meetings.{length-met, met_at}}
 
 -- ---- the fold of a row and a column
 one_longer : (x : Result Item Kind) (rest : Result (List Item) Kind) (items : List Item) → and_then rest (λ items. and_then x (λ item. Ok (item ∷ items))) ≡ Ok items → 0 < length items
@@ -39,9 +37,3 @@ products_met g a b row column left right count e is_left is_right =
     let below : k < count = omega arith in
     get_or-map-range_with_len f 1 (inner_length a b) k (k + 1) d (omega arith) (omega arith)
     ∙ sym (met_at (dyadic_on_items g) left right count k d below ∙ (rw (is_left k below, is_right k below) refl)))
-
--- no items meet
-pub nothing_met : (f g : Scalar2) (a b : ArrayValue) (index : List ℕ) → inner_length a b ≡ 0 → inner_item f g a b index ≡ fold_right f []
-nothing_met f g a b index h =
-    let h' = λ (j : ℕ). dyadic_on_items g (extended a (take (row_rank a) index ++ j ∷ [])) (extended b (j ∷ drop (row_rank a) index)) in
-    ap (λ n. and_then (all_or_last_error (map h' (range_with_len 1 n))) (fold_right f)) h

@@ -1,6 +1,5 @@
 -- Folds of what a row and a column give, from the last entry to the first.
-use Rattle.std.proofs.Common.{◌≡◌, ℕ, zero, suc, ◌+◌, ◌<◌, ◌≤◌, List, [], ◌∷◌, ◌++◌, length, get_or, drop, take, map, refl, ap, sym, ◌∙◌, arith, Result, Ok, Err}
-use Rattle.std.{specs.List.{range_with_len}, proofs.lemmas.List.{drop_more, drop_all, take_more, take_all, length-take, get_or-take, ext_get_or}}
+use Rattle.std.{proofs.Common.{◌≡◌, ℕ, zero, suc, ◌+◌, ◌<◌, ◌≤◌, List, [], ◌∷◌, ◌++◌, length, get_or, drop, take, map, refl, ap, sym, ◌∙◌, arith, Result, Ok, Err}, specs.List.{range_with_len}, proofs.lemmas.List.{drop_more, drop_all, take_more, take_all, length-take, get_or-take, ext_get_or}}
 use Rattle.std.proofs.lemmas.List.FromFn.{length-map-range_with_len, get_or-map-range_with_len}
 use Rattle.arrays_core.{specs.declared.item.Kind.{Kind}, specs.Items.{and_then}}
 use Rattle.item_fns.{specs.Folds.{folded}, proofs.RightFolds.{fold_more}}
@@ -63,41 +62,31 @@ module _ {A : Type 0} (f : A → A → Result A Kind) where
 
   pub folded_last : (rs : List (Result A Kind)) (k : ℕ) (y : A) → k + 1 ≡ length rs → get_or rs k (Ok y) ≡ Ok y → FoldedTo rs k y
   folded_last rs k y h here =
-      let split : drop k rs ≡ get_or rs k (Ok y) ∷ drop (k + 1) rs = drop_more rs k (Ok y) (omega arith) in
-      let none : drop (k + 1) rs ≡ [] = drop_all (k + 1) rs (omega arith) in
-      record { later = y ∷ []; made = rw (split, none, here) refl; some = omega arith; is = refl }
+      record { later = y ∷ []; made = rw (drop_more rs k (Ok y) (omega arith), drop_all (k + 1) rs (omega arith), here) refl; some = omega arith; is = refl }
 
   pub one_more : (rs : List (Result A Kind)) (k : ℕ) (x y z : A) → k + 1 < length rs → FoldedTo rs (k + 1) y → get_or rs k (Ok x) ≡ Ok x → f x y ≡ Ok z → FoldedTo rs k z
   one_more rs k x y z h so_far here gave =
-      let split : drop k rs ≡ get_or rs k (Ok x) ∷ drop (k + 1) rs = drop_more rs k (Ok x) (omega arith) in
       record {
         later = x ∷ so_far.later;
-        made = rw (split, here, so_far.made) refl;
+        made = rw (drop_more rs k (Ok x) (omega arith), here, so_far.made) refl;
         some = omega arith;
         is = fold_more f x so_far.later so_far.some ∙ ap (λ r. and_then r (f x)) so_far.is ∙ gave;
       }
 
-  pub all_folded : (rs : List (Result A Kind)) (y : A) → FoldedTo rs 0 y → folded_all f rs ≡ Ok y
-  all_folded rs y done = ap (λ r. and_then r (folded f)) done.made ∙ done.is
-
   pub last_entry_failed : (rs : List (Result A Kind)) (k : ℕ) (e : Kind) → k + 1 ≡ length rs → get_or rs k (Err e) ≡ Err e → folded_all f rs ≡ Err e
   last_entry_failed rs k e h here =
-      let split : drop k rs ≡ get_or rs k (Err e) ∷ drop (k + 1) rs = drop_more rs k (Err e) (omega arith) in
-      let none : drop (k + 1) rs ≡ [] = drop_all (k + 1) rs (omega arith) in
-      let there : all_or_last_error (drop k rs) ≡ Err e = rw (split, none, here) refl in
+      let there : all_or_last_error (drop k rs) ≡ Err e = rw (drop_more rs k (Err e) (omega arith), drop_all (k + 1) rs (omega arith), here) refl in
       ap (λ r. and_then r (folded f)) (later_error rs k e (omega arith) there)
 
   pub entry_failed : (rs : List (Result A Kind)) (k : ℕ) (y : A) (e : Kind) → k + 1 < length rs → FoldedTo rs (k + 1) y → get_or rs k (Err e) ≡ Err e → folded_all f rs ≡ Err e
   entry_failed rs k y e h so_far here =
-      let split : drop k rs ≡ get_or rs k (Err e) ∷ drop (k + 1) rs = drop_more rs k (Err e) (omega arith) in
-      let there : all_or_last_error (drop k rs) ≡ Err e = rw (split, here, so_far.made) refl in
+      let there : all_or_last_error (drop k rs) ≡ Err e = rw (drop_more rs k (Err e) (omega arith), here, so_far.made) refl in
       ap (λ r. and_then r (folded f)) (later_error rs k e (omega arith) there)
 
   pub fold_failed : (rs : List (Result A Kind)) (k : ℕ) (x y : A) (e : Kind) → k + 1 < length rs → FoldedTo rs (k + 1) y → get_or rs k (Ok x) ≡ Ok x → f x y ≡ Err e
       → folded_all f rs ≡ Err (last_error_or e (take k rs))
   fold_failed rs k x y e h so_far here gave =
-      let split : drop k rs ≡ get_or rs k (Ok x) ∷ drop (k + 1) rs = drop_more rs k (Ok x) (omega arith) in
-      let made : all_or_last_error (drop k rs) ≡ Ok (x ∷ so_far.later) = rw (split, here, so_far.made) refl in
+      let made : all_or_last_error (drop k rs) ≡ Ok (x ∷ so_far.later) = rw (drop_more rs k (Ok x) (omega arith), here, so_far.made) refl in
       let fails : folded f (x ∷ so_far.later) ≡ Err e = fold_more f x so_far.later so_far.some ∙ ap (λ r. and_then r (f x)) so_far.is ∙ gave in
       fails_after rs k (x ∷ so_far.later) (folded f) e made (λ front. (still_fails front (x ∷ so_far.later) e (omega arith) fails).0)
 

@@ -1,11 +1,8 @@
 -- Outer products of numbers, row by row.
-use Rattle.std.proofs.Common.{◌≡◌, Vec, ℕ, zero, suc, ◌+◌, ◌*◌, ◌/◌, ◌%◌, ◌<◌, List, [], ◌∷◌, ◌++◌, append-nil, length, get_or, map, take, drop, ℤ, pos, Result, Ok, Err, ap, sym, ◌∙◌, arith}
-use Rattle.std.specs.List.{range_with_len}
-use Rattle.std.proofs.lemmas.List.{length-map, length-append, get_or_append_left, get_or-append-add, get_or-map, ext_get_or, take_more, take-append-drop}
-use Rattle.std.{proofs.lemmas.List.FromFn.{length-map-range_with_len, get_or-map-range_with_len}, proofs.lemmas.Grind.{flat_map-append}}
-use Rattle.std.{proofs.lemmas.Nat.{div-add-mod'}, proofs.Math.Nat.{mod-lt, div-lt_iff_lt-mul}, specs.Result.{IsErr, IsErrAnd}}
-use Rattle.arrays_core.{specs.declared.item.Kind.{Kind}, specs.declared.fault.ApplyFault.{ApplyFault}}
-use Rattle.arrays_core.{specs.declared.fault.ApplyFault.TheVariants.{Kind as KindFault, NoMemory}, specs.Items.{all_or_first_error}}
+use Rattle.std.{proofs.Common.{◌≡◌, Vec, ℕ, zero, suc, ◌+◌, ◌*◌, ◌/◌, ◌%◌, ◌<◌, List, [], ◌∷◌, ◌++◌, append-nil, length, get_or, map, take, drop, ℤ, pos, Result, Ok, Err, ap, sym, ◌∙◌, arith}, specs.List.{range_with_len}}
+use Rattle.std.{proofs.lemmas.List.{length-map, length-append, get_or_append_left, get_or-append-add, get_or-map, ext_get_or, take_more, take-append-drop}, proofs.lemmas.List.FromFn.{length-map-range_with_len, get_or-map-range_with_len}, proofs.lemmas.Grind.{flat_map-append}, proofs.lemmas.Nat.{div-add-mod'}}
+use Rattle.std.{proofs.Math.Nat.{mod-lt, div-lt_iff_lt-mul}, specs.Result.{IsErr, IsErrAnd}}
+use Rattle.arrays_core.{specs.declared.item.Kind.{Kind}, specs.declared.fault.ApplyFault.{ApplyFault}, specs.declared.fault.ApplyFault.TheVariants.{Kind as KindFault, NoMemory}, specs.Items.{all_or_first_error}}
 use Rattle.item_fns.specs.NumberLists.{IsListAnswerTo}
 use Rattle.operator_fns.specs.OuterResults.{outer_results, LeavesOrFails}
 

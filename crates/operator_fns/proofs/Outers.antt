@@ -1,14 +1,10 @@
 -- Outer products of numbers, by the numbers as they lie.
-use Rattle.std.proofs.Common.{◌≡◌, ℕ, ◌*◌, ◌/◌, ◌%◌, true, List, ◌++◌, length, get_or, map, take, drop, ℤ, pos, Result, Ok, refl, ap, sym, ◌∙◌, arith}
-use Rattle.std.proofs.lemmas.List.{length-map}
-use Rattle.arrays_core.{specs.declared.item.Item.TheVariants.{Num}, specs.declared.item.ItemType.TheVariants.{Nums}, specs.declared.item.Kind.{Kind}}
-use Rattle.arrays_core.{specs.Items.{fill, all_or_first_error}, specs.Shapes.{size, is_index_of, places_before}, specs.Arrays.{ArrayValue, collect, with_items}}
-use Rattle.arrays_core.proofs.Shapes.{places_below}
+use Rattle.std.{proofs.Common.{◌≡◌, ℕ, ◌*◌, ◌/◌, ◌%◌, true, List, ◌++◌, length, get_or, map, take, drop, ℤ, pos, Result, Ok, refl, ap, sym, ◌∙◌, arith}, proofs.lemmas.List.{length-map}}
+use Rattle.arrays_core.{specs.declared.item.Item.TheVariants.{Num}, specs.declared.item.ItemType.TheVariants.{Nums}, specs.declared.item.Kind.{Kind}, specs.Items.{fill, all_or_first_error}, specs.Shapes.{size, is_index_of, places_before}, specs.Arrays.{ArrayValue, collect, with_items}, proofs.Shapes.{places_below}}
 use Rattle.function_names.specs.declared.scalar.Scalar2.{Scalar2}
 use Rattle.item_fns.{specs.Numbers.{dyadic_on_numbers}, specs.Items.{number_item}, specs.NumberLists.{number_items}}
 use Rattle.index_region.{specs.Checks.{Form, whole}, proofs.Passing.{limited_gives}}
-use Rattle.operator_fns.{specs.OuterProduct.{outer_form, outer_item, outer_whole}, specs.OuterResults.{outer_results}, proofs.OuterRows.{places_of_outer}}
-use Rattle.operator_fns.{specs.Laws.JoinedIndices.{parts, size-append}, proofs.Joined.{number_there}}
+use Rattle.operator_fns.{specs.OuterProduct.{outer_form, outer_item, outer_whole}, specs.OuterResults.{outer_results}, proofs.OuterRows.{places_of_outer}, specs.Laws.JoinedIndices.{parts, size-append}, proofs.Joined.{number_there}}
 use Rattle.reduce_fns.proofs.Placewise.{collected_same, numbers_collected}
 
 -- as many numbers as places

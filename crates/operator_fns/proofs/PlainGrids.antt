@@ -1,10 +1,8 @@
 -- The rows and the columns of two matrices as they lie.
-use Rattle.std.proofs.Common.{◌≡◌, ℕ, zero, suc, ◌+◌, ◌-◌, ◌*◌, ◌/◌, ◌%◌, ◌<◌, ◌≤◌, List, length, get_or, ap, sym, ◌∙◌, arith, ℤ, pos, Ok}
-use Rattle.std.{proofs.lemmas.Nat.{div-mul-add, div-add-mod'}, proofs.Math.Nat.{mod-eq_of_lt}}
+use Rattle.std.{proofs.Common.{◌≡◌, ℕ, zero, suc, ◌+◌, ◌-◌, ◌*◌, ◌/◌, ◌%◌, ◌<◌, ◌≤◌, List, length, get_or, ap, sym, ◌∙◌, arith, ℤ, pos, Ok}, proofs.lemmas.Nat.{div-mul-add, div-add-mod'}, proofs.Math.Nat.{mod-eq_of_lt}}
 use Rattle.function_names.specs.declared.scalar.Scalar2.TheVariants.{Plus, Times}
 use Rattle.item_fns.specs.Numbers.{dyadic_on_numbers}
-use Rattle.operator_fns.{specs.declared.grid.Grid.{Grid}, specs.RowByColumn.{cell, IsGridOf, IsPlain}, specs.SmallProducts.{AddUp, IsProduct}}
-use Rattle.operator_fns.proofs.ProductSums.{small_entries, products_folded, same_sums}
+use Rattle.operator_fns.{specs.declared.grid.Grid.{Grid}, specs.RowByColumn.{cell, IsGridOf, IsPlain}, specs.SmallProducts.{AddUp, IsProduct}, proofs.ProductSums.{small_entries, products_folded, same_sums}}
 
 one_more : (r m : ℕ) → 1 ≤ r → r * m ≡ (r - 1) * m + m
 one_more r m h = (let e : r ≡ r - 1 + 1 = omega arith in ap (λ n. n * m) e ∙ omega arith)
@@ -12,9 +10,6 @@ one_more r m h = (let e : r ≡ r - 1 + 1 = omega arith in ap (λ n. n * m) e �
 module _ (grid : Grid) (places n m : ℕ) (fits : IsGridOf grid places n m) (plain : IsPlain grid places) where
   some_rows : 1 ≤ places / grid.columns
   some_rows =
-      let some = plain.some in
-      let even = plain.even in
-      let parts = div-add-mod' places grid.columns in
       positive (places / grid.columns) grid.columns (omega arith)
     where
       positive : (q c : ℕ) → 0 < q * c → 1 ≤ q
@@ -26,30 +21,23 @@ module _ (grid : Grid) (places n m : ℕ) (fits : IsGridOf grid places n m) (pla
 
   pub rows_inside : places / grid.columns * grid.count ≤ n
   rows_inside =
-      let c = grid.columns in
-      let q = places / c in
+      let q = places / grid.columns in
       let all = all_rows in
-      let positive = fits.some_columns in
-      let some = fits.some in
-      let split = one_more q c some_rows in
-      let last = (q - 1) * c + 0 in
-      let below = fits.rows last (omega arith) (grid.count - 1) (omega arith) in
-      let d : last / c ≡ q - 1 = div-mul-add (q - 1) c 0 positive in
-      let here : (q - 1) * grid.count + (grid.count - 1) * 1 < n = rw (d, plain.rows) at below in
+      let split = one_more q grid.columns some_rows in
+      let last = (q - 1) * grid.columns + 0 in
+      let d : last / grid.columns ≡ q - 1 = div-mul-add (q - 1) grid.columns 0 fits.some_columns in
+      let here : (q - 1) * grid.count + (grid.count - 1) * 1 < n = rw (d, plain.rows) at (fits.rows last (omega arith) (grid.count - 1) (omega arith)) in
       let parts = one_more q grid.count some_rows in
       omega arith
 
   pub columns_inside : grid.count * grid.columns ≤ m
   columns_inside =
       let c = grid.columns in
-      let positive = fits.some_columns in
-      let some = fits.some in
       let all = all_rows in
       let split = one_more (places / c) c some_rows in
-      let below = fits.columns (c - 1) (omega arith) (grid.count - 1) (omega arith) in
       let e : (c - 1) % c ≡ c - 1 = mod-eq_of_lt (omega arith) in
-      let here : c - 1 + (grid.count - 1) * c < m = rw (e, plain.columns) at below in
-      let parts = one_more grid.count c some in
+      let here : c - 1 + (grid.count - 1) * c < m = rw (e, plain.columns) at (fits.columns (c - 1) (omega arith) (grid.count - 1) (omega arith)) in
+      let parts = one_more grid.count c fits.some in
       omega arith
 
 -- the numbers at the places are the sums of products

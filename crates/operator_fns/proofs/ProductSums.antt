@@ -1,16 +1,12 @@
 -- The sum of products of small numbers, whose fold is that sum.
-use Rattle.std.proofs.Common.{◌≡◌, ℕ, suc, ◌+◌, ◌-◌, ◌*◌, ◌/◌, ◌%◌, inl, inr, ◌^◌, ◌<◌, ◌≤◌, List, [], ◌∷◌, ◌++◌, length, get_or, take, drop, map, refl, ap, subst, sym, ◌∙◌, arith, ℤ, pos, negsuc, ◌+ℤ◌, ◌*ℤ◌, unsigned_abs, FitsSigned, Ok}
-use Rattle.std.{specs.Int.{w64}, specs.List.{All, range_with_len}, proofs.lemmas.Int.{ints, unsigned_abs-mul, fits_signed_from_abs}}
-use Rattle.std.proofs.lemmas.List.FromFn.{length-map-range_with_len, get_or-map-range_with_len, map-range_with_len_more}
-use Rattle.std.proofs.Math.Nat.{mul-le-mul, mul-le-mul_left, mul-le-mul_right}
-use Rattle.std.proofs.lemmas.List.{get_or-take, get_or-drop, get_or_append_left, get_or-append_right, length-take, length-drop}
-use Rattle.std.{proofs.lemmas.List.Elements.{All-take, All-drop}, proofs.lemmas.Bool.{cases_lt}, proofs.lemmas.Nat.{div-mul-add, mod-mul-add}}
+use Rattle.std.{proofs.Common.{◌≡◌, ℕ, suc, ◌+◌, ◌-◌, ◌*◌, ◌/◌, ◌%◌, inl, inr, ◌^◌, ◌<◌, ◌≤◌, List, [], ◌∷◌, ◌++◌, length, get_or, take, drop, map, refl, ap, subst, sym, ◌∙◌, arith, ℤ, pos, negsuc, ◌+ℤ◌, ◌*ℤ◌, unsigned_abs, FitsSigned, Ok}, specs.Int.{w64}, specs.List.{All, range_with_len}}
+use Rattle.std.{proofs.lemmas.Int.{ints, unsigned_abs-mul, fits_signed_from_abs}, proofs.lemmas.List.FromFn.{length-map-range_with_len, get_or-map-range_with_len, map-range_with_len_more}, proofs.Math.Nat.{mul-le-mul, mul-le-mul_left, mul-le-mul_right}}
+use Rattle.std.{proofs.lemmas.List.{get_or-take, get_or-drop, get_or_append_left, get_or-append_right, length-take, length-drop}, proofs.lemmas.List.Elements.{All-take, All-drop}, proofs.lemmas.Bool.{cases_lt}, proofs.lemmas.Nat.{div-mul-add, mod-mul-add}}
 use Rattle.arrays_core.specs.Items.{and_then}
 use Rattle.function_names.specs.declared.scalar.Scalar2.TheVariants.{Plus, Times}
 use Rattle.item_fns.{specs.Numbers.{dyadic_on_numbers, number_or_limit}, specs.Folds.{folded}, proofs.Within.{held_within, within_of}}
 use Rattle.reduce_fns.{specs.Sum.{IsWithinBound, sum_of}, proofs.Firsts.{same_rules}}
-use Rattle.operator_fns.{specs.InnerProduct.{all_or_last_error}, specs.RowByColumn.{all_met, folded_all}}
-use Rattle.operator_fns.specs.SmallProducts.{sum_of_products, IsNoFurther, AddUp, EndsInSums, IsProduct}
+use Rattle.operator_fns.{specs.InnerProduct.{all_or_last_error}, specs.RowByColumn.{all_met, folded_all}, specs.SmallProducts.{sum_of_products, IsNoFurther, AddUp, EndsInSums, IsProduct}}
 
 abs_add : (a b : ℤ) → unsigned_abs (a +ℤ b) ≤ unsigned_abs a + unsigned_abs b
 abs_add a b = omega (arith, ints)
@@ -92,10 +88,8 @@ module _ (row column : ℕ → ℤ) (n : ℕ) (small : AreSmall row column n) wh
   near_products k high i d below =
       let long = length-map-range_with_len (λ k. row k *ℤ column k) 0 k in
       let inside : i < k = omega arith in
-      let one = small.near_x i (omega arith) in
-      let other = small.near_y i (omega arith) in
       let here : get_or (products k) i d ≡ row i *ℤ column i = get_or-map-range_with_len (λ k. row k *ℤ column k) 0 k i i d inside (omega arith) in
-      record { near = rw (here, unsigned_abs-mul) (mul-le-mul one other) }
+      record { near = rw (here, unsigned_abs-mul) (mul-le-mul (small.near_x i (omega arith)) (small.near_y i (omega arith))) }
 
   part_near : (k : ℕ) → k ≤ n → unsigned_abs (sum_of_products row column k) ≤ most * n
   part_near k high =
@@ -150,10 +144,9 @@ row_high row count rows inside =
 pub row_entry : (rows : List ℤ) (columns row column : ℕ) → column < columns
     → get_or (take (row * columns + columns - row * columns) (drop (row * columns) rows)) column (pos 0) ≡ get_or rows (column + row * columns) (pos 0)
 row_entry rows columns row column below =
-    let place : row * columns + column ≡ column + row * columns = omega arith in
     get_or-take (row * columns + columns - row * columns) (drop (row * columns) rows) column (pos 0) (omega arith)
     ∙ get_or-drop (row * columns) rows column (pos 0)
-    ∙ ap (λ p. get_or rows p (pos 0)) place
+    ∙ ap (λ p. get_or rows p (pos 0)) (omega arith)
 
 -- numbers of parts of two lists
 pub parts_add_up : (xs ys : List ℤ) (first long count most : ℕ) → AddUp count xs ys → length (take long (drop first xs)) ≡ count
@@ -184,11 +177,10 @@ module _ (xs ys : List ℤ) (columns count : ℕ) where
             let m : place % columns ≡ column = ap (λ p. p % columns) parts ∙ mod-mul-add row columns column low in
             let some : length (take (row * count + count - row * count) (drop (row * count) xs)) ≡ count =
             length-take (row * count + count - row * count) (drop (row * count) xs) ∙ omega (arith, length-drop (row * count) xs) in
-            let here = ends.summed.each column low in
             record {
               is = ap (λ zs. get_or zs place (pos 0)) ends.is
                   ∙ get_or-append_right before ends.sums (row * columns) place (pos 0) long h
-                  ∙ here
+                  ∙ (ends.summed.each column low)
                   ∙ ap (sum_of_products (λ k. get_or (take (row * count + count - row * count) (drop (row * count) xs)) k (pos 0)) (λ k. get_or (take (count * columns) ys) (column + k * columns) (pos 0))) some
                   ∙ same_sums _ _ (λ k. get_or xs (place / columns * count + k) (pos 0)) (λ k. get_or ys (place % columns + k * columns) (pos 0)) count
                   (λ k inside. get_or-take (row * count + count - row * count) (drop (row * count) xs) k (pos 0) (omega arith) ∙ get_or-drop (row * count) xs k (pos 0)

@@ -1,9 +1,7 @@
 -- How many axes the arguments of an inner product have.
-use Rattle.std.proofs.Common.{◌≡◌, ◌≢◌, ℕ, zero, suc, ◌+◌, ◌-◌, ◌<◌, ◌≤◌, Bool, true, false, List, [], ◌∷◌, ◌++◌, length, get_or, take, drop, Result, Ok, refl, ap, arith}
-use Rattle.std.{proofs.lemmas.Bool.{and_parts, leb-true}, proofs.lemmas.List.{length-append, length-drop, length-take}}
+use Rattle.std.{proofs.Common.{◌≡◌, ◌≢◌, ℕ, zero, suc, ◌+◌, ◌-◌, ◌<◌, ◌≤◌, Bool, true, false, List, [], ◌∷◌, ◌++◌, length, get_or, take, drop, Result, Ok, refl, ap, arith}, proofs.lemmas.Bool.{and_parts, leb-true}, proofs.lemmas.List.{length-append, length-drop, length-take}}
 use Rattle.arrays_core.{specs.declared.item.Kind.{Kind}, specs.declared.item.ItemType.{ItemType}, specs.Arrays.{ArrayValue}, specs.Limits.{most_axes}}
-use Rattle.index_region.{specs.ArgumentLists.{of_two_arguments}, specs.Boxes.{Interval}, specs.Checks.{Form, check, form_of, is_within_limits, limited}}
-use Rattle.index_region.proofs.Boxes.{fits_length}
+use Rattle.index_region.{specs.ArgumentLists.{of_two_arguments}, specs.Boxes.{Interval}, specs.Checks.{Form, check, form_of, is_within_limits, limited}, proofs.Boxes.{fits_length}}
 use Rattle.change_core.specs.RuleModels.{FitsAt, HasShape}
 use Rattle.operator_fns.specs.InnerProduct.{row_rank, inner_form}
 

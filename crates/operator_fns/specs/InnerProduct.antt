@@ -1,8 +1,6 @@
 -- Inner product, A f.g B: the rows of one array folded with the columns of another.
-use Rattle.std.specs.Prelude.{ℕ, ◌-◌, nat_eq, ◌||◌, List, [], ◌∷◌, ◌++◌, map, length, get_or, take, drop, if◌then◌else◌, Result, Ok, ◌==◌, false, Some}
-use Rattle.std.specs.List.{range_with_len}
-use Rattle.arrays_core.{specs.declared.item.Item.{Item}, specs.declared.item.ItemType.TheVariants.{Nums}, specs.declared.item.Kind.{Kind}}
-use Rattle.arrays_core.{specs.declared.item.Kind.TheVariants.{Length}, specs.Items.{and_then}, specs.Arrays.{ArrayValue}, specs.Shapes.{size}}
+use Rattle.std.{specs.Prelude.{ℕ, ◌-◌, nat_eq, ◌||◌, List, [], ◌∷◌, ◌++◌, map, length, get_or, take, drop, if◌then◌else◌, Result, Ok, ◌==◌, false, Some}, specs.List.{range_with_len}}
+use Rattle.arrays_core.{specs.declared.item.Item.{Item}, specs.declared.item.ItemType.TheVariants.{Nums}, specs.declared.item.Kind.{Kind}, specs.declared.item.Kind.TheVariants.{Length}, specs.Items.{and_then}, specs.Arrays.{ArrayValue}, specs.Shapes.{size}}
 use Rattle.index_region.{specs.Checks.{Form, check, limited, whole}, specs.Arguments.{has_one_item}, specs.Boxes.{whole_of}}
 use Rattle.change_core.{specs.RuleModels.{RuleModel, Use}, specs.Sourced.{two_rule}}
 use Rattle.function_names.specs.declared.scalar.Scalar2.{Scalar2}

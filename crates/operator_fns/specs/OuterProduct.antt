@@ -1,7 +1,6 @@
 -- Outer product, A∘.fB: a function of each item of one array with each item of another.
 use Rattle.std.specs.Prelude.{ℕ, List, ◌++◌, length, take, drop, Result, true, false}
-use Rattle.arrays_core.{specs.declared.item.Item.{Item}, specs.declared.item.ItemType.TheVariants.{Nums}, specs.declared.item.Kind.{Kind}}
-use Rattle.arrays_core.specs.Arrays.{ArrayValue, item_of}
+use Rattle.arrays_core.{specs.declared.item.Item.{Item}, specs.declared.item.ItemType.TheVariants.{Nums}, specs.declared.item.Kind.{Kind}, specs.Arrays.{ArrayValue, item_of}}
 use Rattle.index_region.specs.Checks.{Form, limited, whole}
 use Rattle.change_core.{specs.RuleModels.{Growth, RuleModel, Use}, specs.Growth.{growing, two_grow}, specs.Sourced.{two_rule}, specs.Ways.{front, back}}
 use Rattle.function_names.specs.declared.scalar.Scalar2.{Scalar2}

@@ -1,7 +1,6 @@
 -- A function of each number of a list with each of another.
 use Rattle.std.{specs.Prelude.{◌≡◌, ℤ, List, map, ◌++◌, Result, Ok, Err}, specs.List.{flat_map}}
-use Rattle.arrays_core.{specs.declared.item.Kind.{Kind}, specs.declared.fault.ApplyFault.{ApplyFault}}
-use Rattle.arrays_core.{specs.declared.fault.ApplyFault.TheVariants.{Kind as KindFault, NoMemory}, specs.Items.{all_or_first_error, and_then}}
+use Rattle.arrays_core.{specs.declared.item.Kind.{Kind}, specs.declared.fault.ApplyFault.{ApplyFault}, specs.declared.fault.ApplyFault.TheVariants.{Kind as KindFault, NoMemory}, specs.Items.{all_or_first_error, and_then}}
 
 -- a row for each number on the left, of what is given with each on the right
 abbrev pub outer_results : (ℤ → ℤ → Result ℤ Kind) → List ℤ → List ℤ → List (Result ℤ Kind)

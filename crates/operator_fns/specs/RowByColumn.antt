@@ -1,11 +1,9 @@
 -- Rows and columns taken entry by entry.
-use Rattle.std.specs.Prelude.{◌≡◌, ℕ, ◌+◌, ◌*◌, ◌/◌, ◌%◌, ◌<◌, ◌≤◌, ℤ, pos, List, [], ◌∷◌, map, get_or, drop, if◌then◌else◌, Result, Ok, Err}
-use Rattle.std.specs.List.{range_with_len}
+use Rattle.std.{specs.Prelude.{◌≡◌, ℕ, ◌+◌, ◌*◌, ◌/◌, ◌%◌, ◌<◌, ◌≤◌, ℤ, pos, List, [], ◌∷◌, map, get_or, drop, if◌then◌else◌, Result, Ok, Err}, specs.List.{range_with_len}}
 use Rattle.arrays_core.{specs.declared.item.Kind.{Kind}, specs.Items.{and_then}, specs.Shapes.{size}, specs.Arrays.{ArrayValue}}
 use Rattle.item_fns.specs.Folds.{folded}
 use Rattle.index_region.specs.Arguments.{has_one_item}
-use Rattle.operator_fns.{specs.declared.row_by_column.StridedLine.{StridedLine}, specs.declared.grid.Grid.{Grid}}
-use Rattle.operator_fns.specs.InnerProduct.{inner_length, all_or_last_error}
+use Rattle.operator_fns.{specs.declared.row_by_column.StridedLine.{StridedLine}, specs.declared.grid.Grid.{Grid}, specs.InnerProduct.{inner_length, all_or_last_error}}
 
 -- an entry of a line of a list
 abbrev pub entry : {A : Type 0} → A → List A → StridedLine → ℕ → A

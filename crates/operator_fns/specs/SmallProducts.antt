@@ -1,6 +1,5 @@
 -- Sums of products of small numbers.
-use Rattle.std.specs.Prelude.{◌≡◌, ℕ, ◌+◌, ◌*◌, ◌/◌, ◌%◌, ◌^◌, ◌<◌, ◌≤◌, ◌++◌, ℤ, pos, length, get_or, ◌+ℤ◌, ◌*ℤ◌, unsigned_abs, FitsSigned, List, map, All}
-use Rattle.std.{specs.Int.{w64}, specs.List.{range_with_len}}
+use Rattle.std.{specs.Prelude.{◌≡◌, ℕ, ◌+◌, ◌*◌, ◌/◌, ◌%◌, ◌^◌, ◌<◌, ◌≤◌, ◌++◌, ℤ, pos, length, get_or, ◌+ℤ◌, ◌*ℤ◌, unsigned_abs, FitsSigned, List, map, All}, specs.Int.{w64}, specs.List.{range_with_len}}
 use Rattle.reduce_fns.specs.Sum.{sum_of}
 
 -- the sum of the products of the first entries of a row and a column

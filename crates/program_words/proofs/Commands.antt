@@ -1,9 +1,6 @@
 -- How a command reads once words or a command were added to it.
-use Rattle.std.{proofs.Common.{◌≡◌, ◌∙◌, ap, ap₂, sym, false, List, [], ◌∷◌, map, Ok, Err, Result}, specs.List.{fold}, specs.Result.{IfOk, IsOkAnd}}
-use Rattle.std.specs.declared.alloc.AllocError.{AllocError}
-use Rattle.clap.{specs.Words.{AddsArg, AddsInTurn, AddsSubcommand, App, app_of, rule_of}, specs.Simple.{with_rule, with_subcommand}}
-use Rattle.clap.{specs.declared.builder.arg.Arg.{Arg}, specs.declared.builder.command.Command.{Command}}
-use Rattle.clap.specs.declared.builder.command.Command.TheViews.{out-Command}
+use Rattle.std.{proofs.Common.{◌≡◌, ◌∙◌, ap, ap₂, sym, false, List, [], ◌∷◌, map, Ok, Err, Result}, specs.List.{fold}, specs.Result.{IfOk, IsOkAnd}, specs.declared.alloc.AllocError.{AllocError}}
+use Rattle.clap.{specs.Words.{AddsArg, AddsInTurn, AddsSubcommand, App, app_of, rule_of}, specs.Simple.{with_rule, with_subcommand}, specs.declared.builder.arg.Arg.{Arg}, specs.declared.builder.command.Command.{Command}, specs.declared.builder.command.Command.TheViews.{out-Command}}
 
 -- no word is one of all commands below
 abbrev pub AreLocal : List Arg → Type 0

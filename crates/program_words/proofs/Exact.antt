@@ -1,7 +1,6 @@
 -- `clap` tells its matches and faults of the program's command exactly.
 use Rattle.std.proofs.Common.{◌≡◌, ◌∙◌, ap, refl, sym, true, List, []}
-use Rattle.clap.specs.Words.{App, HasMatchesOf, Text, fault_of, is_simple, is_simple_and_free, subcommand_of, subcommand_rows_of}
-use Rattle.clap.{specs.declared.parser.matches.ArgMatches.{ArgMatches}, proofs.OnLiterals.{clap_on_literals}}
+use Rattle.clap.{specs.Words.{App, HasMatchesOf, Text, fault_of, is_simple, is_simple_and_free, subcommand_of, subcommand_rows_of}, specs.declared.parser.matches.ArgMatches.{ArgMatches}, proofs.OnLiterals.{clap_on_literals}}
 use Rattle.program_words.specs.Program.{aplsheet, run_command, table_command}
 
 aplsheet_is_simple : is_simple aplsheet ≡ true

@@ -1,8 +1,6 @@
 -- What the getters of the matches answer, by rows.
-use Rattle.std.proofs.Common.{◌≡◌, ◌↔◌, ◌∙◌, Bool, true, false, refl, sym, codes, IsTrue, Option, Some, None, is_some, option_map, List, ⊎_elim, true≢false}
-use Rattle.std.{specs.Prelude.{Box}, specs.Borrow.{Bor}, specs.Box.{box_value}}
-use Rattle.clap.{specs.Words.{Row, Text, subcommand_rows}, specs.declared.parser.matches.SubCommand.{SubCommand}}
-use Rattle.clap.specs.declared.parser.matches.ArgMatches.TheViews.{out-SubCommand}
+use Rattle.std.{proofs.Common.{◌≡◌, ◌↔◌, ◌∙◌, Bool, true, false, refl, sym, codes, IsTrue, Option, Some, None, is_some, option_map, List, ⊎_elim, true≢false}, specs.Prelude.{Box}, specs.Borrow.{Bor}, specs.Box.{box_value}}
+use Rattle.clap.{specs.Words.{Row, Text, subcommand_rows}, specs.declared.parser.matches.SubCommand.{SubCommand}, specs.declared.parser.matches.ArgMatches.TheViews.{out-SubCommand}}
 use Rattle.program_words.specs.Matched.{IsTruth}
 
 pub is_some_text : (o : Option (Bor Text)) → is_some (option_map (λ s. s.now) o) ≡ true → is_some o ≡ true

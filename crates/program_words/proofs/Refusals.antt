@@ -1,9 +1,7 @@
 -- Why words are refused.
 use Rattle.std.proofs.Common.{◌≡◌, sym, subst, List, ⊎_elim, [], Option}
-use Rattle.clap.{specs.Words.{HasKind, IsAmong, Row, Text, fault_of, kind_of, subcommand_of}, specs.declared.error.Error.{Error}}
-use Rattle.clap.{specs.declared.error.kind.ErrorKind.{ErrorKind}, specs.declared.error.kind.ErrorKind.TheVariants.{OutOfMemory}}
-use Rattle.program_words.{specs.declared.reading.WordsFault.{WordsFault}, specs.declared.reading.WordsFault.TheVariants.{NoMemory, BadName, BadWords}}
-use Rattle.program_words.{specs.Asked.{HasBadName, IsNotBadWords, IsRefusalOf}, specs.Matched.{IsForName, IsRefusalFor}, specs.Program.{aplsheet}}
+use Rattle.clap.{specs.Words.{HasKind, IsAmong, Row, Text, fault_of, kind_of, subcommand_of}, specs.declared.error.Error.{Error}, specs.declared.error.kind.ErrorKind.{ErrorKind}, specs.declared.error.kind.ErrorKind.TheVariants.{OutOfMemory}}
+use Rattle.program_words.{specs.declared.reading.WordsFault.{WordsFault}, specs.declared.reading.WordsFault.TheVariants.{NoMemory, BadName, BadWords}, specs.Asked.{HasBadName, IsNotBadWords, IsRefusalOf}, specs.Matched.{IsForName, IsRefusalFor}, specs.Program.{aplsheet}}
 
 pub for_name-weaker : {P Q : Type 0} (f : WordsFault) → (P → Q) → IsForName P f → IsForName Q f
 for_name-weaker NoMemory g h = tt

@@ -1,15 +1,9 @@
 -- Where no step of a parse fails, what the subcommand that is entered requires has a value, and its flag is true or false.
-use Rattle.std.proofs.Common.{◌≡◌, ◌∙◌, ◌<◌, ◌&&◌, ◌||◌, inl, inr, ⊎_elim, not, Bool, true, false, refl, sym, ap, arith, codes, List, [], ◌∷◌, length, Option, Some, None, is_some, option_map, true≢false}
-use Rattle.std.{specs.Prelude.{option_and_then, slice_get}, specs.List.{find, list_all, list_any}, specs.Option.{option_map_or}, specs.Str.{bytes_eq}}
-use Rattle.std.{proofs.lemmas.Bool.{and_parts, both_ways, not-false, not-true, or_cases, or_parts}, proofs.lemmas.Slice.Eq.{bytes_eq-Decides}}
-use Rattle.clap.{specs.Facts.{explicit_source}, specs.Values.{read_as}}
-use Rattle.clap.specs.Walk.{Row, Rule, Text, answers_to, finished, first_of, nothing_held, one_of, row_text, rows_after, settled, walk, walk_from}
-use Rattle.clap.{specs.Simple.{App, Shape, argument_words, built, entered, label_of, names_of, rows_at, subcommand_of}, specs.Takes.{is_given}}
-use Rattle.clap.{specs.Kinds.{check_kinds}, specs.Faults.{check_fault, defaults_fault, entered_fault, fault_of, level_fault, settle_fault, walk_fault}}
-use Rattle.clap.{specs.declared.builder.value_parser.Reading.{Reading}, proofs.OnLiterals.{clap_on_literals}}
-use Rattle.program_words.{specs.Asked.{is_table}, specs.Matched.{IsTruth, HasTableWords, IsWholeTable}, specs.Program.{aplsheet, run_command, table_command}}
-use Rattle.program_words.proofs.Rows.{Fitting, flag, found_fits, found_passes, is_fit, is_truth, none_of_both}
-use Rattle.program_words.proofs.Walks.{defaults-fitting, settled-fitting, walk-fitting}
+use Rattle.std.{proofs.Common.{◌≡◌, ◌∙◌, ◌<◌, ◌&&◌, ◌||◌, inl, inr, ⊎_elim, not, Bool, true, false, refl, sym, ap, arith, codes, List, [], ◌∷◌, length, Option, Some, None, is_some, option_map, true≢false}, specs.Prelude.{option_and_then, slice_get}, specs.List.{find, list_all, list_any}, specs.Option.{option_map_or}}
+use Rattle.std.{specs.Str.{bytes_eq}, proofs.lemmas.Bool.{and_parts, both_ways, not-false, not-true, or_cases, or_parts}, proofs.lemmas.Slice.Eq.{bytes_eq-Decides}}
+use Rattle.clap.{specs.Facts.{explicit_source}, specs.Values.{read_as}, specs.Walk.{Row, Rule, Text, answers_to, finished, first_of, nothing_held, one_of, row_text, rows_after, settled, walk, walk_from}, specs.Simple.{App, Shape, argument_words, built, entered, label_of, names_of, rows_at, subcommand_of}}
+use Rattle.clap.{specs.Takes.{is_given}, specs.Kinds.{check_kinds}, specs.Faults.{check_fault, defaults_fault, entered_fault, fault_of, level_fault, settle_fault, walk_fault}, specs.declared.builder.value_parser.Reading.{Reading}, proofs.OnLiterals.{clap_on_literals}}
+use Rattle.program_words.{specs.Asked.{is_table}, specs.Matched.{IsTruth, HasTableWords, IsWholeTable}, specs.Program.{aplsheet, run_command, table_command}, proofs.Rows.{Fitting, flag, found_fits, found_passes, is_fit, is_truth, none_of_both}, proofs.Walks.{defaults-fitting, settled-fitting, walk-fitting}}
 use Rattle.clap.specs.declared.builder.value_parser.Reading.TheVariants as reading
 
 -- an argument of this id is required
@@ -94,13 +88,12 @@ record Passes (s : Shape) (words : List Text) : Type 0 where
 level_passes : (s : Shape) (words : List Text) → list_all is_fit s.rules ≡ true → level_fault s [] nothing_held words false [] ≡ [] → Passes s words
 level_passes s words fits none =
     let end = (walk s.rules [] nothing_held words).held in
-    let again = s.args_override_self in
     let walks = none_of_both (walk_fault s [] (walk_from nothing_held) words) _ none in
-    let settles = none_of_both (settle_fault s.rules again end) _ walks.1 in
+    let settles = none_of_both (settle_fault s.rules s.args_override_self end) _ walks.1 in
     let defaults = none_of_both (defaults_fault (settled s.rules end).rows s.rules) _ settles.1 in
     let walked = walk-fitting s [] (walk_from nothing_held) words fits walks.0 tt in
     record {
-      fitting = defaults-fitting s.rules (settled s.rules end).rows fits defaults.0 (settled-fitting s.rules again end fits settles.0 walked);
+      fitting = defaults-fitting s.rules (settled s.rules end).rows fits defaults.0 (settled-fitting s.rules s.args_override_self end fits settles.0 walked);
       none_lacks = none_lacks s (finished s.rules end) defaults.1;
     }
 

@@ -1,13 +1,9 @@
 -- What holds of each row of a parse in which no step fails: it has a value, and one of the flag has no values but true and false.
-use Rattle.std.proofs.Common.{◌≡◌, ◌<◌, ◌&&◌, ◌||◌, not, ⊎_elim, Bool, cond, true, false, refl, sym, subst, arith, nat_lt, codes, List, [], ◌∷◌, ◌++◌, length, Some, true≢false}
-use Rattle.std.{specs.List.{find, list_all}, specs.Str.{bytes_eq}, proofs.lemmas.Bool.{ltb-true, and_parts, and_from, or_cases, not-true, both_ways, ne_eqb}}
+use Rattle.std.{proofs.Common.{◌≡◌, ◌<◌, ◌&&◌, ◌||◌, not, ⊎_elim, Bool, cond, true, false, refl, sym, subst, arith, nat_lt, codes, List, [], ◌∷◌, ◌++◌, length, Some, true≢false}, specs.List.{find, list_all}, specs.Str.{bytes_eq}, proofs.lemmas.Bool.{ltb-true, and_parts, and_from, or_cases, not-true, both_ways, ne_eqb}}
 use Rattle.std.{proofs.lemmas.List.{length-append}, proofs.lemmas.Slice.Eq.{bytes_eq-Decides}}
-use Rattle.clap.{specs.Facts.{parser_of_value, unwrap_or_range}, specs.Values.{is_request, refused_kind}}
-use Rattle.clap.specs.Walk.{Row, Rule, Text, action_of, at_row, default_rows, has_row, is_empty, more_values, most_values, reading_by, used, used_as, values_or_missing, with_default, with_values, without}
-use Rattle.clap.specs.Kinds.{Kinds, or_else, range_kinds, request_kinds, value_kinds, values_kinds}
-use Rattle.clap.{specs.Faults.{action_fault, default_fault, repeat_fault, use_fault, values_fault}, specs.declared.builder.action.ArgAction.{ArgAction}}
-use Rattle.clap.{specs.declared.builder.value_parser.Reading.{Reading}, specs.declared.builder.value_parser.ValueParser.{ValueParser}}
-use Rattle.clap.{specs.declared.parser.matches.ValueSource.{ValueSource}, specs.declared.parser.matches.ValueSource.TheVariants.{CommandLine, DefaultValue}}
+use Rattle.clap.{specs.Facts.{parser_of_value, unwrap_or_range}, specs.Values.{is_request, refused_kind}, specs.Walk.{Row, Rule, Text, action_of, at_row, default_rows, has_row, is_empty, more_values, most_values, reading_by, used, used_as, values_or_missing, with_default, with_values, without}}
+use Rattle.clap.{specs.Kinds.{Kinds, or_else, range_kinds, request_kinds, value_kinds, values_kinds}, specs.Faults.{action_fault, default_fault, repeat_fault, use_fault, values_fault}, specs.declared.builder.action.ArgAction.{ArgAction}, specs.declared.builder.value_parser.Reading.{Reading}}
+use Rattle.clap.{specs.declared.builder.value_parser.ValueParser.{ValueParser}, specs.declared.parser.matches.ValueSource.{ValueSource}, specs.declared.parser.matches.ValueSource.TheVariants.{CommandLine, DefaultValue}}
 use Rattle.clap.specs.declared.builder.action.ArgAction.TheVariants as action
 use Rattle.clap.specs.declared.builder.value_parser.ValueParser.TheVariants as vp
 

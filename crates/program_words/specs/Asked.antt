@@ -1,11 +1,8 @@
 -- What the words of the program ask for.
-use Rattle.std.specs.Prelude.{◌≡◌, ◌↔◌, ◌≤◌, true, false, List, [], Bool, IsTrue, Option, Some, None, codes, length, option_map, string_bytes}
-use Rattle.std.{specs.declared.alloc.Global.{Global}, specs.declared.string.String.{String}, specs.Str.{bytes_eq, chars}}
+use Rattle.std.{specs.Prelude.{◌≡◌, ◌↔◌, ◌≤◌, true, false, List, [], Bool, IsTrue, Option, Some, None, codes, length, option_map, string_bytes}, specs.declared.alloc.Global.{Global}, specs.declared.string.String.{String}, specs.Str.{bytes_eq, chars}}
 use Rattle.apl_tokens.{specs.Characters.{spells_name}, specs.Limits.{longest_name}}
-use Rattle.clap.specs.Words.{IsAmong, Row, Text, fault_of, first_of, kind_of, one_of, subcommand_of}
-use Rattle.clap.specs.declared.error.kind.ErrorKind.TheVariants.{InvalidValue}
-use Rattle.program_words.{specs.declared.reading.Words.{Words}, specs.declared.reading.WordsFault.{WordsFault}}
-use Rattle.program_words.{specs.declared.reading.WordsFault.TheVariants.{NoMemory, BadName, BadWords}, specs.Program.{aplsheet}}
+use Rattle.clap.{specs.Words.{IsAmong, Row, Text, fault_of, first_of, kind_of, one_of, subcommand_of}, specs.declared.error.kind.ErrorKind.TheVariants.{InvalidValue}}
+use Rattle.program_words.{specs.declared.reading.Words.{Words}, specs.declared.reading.WordsFault.{WordsFault}, specs.declared.reading.WordsFault.TheVariants.{NoMemory, BadName, BadWords}, specs.Program.{aplsheet}}
 
 -- the text is a name
 abbrev pub IsName : Text → Type 0

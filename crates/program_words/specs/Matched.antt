@@ -1,9 +1,7 @@
 -- What is known of the values that `clap` matched, and of its errors.
 use Rattle.std.specs.Prelude.{◌≡◌, ◌⊎◌, true, List, Bool, Option, Some, None, codes, is_some}
-use Rattle.clap.{specs.Words.{Row, Text, first_of, kind_of, one_of}, specs.declared.error.kind.ErrorKind.{ErrorKind}}
-use Rattle.clap.specs.declared.error.kind.ErrorKind.TheVariants.{OutOfMemory}
-use Rattle.program_words.{specs.declared.reading.WordsFault.{WordsFault}, specs.declared.reading.WordsFault.TheVariants.{NoMemory, BadName, BadWords}}
-use Rattle.program_words.specs.Asked.{is_table}
+use Rattle.clap.{specs.Words.{Row, Text, first_of, kind_of, one_of}, specs.declared.error.kind.ErrorKind.{ErrorKind}, specs.declared.error.kind.ErrorKind.TheVariants.{OutOfMemory}}
+use Rattle.program_words.{specs.declared.reading.WordsFault.{WordsFault}, specs.declared.reading.WordsFault.TheVariants.{NoMemory, BadName, BadWords}, specs.Asked.{is_table}}
 
 -- what a flag reads as
 abbrev pub IsTruth : Option Text → Type 0

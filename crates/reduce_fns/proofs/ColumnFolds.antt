@@ -1,6 +1,5 @@
 -- The folds of the lines of a list, from those of the columns of its blocks.
-use Rattle.std.proofs.Common.{◌≡◌, refl, inl, inr, ℕ, ◌+◌, ◌-◌, ◌*◌, ◌/◌, ◌%◌, ◌<◌, ◌≤◌, List, length, get_or, drop, take, ℤ, pos, Result, Ok, ap, sym, ◌∙◌, arith}
-use Rattle.std.{proofs.lemmas.Bool.{cases_lt}, proofs.lemmas.List.{ext_get_or, get_or-take, get_or-drop, get_or_append_left, get_or-append_right}}
+use Rattle.std.{proofs.Common.{◌≡◌, refl, inl, inr, ℕ, ◌+◌, ◌-◌, ◌*◌, ◌/◌, ◌%◌, ◌<◌, ◌≤◌, List, length, get_or, drop, take, ℤ, pos, Result, Ok, ap, sym, ◌∙◌, arith}, proofs.lemmas.Bool.{cases_lt}, proofs.lemmas.List.{ext_get_or, get_or-take, get_or-drop, get_or_append_left, get_or-append_right}}
 use Rattle.std.{proofs.lemmas.Nat.{div-mul-add, mod-mul-add, div-add-mod'}, proofs.Math.Nat.{mul-le-mul_right}}
 use Rattle.arrays_core.specs.declared.item.Kind.{Kind}
 use Rattle.item_fns.{specs.Folds.{strided, folded, line_start}, proofs.RightFolds.{length-strided, get_or-strided}}
@@ -37,9 +36,7 @@ module _ (f : ℤ → ℤ → Result ℤ Kind) (xs : List ℤ) (stride count : �
 
   start_at : (block column : ℕ) → column < stride → line_start stride count (block * stride + column) ≡ block * (count * stride) + column
   start_at block column inside =
-      let d : (block * stride + column) / stride ≡ block = div-mul-add block stride column inside in
-      let m : (block * stride + column) % stride ≡ column = mod-mul-add block stride column inside in
-      rw (d, m) refl
+      rw (div-mul-add block stride column inside, mod-mul-add block stride column inside) refl
 
   -- a block more
   pub block_more : (block : ℕ) (before all : List ℤ) → length before ≡ block * stride
@@ -55,10 +52,9 @@ module _ (f : ℤ → ℤ → Result ℤ Kind) (xs : List ℤ) (stride count : �
             let parts : place ≡ block * stride + column = omega arith in
             let inside : column < stride = omega arith in
             let start : line_start stride count place ≡ block * size + column = ap (line_start stride count) parts ∙ start_at block column inside in
-            let whole = ends.long in
             ap (λ p. folded f (strided (pos 0) xs p stride count)) start
             ∙ ap (folded f) (sym (strided_part xs (block * size) size column stride count inside refl))
-            ∙ ap (λ s. folded f (strided (pos 0) (take size (drop (block * size) xs)) column s count)) (sym whole)
+            ∙ ap (λ s. folded f (strided (pos 0) (take size (drop (block * size) xs)) column s count)) (sym ends.long)
             ∙ ends.folded.each column (omega arith)
             ∙ ap Ok (sym (ap (λ ys. get_or ys place (pos 0)) ends.is ∙ get_or-append_right before ends.folds (block * stride) place (pos 0) long h)))
       ]
@@ -67,8 +63,7 @@ module _ (f : ℤ → ℤ → Result ℤ Kind) (xs : List ℤ) (stride count : �
 pub all_blocks : (block stride places : ℕ) → block ≤ places / stride → places / stride ≤ block → places % stride ≡ 0 → block * stride ≡ places
 all_blocks block stride places low high even =
     let same : block ≡ places / stride = omega arith in
-    let parts = div-add-mod' places stride in
-    ap (λ b. b * stride) same ∙ omega (arith, parts, even)
+    ap (λ b. b * stride) same ∙ omega (arith, div-add-mod' places stride, even)
 
 -- the blocks lie within the list
 pub block_high : (block stride count places n : ℕ) → block < places / stride → places % stride ≡ 0 → places * count ≡ n

@@ -1,10 +1,8 @@
 -- The sums of the endings of a list of numbers of 64 bits.
-use Rattle.std.proofs.Common.{◌≡◌, suc, ◌<◌, List, [], ◌∷◌, ◌++◌, length, refl, ap, sym, subst, ◌∙◌, arith, ℤ, pos, ◌+ℤ◌, ◌≤ℤ◌, Result, Ok, Err}
-use Rattle.std.{specs.Int.{int_max, int_min}, specs.List.{All}, proofs.lemmas.Int.{ints, clamps}}
+use Rattle.std.{proofs.Common.{◌≡◌, suc, ◌<◌, List, [], ◌∷◌, ◌++◌, length, refl, ap, sym, subst, ◌∙◌, arith, ℤ, pos, ◌+ℤ◌, ◌≤ℤ◌, Result, Ok, Err}, specs.Int.{int_max, int_min}, specs.List.{All}, proofs.lemmas.Int.{ints, clamps}}
 use Rattle.arrays_core.{specs.declared.item.Kind.{Kind}, specs.declared.item.Kind.TheVariants.{Limit}, specs.Items.{and_then}}
 use Rattle.function_names.specs.declared.scalar.Scalar2.TheVariants.{Plus}
-use Rattle.item_fns.{specs.Numbers.{dyadic_on_numbers, number_or_limit}, specs.Identities.{least, greatest}, specs.Folds.{folded}}
-use Rattle.item_fns.proofs.Within.{Within, held_within, held_ok, held_error}
+use Rattle.item_fns.{specs.Numbers.{dyadic_on_numbers, number_or_limit}, specs.Identities.{least, greatest}, specs.Folds.{folded}, proofs.Within.{Within, held_within, held_ok, held_error}}
 use Rattle.reduce_fns.{specs.LeftFolds.{fold_on, folded_left}, proofs.Firsts.{Given}}
 
 -- ---- the sum of a list, and the greatest and the least sum of an ending of it
@@ -20,14 +18,6 @@ most x (y ∷ rest) = int_max (x +ℤ total y rest) (most y rest)
 abbrev pub fewest : ℤ → List ℤ → ℤ
 fewest x [] = x
 fewest x (y ∷ rest) = int_min (x +ℤ total y rest) (fewest y rest)
-
-pub total_most : (x : ℤ) (rest : List ℤ) → total x rest ≤ℤ most x rest
-total_most x [] = omega (arith, ints)
-total_most x (y ∷ rest) = omega (arith, ints, clamps)
-
-pub total_fewest : (x : ℤ) (rest : List ℤ) → fewest x rest ≤ℤ total x rest
-total_fewest x [] = omega (arith, ints)
-total_fewest x (y ∷ rest) = omega (arith, ints, clamps)
 
 pub most_left : (x y : ℤ) (rest : List ℤ) → most (int_max x (pos 0) +ℤ y) rest ≡ most x (y ∷ rest)
 most_left x y [] = omega (arith, ints, clamps)
@@ -66,8 +56,6 @@ pub record Fits (x : ℤ) (rest : List ℤ) : Type 0 where
 pub folded_sum : (x : ℤ) (rest : List ℤ) → Fits x rest → folded (dyadic_on_numbers Plus) (x ∷ rest) ≡ Ok (total x rest)
 folded_sum x [] h = refl
 folded_sum x (y ∷ rest) h =
-    let low = h.low in
-    let high = h.high in
     let later = folded_sum y rest (record { low = omega (arith, ints, clamps); high = omega (arith, ints, clamps) }) in
     rw later (held_within (x +ℤ total y rest) (record { low = omega (arith, ints, clamps); high = omega (arith, ints, clamps) }))
 
@@ -75,13 +63,9 @@ rest_fits : (x y : ℤ) (rest : List ℤ) (t : ℤ) (r : Result ℤ Kind) → fo
     → and_then r (dyadic_on_numbers Plus x) ≡ Ok t → Fits x (y ∷ rest)
 rest_fits x y rest t (Ok v) e later h =
     let fits = later v e in
-    let low = fits.low in
-    let high = fits.high in
     let sum = sym (folded_sum y rest fits) ∙ e in
     let same : total y rest ≡ v = cc in
     let whole = held_ok (x +ℤ v) t h in
-    let whole_low = whole.within.low in
-    let whole_high = whole.within.high in
     record { low = omega (arith, ints, clamps); high = omega (arith, ints, clamps) }
 rest_fits x y rest t (Err k) e later h = let no : ⊥ = cc in absurd no
 
@@ -154,10 +138,6 @@ sum_between [] sum high low top bottom above below g l = refl
 sum_between (y ∷ rest) sum high low top bottom above below g l =
     let up = stepped (int_max high (pos 0) +ℤ y) top greatest_step rest (number_or_limit (int_max high (pos 0) +ℤ y)) refl g in
     let down = stepped (int_min low (pos 0) +ℤ y) bottom least_step rest (number_or_limit (int_min low (pos 0) +ℤ y)) refl l in
-    let up_is = up.is in
-    let down_is = down.is in
-    let up_high = up.within.high in
-    let down_low = down.within.low in
     let here = held_within (sum +ℤ y) (record { low = omega (arith, ints, clamps); high = omega (arith, ints, clamps) }) in
     ap (λ r. and_then r (λ w. fold_on (dyadic_on_numbers Plus) w rest)) here
     ∙ sum_between rest (sum +ℤ y) up.next down.next top bottom (omega (arith, ints, clamps)) (omega (arith, ints, clamps)) up.later down.later
@@ -170,10 +150,6 @@ sum_from_left (x ∷ rest) top bottom within g l =
     let inside = within 0 x (omega arith) in
     let up = most_kept x rest top inside g in
     let down = fewest_kept x rest bottom inside l in
-    let up_is = up.is in
-    let down_is = down.is in
-    let up_high = up.within.high in
-    let down_low = down.within.low in
     sum_between rest x x x top bottom (omega (arith, ints)) (omega (arith, ints)) g l
     ∙ sym (folded_sum x rest (record { low = omega (arith, ints); high = omega (arith, ints) }))
 
@@ -187,12 +163,9 @@ pub more_most : (xs : List ℤ) (y z t : ℤ) → 0 < length xs → All Within (
 more_most [] y z t some within e g = absurd (omega arith)
 more_most (x ∷ rest) y z t some within e g =
     let fits = folded_fits x (rest ++ y ∷ []) t within e in
-    let high = fits.high in
     let kept = most_kept x rest z (within 0 x (omega arith)) g in
-    let is = kept.is in
     let more = most_more x rest y in
     let last = last_within x rest y within in
-    let low = last.low in
     record { item = int_max z (pos 0) +ℤ y; is = held_within (int_max z (pos 0) +ℤ y) (record { low = omega (arith, ints, clamps); high = omega (arith, ints, clamps) }) }
 
 pub more_fewest : (xs : List ℤ) (y z t : ℤ) → 0 < length xs → All Within (xs ++ y ∷ []) → folded (dyadic_on_numbers Plus) (xs ++ y ∷ []) ≡ Ok t
@@ -200,10 +173,7 @@ pub more_fewest : (xs : List ℤ) (y z t : ℤ) → 0 < length xs → All Within
 more_fewest [] y z t some within e g = absurd (omega arith)
 more_fewest (x ∷ rest) y z t some within e g =
     let fits = folded_fits x (rest ++ y ∷ []) t within e in
-    let low = fits.low in
     let kept = fewest_kept x rest z (within 0 x (omega arith)) g in
-    let is = kept.is in
     let more = fewest_more x rest y in
     let last = last_within x rest y within in
-    let high = last.high in
     record { item = int_min z (pos 0) +ℤ y; is = held_within (int_min z (pos 0) +ℤ y) (record { low = omega (arith, ints, clamps); high = omega (arith, ints, clamps) }) }

@@ -1,6 +1,5 @@
 -- Results that a rule gives for n places: all of them, or the first error.
-use Rattle.std.proofs.Common.{◌≡◌, ℕ, zero, suc, ◌+◌, ◌<◌, ◌≤◌, List, [], ◌∷◌, length, get_or, map, refl, ap, sym, ◌∙◌, arith, Result, Ok, Err}
-use Rattle.std.{specs.List.{range_with_len}, proofs.lemmas.List.FromFn.{length-map-range_with_len, get_or-map-range_with_len}}
+use Rattle.std.{proofs.Common.{◌≡◌, ℕ, zero, suc, ◌+◌, ◌<◌, ◌≤◌, List, [], ◌∷◌, length, get_or, map, refl, ap, sym, ◌∙◌, arith, Result, Ok, Err}, specs.List.{range_with_len}, proofs.lemmas.List.FromFn.{length-map-range_with_len, get_or-map-range_with_len}}
 use Rattle.arrays_core.specs.Items.{after, all_or_first_error}
 
 module _ {A E : Type 0} where
@@ -88,9 +87,7 @@ same_rules {B = B} rule other n h = from 0 n (λ k below. h k (omega (arith, bel
     from : (a m : ℕ) → ((k : ℕ) → (a ≤ k) × (k < a + m) → rule k ≡ other k) → map rule (range_with_len a m) ≡ map other (range_with_len a m)
     from a zero h = refl
     from a (suc m) h =
-        let first : rule a ≡ other a = h a (omega arith, omega arith) in
-        let rest = from (a + 1) m (λ k below. h k (omega (arith, below.0), omega (arith, below.1))) in
-        rw (first, rest) refl
+        rw (h a (omega arith, omega arith), from (a + 1) m (λ k below. h k (omega (arith, below.0), omega (arith, below.1)))) refl
 
 -- a rule that gives the entries of a list
 pub all_places : {A E : Type 0} (rule : ℕ → Result A E) (n : ℕ) (xs : List A) (d : A) → length xs ≡ n → ((k : ℕ) → k < n → rule k ≡ Ok (get_or xs k d))
@@ -103,5 +100,4 @@ all_places {A = A} {E = E} rule n xs d long h = from 0 n xs long (λ k below. (l
     from a (suc m) [] e g = absurd (omega arith)
     from a (suc m) (y ∷ ys) e g =
         let first : rule a ≡ Ok y = (let z : a ≡ a + 0 = omega arith in ap rule z ∙ g 0 (omega arith)) in
-        let rest = from (a + 1) m ys (omega arith) (λ k below. (let z : a + 1 + k ≡ a + suc k = omega arith in ap rule z ∙ g (suc k) (omega arith))) in
-        rw (first, rest) refl
+        rw (first, from (a + 1) m ys (omega arith) (λ k below. (let z : a + 1 + k ≡ a + suc k = omega arith in ap rule z ∙ g (suc k) (omega arith)))) refl

@@ -1,6 +1,5 @@
 -- Sums that the machine gives with a flag.
-use Rattle.std.{proofs.Common.{◌≡◌, ◌∙◌, ap, sym, refl, ◌+ℤ◌, ℤ, Bool, true, false, ◌&&◌, not, Ok, SFits, w64}, specs.Prelude.{FitsSigned}}
-use Rattle.std.{specs.Bool.{FalseIff}, specs.Int.{int_wrapping_add}, proofs.lemmas.Bool.{false≢true}, proofs.lemmas.Int.{wrapping_add_is, int_wrap_fits}}
+use Rattle.std.{proofs.Common.{◌≡◌, ◌∙◌, ap, sym, refl, ◌+ℤ◌, ℤ, Bool, true, false, ◌&&◌, not, Ok, SFits, w64}, specs.Prelude.{FitsSigned}, specs.Bool.{FalseIff}, specs.Int.{int_wrapping_add}, proofs.lemmas.Bool.{false≢true}, proofs.lemmas.Int.{wrapping_add_is, int_wrap_fits}}
 use Rattle.item_fns.{specs.Numbers.{number_or_limit}, proofs.Within.{held_within, within_of}}
 
 -- a sum that fits is what the machine gives

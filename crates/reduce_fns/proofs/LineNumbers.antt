@@ -1,8 +1,6 @@
 -- The numbers of a line.
-use Rattle.std.proofs.Common.{◌≡◌, ℕ, ◌+◌, ◌-◌, ◌*◌, ◌<◌, List, ℤ, Vec, Result, Ok, Err, IfOk, length, get_or, map, pos, refl, ap, sym, ◌∙◌, arith}
-use Rattle.std.{proofs.lemmas.List.{length-map, ext_get_or}, proofs.lemmas.List.Elements.{All-get_or}, proofs.Math.ListN.{get_or-map}}
-use Rattle.arrays_core.{specs.declared.item.Item.{Item}, specs.declared.item.Item.TheVariants.{Num, Char}, specs.declared.item.ItemType.TheVariants.{Nums}}
-use Rattle.arrays_core.{specs.Items.{fill, type_of}, specs.Arrays.{ArrayValue, IsArray}}
+use Rattle.std.{proofs.Common.{◌≡◌, ℕ, ◌+◌, ◌-◌, ◌*◌, ◌<◌, List, ℤ, Vec, Result, Ok, Err, IfOk, length, get_or, map, pos, refl, ap, sym, ◌∙◌, arith}, proofs.lemmas.List.{length-map, ext_get_or}, proofs.lemmas.List.Elements.{All-get_or}, proofs.Math.ListN.{get_or-map}}
+use Rattle.arrays_core.{specs.declared.item.Item.{Item}, specs.declared.item.Item.TheVariants.{Num, Char}, specs.declared.item.ItemType.TheVariants.{Nums}, specs.Items.{fill, type_of}, specs.Arrays.{ArrayValue, IsArray}}
 use Rattle.item_fns.{specs.Folds.{strided}, proofs.RightFolds.{length-strided, get_or-strided}}
 use Rattle.index_region.specs.Arguments.{number_of, numbers}
 use Rattle.reduce_fns.proofs.Folds.{place_high}
@@ -19,19 +17,17 @@ numbers_there a sound typed first stride count high =
     let zs = strided (pos 0) (numbers a) first stride count in
     let many = length-map zs (λ z. Num z) in
     let long_z = length-strided (pos 0) (numbers a) first stride count in
-    let long = length-strided d a.items first stride count in
     let none : d ≡ Num (pos 0) = ap fill typed in
-    ext_get_or d (map (λ z. Num z) zs) (strided d a.items first stride count) (omega (arith, many, long_z, long)) (λ k h.
+    ext_get_or d (map (λ z. Num z) zs) (strided d a.items first stride count) (omega (arith, many, long_z, length-strided d a.items first stride count)) (λ k h.
     let below : k < count = omega (arith, h, many, long_z) in
     let place = first + k * stride in
     let there : place < length a.items = let reach = place_high first stride count k (first + (count - 1) * stride) below (omega arith) in omega (arith, reach, high) in
     let item = get_or a.items place d in
-    let one_type : type_of item ≡ Nums = All-get_or (λ x. type_of x ≡ a.item_type) a.items place d there sound.one_type ∙ typed in
     let read : get_or (numbers a) place (pos 0) ≡ number_of item = ap (λ e. get_or (numbers a) place (number_of e)) (sym none) ∙ get_or-map number_of a.items place d in
     ap (get_or (map (λ z. Num z) zs) k) none
     ∙ get_or-map (λ z. Num z) zs k (pos 0)
     ∙ ap (λ z. Num z) (get_or-strided (pos 0) (numbers a) first stride count k (pos 0) below ∙ read)
-    ∙ item_number item one_type
+    ∙ item_number item (All-get_or (λ x. type_of x ≡ a.item_type) a.items place d there sound.one_type ∙ typed)
     ∙ sym (get_or-strided d a.items first stride count k d below))
 
 -- ---- the answers of calls

@@ -1,9 +1,7 @@
 -- The lines of an array, as entries of its items a stride apart.
-use Rattle.std.proofs.Common.{◌≡◌, ℕ, zero, suc, ◌+◌, ◌-◌, ◌*◌, ◌<◌, ◌≤◌, true, List, [], ◌∷◌, length, get_or, drop, take, refl, ap, sym, ◌∙◌, arith, insert, remove}
-use Rattle.std.{proofs.lemmas.List.{length-drop, length-take, length-append, ext_get_or, get_or_default}, proofs.lemmas.List.Elements.{All-drop}}
+use Rattle.std.{proofs.Common.{◌≡◌, ℕ, zero, suc, ◌+◌, ◌-◌, ◌*◌, ◌<◌, ◌≤◌, true, List, [], ◌∷◌, length, get_or, drop, take, refl, ap, sym, ◌∙◌, arith, insert, remove}, proofs.lemmas.List.{length-drop, length-take, length-append, ext_get_or, get_or_default}, proofs.lemmas.List.Elements.{All-drop}}
 use Rattle.std.proofs.lemmas.List.FromFn.{length-map-range_with_len, get_or-map-range_with_len}
-use Rattle.arrays_core.{specs.Shapes.{size, is_index_of, places_before, IsWithinLimits}, specs.Arrays.{ArrayValue, item_of}, specs.Items.{fill}}
-use Rattle.arrays_core.proofs.Shapes.{as_long, places_below}
+use Rattle.arrays_core.{specs.Shapes.{size, is_index_of, places_before, IsWithinLimits}, specs.Arrays.{ArrayValue, item_of}, specs.Items.{fill}, proofs.Shapes.{as_long, places_below}}
 use Rattle.item_fns.{specs.Folds.{strided}, proofs.RightFolds.{length-strided, get_or-strided}}
 use Rattle.index_region.specs.Axes.{places_along}
 use Rattle.reduce_fns.{specs.Lines.{line}, specs.Laws.LineIndices.{inside}}

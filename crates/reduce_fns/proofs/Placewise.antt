@@ -1,10 +1,6 @@
 -- Arrays of numbers that are given place by place.
-use Rattle.std.{proofs.Common.{◌≡◌, ℕ, ◌<◌, true, List, [], map, ℤ, pos, Result, Ok, ap, sym, ◌∙◌, arith}, specs.List.{range_with_len}}
-use Rattle.std.{proofs.lemmas.List.{length-map, ext_get_or, get_or_default}, proofs.lemmas.List.FromFn.{length-map-range_with_len, get_or-map-range_with_len}}
-use Rattle.std.proofs.Math.ListN.{get_or-map}
-use Rattle.arrays_core.{specs.declared.item.Item.{Item}, specs.declared.item.ItemType.{ItemType}, specs.declared.item.ItemType.TheVariants.{Nums}}
-use Rattle.arrays_core.{specs.declared.item.Kind.{Kind}, specs.Items.{all_or_first_error}}
-use Rattle.arrays_core.{specs.Shapes.{size, indices, index_after, is_index_of, places_before}, specs.Arrays.{collect, with_items}}
+use Rattle.std.{proofs.Common.{◌≡◌, ℕ, ◌<◌, true, List, [], map, ℤ, pos, Result, Ok, ap, sym, ◌∙◌, arith}, specs.List.{range_with_len}, proofs.lemmas.List.{length-map, ext_get_or, get_or_default}, proofs.lemmas.List.FromFn.{length-map-range_with_len, get_or-map-range_with_len}, proofs.Math.ListN.{get_or-map}}
+use Rattle.arrays_core.{specs.declared.item.Item.{Item}, specs.declared.item.ItemType.{ItemType}, specs.declared.item.ItemType.TheVariants.{Nums}, specs.declared.item.Kind.{Kind}, specs.Items.{all_or_first_error}, specs.Shapes.{size, indices, index_after, is_index_of, places_before}, specs.Arrays.{collect, with_items}}
 use Rattle.arrays_core.proofs.Order.{length-indices, get_or-indices, places_before-index_after, index_after-within}
 use Rattle.item_fns.{proofs.Collected.{collected}, specs.Items.{number_item}, specs.NumberLists.{number_items}}
 

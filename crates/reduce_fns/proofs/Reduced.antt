@@ -1,18 +1,12 @@
 -- The reduction of an array of numbers, taken from the numbers as they lie.
-use Rattle.std.proofs.Common.{◌≡◌, ℕ, zero, suc, ◌+◌, ◌-◌, ◌*◌, ◌/◌, ◌%◌, ◌<◌, ◌≤◌, Bool, true, false, cond, ℤ, pos, List, [], ◌∷◌, length, get_or, drop, take, map, refl, ap, sym, ◌∙◌, arith, insert, remove, Ok}
-use Rattle.std.{proofs.lemmas.List.{length-map, ext_get_or, get_or_default, take_all}, proofs.lemmas.List.FromFn.{length-map-range_with_len}}
-use Rattle.std.proofs.Math.ListN.{get_or-map}
-use Rattle.std.proofs.Math.Nat.{mul-le-mul_right, div-eq_of_lt, mul-add-div_right, mul-add-mod_self_right, mod-eq_of_lt, div-lt_iff_lt-mul, mul-mod_left}
-use Rattle.std.proofs.lemmas.Nat.{div-add-mod', mod_below}
-use Rattle.arrays_core.{specs.declared.item.Item.{Item}, specs.declared.item.Item.TheVariants.{Num}, specs.declared.item.ItemType.{ItemType}}
-use Rattle.arrays_core.{specs.declared.item.ItemType.TheVariants.{Nums}, specs.Items.{fill, and_then}, specs.Shapes.{size, is_index_of, places_before}}
-use Rattle.arrays_core.{specs.Arrays.{ArrayValue, item_of, collect}, proofs.Shapes.{head_of, places_below}}
+use Rattle.std.{proofs.Common.{◌≡◌, ℕ, zero, suc, ◌+◌, ◌-◌, ◌*◌, ◌/◌, ◌%◌, ◌<◌, ◌≤◌, Bool, true, false, cond, ℤ, pos, List, [], ◌∷◌, length, get_or, drop, take, map, refl, ap, sym, ◌∙◌, arith, insert, remove, Ok}, proofs.lemmas.List.{length-map, ext_get_or, get_or_default, take_all}}
+use Rattle.std.{proofs.lemmas.List.FromFn.{length-map-range_with_len}, proofs.Math.ListN.{get_or-map}, proofs.Math.Nat.{mul-le-mul_right, div-eq_of_lt, mul-add-div_right, mul-add-mod_self_right, mod-eq_of_lt, div-lt_iff_lt-mul, mul-mod_left}, proofs.lemmas.Nat.{div-add-mod', mod_below}}
+use Rattle.arrays_core.{specs.declared.item.Item.{Item}, specs.declared.item.Item.TheVariants.{Num}, specs.declared.item.ItemType.{ItemType}, specs.declared.item.ItemType.TheVariants.{Nums}, specs.Items.{fill, and_then}, specs.Shapes.{size, is_index_of, places_before}, specs.Arrays.{ArrayValue, item_of, collect}}
+use Rattle.arrays_core.proofs.Shapes.{head_of, places_below}
 use Rattle.function_names.{specs.declared.scalar.Scalar2.{Scalar2}, specs.declared.along.Along.{Along}, specs.Axes.{axis_at}}
-use Rattle.item_fns.{specs.Numbers.{dyadic_on_numbers}, specs.Items.{number_item}, specs.Folds.{strided, folded, line_start}}
-use Rattle.item_fns.{proofs.RightFolds.{length-strided, get_or-strided}, specs.RightFold.{fold_right}, proofs.ItemFolds.{number_items_folded}}
+use Rattle.item_fns.{specs.Numbers.{dyadic_on_numbers}, specs.Items.{number_item}, specs.Folds.{strided, folded, line_start}, proofs.RightFolds.{length-strided, get_or-strided}, specs.RightFold.{fold_right}, proofs.ItemFolds.{number_items_folded}}
 use Rattle.index_region.{specs.Checks.{form_of}, specs.Axes.{places_along}}
-use Rattle.reduce_fns.{specs.Reduce.{reduce_form, reduce_item, reduce_whole}, proofs.Placewise.{collected_same}, specs.Lines.{line}}
-use Rattle.reduce_fns.{proofs.Lines.{line-strided, size-drop-le}, specs.Laws.ReducedShapes.{reduce_facts}}
+use Rattle.reduce_fns.{specs.Reduce.{reduce_form, reduce_item, reduce_whole}, proofs.Placewise.{collected_same}, specs.Lines.{line}, proofs.Lines.{line-strided, size-drop-le}, specs.Laws.ReducedShapes.{reduce_facts}}
 
 -- ---- numbers and their items
 pub strided_numbers : (xs : List ℤ) (first stride count : ℕ)
@@ -33,11 +27,10 @@ strided_numbers xs first stride count =
 pub numbers_folded : (f : Scalar2) (xs : List ℤ) (items : List Item) (first stride count : ℕ) → items ≡ map (λ z. Num z) xs → 1 ≤ count
     → fold_right f (strided (Num (pos 0)) items first stride count) ≡ number_item (folded (dyadic_on_numbers f) (strided (pos 0) xs first stride count))
 numbers_folded f xs items first stride count is h =
-    let zs = strided (pos 0) xs first stride count in
     let m = length-strided (pos 0) xs first stride count in
     ap (λ ys. fold_right f (strided (Num (pos 0)) ys first stride count)) is
     ∙ ap (fold_right f) (strided_numbers xs first stride count)
-    ∙ number_items_folded f zs (omega arith)
+    ∙ number_items_folded f (strided (pos 0) xs first stride count) (omega arith)
 
 -- ---- where lines begin
 -- the sizes of a shape and of it without an axis
@@ -79,13 +72,11 @@ start_is zero (n ∷ shape) index h inside some =
     rw (d, r) (omega arith)
 start_is (suc axis) (n ∷ shape) [] h inside some = cc
 start_is (suc axis) (n ∷ shape) (i ∷ index) h inside some =
-    let head = head_of n i (remove shape axis) index inside in
-    let rest = start_is axis shape index (omega arith) head.rest some in
     let parts = sizes axis shape (omega arith) in
     let s = size (drop (suc axis) shape) in
     let p = places_before (remove shape axis) index in
     let m = get_or shape axis 0 in
-    ap (λ x. (i - 1) * size shape + x) rest
+    ap (λ x. (i - 1) * size shape + x) (start_is axis shape index (omega arith) (head_of n i (remove shape axis) index inside).rest some)
     ∙ ap (λ x. (i - 1) * x + line_start s m p) parts.all
     ∙ sym (start_more s m parts.lines (i - 1) p some)
     ∙ ap (λ x. line_start s m ((i - 1) * x + p)) (sym parts.without)
@@ -109,9 +100,8 @@ line_below stride count place places apart some even below =
     let whole : l * stride + places % stride ≡ places = div-add-mod' places stride in
     let all : places ≡ l * stride = omega arith in
     let q : place / stride < l = (div-lt_iff_lt-mul apart).1 (rw all at below) in
-    let last = last_below stride count (place / stride) (place % stride) l some (mod_below place stride apart) (omega arith) in
     let e : l * (count * stride) ≡ places * count = turned l count stride ∙ ap (λ x. x * count) (sym all) in
-    rw (← e) last
+    rw (← e) (last_below stride count (place / stride) (place % stride) l some (mod_below place stride apart) (omega arith))
 
 pub whole_line : (place places n long : ℕ) → place < places → places * n ≡ long → place * n + n ≤ long
 whole_line place places n long below whole =
@@ -160,10 +150,9 @@ lines_whole axis b shape n s there shaped n_is s_is some =
     let parts = sizes axis b there in
     let m = get_or b axis 0 in
     let apart = size (drop (suc axis) b) in
-    let many : 1 ≤ m = some_along m apart parts.lines (size b) parts.all some in
     let whole : size (remove b axis) * m ≡ size b = ap (λ x. x * m) parts.without ∙ sym (turned parts.lines m apart) ∙ sym parts.all in
     let even : size (remove b axis) % apart ≡ 0 = ap (λ x. x % apart) parts.without ∙ mul-mod_left parts.lines apart in
-    rw (shaped, n_is, s_is) (many, whole, even)
+    rw (shaped, n_is, s_is) (some_along m apart parts.lines (size b) parts.all some, whole, even)
 
 module _ (f : Scalar2) (b : ArrayValue) (xs : List ℤ) (items : b.items ≡ map (λ z. Num z) xs) (typed : b.item_type ≡ Nums) where
   -- the whole reduction, place by place

@@ -1,6 +1,5 @@
 -- Small numbers stay within 64 bits, in whatever order they are added.
-use Rattle.std.proofs.Common.{◌≡◌, ℕ, sym, suc, ◌+◌, ◌*◌, ◌<◌, ◌≤◌, ℤ, pos, negsuc, neg_ℤ, ◌+ℤ◌, ◌≤ℤ◌, List, [], ◌∷◌, length, ap, ◌∙◌, Ok, arith, w64, SFits}
-use Rattle.std.{specs.List.{All}, proofs.lemmas.Int.{ints, clamps}}
+use Rattle.std.{proofs.Common.{◌≡◌, ℕ, sym, suc, ◌+◌, ◌*◌, ◌<◌, ◌≤◌, ℤ, pos, negsuc, neg_ℤ, ◌+ℤ◌, ◌≤ℤ◌, List, [], ◌∷◌, length, ap, ◌∙◌, Ok, arith, w64, SFits}, specs.List.{All}, proofs.lemmas.Int.{ints, clamps}}
 use Rattle.arrays_core.specs.Items.{and_then}
 use Rattle.function_names.specs.declared.scalar.Scalar2.TheVariants.{Plus}
 use Rattle.item_fns.{specs.Numbers.{dyadic_on_numbers}, specs.Folds.{folded}, proofs.Within.{held_within}}
@@ -20,18 +19,10 @@ record Bounded (x : ℤ) (rest : List ℤ) : Type 0 where
 bounded : (x : ℤ) (rest : List ℤ) → All IsSmall (x ∷ rest) → Bounded x rest
 bounded x [] h =
     let s = h 0 x (omega arith) in
-    let low = s.low in
-    let high = s.high in
     record { total_low = omega (arith, ints); total_high = omega (arith, ints); low = omega (arith, ints); high = omega (arith, ints) }
 bounded x (y ∷ rest) h =
     let s = h 0 x (omega arith) in
-    let low = s.low in
-    let high = s.high in
     let later = bounded y rest (λ k d below. h (suc k) d (omega arith)) in
-    let total_low = later.total_low in
-    let total_high = later.total_high in
-    let later_low = later.low in
-    let later_high = later.high in
     record {
       total_low = omega (arith, ints);
       total_high = omega (arith, ints);
@@ -43,8 +34,6 @@ pub small_folded : (xs : List ℤ) → 0 < length xs → length xs ≤ 1048576 �
 small_folded [] some few h = absurd (omega arith)
 small_folded (x ∷ rest) some few h =
     let b = bounded x rest h in
-    let low = b.low in
-    let high = b.high in
     folded_sum x rest (record { low = omega (arith, ints); high = omega (arith, ints) }) ∙ ap Ok (sum_total x rest)
 
 pub fits_between : (z : ℤ) → neg_ℤ (pos 9223372036854775808) ≤ℤ z → z ≤ℤ pos 9223372036854775807 → SFits w64 z
@@ -57,8 +46,6 @@ from_left : (x : ℤ) (rest : List ℤ) (n : ℕ) → neg_ℤ (pos (879609302220
 from_left x [] n low high h few = ap Ok (omega (arith, ints))
 from_left x (y ∷ rest) n low high h few =
     let s = h 0 y (omega arith) in
-    let y_low = s.low in
-    let y_high = s.high in
     let held = held_within (x +ℤ y) (record { low = omega (arith, ints); high = omega (arith, ints) }) in
     ap (λ r. and_then r (λ z. fold_on (dyadic_on_numbers Plus) z rest)) held
     ∙ from_left (x +ℤ y) rest (n + 1) (omega (arith, ints)) (omega (arith, ints)) (λ k d below. h (suc k) d (omega arith)) (omega arith)
@@ -68,7 +55,5 @@ pub small_left : (xs : List ℤ) → 0 < length xs → length xs ≤ 1048576 →
 small_left [] some few h = absurd (omega arith)
 small_left (x ∷ rest) some few h =
     let s = h 0 x (omega arith) in
-    let low = s.low in
-    let high = s.high in
     from_left x rest 1 (omega (arith, ints)) (omega (arith, ints)) (λ k d below. h (suc k) d (omega arith)) (omega arith)
     ∙ sym (small_folded (x ∷ rest) some few h)

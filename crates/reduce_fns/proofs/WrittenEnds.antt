@@ -1,6 +1,5 @@
 -- Lists of numbers that are written at their end.
-use Rattle.std.proofs.Common.{◌≡◌, ℕ, ◌+◌, ◌-◌, List, [], ◌++◌, length, drop, take, ℤ, ap, sym, ◌∙◌, arith}
-use Rattle.std.proofs.lemmas.List.{length-append, length-drop, take_at, take_all, drop_at, drop_all, append-nil}
+use Rattle.std.{proofs.Common.{◌≡◌, ℕ, ◌+◌, ◌-◌, List, [], ◌++◌, length, drop, take, ℤ, ap, sym, ◌∙◌, arith}, proofs.lemmas.List.{length-append, length-drop, take_at, take_all, drop_at, drop_all, append-nil}}
 
 module _ (front back items : List ℤ) (is : items ≡ front ++ back) where
   pub front_is : (n : ℕ) → n ≡ length front → take n items ≡ front

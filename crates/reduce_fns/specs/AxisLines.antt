@@ -1,7 +1,6 @@
 -- What is made of the lines along an axis.
 use Rattle.std.specs.Prelude.{ℕ, ℤ, pos, List, Result}
-use Rattle.arrays_core.{specs.declared.item.ItemType.TheVariants.{Nums}, specs.declared.item.Kind.{Kind}, specs.Arrays.{ArrayValue, collect}}
-use Rattle.arrays_core.specs.Shapes.{places_before}
+use Rattle.arrays_core.{specs.declared.item.ItemType.TheVariants.{Nums}, specs.declared.item.Kind.{Kind}, specs.Arrays.{ArrayValue, collect}, specs.Shapes.{places_before}}
 use Rattle.item_fns.{specs.Items.{number_item}, specs.Folds.{strided, folded, line_start}}
 use Rattle.reduce_fns.specs.declared.axis_lines.AxisLines.{AxisLines}
 

@@ -1,7 +1,6 @@
 -- Reduction, f/B and f⌿B.
 use Rattle.std.{specs.Prelude.{ℕ, nat_eq, List, length, remove, if◌then◌else◌, Result, [], ◌∷◌, map, insert, Some}, specs.List.{range_with_len}}
-use Rattle.arrays_core.{specs.declared.item.Item.{Item}, specs.declared.item.ItemType.{ItemType}, specs.declared.item.ItemType.TheVariants.{Nums}}
-use Rattle.arrays_core.{specs.declared.item.Kind.{Kind}, specs.declared.item.Kind.TheVariants.{Axis}, specs.Arrays.{ArrayValue}}
+use Rattle.arrays_core.{specs.declared.item.Item.{Item}, specs.declared.item.ItemType.{ItemType}, specs.declared.item.ItemType.TheVariants.{Nums}, specs.declared.item.Kind.{Kind}, specs.declared.item.Kind.TheVariants.{Axis}, specs.Arrays.{ArrayValue}}
 use Rattle.function_names.{specs.declared.along.Along.{Along}, specs.Axes.{is_axis, axis_at}, specs.declared.scalar.Scalar2.{Scalar2}}
 use Rattle.index_region.{specs.Checks.{Form, check, limited, whole}, specs.Axes.{places_along}, specs.Arguments.{is_scalar}}
 use Rattle.change_core.{specs.RuleModels.{RuleModel, Use}, specs.Growth.{growing}, specs.Sourced.{one_rule}}

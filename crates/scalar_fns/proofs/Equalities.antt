@@ -1,15 +1,9 @@
 -- Equality of arrays of characters, and of numbers beside characters.
-use Rattle.std.proofs.Common.{◌≡◌, ℕ, ◌+◌, ◌<◌, ◌==◌, Bool, true, false, if◌then◌else◌, List, [], ◌∷◌, length, get_or, map, refl, ap, sym, ◌∙◌, arith, ℤ, pos, Result, Ok, Err, IfOk, replicate}
-use Rattle.std.{specs.Prelude.{Vec}, proofs.lemmas.List.{length-map, get_or-map, get_or-replicate, length-replicate}, proofs.lemmas.List.Elements.{All-get_or}}
-use Rattle.std.{proofs.lemmas.List.FromFn.{get_or-map-range_with_len, length-map-range_with_len}, proofs.lemmas.Bool.{eqb-true}}
-use Rattle.std.proofs.lemmas.Bool.Decides.{nat_tests}
-use Rattle.arrays_core.{specs.Building.{listed}, specs.declared.item.Item.{Item}, specs.declared.item.Item.TheVariants.{Num, Char}}
-use Rattle.arrays_core.{specs.declared.item.ItemType.TheVariants.{Nums}, specs.declared.item.Kind.{Kind}}
-use Rattle.arrays_core.{specs.Items.{all_or_first_error, after, fill, type_of}, specs.Shapes.{size, index_after}}
+use Rattle.std.{proofs.Common.{◌≡◌, ℕ, ◌+◌, ◌<◌, ◌==◌, Bool, true, false, if◌then◌else◌, List, [], ◌∷◌, length, get_or, map, refl, ap, sym, ◌∙◌, arith, ℤ, pos, Result, Ok, Err, IfOk, replicate}, specs.Prelude.{Vec}, proofs.lemmas.List.{length-map, get_or-map, get_or-replicate, length-replicate}}
+use Rattle.std.{proofs.lemmas.List.Elements.{All-get_or}, proofs.lemmas.List.FromFn.{get_or-map-range_with_len, length-map-range_with_len}, proofs.lemmas.Bool.{eqb-true}, proofs.lemmas.Bool.Decides.{nat_tests}}
+use Rattle.arrays_core.{specs.Building.{listed}, specs.declared.item.Item.{Item}, specs.declared.item.Item.TheVariants.{Num, Char}, specs.declared.item.ItemType.TheVariants.{Nums}, specs.declared.item.Kind.{Kind}, specs.Items.{all_or_first_error, after, fill, type_of}, specs.Shapes.{size, index_after}}
 use Rattle.arrays_core.specs.Arrays.{ArrayValue, IsArray, collect, with_items}
-use Rattle.scalar_fns.specs.ScalarExtension.{common, extended, dyadic_on_arrays, for_shape}
-use Rattle.scalar_fns.{specs.Characters.{equality, told, answers_of, character_at, AreTold}, specs.Laws.Extension.{ExtendsTo, common_extends}}
-use Rattle.scalar_fns.proofs.Joint.{IsOf, extended_is, extended_place, place_in}
+use Rattle.scalar_fns.{specs.ScalarExtension.{common, extended, dyadic_on_arrays, for_shape}, specs.Characters.{equality, told, answers_of, character_at, AreTold}, specs.Laws.Extension.{ExtendsTo, common_extends}, proofs.Joint.{IsOf, extended_is, extended_place, place_in}}
 use Rattle.item_fns.{specs.Items.{dyadic_on_items, number_item}, specs.NumberLists.{number_items}, proofs.Collected.{collected}}
 
 all_ok : (zs : List ℤ) → all_or_first_error {E = Kind} (map (λ z. Ok z) zs) ≡ Ok zs

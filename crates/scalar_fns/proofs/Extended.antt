@@ -1,16 +1,13 @@
 -- Items of arrays that are extended to a common shape.
-use Rattle.std.{proofs.Common.{◌≡◌, ◌∙◌, ℕ, List, Some, true, length, get_or, nat_eq, inl, inr, ap, sym, refl, arith}, specs.Prelude.{◌≢◌, IsTrue}}
-use Rattle.std.proofs.lemmas.Bool.{cases_Bool, eqb-true, false≢true}
-use Rattle.arrays_core.{specs.Arrays.{ArrayValue, item_of, item_if_there}, specs.declared.item.Item.{Item}, specs.Items.{fill}}
-use Rattle.arrays_core.{specs.Shapes.{size, is_index_of, places_before}, proofs.Shapes.{as_long, places_below}}
+use Rattle.std.{proofs.Common.{◌≡◌, ◌∙◌, ℕ, List, Some, true, length, get_or, nat_eq, inl, inr, ap, sym, refl, arith}, specs.Prelude.{◌≢◌, IsTrue}, proofs.lemmas.Bool.{cases_Bool, eqb-true, false≢true}}
+use Rattle.arrays_core.{specs.Arrays.{ArrayValue, item_of, item_if_there}, specs.declared.item.Item.{Item}, specs.Items.{fill}, specs.Shapes.{size, is_index_of, places_before}, proofs.Shapes.{as_long, places_below}}
 use Rattle.scalar_fns.specs.ScalarExtension.{extended}
 
 -- at an index list of its own an array has its item there, also where it has one alone
 pub there : (a : ArrayValue) (index : List ℕ) → is_index_of a.shape index ≡ true → item_of a index ≡ extended a index
 there a index h = elim (cases_Bool (nat_eq (size a.shape) 1)) [
   | inl one ↦
-      let only : size a.shape ≡ 1 = eqb-true _ _ one in
-      let first : places_before a.shape index ≡ 0 = (let below = places_below a.shape index h in omega (arith, below, only)) in
+      let first : places_before a.shape index ≡ 0 = (let below = places_below a.shape index h in omega (arith, below, eqb-true _ _ one)) in
       rw one (ap (λ (k : ℕ). get_or a.items k (fill a.item_type)) first)
   | inr more ↦ rw more refl
 ]

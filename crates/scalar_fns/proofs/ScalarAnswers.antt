@@ -1,10 +1,8 @@
 -- What scalar functions of arrays answer is the whole of their checks and items.
 use Rattle.std.proofs.Common.{◌≡◌, ℕ, ◌≤◌, Bool, true, false, cond, eqb, List, [], ◌∷◌, length, get_or, refl, ap, sym, subst, ◌∙◌, ◌⊎◌, inl, inr, arith, Result, Ok, Err, bytes_eq, nat_lt}
-use Rattle.arrays_core.{specs.declared.item.Kind.{Kind}, specs.declared.item.ItemType.TheVariants.{Nums}, specs.declared.fault.ApplyFault.{ApplyFault}}
-use Rattle.arrays_core.{specs.Shapes.{size}, specs.Arrays.{ArrayValue, IsArray, IsAnswerTo, collect}}
+use Rattle.arrays_core.{specs.declared.item.Kind.{Kind}, specs.declared.item.ItemType.TheVariants.{Nums}, specs.declared.fault.ApplyFault.{ApplyFault}, specs.Shapes.{size}, specs.Arrays.{ArrayValue, IsArray, IsAnswerTo, collect}}
 use Rattle.function_names.{specs.declared.scalar.Scalar1.{Scalar1}, specs.declared.scalar.Scalar2.{Scalar2}}
-use Rattle.scalar_fns.{specs.ScalarExtension.{common, for_shape, monadic_on_array, dyadic_on_arrays}, specs.EachMonadic.{each_monadic_form, each_monadic_item}}
-use Rattle.scalar_fns.specs.EachDyadic.{each_dyadic_form, each_dyadic_item}
+use Rattle.scalar_fns.{specs.ScalarExtension.{common, for_shape, monadic_on_array, dyadic_on_arrays}, specs.EachMonadic.{each_monadic_form, each_monadic_item}, specs.EachDyadic.{each_dyadic_form, each_dyadic_item}}
 use Rattle.index_region.{specs.ArgumentLists.{of_one_argument, of_two_arguments}, specs.Checks.{form_of, whole}, proofs.Passing.{two_arguments}}
 use Rattle.change_core.specs.RuleModels.{HasShape}
 

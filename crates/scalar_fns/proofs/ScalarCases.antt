@@ -1,7 +1,6 @@
 -- What may change of the scalar functions in worked cases.
-use Rattle.std.proofs.Common.{◌≡◌, ℕ, List, [], ◌∷◌, Some, None, replicate, pos, refl}
-use Rattle.arrays_core.{specs.declared.item.Item.TheVariants.{Num}, specs.declared.item.ItemType.TheVariants.{Nums}, specs.Arrays.{ArrayValue}}
-use Rattle.arrays_core.specs.Shapes.{size}
+use Rattle.std.proofs.Common.{ℕ, List, [], ◌∷◌, Some, None, replicate, pos, refl}
+use Rattle.arrays_core.{specs.declared.item.Item.TheVariants.{Num}, specs.declared.item.ItemType.TheVariants.{Nums}, specs.Arrays.{ArrayValue}, specs.Shapes.{size}, proofs.CaseWords.{◌⇒◌, AllSame}}
 use Rattle.function_names.{specs.declared.scalar.Scalar1.TheVariants.{Negative}, specs.declared.scalar.Scalar2.TheVariants.{Plus}}
 use Rattle.change_core.{specs.declared.reach.Reach.TheVariants.{Unmoved, Inside, Anew}, specs.Reaches.{reach_of}}
 use Rattle.scalar_fns.{specs.EachMonadic.{each_monadic_rule}, specs.EachDyadic.{each_dyadic_rule}}
@@ -12,38 +11,26 @@ zeros shape = record { item_type = Nums; shape = shape; items = replicate (size 
 
 -- ---- of one array
 
-vector_negated : reach_of (each_monadic_rule Negative) (zeros (5 ∷ []) ∷ []) (Some ((2, 3) ∷ []) ∷ []) ≡ Inside ((2, 3) ∷ [])
-vector_negated = refl
-
-scalar_negated : reach_of (each_monadic_rule Negative) (zeros [] ∷ []) (Some [] ∷ []) ≡ Inside []
-scalar_negated = refl
-
-nothing_negated : reach_of (each_monadic_rule Negative) (zeros (0 ∷ []) ∷ []) (Some ((1, 1) ∷ []) ∷ []) ≡ Unmoved
-nothing_negated = refl
+of_one_array_cases : AllSame (
+    reach_of (each_monadic_rule Negative) (zeros (5 ∷ []) ∷ []) (Some ((2, 3) ∷ []) ∷ []) ⇒ Inside ((2, 3) ∷ []) ∷  -- vector negated
+    reach_of (each_monadic_rule Negative) (zeros [] ∷ []) (Some [] ∷ []) ⇒ Inside [] ∷  -- scalar negated
+    reach_of (each_monadic_rule Negative) (zeros (0 ∷ []) ∷ []) (Some ((1, 1) ∷ []) ∷ []) ⇒ Unmoved ∷  -- nothing negated
+    [])
+of_one_array_cases = refl
 
 -- ---- of two arrays
 
-left_place : reach_of (each_dyadic_rule Plus) (zeros (5 ∷ []) ∷ zeros (5 ∷ []) ∷ []) (Some ((2, 2) ∷ []) ∷ None ∷ []) ≡ Inside ((2, 2) ∷ [])
-left_place = refl
-
-both_places : reach_of (each_dyadic_rule Plus) (zeros (5 ∷ []) ∷ zeros (5 ∷ []) ∷ []) (Some ((1, 2) ∷ []) ∷ Some ((4, 4) ∷ []) ∷ []) ≡ Inside ((1, 4) ∷ [])
-both_places = refl
-
-beside_a_scalar : reach_of (each_dyadic_rule Plus) (zeros (3 ∷ 4 ∷ []) ∷ zeros [] ∷ []) (Some ((2, 2) ∷ (1, 3) ∷ []) ∷ None ∷ []) ≡ Inside ((2, 2) ∷ (1, 3) ∷ [])
-beside_a_scalar = refl
-
-scalar_extended : reach_of (each_dyadic_rule Plus) (zeros (3 ∷ 4 ∷ []) ∷ zeros [] ∷ []) (None ∷ Some [] ∷ []) ≡ Inside ((1, 3) ∷ (1, 4) ∷ [])
-scalar_extended = refl
-
-vector_of_one_extended : reach_of (each_dyadic_rule Plus) (zeros (1 ∷ []) ∷ zeros (3 ∷ []) ∷ []) (Some ((1, 1) ∷ []) ∷ None ∷ []) ≡ Inside ((1, 3) ∷ [])
-vector_of_one_extended = refl
-
-extended_over_nothing : reach_of (each_dyadic_rule Plus) (zeros [] ∷ zeros (0 ∷ []) ∷ []) (Some [] ∷ None ∷ []) ≡ Unmoved
-extended_over_nothing = refl
-
-two_scalars : reach_of (each_dyadic_rule Plus) (zeros [] ∷ zeros [] ∷ []) (Some [] ∷ None ∷ []) ≡ Inside []
-two_scalars = refl
-
--- where a check fails no box is told
-no_common_shape : reach_of (each_dyadic_rule Plus) (zeros (2 ∷ []) ∷ zeros (3 ∷ []) ∷ []) (Some ((1, 1) ∷ []) ∷ None ∷ []) ≡ Anew
-no_common_shape = refl
+of_two_arrays_cases : AllSame (
+    reach_of (each_dyadic_rule Plus) (zeros (5 ∷ []) ∷ zeros (5 ∷ []) ∷ []) (Some ((2, 2) ∷ []) ∷ None ∷ []) ⇒ Inside ((2, 2) ∷ []) ∷  -- left place
+    -- both places
+    reach_of (each_dyadic_rule Plus) (zeros (5 ∷ []) ∷ zeros (5 ∷ []) ∷ []) (Some ((1, 2) ∷ []) ∷ Some ((4, 4) ∷ []) ∷ []) ⇒ Inside ((1, 4) ∷ []) ∷
+    -- beside a scalar
+    reach_of (each_dyadic_rule Plus) (zeros (3 ∷ 4 ∷ []) ∷ zeros [] ∷ []) (Some ((2, 2) ∷ (1, 3) ∷ []) ∷ None ∷ []) ⇒ Inside ((2, 2) ∷ (1, 3) ∷ []) ∷
+    reach_of (each_dyadic_rule Plus) (zeros (3 ∷ 4 ∷ []) ∷ zeros [] ∷ []) (None ∷ Some [] ∷ []) ⇒ Inside ((1, 3) ∷ (1, 4) ∷ []) ∷  -- scalar extended
+    reach_of (each_dyadic_rule Plus) (zeros (1 ∷ []) ∷ zeros (3 ∷ []) ∷ []) (Some ((1, 1) ∷ []) ∷ None ∷ []) ⇒ Inside ((1, 3) ∷ []) ∷  -- vector of one extended
+    reach_of (each_dyadic_rule Plus) (zeros [] ∷ zeros (0 ∷ []) ∷ []) (Some [] ∷ None ∷ []) ⇒ Unmoved ∷  -- extended over nothing
+    reach_of (each_dyadic_rule Plus) (zeros [] ∷ zeros [] ∷ []) (Some [] ∷ None ∷ []) ⇒ Inside [] ∷  -- two scalars
+    -- where a check fails no box is told
+    reach_of (each_dyadic_rule Plus) (zeros (2 ∷ []) ∷ zeros (3 ∷ []) ∷ []) (Some ((1, 1) ∷ []) ∷ None ∷ []) ⇒ Anew ∷
+    [])
+of_two_arrays_cases = refl

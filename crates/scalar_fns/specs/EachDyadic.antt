@@ -1,7 +1,6 @@
 -- What may change of a scalar function of two arrays: the places that changed, or all by an array that is extended.
 use Rattle.std.specs.Prelude.{ℕ, ◌==◌, if◌then◌else◌, List, [], ◌∷◌, map, false, Some, Result, Ok, bytes_eq}
-use Rattle.arrays_core.{specs.declared.item.Item.{Item}, specs.declared.item.ItemType.TheVariants.{Nums}, specs.declared.item.Kind.{Kind}}
-use Rattle.arrays_core.{specs.Arrays.{ArrayValue}, specs.Shapes.{size}}
+use Rattle.arrays_core.{specs.declared.item.Item.{Item}, specs.declared.item.ItemType.TheVariants.{Nums}, specs.declared.item.Kind.{Kind}, specs.Arrays.{ArrayValue}, specs.Shapes.{size}}
 use Rattle.function_names.specs.declared.scalar.Scalar2.{Scalar2}
 use Rattle.scalar_fns.{specs.ScalarExtension.{common, extended, for_shape}, specs.Growth.{each_dyadic_grows}}
 use Rattle.item_fns.specs.Items.{dyadic_on_items}

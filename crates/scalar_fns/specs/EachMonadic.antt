@@ -1,7 +1,6 @@
 -- What may change of a scalar function of one array: the places that changed.
 use Rattle.std.specs.Prelude.{ℕ, List, Result, Ok}
-use Rattle.arrays_core.{specs.declared.item.Item.{Item}, specs.declared.item.ItemType.TheVariants.{Nums}, specs.declared.item.Kind.{Kind}}
-use Rattle.arrays_core.specs.Arrays.{ArrayValue, item_of}
+use Rattle.arrays_core.{specs.declared.item.Item.{Item}, specs.declared.item.ItemType.TheVariants.{Nums}, specs.declared.item.Kind.{Kind}, specs.Arrays.{ArrayValue, item_of}}
 use Rattle.function_names.specs.declared.scalar.Scalar1.{Scalar1}
 use Rattle.scalar_fns.specs.Growth.{each_monadic_grows}
 use Rattle.item_fns.specs.Items.{monadic_on_item}

@@ -1,9 +1,7 @@
 -- Scalar functions of arrays: of one array item by item; of two arrays of equal shapes, or of an array
 -- of one item beside any other.
 use Rattle.std.specs.Prelude.{ℕ, ◌==◌, nat_lt, Bool, List, length, get_or, if◌then◌else◌, Result, Ok, Err, bytes_eq}
-use Rattle.arrays_core.{specs.declared.item.Item.{Item}, specs.declared.item.ItemType.TheVariants.{Nums}, specs.declared.item.Kind.{Kind}}
-use Rattle.arrays_core.{specs.declared.item.Kind.TheVariants.{Rank, Length}, specs.Items.{fill}, specs.Shapes.{size, places_before}}
-use Rattle.arrays_core.specs.Arrays.{ArrayValue, item_of, collect}
+use Rattle.arrays_core.{specs.declared.item.Item.{Item}, specs.declared.item.ItemType.TheVariants.{Nums}, specs.declared.item.Kind.{Kind}, specs.declared.item.Kind.TheVariants.{Rank, Length}, specs.Items.{fill}, specs.Shapes.{size, places_before}, specs.Arrays.{ArrayValue, item_of, collect}}
 use Rattle.function_names.{specs.declared.scalar.Scalar1.{Scalar1}, specs.declared.scalar.Scalar2.{Scalar2}}
 use Rattle.item_fns.specs.Items.{monadic_on_item, dyadic_on_items}
 

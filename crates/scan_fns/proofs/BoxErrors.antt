@@ -1,16 +1,11 @@
 -- The first error of a box, from those of its lines.
-use Rattle.std.proofs.Common.{◌≡◌, ℕ, zero, suc, ◌+◌, ◌-◌, ◌*◌, ◌<◌, ◌≤◌, true, ◌⊎◌, inl, inr, List, [], ◌∷◌, length, get_or, map, set, insert, remove, Option, Some, None, Result, Ok, Err, refl, ap, sym, ◌∙◌, arith, pos}
-use Rattle.std.{specs.List.{range_with_len}, proofs.lemmas.Bool.{and_parts, false≢true}, proofs.lemmas.Nat.{mul-le}}
-use Rattle.std.proofs.lemmas.List.FromFn.{length-map-range_with_len, get_or-map-range_with_len}
-use Rattle.arrays_core.{specs.declared.item.Item.{Item}, specs.declared.item.Item.TheVariants.{Num}, specs.declared.item.Kind.{Kind}}
-use Rattle.arrays_core.{specs.declared.item.Kind.TheVariants.{Domain}, specs.Items.{all_or_first_error, after}, specs.declared.item.ItemType.TheVariants.{Nums}}
-use Rattle.arrays_core.specs.Arrays.{ArrayValue, with_items}
+use Rattle.std.{proofs.Common.{◌≡◌, ℕ, zero, suc, ◌+◌, ◌-◌, ◌*◌, ◌<◌, ◌≤◌, true, ◌⊎◌, inl, inr, List, [], ◌∷◌, length, get_or, map, set, insert, remove, Option, Some, None, Result, Ok, Err, refl, ap, sym, ◌∙◌, arith, pos}, specs.List.{range_with_len}, proofs.lemmas.Bool.{and_parts, false≢true}}
+use Rattle.std.{proofs.lemmas.Nat.{mul-le}, proofs.lemmas.List.FromFn.{length-map-range_with_len, get_or-map-range_with_len}}
+use Rattle.arrays_core.{specs.declared.item.Item.{Item}, specs.declared.item.Item.TheVariants.{Num}, specs.declared.item.Kind.{Kind}, specs.declared.item.Kind.TheVariants.{Domain}, specs.Items.{all_or_first_error, after}, specs.declared.item.ItemType.TheVariants.{Nums}, specs.Arrays.{ArrayValue, with_items}}
 use Rattle.function_names.{specs.declared.scalar.Scalar2.{Scalar2}, specs.declared.along.Along.{Along}, specs.Axes.{axis_at}}
-use Rattle.index_region.specs.Boxes.{Interval, interval_length, box_size, box_offset, is_within, walk_at}
-use Rattle.index_region.proofs.Walks.{walk_within, offset_of_walk, walk_of_offset, offset_below}
+use Rattle.index_region.{specs.Boxes.{Interval, interval_length, box_size, box_offset, is_within, walk_at}, proofs.Walks.{walk_within, offset_of_walk, walk_of_offset, offset_below}}
 use Rattle.change_core.specs.Parts.{items_in}
-use Rattle.scan_fns.{specs.Scan.{scan_item, scan_along}, proofs.Scanned.{restored}, specs.Laws.Scan.{put_again}}
-use Rattle.scan_fns.{specs.BoxLines.{Holds, IsOnLine, IsOneError, LineIsIn, line_items}, proofs.BoxTables.{each_result, as_long_as, within_line, between}}
+use Rattle.scan_fns.{specs.Scan.{scan_item, scan_along}, proofs.Scanned.{restored}, specs.Laws.Scan.{put_again}, specs.BoxLines.{Holds, IsOnLine, IsOneError, LineIsIn, line_items}, proofs.BoxTables.{each_result, as_long_as, within_line, between}}
 
 -- a place is written, or its line has this error
 abbrev pub IsDone : (List ℕ → Result Item Kind) → List Interval → ℕ → ArrayValue → Option Kind → ℕ → Type 0
@@ -50,9 +45,7 @@ error_at : (rs : List (Result Item Kind)) (k : ℕ) (e : Kind) → k < length rs
 error_at [] k e below is before = absurd (omega arith)
 error_at (r ∷ rs) zero e below is before = rw is refl
 error_at (r ∷ rs) (suc k) e below is before =
-    let here = before 0 (omega arith) in
-    let given : r ≡ Ok here.0 = here.1 in
-    rw (given, error_at rs k e (omega arith) is (λ j low. before (suc j) (omega arith))) refl
+    rw ((before 0 (omega arith)).1, error_at rs k e (omega arith) is (λ j low. before (suc j) (omega arith))) refl
 
 -- ---- the error of a line
 
@@ -79,14 +72,12 @@ offset_less : (axis : ℕ) (region : List Interval) (index : List ℕ) (j : ℕ)
 offset_less axis [] index j there h low less = absurd (omega arith)
 offset_less axis (s ∷ region) [] j there h low less = absurd (false≢true h)
 offset_less zero (s ∷ region) (i ∷ index) j there h low less =
-    let rest = offset_below region index (and_parts _ _ h).1 in
-    step (j - s.0) (i - s.0) (box_size region) (box_offset region index) (omega (arith, low, less)) rest
+    step (j - s.0) (i - s.0) (box_size region) (box_offset region index) (omega (arith, low, less)) (offset_below region index (and_parts _ _ h).1)
   where
     step : (a b w o : ℕ) → a < b → o < w → a * w + o < b * w + o
     step a b w o h k = let more : (a + 1) * w ≤ b * w = mul-le (a + 1) w b w (omega arith) (omega arith) in omega (arith, more)
 offset_less (suc axis) (s ∷ region) (i ∷ index) j there h low less =
-    let rest = offset_less axis region index j (omega arith) (and_parts _ _ h).1 low less in
-    omega (arith, rest)
+    omega (arith, offset_less axis region index j (omega arith) (and_parts _ _ h).1 low less)
 
 module _ (item : List ℕ → Result Item Kind) (region : List Interval) (axis : ℕ) (there : axis < length region) where
   abbrev s : Interval

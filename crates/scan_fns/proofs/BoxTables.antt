@@ -1,11 +1,7 @@
 -- Tables of the items of a box, filled line by line.
-use Rattle.std.proofs.Common.{◌≡◌, ℕ, zero, suc, ◌+◌, ◌-◌, ◌<◌, ◌≤◌, true, nat_eq, inl, inr, List, [], ◌∷◌, length, get_or, map, set, insert, remove, Result, Ok, Err, refl, ap, sym, ◌∙◌, arith, pos}
-use Rattle.std.{specs.List.{range_with_len}, proofs.lemmas.Bool.{and_parts, and_from, leb-true, le-leb, false≢true, cases_Bool, eqb-true, eqb-false}}
-use Rattle.std.proofs.lemmas.List.{get_or-set_same, get_or-set_other, length-set}
-use Rattle.std.proofs.lemmas.List.FromFn.{length-map-range_with_len, get_or-map-range_with_len}
-use Rattle.arrays_core.{specs.declared.item.Item.{Item}, specs.declared.item.Item.TheVariants.{Num}, specs.declared.item.ItemType.TheVariants.{Nums}}
-use Rattle.arrays_core.{specs.declared.item.Kind.{Kind}, specs.declared.item.Kind.TheVariants.{Domain}, specs.Items.{all_or_first_error, after, fill}}
-use Rattle.arrays_core.specs.Arrays.{ArrayValue, with_items}
+use Rattle.std.{proofs.Common.{◌≡◌, ℕ, zero, suc, ◌+◌, ◌-◌, ◌<◌, ◌≤◌, true, nat_eq, inl, inr, List, [], ◌∷◌, length, get_or, map, set, insert, remove, Result, Ok, Err, refl, ap, sym, ◌∙◌, arith, pos}, specs.List.{range_with_len}}
+use Rattle.std.{proofs.lemmas.Bool.{and_parts, and_from, leb-true, le-leb, false≢true, cases_Bool, eqb-true, eqb-false}, proofs.lemmas.List.{get_or-set_same, get_or-set_other, length-set}, proofs.lemmas.List.FromFn.{length-map-range_with_len, get_or-map-range_with_len}}
+use Rattle.arrays_core.{specs.declared.item.Item.{Item}, specs.declared.item.Item.TheVariants.{Num}, specs.declared.item.ItemType.TheVariants.{Nums}, specs.declared.item.Kind.{Kind}, specs.declared.item.Kind.TheVariants.{Domain}, specs.Items.{all_or_first_error, after, fill}, specs.Arrays.{ArrayValue, with_items}}
 use Rattle.function_names.{specs.declared.scalar.Scalar2.{Scalar2}, specs.declared.along.Along.{Along}, specs.Axes.{axis_at}}
 use Rattle.index_region.{specs.Boxes.{Interval, box_size, box_offset, is_within, walk_at}, proofs.Walks.{walk_within, walk_of_offset, offset_below}}
 use Rattle.change_core.specs.Parts.{items_in}
@@ -32,9 +28,7 @@ all_results [] [] r d long each = refl
 all_results [] (x ∷ xs) r d long each = absurd (omega arith)
 all_results (e ∷ rs) [] r d long each = absurd (omega arith)
 all_results (e ∷ rs) (x ∷ xs) r d long each =
-    let here : e ≡ Ok x = each 0 (omega arith) in
-    let rest = all_results rs xs r d (omega arith) (λ k below. each (suc k) (omega arith)) in
-    rw (here, rest) refl
+    rw (each 0 (omega arith), all_results rs xs r d (omega arith) (λ k below. each (suc k) (omega arith))) refl
 
 -- ---- index lists on a line
 
@@ -121,9 +115,6 @@ module _ (f : Scalar2) (along : Along) (b : ArrayValue) (region : List Interval)
   parts (Ok xs) h = let same : record { item_type = Nums; shape = n ∷ []; items = xs } ≡ line = cc in (ap (λ (a : ArrayValue). Ok a.items) same, sym (ap (λ (a : ArrayValue). a.item_type) same))
   parts (Err k) h = cc
 
-  pub typed_line : line.item_type ≡ Nums
-  typed_line = (parts _ answered_so).1
-
   pub line_item : scan_item f along b (insert (remove index axis) axis (get_or index axis 1 + before)) ≡ Ok (get_or line.items before (fill line.item_type))
   line_item =
       ap (scan_item f along b) (put_again axis (get_or index axis 1 + before) index there)
@@ -162,8 +153,7 @@ module _ (region : List Interval) (axis : ℕ) (there : axis < length region) (o
   short : axis ≤ length (remove (walk_at region place) axis)
   short =
       let long = as_long_as region (walk_at region place) (walk_within region place below) in
-      let rest = long_removed axis (walk_at region place) (omega (arith, long, there)) in
-      omega (arith, rest, long, there)
+      omega (arith, long_removed axis (walk_at region place) (omega (arith, long, there)), long, there)
 
   -- a line begins at its first index
   pub begins_first : (p : ℕ) → line_begins region axis place ≡ p → get_or (walk_at region p) axis 1 ≡ first

@@ -1,12 +1,10 @@
 -- Residues along a line, from divisor to divisor.
-use Rattle.std.proofs.Common.{◌≡◌, ℕ, zero, suc, ◌+◌, ◌-◌, ◌<◌, ◌≤◌, List, [], ◌∷◌, ◌++◌, inl, inr, length, get_or, refl, ap, sym, ◌∙◌, arith, pos, ℤ, unsigned_abs, FitsSigned, w64, Bool, true, false, nat_eq, IfSome, Option, Some, None}
-use Rattle.std.{proofs.lemmas.Bool.{eqb-true, eqb-false, cases_lt}, proofs.lemmas.List.{get_or_append_left, length-append}}
-use Rattle.std.proofs.Math.Seq.{get_or-append_right}
+use Rattle.std.{proofs.Common.{◌≡◌, ℕ, zero, suc, ◌+◌, ◌-◌, ◌<◌, ◌≤◌, List, [], ◌∷◌, ◌++◌, inl, inr, length, get_or, refl, ap, sym, ◌∙◌, arith, pos, ℤ, unsigned_abs, FitsSigned, w64, Bool, true, false, nat_eq, IfSome, Option, Some, None}, proofs.lemmas.Bool.{eqb-true, eqb-false, cases_lt}}
+use Rattle.std.{proofs.lemmas.List.{get_or_append_left, length-append}, proofs.Math.Seq.{get_or-append_right}}
 use Rattle.function_names.specs.declared.scalar.Scalar2.TheVariants.{Residue as ByResidue}
 use Rattle.item_fns.specs.Numbers.{residue, dyadic_on_numbers}
-use Rattle.scan_fns.{specs.declared.residue_scan.Divisor.{Divisor}, specs.LinearScan.{depth}, specs.RecalledScan.{given_at}}
-use Rattle.scan_fns.specs.ResidueScan.{extent_at, place_before, no_divisor, AreDivisors, IsBeside, AreTheSame, IsDivisor, Leads, LeadsTo, from}
-use Rattle.scan_fns.{proofs.RecalledFolds.{at_first, at_later}, proofs.OneSided.{stays, comes_near, beside_at, rest_stays_beside}}
+use Rattle.scan_fns.{specs.declared.residue_scan.Divisor.{Divisor}, specs.LinearScan.{depth}, specs.RecalledScan.{given_at}, specs.ResidueScan.{extent_at, place_before, no_divisor, AreDivisors, IsBeside, AreTheSame, IsDivisor, Leads, LeadsTo, from}, proofs.RecalledFolds.{at_first, at_later}}
+use Rattle.scan_fns.proofs.OneSided.{stays, comes_near, beside_at, rest_stays_beside}
 
 positive : (n : ℕ) → (n ≡ 0 → ⊥) → 0 < n
 positive zero h = absurd (h refl)
@@ -19,9 +17,8 @@ module _ (zs : List ℤ) (stride count : ℕ) where
       → from zs stride count (Some place) w ≡ from zs stride count d.below (residue (get_or zs place (pos 0)) w)
   divided place d w is below beside fit far =
       let x = get_or zs place (pos 0) in
-      let at = beside_at zs w place beside below in
       let rest = residue x w in
-      let near : unsigned_abs rest < extent_at zs place = comes_near x w at far fit in
+      let near : unsigned_abs rest < extent_at zs place = comes_near x w (beside_at zs w place beside below) far fit in
       let beside_rest = rest_stays_beside zs w place beside below in
       let again : residue x rest ≡ rest = stays x rest (beside_at zs rest place beside_rest below) near in
       ap (given_at (dyadic_on_numbers ByResidue) zs stride count place) (sym again) ∙ is.below rest beside_rest near
@@ -48,10 +45,9 @@ module _ (zs : List ℤ) (stride count : ℕ) where
   leads_on place below None same near leads = _
   leads_on place None (Some far) same near leads = absurd (let no = leads.before in omega (arith, no))
   leads_on place (Some b) (Some far) same near leads =
-      let on = leads.leads in
       record {
-        less = omega (arith, near, on.less);
-        same = λ w beside close. same w beside (omega (arith, close, near, on.less)) ∙ on.same w beside close;
+        less = omega (arith, near, leads.leads.less);
+        same = λ w beside close. same w beside (omega (arith, close, near, leads.leads.less)) ∙ leads.leads.same w beside close;
       }
 
 -- at most so much is less than what is more
@@ -69,6 +65,5 @@ next_divisors zs stride count ds more d before next is place below =
           let long : length more ≡ length ds + 1 = ap length is ∙ length-append ds (d ∷ []) in
           let here : place ≡ length ds = omega (arith, below, long, last) in
           let zero_more : place - length ds ≡ 0 = omega (arith, here) in
-          let entry : get_or (ds ++ d ∷ []) place no_divisor ≡ d = get_or-append_right ds (d ∷ []) place no_divisor (omega (arith, here)) ∙ ap (λ i. get_or (d ∷ []) i no_divisor) zero_more in
-          rw (entry, here) next
+          rw (get_or-append_right ds (d ∷ []) place no_divisor (omega (arith, here)) ∙ ap (λ i. get_or (d ∷ []) i no_divisor) zero_more, here) next
     ])

@@ -1,8 +1,6 @@
 -- The error that a `?` passes on.
 use Rattle.std.{proofs.Common.{◌≡◌, refl, ℕ, List, ℤ, pos, Vec, Ok, Err, Result}, specs.Result.{IsErr, IsErrAnd}}
-use Rattle.arrays_core.{specs.declared.item.Kind.{Kind}, specs.declared.fault.ApplyFault.{ApplyFault}}
-use Rattle.arrays_core.{specs.declared.fault.ApplyFault.TheVariants.{Kind as KindFault, NoMemory}, specs.declared.item.ItemType.TheVariants.{Nums}}
-use Rattle.arrays_core.specs.Arrays.{ArrayValue, IsAnswerTo, with_items}
+use Rattle.arrays_core.{specs.declared.item.Kind.{Kind}, specs.declared.fault.ApplyFault.{ApplyFault}, specs.declared.fault.ApplyFault.TheVariants.{Kind as KindFault, NoMemory}, specs.declared.item.ItemType.TheVariants.{Nums}, specs.Arrays.{ArrayValue, IsAnswerTo, with_items}}
 use Rattle.item_fns.specs.NumberLists.{IsListAnswerTo, number_items}
 use Rattle.scan_fns.specs.LinearScan.{run_to, FailsAt, HasRead}
 

@@ -1,11 +1,9 @@
 -- The folds of the first numbers of a list, from a place on.
-use Rattle.std.proofs.Common.{◌≡◌, ℕ, zero, suc, ◌+◌, ◌-◌, ◌*◌, ◌/◌, ◌%◌, ◌<◌, ◌≤◌, List, [], ◌∷◌, ◌++◌, length, map, take, drop, ℤ, pos, Result, Ok, Err, refl, ap, sym, ◌∙◌, arith}
-use Rattle.std.{specs.List.{range_with_len}, proofs.lemmas.List.{length-drop, length-take, get_or-drop, ext_get_or, take-take, take-append-drop}}
+use Rattle.std.{proofs.Common.{◌≡◌, ℕ, zero, suc, ◌+◌, ◌-◌, ◌*◌, ◌/◌, ◌%◌, ◌<◌, ◌≤◌, List, [], ◌∷◌, ◌++◌, length, map, take, drop, ℤ, pos, Result, Ok, Err, refl, ap, sym, ◌∙◌, arith}, specs.List.{range_with_len}, proofs.lemmas.List.{length-drop, length-take, get_or-drop, ext_get_or, take-take, take-append-drop}}
 use Rattle.std.{proofs.lemmas.List.FromFn.{length-map-range_with_len, get_or-map-range_with_len, take-map-range_with_len}, proofs.Math.Nat.{mod-eq_of_lt}}
-use Rattle.arrays_core.{specs.declared.item.Kind.{Kind}, specs.declared.item.Kind.TheVariants.{Domain}, specs.declared.fault.ApplyFault.{ApplyFault}}
-use Rattle.arrays_core.{specs.declared.fault.ApplyFault.TheVariants.{Kind as KindFault, NoMemory}, specs.Items.{all_or_first_error, and_then}}
+use Rattle.arrays_core.{specs.declared.item.Kind.{Kind}, specs.declared.item.Kind.TheVariants.{Domain}, specs.declared.fault.ApplyFault.{ApplyFault}, specs.declared.fault.ApplyFault.TheVariants.{Kind as KindFault, NoMemory}, specs.Items.{all_or_first_error, and_then}}
 use Rattle.item_fns.{specs.NumberLists.{IsListAnswerTo}, specs.Folds.{strided, folded}, proofs.RightFolds.{strided_run}}
-use Rattle.reduce_fns.{specs.declared.axis_lines.AxisLines.{AxisLines}, proofs.ListResults.{after_parts, all_then, as_many_as}}
+use Rattle.reduce_fns.{specs.declared.axis_lines.AxisLines.{AxisLines}, proofs.ListResults.{after_parts, all_then}}
 use Rattle.scan_fns.specs.LinearScan.{scans_of, run_to, scanned, folds_from}
 
 -- a list as one line
@@ -41,11 +39,9 @@ module _ (f : ℤ → ℤ → Result ℤ Kind) where
 
   run_whole : (zs : List ℤ) (place : ℕ) → place < length zs → run_to (pos 0) zs 1 (length zs) place ≡ take (place + 1) zs
   run_whole zs place below =
-      let one : place / 1 ≡ place = omega arith in
-      let deep : place / 1 % length zs ≡ place = ap (λ m. m % length zs) one ∙ mod-eq_of_lt below in
-      let none : place - place * 1 ≡ 0 = omega arith in
+      let deep : place / 1 % length zs ≡ place = ap (λ m. m % length zs) (omega arith) ∙ mod-eq_of_lt below in
       ap (λ d. strided (pos 0) zs (place - d * 1) 1 (d + 1)) deep
-      ∙ ap (λ m. strided (pos 0) zs m 1 (place + 1)) none
+      ∙ ap (λ m. strided (pos 0) zs m 1 (place + 1)) (omega arith)
       ∙ sym (strided_run (pos 0) zs 0 (place + 1) (omega arith))
 
   same_folds : (n : ℕ) (g h : ℕ → Result ℤ Kind) → ((place : ℕ) → place < n → g place ≡ h place) → map g (range_with_len 0 n) ≡ map h (range_with_len 0 n)
@@ -105,7 +101,3 @@ module _ (f : ℤ → ℤ → Result ℤ Kind) where
       → (front : List ℤ) × (scanned (folded f) (take (first - 1) zs) 1 (first - 1) ≡ Ok front) → IsListAnswerTo {G = G} (folds_from f zs first) (Err fault)
   later_fault zs first low high G (KindFault k) h before = later_fails zs before.0 first k low high h before.1
   later_fault zs first low high G NoMemory h before = tt
-
-  -- the folds of as many numbers
-  pub folds_long : (zs folds : List ℤ) → scanned (folded f) zs 1 (length zs) ≡ Ok folds → length folds ≡ length zs
-  folds_long zs folds h = as_many_as _ folds h ∙ length-map-range_with_len (λ place. folded f (run_to (pos 0) zs 1 (length zs) place)) 0 (length zs)

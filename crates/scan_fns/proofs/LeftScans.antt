@@ -1,13 +1,9 @@
 -- A scan from the left, result by result.
-use Rattle.std.proofs.Common.{◌≡◌, eq-eqb, ℕ, nat_eq, ◌+◌, ◌-◌, ◌*◌, ◌%◌, ◌<◌, ◌≤◌, nat_lt, true, false, List, length, get_or, map, take, ap, sym, subst, ◌∙◌, inl, inr, arith, pos, ℤ, FitsSigned, Result, Ok, Err, Vec, ◌++◌, ◌∷◌, [], vec_len, vec_capacity}
-use Rattle.std.{specs.Int.{w64}, specs.List.{All, range_with_len}, specs.Result.{IsErr, IsErrAnd}}
-use Rattle.std.proofs.lemmas.List.{get_or_default, length-take, get_or-take, take_all}
-use Rattle.std.{proofs.lemmas.Bool.{cases_lt, lt-ltb, le-ltb, ltb-true, ltb-false, ne_eqb}, proofs.Math.Nat.{mod-eq_of_lt, mod-add-mod}}
+use Rattle.std.{proofs.Common.{◌≡◌, eq-eqb, ℕ, nat_eq, ◌+◌, ◌-◌, ◌*◌, ◌%◌, ◌<◌, ◌≤◌, nat_lt, true, false, List, length, get_or, map, take, ap, sym, subst, ◌∙◌, inl, inr, arith, pos, ℤ, FitsSigned, Result, Ok, Err, Vec, ◌++◌, ◌∷◌, [], vec_len, vec_capacity}, specs.Int.{w64}, specs.List.{All, range_with_len}}
+use Rattle.std.{specs.Result.{IsErr, IsErrAnd}, proofs.lemmas.List.{get_or_default, length-take, get_or-take, take_all}, proofs.lemmas.Bool.{cases_lt, lt-ltb, le-ltb, ltb-true, ltb-false, ne_eqb}, proofs.Math.Nat.{mod-eq_of_lt, mod-add-mod}}
 use Rattle.std.proofs.lemmas.List.FromFn.{length-map-range_with_len, get_or-map-range_with_len}
-use Rattle.arrays_core.{specs.declared.fault.ApplyFault.{ApplyFault}, specs.declared.fault.ApplyFault.TheVariants.{Kind as KindFault}}
-use Rattle.arrays_core.{specs.declared.item.Kind.{Kind}, specs.Items.{all_or_first_error, and_then}, proofs.Order.{front_more, front_error}}
-use Rattle.scan_fns.specs.LinearScan.{run_to, left_rule, AreResultsTo, FailsAt, HasRead}
-use Rattle.scan_fns.proofs.Runs.{first_row, later_row, past_stride, left_first, left_later}
+use Rattle.arrays_core.{specs.declared.fault.ApplyFault.{ApplyFault}, specs.declared.fault.ApplyFault.TheVariants.{Kind as KindFault}, specs.declared.item.Kind.{Kind}, specs.Items.{all_or_first_error, and_then}, proofs.Order.{front_more, front_error}}
+use Rattle.scan_fns.{specs.LinearScan.{run_to, left_rule, AreResultsTo, FailsAt, HasRead}, proofs.Runs.{first_row, later_row, past_stride, left_first, left_later}}
 use Rattle.reduce_fns.proofs.Firsts.{entry_of}
 
 module _ (f : ℤ → ℤ → Result ℤ Kind) (zs : List ℤ) (stride count : ℕ) (apart : 0 < stride) (some : 1 ≤ count) where
@@ -87,9 +83,8 @@ none_yet rule zs results items long room = record {
 module _ {G : Type 0} (rule : ℕ → Result ℤ Kind) (zs : List ℤ) (place : ℕ) (results : Vec ℤ G) (before : AreResultsTo place rule zs results) where
   pub results_end : length zs ≤ place → all_or_first_error (map rule (range_with_len 0 (length zs))) ≡ Ok results.items
   results_end h =
-      let rs = map rule (range_with_len 0 (length zs)) in
       let long = length-map-range_with_len rule 0 (length zs) in
-      ap all_or_first_error (sym (take_all place rs (omega arith))) ∙ before.made
+      ap all_or_first_error (sym (take_all place (map rule (range_with_len 0 (length zs))) (omega arith))) ∙ before.made
 
   module _ (below : place < length zs) (fit : FitsSigned w64 (get_or zs place (pos 0))) where
     pub one_more : (z : ℤ) (more : Vec ℤ G) → rule place ≡ Ok z → more.items ≡ results.items ++ z ∷ [] → vec_len more ≡ vec_len results + 1 → vec_capacity results ≤ vec_capacity more

@@ -1,6 +1,5 @@
 -- A truth value from the next number, where one more number comes before it; and the functions that give truth values.
-use Rattle.std.proofs.Common.{◌≡◌, refl, sym, subst, arith, Bool, true, false, not, ◌&&◌, ◌||◌, ℤ, pos, SFits, w64, Some, None, Result, Ok, Err, ◌⊎◌, inl, inr}
-use Rattle.std.{specs.Ordering.{int_eq}, specs.Prelude.{int_lt, int_le}, proofs.lemmas.Bool.Decides.{Decides-int_eq}}
+use Rattle.std.{proofs.Common.{◌≡◌, refl, sym, subst, arith, Bool, true, false, not, ◌&&◌, ◌||◌, ℤ, pos, SFits, w64, Some, None, Result, Ok, Err, ◌⊎◌, inl, inr}, specs.Ordering.{int_eq}, specs.Prelude.{int_lt, int_le}, proofs.lemmas.Bool.Decides.{Decides-int_eq}}
 use Rattle.arrays_core.{specs.declared.item.Kind.{Kind}, specs.Items.{and_then}}
 use Rattle.function_names.specs.declared.scalar.Scalar2.TheVariants.{Less, LessOrEqual, Equal, GreaterOrEqual, Greater, NotEqual, Nand, Nor}
 use Rattle.item_fns.specs.Numbers.{dyadic_on_numbers, truth, as_truth, on_truths}

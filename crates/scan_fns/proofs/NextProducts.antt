@@ -1,7 +1,6 @@
 -- A product with the next number, where one more number comes before it.
-use Rattle.std.proofs.Common.{◌≡◌, ℕ, suc, zero, ◌+◌, ◌*◌, ◌/◌, ◌<◌, ◌≤◌, ◌^◌, min, nat_le, nat_lt, refl, ap, sym, ◌∙◌, arith, Bool, true, false, if◌then◌else◌, ℤ, pos, negsuc, neg_ℤ, unsigned_abs, ◌*ℤ◌, ◌≤ℤ◌, ◌<ℤ◌, SFits, w64, Err}
-use Rattle.std.{specs.Bool.{Decides}, proofs.lemmas.Int.{ints}, proofs.lemmas.Bool.{leb-true, ltb-true, lt-ltb, le-leb}}
-use Rattle.std.{proofs.lemmas.Bool.Decides.{same_from_decides}, proofs.Math.Nat.{le-div_iff_mul-le}}
+use Rattle.std.{proofs.Common.{◌≡◌, ℕ, suc, zero, ◌+◌, ◌*◌, ◌/◌, ◌<◌, ◌≤◌, ◌^◌, min, nat_le, nat_lt, refl, ap, sym, ◌∙◌, arith, Bool, true, false, if◌then◌else◌, ℤ, pos, negsuc, neg_ℤ, unsigned_abs, ◌*ℤ◌, ◌≤ℤ◌, ◌<ℤ◌, SFits, w64, Err}, specs.Bool.{Decides}, proofs.lemmas.Int.{ints}}
+use Rattle.std.{proofs.lemmas.Bool.{leb-true, ltb-true, lt-ltb, le-leb}, proofs.lemmas.Bool.Decides.{same_from_decides}, proofs.Math.Nat.{le-div_iff_mul-le}}
 use Rattle.arrays_core.{specs.declared.item.Kind.TheVariants.{Limit}, specs.Items.{and_then}}
 use Rattle.item_fns.specs.Numbers.{is_number, number_or_limit}
 use Rattle.scan_fns.specs.Prefixes.{lies_within, product}
@@ -51,7 +50,6 @@ margin_below low high m (pos zero) fits =
     le-leb 0 (min (low / suc m) 9223372036854775807) (omega arith) ∙ sym (le-leb 0 high (omega arith)) ∙ ap (λ p. lies_within low high (neg_ℤ (pos p))) (sym none)
 margin_below low high m (pos (suc n)) fits =
     let q = high_quotient high low m (suc n) in
-    let small = fits.sfits in
     same (nat_le (suc n) (min (low / suc m) 9223372036854775807)) (lies_within low high (neg_ℤ (pos (suc m * suc n)))) (up_to (suc n) (min (low / suc m) 9223372036854775807))
     (low_margin low high (suc m * suc n) (omega arith)) (λ h. q.0 (omega arith)) (λ h. let r = q.1 h in omega arith)
 

@@ -1,9 +1,8 @@
 -- Boxes of one line, and the items there.
-use Rattle.std.proofs.Common.{◌≡◌, ℕ, zero, suc, ◌+◌, ◌-◌, ◌*◌, ◌/◌, ◌%◌, ◌<◌, ◌≤◌, IsTrue, IfSome, List, [], ◌∷◌, length, get_or, map, set, Option, Some, None, Result, Ok, Err, refl, ap, sym, ◌∙◌, arith}
-use Rattle.std.{specs.List.{range_with_len}, proofs.lemmas.Bool.{and_parts, leb-true, false≢true}, proofs.Math.Nat.{div-eq_of_lt, mod-eq_of_lt}}
-use Rattle.arrays_core.{specs.declared.item.Item.{Item}, specs.declared.item.ItemType.TheVariants.{Nums}, specs.declared.item.Kind.{Kind}}
-use Rattle.arrays_core.{specs.declared.fault.ApplyFault.{ApplyFault}, specs.declared.fault.ApplyFault.TheVariants.{Kind as KindFault, NoMemory}}
-use Rattle.arrays_core.{specs.Items.{all_or_first_error}, specs.Arrays.{ArrayValue, IsAnswerTo, with_items}}
+use Rattle.std.{proofs.Common.{◌≡◌, ℕ, zero, suc, ◌+◌, ◌-◌, ◌*◌, ◌/◌, ◌%◌, ◌<◌, ◌≤◌, IsTrue, IfSome, List, [], ◌∷◌, length, get_or, map, set, Option, Some, None, Result, Ok, Err, refl, ap, sym, ◌∙◌, arith}, specs.List.{range_with_len}, proofs.lemmas.Bool.{and_parts, leb-true, false≢true}}
+use Rattle.std.proofs.Math.Nat.{div-eq_of_lt, mod-eq_of_lt}
+use Rattle.arrays_core.{specs.declared.item.Item.{Item}, specs.declared.item.ItemType.TheVariants.{Nums}, specs.declared.item.Kind.{Kind}, specs.declared.fault.ApplyFault.{ApplyFault}, specs.declared.fault.ApplyFault.TheVariants.{Kind as KindFault, NoMemory}, specs.Items.{all_or_first_error}}
+use Rattle.arrays_core.specs.Arrays.{ArrayValue, IsAnswerTo, with_items}
 use Rattle.function_names.{specs.declared.scalar.Scalar2.{Scalar2}, specs.declared.along.Along.{Along}, specs.Axes.{axis_at}}
 use Rattle.index_region.{specs.ArgumentLists.{of_one_argument}, specs.Boxes.{Interval, interval_length, box_size, walk_at, fits}, proofs.Walks.{some_place}}
 use Rattle.change_core.specs.Parts.{HoldsItems, items_in}
@@ -36,23 +35,20 @@ interval_within : (axis : ℕ) (region : List Interval) (shape : List ℕ) → a
 interval_within axis [] shape there fit = absurd (omega arith)
 interval_within axis (s ∷ region) [] there fit = absurd (false≢true fit)
 interval_within zero (s ∷ region) (n ∷ shape) there fit =
-    let some = some_place region shape (rest_fits s region n shape fit) in
-    more (interval_length s) (box_size region) some
+    more (interval_length s) (box_size region) (some_place region shape (rest_fits s region n shape fit))
   where
     more : (e m : ℕ) → 0 < m → e ≤ e * m
     more e zero h = absurd (omega arith)
     more e (suc m) h = omega arith
 interval_within (suc axis) (s ∷ region) (n ∷ shape) there fit =
-    let rest = interval_within axis region shape (omega arith) (rest_fits s region n shape fit) in
     let all = no_less (interval_length s) (box_size region) (first_interval s region n shape fit) in
-    omega (arith, rest, all)
+    omega (arith, interval_within axis region shape (omega arith) (rest_fits s region n shape fit), all)
 
 pub walk_first : (axis : ℕ) (region : List Interval) (shape : List ℕ) → axis < length region → IsTrue (fits region shape) → get_or (walk_at region 0) axis 1 ≡ (get_or region axis (0, 0)).0
 walk_first axis [] shape there fit = absurd (omega arith)
 walk_first axis (s ∷ region) [] there fit = absurd (false≢true fit)
 walk_first zero (s ∷ region) (n ∷ shape) there fit =
-    let none : 0 / box_size region ≡ 0 = div-eq_of_lt (some_place region shape (rest_fits s region n shape fit)) in
-    omega (arith, none)
+    omega (arith, div-eq_of_lt (some_place region shape (rest_fits s region n shape fit)))
 walk_first (suc axis) (s ∷ region) (n ∷ shape) there fit =
     let left : 0 % box_size region ≡ 0 = mod-eq_of_lt (some_place region shape (rest_fits s region n shape fit)) in
     ap (λ p. get_or (walk_at region p) axis 1) left ∙ walk_first axis region shape (omega arith) (rest_fits s region n shape fit)
@@ -73,16 +69,14 @@ line_walk (suc axis) (s ∷ region) (n ∷ shape) there fit one p below =
     let m = box_size region in
     let inside = rest_fits s region n shape fit in
     let least = no_less (interval_length s) m (first_interval s region n shape fit) in
-    let most = interval_within axis region shape (omega arith) inside in
-    let rest : m ≡ interval_length (get_or region axis (0, 0)) = omega (arith, least, most, one) in
+    let rest : m ≡ interval_length (get_or region axis (0, 0)) = omega (arith, least, interval_within axis region shape (omega arith) inside, one) in
     let p_below : p < m = omega (arith, rest, one, below) in
     let some : 0 < m = omega arith in
-    let steps : p / m ≡ 0 / m = div-eq_of_lt p_below ∙ sym (div-eq_of_lt some) in
     let left : p % m ≡ p = mod-eq_of_lt p_below in
     let none : 0 % m ≡ 0 = mod-eq_of_lt some in
     let tail : walk_at region (p % m) ≡ set (walk_at region (0 % m)) axis ((get_or region axis (0, 0)).0 + p) =
     ap (walk_at region) left ∙ line_walk axis region shape (omega arith) inside rest p p_below ∙ ap (λ q. set (walk_at region q) axis ((get_or region axis (0, 0)).0 + p)) (sym none) in
-    λ i. (s.0 + steps i) ∷ tail i
+    λ i. (s.0 + (div-eq_of_lt p_below ∙ sym (div-eq_of_lt some)) i) ∷ tail i
 
 -- the interval of a box on an axis
 pub record OnAxis (region : List Interval) (shape : List ℕ) (axis : ℕ) : Type 0 where
@@ -130,9 +124,7 @@ scanned_items f along args b region shape only there fit one =
     same_from : (u v : ℕ → Result Item Kind) (from n : ℕ) → ((j : ℕ) → from ≤ j → j < from + n → u j ≡ v j) → map u (range_with_len from n) ≡ map v (range_with_len from n)
     same_from u v from zero h = refl
     same_from u v from (suc n) h =
-        let here = h from (omega arith) (omega arith) in
-        let rest = same_from u v (from + 1) n (λ j l b. h j (omega arith) (omega arith)) in
-        λ i. here i ∷ rest i
+        λ i. (h from (omega arith) (omega arith)) i ∷ (same_from u v (from + 1) n (λ j l b. h j (omega arith) (omega arith))) i
 
     same_results : (u v : ℕ → Result Item Kind) (n : ℕ) → ((j : ℕ) → j < n → u j ≡ v j) → map u (range_with_len 0 n) ≡ map v (range_with_len 0 n)
     same_results u v n h = same_from u v 0 n (λ j l b. h j (omega arith))

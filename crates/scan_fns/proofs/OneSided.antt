@@ -1,10 +1,8 @@
 -- Residues of numbers on one side of 0.
-use Rattle.std.proofs.Common.{◌≡◌, ℕ, zero, suc, ◌<◌, ◌≤◌, ◌%◌, List, length, get_or, refl, ap, ◌∙◌, inl, inr, ◌⊎◌, arith, pos, negsuc, neg_ℤ, ℤ, unsigned_abs, FitsSigned, w64, IsTrue, Bool, true, false}
-use Rattle.std.{specs.List.{list_all}, specs.Ordering.{int_eq}, proofs.lemmas.Bool.{false_from_ne_true, leb-true, le-leb}}
-use Rattle.std.{proofs.lemmas.Bool.Decides.{Decides-int_eq}, proofs.lemmas.List.Sums.{AllPass-from_list_all}, proofs.lemmas.Nat.{mod_below}}
-use Rattle.std.proofs.Math.Nat.{mod-eq_of_lt}
+use Rattle.std.{proofs.Common.{◌≡◌, ℕ, zero, suc, ◌<◌, ◌≤◌, ◌%◌, List, length, get_or, refl, ap, ◌∙◌, inl, inr, ◌⊎◌, arith, pos, negsuc, neg_ℤ, ℤ, unsigned_abs, FitsSigned, w64, IsTrue, false}, specs.Ordering.{int_eq}, proofs.lemmas.Bool.{false_from_ne_true, leb-true, le-leb}}
+use Rattle.std.{proofs.lemmas.Bool.Decides.{Decides-int_eq}, proofs.lemmas.List.Sums.{AllPass-from_list_all}, proofs.lemmas.Nat.{mod_below}, proofs.Math.Nat.{mod-eq_of_lt}}
 use Rattle.item_fns.{specs.Numbers.{residue}, proofs.Residues.{both_positive, both_negative, negative_divisor_whole}}
-use Rattle.scan_fns.specs.ResidueScan.{extent_of, is_low, is_high, are_one_sided, IsBeside}
+use Rattle.scan_fns.specs.ResidueScan.{extent_of, is_low, is_high, IsBeside}
 
 -- two numbers on one side of 0
 abbrev pub AreBeside : ℤ → ℤ → Type 0
@@ -81,13 +79,6 @@ comes_near (negsuc a) (negsuc b) beside far fit = rw (both_negative b a, distanc
 pub beside_at : (zs : List ℤ) (w : ℤ) (q : ℕ) → IsBeside zs w → q < length zs → AreBeside (get_or zs q (pos 0)) w
 beside_at zs w q (inl h) below = inl (AllPass-from_list_all is_low zs h.0 q (pos 0) below, h.1)
 beside_at zs w q (inr h) below = inr (AllPass-from_list_all is_high zs h.0 q (pos 0) below, h.1)
-
-pub own_beside : (zs : List ℤ) (q : ℕ) → IsTrue (are_one_sided zs) → q < length zs → IsBeside zs (get_or zs q (pos 0))
-own_beside zs q sided below = by_side (list_all is_high zs) refl
-  where
-    by_side : (high : Bool) → list_all is_high zs ≡ high → IsBeside zs (get_or zs q (pos 0))
-    by_side true h = inr (h, AllPass-from_list_all is_high zs h q (pos 0) below)
-    by_side false h = let low : IsTrue (list_all is_low zs) = rw h at sided in inl (low, AllPass-from_list_all is_low zs low q (pos 0) below)
 
 pub rest_stays_beside : (zs : List ℤ) (w : ℤ) (q : ℕ) → IsBeside zs w → q < length zs → IsBeside zs (residue (get_or zs q (pos 0)) w)
 rest_stays_beside zs w q (inl h) below = inl (h.0, rest_low (get_or zs q (pos 0)) w (AllPass-from_list_all is_low zs h.0 q (pos 0) below) h.1)

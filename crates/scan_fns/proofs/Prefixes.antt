@@ -1,11 +1,9 @@
 -- Folds of the numbers up to each place, from the numbers before it as a function of the next one.
-use Rattle.std.proofs.Common.{◌≡◌, ℕ, zero, suc, ◌+◌, ◌-◌, ◌*◌, ◌/◌, ◌%◌, true, false, nat_lt, ◌≢◌, inl, inr, ◌<◌, ◌≤◌, List, [], ◌∷◌, ◌++◌, length, get_or, refl, ap, sym, subst, ◌∙◌, arith, pos, ℤ, FitsSigned, Result, Ok, Err, append_assoc, length-append}
-use Rattle.std.{specs.Int.{w64}, proofs.Math.ListN.{set}, proofs.lemmas.Bool.{cases_lt, lt-ltb, le-ltb}, proofs.lemmas.List.{get_or-set_same, get_or-set_other}}
-use Rattle.std.{proofs.Math.Nat.{mod-add-div, mod-add-mod, mod-eq_of_lt, add-mod_right, mul-le-mul_left}, proofs.lemmas.Nat.{mod_below}}
+use Rattle.std.{proofs.Common.{◌≡◌, ℕ, zero, suc, ◌+◌, ◌-◌, ◌*◌, ◌/◌, ◌%◌, true, false, nat_lt, ◌≢◌, inl, inr, ◌<◌, ◌≤◌, List, [], ◌∷◌, ◌++◌, length, get_or, refl, ap, sym, subst, ◌∙◌, arith, pos, ℤ, FitsSigned, Result, Ok, Err, append_assoc, length-append}, specs.Int.{w64}, proofs.Math.ListN.{set}}
+use Rattle.std.{proofs.lemmas.Bool.{cases_lt, lt-ltb, le-ltb}, proofs.lemmas.List.{get_or-set_same, get_or-set_other}, proofs.Math.Nat.{mod-add-div, mod-add-mod, mod-eq_of_lt, add-mod_right, mul-le-mul_left}, proofs.lemmas.Nat.{mod_below}}
 use Rattle.arrays_core.{specs.declared.item.Kind.{Kind}, specs.Items.{and_then}}
 use Rattle.item_fns.{specs.Folds.{folded}, proofs.RightFolds.{fold_more}}
-use Rattle.scan_fns.{specs.LinearScan.{depth, run_to}, specs.Prefixes.{fold_to, IsFresh, Continues, IsClosed}}
-use Rattle.scan_fns.proofs.Runs.{through, as_it_is, run_first, run_more, first_row, later_row}
+use Rattle.scan_fns.{specs.LinearScan.{depth, run_to}, specs.Prefixes.{fold_to, IsFresh, Continues, IsClosed}, proofs.Runs.{through, as_it_is, run_first, run_more, first_row, later_row}}
 
 -- what a list of numbers and one more of 64 bits fold to
 pub record FoldsWithNext (f : ℤ → ℤ → Result ℤ Kind) (gives : ℤ → Result ℤ Kind) (xs : List ℤ) : Type 0 where
@@ -76,9 +74,7 @@ pub record Keeps {A : Type 0} (step : A → ℤ → ℤ → Result ℤ Kind) (gi
 
 mod_other : (p q s : ℕ) → 0 < s → p < q → q < p + s → q % s ≡ p % s → ⊥
 mod_other p q s some low high e =
-    let at_p = mod-add-div p s in
-    let at_q = mod-add-div q s in
-    decide (p / s) (q / s) at_p at_q
+    decide (p / s) (q / s) (mod-add-div p s) (mod-add-div q s)
   where
     decide : (a b : ℕ) → p % s + s * a ≡ p → q % s + s * b ≡ q → ⊥
     decide a b at_p at_q =
@@ -106,17 +102,14 @@ module _ {A : Type 0} (step : A → ℤ → ℤ → Result ℤ Kind) (gives : A 
   line_kept place block_place column lines line kept fresh here at first later =
       elim (cases_lt block_place stride) [
         | inl h ↦
-            let low : place % (count * stride) < stride = omega (arith, here, h) in
-            let top = first_row stride count apart some place low in
             let is = first (lt-ltb block_place stride h) in
             record {
               same = ap step is;
               fresh = λ d. subst (λ l. IsFresh (gives l)) (sym is) fresh;
-              told = λ d. absurd (omega (arith, top, d));
+              told = λ d. absurd (omega (arith, first_row stride count apart some place (omega (arith, here, h)), d));
             }
         | inr h ↦
-            let high : stride ≤ place % (count * stride) = omega (arith, here, h) in
-            let deep = later_row stride count apart some place high in
+            let deep = later_row stride count apart some place (omega (arith, here, h)) in
             let is = later (le-ltb block_place stride h) ∙ ap (λ k. get_or lines k none) at in
             let was = kept place (omega arith) (omega arith) deep in
             record {
@@ -167,18 +160,16 @@ beside_depth count place first some begins low near =
 module _ {A : Type 0} (step : A → ℤ → ℤ → Result ℤ Kind) (gives : A → ℤ → Result ℤ Kind) (none : A) (zs : List ℤ) (count : ℕ) (some : 1 ≤ count) (first : ℕ) (begins : first % count ≡ 0) where
   pub line_begun : IsFresh (gives none) → IsFoldKept step gives none zs 1 count first none
   line_begun fresh =
-      let top = beside_depth count first first some begins (omega arith) (omega arith) in
-      record { same = refl; fresh = λ d. fresh; told = λ d. absurd (omega (arith, top, d)) }
+      record { same = refl; fresh = λ d. fresh; told = λ d. absurd (omega (arith, beside_depth count first first some begins (omega arith) (omega arith), d)) }
 
   pub line_goes_on : (place : ℕ) (line after : A) → first ≤ place → place + 1 < first + count → IsFoldKept step gives none zs 1 count place line → FitsSigned w64 (get_or zs place (pos 0))
       → IsClosed (step none) → step after ≡ step line → Continues (step line (get_or zs place (pos 0))) (gives line) (gives after)
       → IsFoldKept step gives none zs 1 count (place + 1) after
   line_goes_on place line after low near it fits closed same next =
-      let deep = beside_depth count (place + 1) first some begins (omega arith) near in
       let back : place + 1 - 1 ≡ place = omega arith in
       record {
         same = same ∙ it.same;
-        fresh = λ d. absurd (omega (arith, deep, d));
+        fresh = λ d. absurd (omega (arith, beside_depth count (place + 1) first some begins (omega arith) near, d));
         told = λ d.
             subst (λ p. FoldsWithNext (step none) (gives after) (run_to (pos 0) zs 1 count p)) (sym back)
             (tells_here (step none) zs 1 count (omega arith) some place (gives line) fits it.fresh it.told (gives after) closed

@@ -1,13 +1,9 @@
 -- The right fold up to a place, from the numbers that come to the places before it.
-use Rattle.std.proofs.Common.{◌≡◌, ℕ, ◌+◌, ◌-◌, ◌*◌, ◌<◌, ◌≤◌, List, [], ◌∷◌, ◌++◌, length, get_or, set, map, take, Vec, refl, inl, inr, ap, sym, ◌∙◌, arith, pos, ℤ, Result, Ok, Err}
-use Rattle.std.proofs.lemmas.Bool.{cases_eq, cases_lt}
-use Rattle.std.proofs.lemmas.List.{take_more, take_all, length-take, get_or-take, length-set, get_or-set_same, get_or-set_other, get_or_append_left, length-append}
-use Rattle.std.{proofs.Math.Seq.{get_or-append_right}, specs.List.{range_with_len}}
-use Rattle.std.proofs.lemmas.List.FromFn.{length-map-range_with_len, get_or-map-range_with_len}
+use Rattle.std.{proofs.Common.{◌≡◌, ℕ, ◌+◌, ◌-◌, ◌*◌, ◌<◌, ◌≤◌, List, [], ◌∷◌, ◌++◌, length, get_or, set, map, take, Vec, refl, inl, inr, ap, sym, ◌∙◌, arith, pos, ℤ, Result, Ok, Err}, proofs.lemmas.Bool.{cases_eq, cases_lt}}
+use Rattle.std.{proofs.lemmas.List.{take_more, take_all, length-take, get_or-take, length-set, get_or-set_same, get_or-set_other, get_or_append_left, length-append}, proofs.Math.Seq.{get_or-append_right}, specs.List.{range_with_len}, proofs.lemmas.List.FromFn.{length-map-range_with_len, get_or-map-range_with_len}}
 use Rattle.arrays_core.{specs.declared.item.Kind.{Kind}, specs.Items.{and_then}}
 use Rattle.item_fns.{specs.Folds.{strided, folded}, proofs.RightFolds.{length-strided, get_or-strided, take-strided}}
-use Rattle.scan_fns.{specs.LinearScan.{depth, run_to, AreResultsTo}, specs.declared.recalled_scan.Recalled.{Recalled}, specs.Prefixes.{fold_to}}
-use Rattle.scan_fns.{specs.RecalledScan.{run_before, given_at, nothing, IsRecalled, AreRecalled}, proofs.Runs.{as_it_is, one_deeper, depth_high}}
+use Rattle.scan_fns.{specs.LinearScan.{depth, run_to, AreResultsTo}, specs.declared.recalled_scan.Recalled.{Recalled}, specs.Prefixes.{fold_to}, specs.RecalledScan.{run_before, given_at, nothing, IsRecalled, AreRecalled}, proofs.Runs.{as_it_is, one_deeper, depth_high}}
 use Rattle.reduce_fns.proofs.Firsts.{entry_of}
 
 regroup : {A B C : Type 0} (r : Result A Kind) (g : A → Result B Kind) (h : B → Result C Kind) → and_then (and_then r g) h ≡ and_then r (λ z. and_then (g z) h)
@@ -31,8 +27,7 @@ module _ (f : ℤ → ℤ → Result ℤ Kind) (zs : List ℤ) (stride count : �
       let first = place - k * stride in
       let ys = strided (pos 0) zs first stride (k + 1) in
       let long = length-strided (pos 0) zs first stride (k + 1) in
-      let high = depth_high stride count apart some place in
-      let last : first + k * stride ≡ place = omega (arith, high) in
+      let last : first + k * stride ≡ place = omega (arith, depth_high stride count apart some place) in
       sym (take_all (k + 1) ys (omega (arith, long)))
       ∙ take_more ys k (pos 0) (omega (arith, long))
       ∙ ap (λ ws. ws ++ get_or ys k (pos 0) ∷ []) (take-strided (pos 0) zs first stride (k + 1) k (omega arith))
@@ -58,8 +53,7 @@ module _ (f : ℤ → ℤ → Result ℤ Kind) (zs : List ℤ) (stride count : �
       let run : run_before zs stride count place ≡ run_to (pos 0) zs stride count before =
       ap (λ m. strided (pos 0) zs (place - depth stride count place * stride) stride m) deeper
       ∙ ap (λ m. strided (pos 0) zs m stride (depth stride count before + 1)) same in
-      let whole = run ∙ run_is before in
-      ap (λ ws. folded f (ws ++ z ∷ [])) whole
+      ap (λ ws. folded f (ws ++ z ∷ [])) (run ∙ run_is before)
       ∙ ap (folded f) (two_more (run_before zs stride count before) (get_or zs before (pos 0)) z)
       ∙ fold_last f (run_before zs stride count before) (get_or zs before (pos 0)) z
     where

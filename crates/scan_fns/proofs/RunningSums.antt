@@ -1,14 +1,10 @@
 -- The sums of the runs of lines, by the greatest and the least sums of their endings.
-use Rattle.std.proofs.Common.{◌≡◌, ℕ, zero, suc, ◌+◌, ◌-◌, ◌*◌, ◌<◌, ◌≤◌, List, [], ◌∷◌, ◌++◌, length, get_or, refl, ap, sym, subst, ◌∙◌, arith, pos, ℤ, ◌+ℤ◌, FitsSigned, Result, Ok, Err}
-use Rattle.std.{specs.Int.{int_max, int_min, w64}, specs.List.{All}, proofs.Math.Nat.{mul-le-mul_left, mul-le-mul_right}}
+use Rattle.std.{proofs.Common.{◌≡◌, ℕ, zero, suc, ◌+◌, ◌-◌, ◌*◌, ◌<◌, ◌≤◌, List, [], ◌∷◌, ◌++◌, length, get_or, refl, ap, sym, subst, ◌∙◌, arith, pos, ℤ, ◌+ℤ◌, FitsSigned, Result, Ok, Err}, specs.Int.{int_max, int_min, w64}, specs.List.{All}, proofs.Math.Nat.{mul-le-mul_left, mul-le-mul_right}}
 use Rattle.arrays_core.{specs.Items.{all_or_first_error, and_then}, specs.declared.item.Kind.{Kind}, specs.declared.item.Kind.TheVariants.{Limit}}
 use Rattle.function_names.specs.declared.scalar.Scalar2.TheVariants.{Plus}
-use Rattle.item_fns.{specs.Numbers.{dyadic_on_numbers}, specs.Folds.{folded}, proofs.RightFolds.{length-strided, get_or-strided}}
-use Rattle.item_fns.proofs.Within.{Within, within_of, held_error}
+use Rattle.item_fns.{specs.Numbers.{dyadic_on_numbers}, specs.Folds.{folded}, proofs.RightFolds.{length-strided, get_or-strided}, proofs.Within.{Within, within_of, held_error}}
 use Rattle.scan_fns.{specs.LinearScan.{depth, run_to, scanned, FailsAt}, proofs.Runs.{one_deeper, depth_high, run_more, run_some, left_first, left_later}}
-use Rattle.reduce_fns.{specs.LeftFolds.{fold_on, folded_left}, specs.Sum.{IsSmall}, proofs.SmallSums.{small_left}}
-use Rattle.reduce_fns.proofs.Firsts.{Given, rule_entry, rule_error, same_rules}
-use Rattle.reduce_fns.proofs.Endings.{folded_error, greatest_step, least_step, sum_from_left, more_most, more_fewest}
+use Rattle.reduce_fns.{specs.LeftFolds.{fold_on, folded_left}, specs.Sum.{IsSmall}, proofs.SmallSums.{small_left}, proofs.Firsts.{Given, rule_entry, rule_error, same_rules}, proofs.Endings.{folded_error, greatest_step, least_step, sum_from_left, more_most, more_fewest}}
 
 module _ (zs : List ℤ) (stride count : ℕ) (apart : 0 < stride) (some : 1 ≤ count) where
   abbrev run : ℕ → List ℤ

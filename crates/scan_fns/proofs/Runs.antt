@@ -1,6 +1,5 @@
 -- The runs of lines up to each place, and folds from the left.
-use Rattle.std.proofs.Common.{◌≡◌, ℕ, zero, suc, ◌+◌, ◌-◌, ◌*◌, ◌/◌, ◌%◌, ◌<◌, ◌≤◌, List, [], ◌∷◌, ◌++◌, length, get_or, refl, ap, sym, ◌∙◌, inl, inr, arith, Result, Ok, Err}
-use Rattle.std.{proofs.lemmas.List.{take_more, take_all}, proofs.lemmas.Nat.{mod_below}, proofs.Math.Nat.{div-eq-sub-div, mod-add-div}}
+use Rattle.std.{proofs.Common.{◌≡◌, ℕ, zero, suc, ◌+◌, ◌-◌, ◌*◌, ◌/◌, ◌%◌, ◌<◌, ◌≤◌, List, [], ◌∷◌, ◌++◌, length, get_or, refl, ap, sym, ◌∙◌, inl, inr, arith, Result, Ok, Err}, proofs.lemmas.List.{take_more, take_all}, proofs.lemmas.Nat.{mod_below}, proofs.Math.Nat.{div-eq-sub-div, mod-add-div}}
 use Rattle.std.proofs.Math.Arith.{mod-mul}
 use Rattle.arrays_core.{specs.declared.item.Kind.{Kind}, specs.Items.{and_then}}
 use Rattle.item_fns.{specs.Folds.{strided}, proofs.Residues.{next_mod}, proofs.RightFolds.{length-strided, get_or-strided, take-strided}}
@@ -71,10 +70,9 @@ module _ (stride count : ℕ) (apart : 0 < stride) (some : 1 ≤ count) where
 
   pub one_deeper : (place : ℕ) → 0 < depth stride count place → depth stride count place ≡ depth stride count (place - stride) + 1
   one_deeper place h =
-      let back = div-eq-sub-div apart (past_stride place h) in
       let q = (place - stride) / stride in
       let next : q + 1 ≡ suc q = omega arith in
-      let e : depth stride count place ≡ suc q % count = ap (λ m. m % count) (back ∙ next) in
+      let e : depth stride count place ≡ suc q % count = ap (λ m. m % count) ((div-eq-sub-div apart (past_stride place h)) ∙ next) in
       elim (next_mod q count (omega (arith, some))) [
         | inl n ↦ absurd (omega (arith, n.0))
         | inr n ↦ e ∙ n

@@ -1,21 +1,13 @@
 -- The scan of an array of numbers, taken from the numbers as they lie.
 use Rattle.std.proofs.Common.{◌≡◌, ℕ, zero, suc, ◌+◌, ◌-◌, ◌*◌, ◌/◌, ◌%◌, ◌<◌, ◌≤◌, Bool, true, false, ◌||◌, not, nat_eq, nat_lt, inl, inr, IfOk, ℤ, pos, List, [], ◌∷◌, length, get_or, drop, take, map, refl, ap, sym, ◌∙◌, arith, insert, remove, if◌then◌else◌, Result, Ok, Err}
-use Rattle.std.{proofs.lemmas.Bool.{eqb-true, ltb-true, le-ltb, cases_lt}, proofs.lemmas.List.{get_or_default}}
-use Rattle.std.{proofs.lemmas.Nat.{div-mul-add, mod-mul-add, mod_below}, specs.List.{range_with_len}}
-use Rattle.arrays_core.{specs.declared.item.Item.{Item}, specs.declared.item.Item.TheVariants.{Num}, specs.declared.item.Kind.{Kind}}
-use Rattle.arrays_core.{specs.declared.item.Kind.TheVariants.{Axis as AxisKind, Domain}, specs.declared.item.ItemType.{ItemType}}
-use Rattle.arrays_core.{specs.declared.item.ItemType.TheVariants.{Nums, Chars}, specs.Items.{fill, type_of, all_or_first_error, and_then}}
-use Rattle.arrays_core.{specs.Shapes.{size, is_index_of, places_before}, specs.Arrays.{ArrayValue, IsArray, collect, with_items}}
-use Rattle.arrays_core.proofs.Shapes.{as_long, places_below}
+use Rattle.std.{proofs.lemmas.Bool.{eqb-true, ltb-true, le-ltb, cases_lt}, proofs.lemmas.List.{get_or_default}, proofs.lemmas.Nat.{div-mul-add, mod-mul-add, mod_below}, specs.List.{range_with_len}}
+use Rattle.arrays_core.{specs.declared.item.Item.{Item}, specs.declared.item.Item.TheVariants.{Num}, specs.declared.item.Kind.{Kind}, specs.declared.item.Kind.TheVariants.{Axis as AxisKind, Domain}, specs.declared.item.ItemType.{ItemType}, specs.declared.item.ItemType.TheVariants.{Nums, Chars}}
+use Rattle.arrays_core.{specs.Items.{fill, type_of, all_or_first_error, and_then}, specs.Shapes.{size, is_index_of, places_before}, specs.Arrays.{ArrayValue, IsArray, collect, with_items}, proofs.Shapes.{as_long, places_below}}
 use Rattle.function_names.{specs.declared.scalar.Scalar2.{Scalar2}, specs.declared.along.Along.{Along}, specs.Axes.{is_axis, axis_at}}
-use Rattle.item_fns.{specs.Numbers.{dyadic_on_numbers}, specs.Items.{number_item}, specs.NumberLists.{number_items}, specs.Folds.{strided, folded, line_start}}
-use Rattle.item_fns.{proofs.RightFolds.{take-strided}, specs.RightFold.{fold_right}}
-use Rattle.index_region.{specs.Checks.{form_of, limited}, specs.Arguments.{counts_as_numbers, is_of_numbers}, specs.Axes.{places_along}}
-use Rattle.index_region.{specs.Answers.{IsPlaceOf, HasTypeOf}, proofs.Passing.{passed, place_inside, typed_check, typed_limited}}
-use Rattle.reduce_fns.{specs.Lines.{line}, proofs.Lines.{stride, line-strided, size-drop-le}, proofs.Placewise.{collected_same, numbers_collected}}
-use Rattle.reduce_fns.proofs.Reduced.{numbers_folded, start_is}
-use Rattle.scan_fns.{specs.LinearScan.{depth, run_to, scanned}, specs.Scan.{scan_type, scan_form, scan_item, scan_whole}}
-use Rattle.scan_fns.specs.Laws.ScannedPlaces.{at_axis, scan_facts}
+use Rattle.item_fns.{specs.Numbers.{dyadic_on_numbers}, specs.Items.{number_item}, specs.NumberLists.{number_items}, specs.Folds.{strided, folded, line_start}, proofs.RightFolds.{take-strided}, specs.RightFold.{fold_right}}
+use Rattle.index_region.{specs.Checks.{form_of, limited}, specs.Arguments.{counts_as_numbers, is_of_numbers}, specs.Axes.{places_along}, specs.Answers.{IsPlaceOf, HasTypeOf}, proofs.Passing.{passed, place_inside, typed_check, typed_limited}}
+use Rattle.reduce_fns.{specs.Lines.{line}, proofs.Lines.{stride, line-strided, size-drop-le}, proofs.Placewise.{collected_same, numbers_collected}, proofs.Reduced.{numbers_folded, start_is}}
+use Rattle.scan_fns.{specs.LinearScan.{depth, run_to, scanned}, specs.Scan.{scan_type, scan_form, scan_item, scan_whole}, specs.Laws.ScannedPlaces.{at_axis, scan_facts}}
 
 -- ---- an index list and its place
 pub restored : (index : List ℕ) (k d : ℕ) → k < length index → insert (remove index k) k (get_or index k d) ≡ index
@@ -26,9 +18,7 @@ restored (i ∷ index) (suc k) d h = ap (λ xs. i ∷ xs) (restored index k d (o
 -- how deep a place lies in its line
 pub depth_at : (s n q i : ℕ) → 0 < s → i < n → depth s n (line_start s n q + i * s) ≡ i
 depth_at s n q i some below =
-    let e : line_start s n q + i * s ≡ (q / s * n + i) * s + q % s = omega arith in
-    let quotient = div-mul-add (q / s * n + i) s (q % s) (mod_below q s some) in
-    ap (λ p. p / s % n) e ∙ ap (λ m. m % n) quotient ∙ mod-mul-add (q / s) n i below
+    ap (λ p. p / s % n) (omega arith) ∙ ap (λ m. m % n) (div-mul-add (q / s * n + i) s (q % s) (mod_below q s some)) ∙ mod-mul-add (q / s) n i below
 
 module _ (f : Scalar2) (b : ArrayValue) (xs : List ℤ) (items : b.items ≡ map (λ z. Num z) xs) (typed : b.item_type ≡ Nums) where
   -- the item of a scan at an index list
@@ -154,5 +144,4 @@ pub characters_fail : (along : Along) (b : ArrayValue) (axis : ℕ) → is_axis 
     → 2 ≤ get_or b.shape axis 0 → counts_as_numbers b ≡ false → scan_form along b ≡ Err Domain
 characters_fail along b axis on_axis meant there many characters =
     let same : get_or b.shape (axis_at (length b.shape) along) 1 ≡ get_or b.shape axis 0 = ap (λ k. get_or b.shape k 1) (sym meant) ∙ get_or_default b.shape axis 1 0 there in
-    let long : nat_lt (places_along b.shape (axis_at (length b.shape) along)) 2 ≡ false = le-ltb (places_along b.shape (axis_at (length b.shape) along)) 2 (omega (arith, same)) in
-    rw (on_axis, long, characters) refl
+    rw (on_axis, le-ltb (places_along b.shape (axis_at (length b.shape) along)) 2 (omega (arith, same)), characters) refl

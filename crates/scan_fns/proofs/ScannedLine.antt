@@ -1,14 +1,10 @@
 -- The items of a scan on one line, taken from the numbers of the line.
-use Rattle.std.proofs.Common.{◌≡◌, ℕ, zero, suc, ◌+◌, ◌-◌, ◌<◌, ◌≤◌, List, [], ◌∷◌, length, get_or, map, take, set, insert, remove, ℤ, Result, Ok, Err, refl, ap, sym, ◌∙◌, arith}
-use Rattle.std.{specs.List.{range_with_len}, proofs.lemmas.Bool.{le-leb}}
-use Rattle.std.proofs.lemmas.List.{length-map, length-take, take-take, take-map, get_or-set_same, get_or_default, ext_get_or}
-use Rattle.std.{proofs.lemmas.List.FromFn.{length-map-range_with_len, get_or-map-range_with_len}, proofs.Math.ListN.{get_or-map}}
-use Rattle.arrays_core.{specs.declared.item.Item.{Item}, specs.declared.item.Item.TheVariants.{Num}, specs.declared.item.ItemType.TheVariants.{Nums}}
-use Rattle.arrays_core.{specs.declared.item.Kind.{Kind}, specs.declared.item.Kind.TheVariants.{Domain}, specs.Limits.{longest_axis}}
-use Rattle.arrays_core.{specs.Items.{all_or_first_error, after}, specs.Arrays.{ArrayValue, item_of, with_items, vector_of}}
+use Rattle.std.{proofs.Common.{◌≡◌, ℕ, zero, suc, ◌+◌, ◌-◌, ◌<◌, ◌≤◌, List, [], ◌∷◌, length, get_or, map, take, set, insert, remove, ℤ, Result, Ok, Err, refl, ap, sym, ◌∙◌, arith}, specs.List.{range_with_len}, proofs.lemmas.Bool.{le-leb}}
+use Rattle.std.{proofs.lemmas.List.{length-map, length-take, take-take, take-map, get_or-set_same, get_or_default, ext_get_or}, proofs.lemmas.List.FromFn.{length-map-range_with_len, get_or-map-range_with_len}, proofs.Math.ListN.{get_or-map}}
+use Rattle.arrays_core.{specs.declared.item.Item.{Item}, specs.declared.item.Item.TheVariants.{Num}, specs.declared.item.ItemType.TheVariants.{Nums}, specs.declared.item.Kind.{Kind}, specs.declared.item.Kind.TheVariants.{Domain}, specs.Limits.{longest_axis}, specs.Items.{all_or_first_error, after}}
+use Rattle.arrays_core.specs.Arrays.{ArrayValue, item_of, with_items, vector_of}
 use Rattle.function_names.{specs.declared.scalar.Scalar2.{Scalar2}, specs.declared.along.Along.{Along}, specs.Axes.{axis_at}}
-use Rattle.item_fns.{specs.Numbers.{dyadic_on_numbers}, specs.Items.{number_item}, specs.NumberLists.{number_items}, specs.Folds.{folded}}
-use Rattle.item_fns.{specs.RightFold.{fold_right}, proofs.ItemFolds.{some_folded, folded_numbers}}
+use Rattle.item_fns.{specs.Numbers.{dyadic_on_numbers}, specs.Items.{number_item}, specs.NumberLists.{number_items}, specs.Folds.{folded}, specs.RightFold.{fold_right}, proofs.ItemFolds.{some_folded, folded_numbers}}
 use Rattle.index_region.specs.Axes.{places_along}
 use Rattle.reduce_fns.{specs.Lines.{line}, proofs.ListResults.{as_many_as}}
 use Rattle.scan_fns.{specs.LinearScan.{folds_from}, specs.Scan.{scan_item, scan_along}}
@@ -34,11 +30,8 @@ folds_from_long f zs folds first h = as_many_as _ folds h ∙ length-map-range_w
 -- as many numbers of a line as were read
 pub as_many : (zs : List ℤ) (b : ArrayValue) (axis : ℕ) (others : List ℕ) (last : ℕ) → axis < length b.shape → map (λ z. Num z) zs ≡ take last (line b axis others) → last ≤ get_or b.shape axis 0 → length zs ≡ last
 as_many zs b axis others last there read high =
-    let items = length-map zs (λ z. Num z) in
-    let taken = length-take last (line b axis others) in
     let places = length-map-range_with_len (λ j. item_of b (insert others axis j)) 1 (places_along b.shape axis) in
-    let counted : places_along b.shape axis ≡ get_or b.shape axis 0 = get_or_default b.shape axis 1 0 there in
-    omega (arith, items, ap length read, taken, places, counted)
+    omega (arith, length-map zs (λ z. Num z), ap length read, length-take last (line b axis others), places, get_or_default b.shape axis 1 0 there)
 
 -- ---- index lists on a line
 

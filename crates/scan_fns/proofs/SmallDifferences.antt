@@ -1,13 +1,10 @@
 -- Small numbers stay within 64 bits where they are added and taken off in turn.
-use Rattle.std.proofs.Common.{◌≡◌, ℕ, zero, suc, ◌+◌, ◌-◌, ◌*◌, ◌/◌, ◌%◌, ◌<◌, ◌≤◌, nat_eq, true, false, Bool, if◌then◌else◌, List, [], ◌∷◌, ◌++◌, length, get_or, map, take, refl, ap, sym, ◌∙◌, arith, pos, ℤ, neg_ℤ, ◌+ℤ◌, ◌-ℤ◌, ◌≤ℤ◌, ◌<ℤ◌, SFits, w64, Ok}
-use Rattle.std.{specs.List.{All, range_with_len}, proofs.lemmas.Int.{ints}, proofs.Math.Nat.{mul-le-mul_left, mod-add-div, mod-add-mod, add-mul-div_left}}
-use Rattle.std.{proofs.lemmas.Nat.{div-mul-add}, proofs.lemmas.List.{length-take, get_or-take}}
-use Rattle.std.proofs.lemmas.List.FromFn.{length-map-range_with_len, get_or-map-range_with_len}
+use Rattle.std.{proofs.Common.{◌≡◌, ℕ, zero, suc, ◌+◌, ◌-◌, ◌*◌, ◌/◌, ◌%◌, ◌<◌, ◌≤◌, nat_eq, true, false, Bool, if◌then◌else◌, List, [], ◌∷◌, ◌++◌, length, get_or, map, take, refl, ap, sym, ◌∙◌, arith, pos, ℤ, neg_ℤ, ◌+ℤ◌, ◌-ℤ◌, ◌≤ℤ◌, ◌<ℤ◌, SFits, w64, Ok}, specs.List.{All, range_with_len}, proofs.lemmas.Int.{ints}}
+use Rattle.std.{proofs.Math.Nat.{mul-le-mul_left, mod-add-mod, add-mul-div_left}, proofs.lemmas.Nat.{div-mul-add}, proofs.lemmas.List.{length-take, get_or-take}, proofs.lemmas.List.FromFn.{length-map-range_with_len, get_or-map-range_with_len}}
 use Rattle.arrays_core.specs.Items.{all_or_first_error, and_then}
 use Rattle.function_names.specs.declared.scalar.Scalar2.TheVariants.{Minus}
 use Rattle.item_fns.{specs.Numbers.{dyadic_on_numbers}, specs.Folds.{folded}, proofs.RightFolds.{length-strided}, proofs.Within.{held_within}}
-use Rattle.scan_fns.{specs.LinearScan.{depth, run_to}, specs.Prefixes.{fold_to}, proofs.RunningSums.{run_each}, proofs.Prefixes.{beside_depth}}
-use Rattle.scan_fns.proofs.Runs.{one_deeper, depth_high, run_first, run_more, run_some}
+use Rattle.scan_fns.{specs.LinearScan.{depth, run_to}, specs.Prefixes.{fold_to}, proofs.RunningSums.{run_each}, proofs.Prefixes.{beside_depth}, proofs.Runs.{one_deeper, depth_high, run_first, run_more, run_some}}
 use Rattle.reduce_fns.{specs.Sum.{IsSmall}, proofs.SmallSums.{fits_between}, proofs.Firsts.{entry_of}}
 
 -- x1 - (x2 - (.. xk))
@@ -33,8 +30,7 @@ even_or_odd n P even odd = decide (n % 2) (suc n % 2) refl refl
 pub sum_more : (xs : List ℤ) (z : ℤ) → signed_sum (xs ++ z ∷ []) ≡ next_total (length xs) (signed_sum xs) z
 sum_more [] z = omega (arith, ints)
 sum_more (x ∷ xs) z =
-    let more = sum_more xs z in
-    ap (λ t. x -ℤ t) more
+    ap (λ t. x -ℤ t) (sum_more xs z)
     ∙ even_or_odd (length xs) (λ p q. (x -ℤ (if p then signed_sum xs +ℤ z else signed_sum xs -ℤ z)) ≡ (if q then (x -ℤ signed_sum xs) +ℤ z else (x -ℤ signed_sum xs) -ℤ z))
     (omega (arith, ints)) (omega (arith, ints))
 
@@ -47,16 +43,10 @@ record Bounded (n : ℕ) (sum : ℤ) : Type 0 where
 bounded : (x : ℤ) (rest : List ℤ) → All IsSmall (x ∷ rest) → Bounded (length rest + 1) (signed_sum (x ∷ rest))
 bounded x [] h =
     let s = h 0 x (omega arith) in
-    let low = s.low in
-    let high = s.high in
     record { low = omega (arith, ints); high = omega (arith, ints) }
 bounded x (y ∷ rest) h =
     let s = h 0 x (omega arith) in
-    let low = s.low in
-    let high = s.high in
     let later = bounded y rest (λ k d below. h (suc k) d (omega arith)) in
-    let later_low = later.low in
-    let later_high = later.high in
     record { low = omega (arith, ints); high = omega (arith, ints) }
 
 pub small_difference : (xs : List ℤ) → 0 < length xs → length xs ≤ 1048576 → All IsSmall xs → folded (dyadic_on_numbers Minus) xs ≡ Ok (signed_sum xs)
@@ -64,8 +54,6 @@ small_difference [] some few h = absurd (omega arith)
 small_difference (x ∷ []) some few h = ap Ok (omega (arith, ints))
 small_difference (x ∷ y ∷ rest) some few h =
     let b = bounded x (y ∷ rest) h in
-    let low = b.low in
-    let high = b.high in
     ap (λ r. and_then r (dyadic_on_numbers Minus x)) (small_difference (y ∷ rest) (omega arith) (omega arith) (λ k d below. h (suc k) d (omega arith)))
     ∙ held_within (x -ℤ signed_sum (y ∷ rest)) (record { low = omega (arith, ints); high = omega (arith, ints) })
 
@@ -73,8 +61,6 @@ pub small_fits : (xs : List ℤ) → 0 < length xs → length xs ≤ 1048576 →
 small_fits [] some few h = absurd (omega arith)
 small_fits (x ∷ rest) some few h =
     let b = bounded x rest h in
-    let low = b.low in
-    let high = b.high in
     fits_between (signed_sum (x ∷ rest)) (omega (arith, ints)) (omega (arith, ints))
 
 -- ---- along lines
@@ -143,14 +129,11 @@ next_beside zs count some place first total begins low near fresh last =
 pub row_depth : (stride count place first : ℕ) → first % stride ≡ 0 → first ≤ place → place < first + stride → depth stride count place ≡ depth stride count first
 row_depth stride count place first begins low near =
     let q = first / stride in
-    let whole = mod-add-div first stride in
-    let at : place ≡ q * stride + (place - first) = omega arith in
-    let same : place / stride ≡ q = ap (λ n. n / stride) at ∙ div-mul-add q stride (place - first) (omega arith) in
+    let same : place / stride ≡ q = ap (λ n. n / stride) (omega arith) ∙ div-mul-add q stride (place - first) (omega arith) in
     ap (λ n. n % count) same
 
 -- the row after one
 pub next_row : (stride count place : ℕ) → 0 < stride → (depth stride count place + 1) % count ≡ depth stride count (place + stride)
 next_row stride count place apart =
-    let next : (place + stride * 1) / stride ≡ place / stride + 1 = add-mul-div_left place 1 apart in
     let at : place + stride ≡ place + stride * 1 = omega arith in
-    mod-add-mod (place / stride) count 1 ∙ ap (λ n. n % count) (sym next) ∙ ap (λ n. n / stride % count) (sym at)
+    mod-add-mod (place / stride) count 1 ∙ ap (λ n. n % count) (sym (add-mul-div_left place 1 apart)) ∙ ap (λ n. n / stride % count) (sym at)

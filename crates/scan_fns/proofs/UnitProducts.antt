@@ -68,8 +68,7 @@ either_way [] all = refl
 either_way (x ∷ rest) all =
     let u = all 0 x (omega arith) in
     let later = λ (k : ℕ) (d : ℤ) (below : k < length rest). all (suc k) d (omega arith) in
-    let right = from_right x rest u later in
-    from_left x rest u later ∙ sym right.is
+    from_left x rest u later ∙ sym (from_right x rest u later).is
 
 pub unit_products : (zs : List ℤ) (stride count : ℕ) → 0 < stride → 1 ≤ count → All IsUnit zs
     → scanned (folded_left (dyadic_on_numbers Times)) zs stride count ≡ scanned (folded (dyadic_on_numbers Times)) zs stride count

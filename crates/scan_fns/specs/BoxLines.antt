@@ -1,8 +1,6 @@
 -- The lines of a box along an axis, and tables of its items.
-use Rattle.std.specs.Prelude.{◌≡◌, ℕ, ◌+◌, ◌<◌, pos, List, length, map, get_or, insert, remove, Option, Some, None, Result, Ok, Err}
-use Rattle.std.specs.List.{range_with_len}
-use Rattle.arrays_core.{specs.declared.item.Item.{Item}, specs.declared.item.Item.TheVariants.{Num}, specs.declared.item.ItemType.TheVariants.{Nums}}
-use Rattle.arrays_core.{specs.declared.item.Kind.{Kind}, specs.Items.{all_or_first_error}, specs.Arrays.{ArrayValue}}
+use Rattle.std.{specs.Prelude.{◌≡◌, ℕ, ◌+◌, ◌<◌, pos, List, length, map, get_or, insert, remove, Option, Some, None, Result, Ok, Err}, specs.List.{range_with_len}}
+use Rattle.arrays_core.{specs.declared.item.Item.{Item}, specs.declared.item.Item.TheVariants.{Num}, specs.declared.item.ItemType.TheVariants.{Nums}, specs.declared.item.Kind.{Kind}, specs.Items.{all_or_first_error}, specs.Arrays.{ArrayValue}}
 use Rattle.index_region.specs.Boxes.{Interval, interval_length, box_size, walk_at}
 
 -- numbers, as many as a box has places

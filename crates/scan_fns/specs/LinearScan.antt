@@ -1,8 +1,6 @@
 -- The first entries of the lines of a list in row-major order, and folds of them.
-use Rattle.std.specs.Prelude.{◌≡◌, ℕ, ◌+◌, ◌-◌, ◌*◌, ◌/◌, ◌%◌, ◌<◌, ◌≤◌, ℤ, pos, FitsSigned, List, map, length, take, get_or, All, Result, Ok, Err, Vec, vec_len, vec_capacity}
-use Rattle.std.{specs.Int.{w64}, specs.List.{range_with_len}}
-use Rattle.arrays_core.{specs.Items.{all_or_first_error}, specs.declared.item.Kind.{Kind}, specs.declared.fault.ApplyFault.{ApplyFault}}
-use Rattle.arrays_core.specs.declared.fault.ApplyFault.TheVariants.{Kind as KindFault, NoMemory}
+use Rattle.std.{specs.Prelude.{◌≡◌, ℕ, ◌+◌, ◌-◌, ◌*◌, ◌/◌, ◌%◌, ◌<◌, ◌≤◌, ℤ, pos, FitsSigned, List, map, length, take, get_or, All, Result, Ok, Err, Vec, vec_len, vec_capacity}, specs.Int.{w64}, specs.List.{range_with_len}}
+use Rattle.arrays_core.{specs.Items.{all_or_first_error}, specs.declared.item.Kind.{Kind}, specs.declared.fault.ApplyFault.{ApplyFault}, specs.declared.fault.ApplyFault.TheVariants.{Kind as KindFault, NoMemory}}
 use Rattle.item_fns.specs.Folds.{strided, folded}
 use Rattle.reduce_fns.{specs.declared.axis_lines.AxisLines.{AxisLines}, specs.LeftFolds.{folded_left}}
 

@@ -1,6 +1,5 @@
 -- The numbers of a line so far, as a function of the number that comes next.
-use Rattle.std.specs.Prelude.{◌≡◌, ◌≤◌, ℕ, unsigned_abs, nat_le, nat_lt, ℤ, pos, negsuc, ◌+ℤ◌, ◌-ℤ◌, ◌*ℤ◌, int_le, ◌&&◌, FitsSigned, List, Bool, true, ◌||◌, if◌then◌else◌, Option, Some, None, Result, Ok, Err}
-use Rattle.std.{specs.Int.{w64}, specs.Ordering.{int_eq}}
+use Rattle.std.{specs.Prelude.{◌≡◌, ◌≤◌, ℕ, unsigned_abs, nat_le, nat_lt, ℤ, pos, negsuc, ◌+ℤ◌, ◌-ℤ◌, ◌*ℤ◌, int_le, ◌&&◌, FitsSigned, List, Bool, true, ◌||◌, if◌then◌else◌, Option, Some, None, Result, Ok, Err}, specs.Int.{w64}, specs.Ordering.{int_eq}}
 use Rattle.arrays_core.{specs.Items.{and_then}, specs.declared.item.Kind.{Kind}, specs.declared.item.Kind.TheVariants.{Limit}}
 use Rattle.item_fns.{specs.Numbers.{number_or_limit}, specs.Folds.{folded}}
 use Rattle.scan_fns.specs.LinearScan.{run_to}

@@ -1,6 +1,5 @@
 -- Scans by residue of numbers of which none is below 0, or none above.
-use Rattle.std.specs.Prelude.{◌≡◌, ℕ, suc, ◌-◌, ◌^◌, ◌<◌, ◌≤◌, nat_eq, ℤ, pos, int_le, IsTrue, Bool, ◌||◌, unsigned_abs, List, length, get_or, IfSome, Option, Some, None, ◌⊎◌, if◌then◌else◌, Result, Ok}
-use Rattle.std.{specs.List.{list_all}, specs.Ordering.{int_eq}}
+use Rattle.std.{specs.Prelude.{◌≡◌, ℕ, suc, ◌-◌, ◌^◌, ◌<◌, ◌≤◌, nat_eq, ℤ, pos, int_le, IsTrue, Bool, ◌||◌, unsigned_abs, List, length, get_or, IfSome, Option, Some, None, ◌⊎◌, if◌then◌else◌, Result, Ok}, specs.List.{list_all}, specs.Ordering.{int_eq}}
 use Rattle.arrays_core.specs.declared.item.Kind.{Kind}
 use Rattle.function_names.specs.declared.scalar.Scalar2.TheVariants.{Residue as ByResidue}
 use Rattle.item_fns.specs.Numbers.{residue, dyadic_on_numbers}

@@ -1,9 +1,6 @@
 -- Scan, f\B and f⍀B.
-use Rattle.std.specs.Prelude.{ℕ, ◌+◌, ◌-◌, nat_lt, ◌||◌, List, [], ◌∷◌, length, map, get_or, set, take, remove, if◌then◌else◌, Result}
-use Rattle.std.specs.List.{range_with_len}
-use Rattle.arrays_core.{specs.declared.item.Item.{Item}, specs.declared.item.ItemType.{ItemType}, specs.declared.item.ItemType.TheVariants.{Nums}}
-use Rattle.arrays_core.{specs.declared.item.Kind.{Kind}, specs.declared.item.Kind.TheVariants.{Axis, Domain}, specs.Items.{all_or_first_error}}
-use Rattle.arrays_core.specs.Arrays.{ArrayValue, with_items}
+use Rattle.std.{specs.Prelude.{ℕ, ◌+◌, ◌-◌, nat_lt, ◌||◌, List, [], ◌∷◌, length, map, get_or, set, take, remove, if◌then◌else◌, Result}, specs.List.{range_with_len}}
+use Rattle.arrays_core.{specs.declared.item.Item.{Item}, specs.declared.item.ItemType.{ItemType}, specs.declared.item.ItemType.TheVariants.{Nums}, specs.declared.item.Kind.{Kind}, specs.declared.item.Kind.TheVariants.{Axis, Domain}, specs.Items.{all_or_first_error}, specs.Arrays.{ArrayValue, with_items}}
 use Rattle.function_names.{specs.declared.along.Along.{Along}, specs.Axes.{is_axis, axis_at}, specs.declared.scalar.Scalar2.{Scalar2}}
 use Rattle.index_region.{specs.Checks.{Form, check, limited, whole}, specs.Arguments.{counts_as_numbers}, specs.Axes.{places_along}}
 use Rattle.change_core.{specs.RuleModels.{RuleModel, Use}, specs.Growth.{growing}, specs.Sourced.{one_rule}, specs.Ways.{along as on_own_line}}

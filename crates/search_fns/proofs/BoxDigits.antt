@@ -1,19 +1,13 @@
 -- The digits in a box, taken from those of its numbers by the radices from its first one on.
-use Rattle.std.proofs.Common.{◌≡◌, ℕ, ◌+◌, ◌-◌, ◌*◌, ◌/◌, ◌%◌, ◌<◌, ◌≤◌, IsTrue, ℤ, pos, List, [], ◌∷◌, ◌++◌, length, get_or, map, take, drop, Result, Ok, Err, refl, ap, sym, ◌∙◌, arith}
-use Rattle.std.{specs.List.{range_with_len}, proofs.lemmas.Bool.{and_parts, leb-true, false≢true}}
-use Rattle.std.proofs.lemmas.List.{length-map, length-take, length-drop, get_or-take, get_or-drop, drop-drop, drop-map, get_or-map as get_or-map_inside, take_all}
-use Rattle.std.{proofs.lemmas.List.FromFn.{length-map-range_with_len, get_or-map-range_with_len}, proofs.lemmas.Nat.{div-mul-add, mod_below}}
+use Rattle.std.{proofs.Common.{◌≡◌, ℕ, ◌+◌, ◌-◌, ◌*◌, ◌/◌, ◌%◌, ◌<◌, ◌≤◌, IsTrue, ℤ, pos, List, [], ◌∷◌, ◌++◌, length, get_or, map, take, drop, Result, Ok, Err, refl, ap, sym, ◌∙◌, arith}, specs.List.{range_with_len}, proofs.lemmas.Bool.{and_parts, leb-true, false≢true}}
+use Rattle.std.{proofs.lemmas.List.{length-map, length-take, length-drop, get_or-take, get_or-drop, drop-drop, drop-map, get_or-map as get_or-map_inside, take_all}, proofs.lemmas.List.FromFn.{length-map-range_with_len, get_or-map-range_with_len}, proofs.lemmas.Nat.{div-mul-add, mod_below}}
 use Rattle.std.proofs.Math.Nat.{mul-le-mul_right}
-use Rattle.arrays_core.{specs.declared.item.Item.{Item}, specs.declared.item.Item.TheVariants.{Num}, specs.declared.item.ItemType.TheVariants.{Nums}}
-use Rattle.arrays_core.{specs.declared.item.Kind.{Kind}, specs.declared.item.Kind.TheVariants.{Domain}, specs.Items.{all_or_first_error, and_then, fill}}
-use Rattle.arrays_core.{specs.Shapes.{size, indices, index_after, places_before}, specs.Arrays.{ArrayValue, collect, with_items, item_of}}
-use Rattle.arrays_core.proofs.Order.{length-indices, get_or-indices}
+use Rattle.arrays_core.{specs.declared.item.Item.{Item}, specs.declared.item.Item.TheVariants.{Num}, specs.declared.item.ItemType.TheVariants.{Nums}, specs.declared.item.Kind.{Kind}, specs.declared.item.Kind.TheVariants.{Domain}, specs.Items.{all_or_first_error, and_then, fill}}
+use Rattle.arrays_core.{specs.Shapes.{size, indices, index_after, places_before}, specs.Arrays.{ArrayValue, collect, with_items, item_of}, proofs.Order.{length-indices, get_or-indices}}
 use Rattle.item_fns.{specs.Items.{number_item}, specs.Numbers.{residue}}
-use Rattle.index_region.{specs.Arguments.{number_of, numbers}, specs.Boxes.{Interval, interval_length, box_size, walk_at, fits}, specs.Checks.{Form}}
-use Rattle.index_region.proofs.Walks.{some_place}
+use Rattle.index_region.{specs.Arguments.{number_of, numbers}, specs.Boxes.{Interval, interval_length, box_size, walk_at, fits}, specs.Checks.{Form}, proofs.Walks.{some_place}}
 use Rattle.change_core.specs.Parts.{items_in}
-use Rattle.search_fns.{specs.Encode.{carried_through, digit, encode_form, encode_item, encode_whole}, specs.Digits.{AreColumns}}
-use Rattle.search_fns.specs.Laws.Encode.{encode_facts}
+use Rattle.search_fns.{specs.Encode.{carried_through, digit, encode_form, encode_item, encode_whole}, specs.Digits.{AreColumns}, specs.Laws.Encode.{encode_facts}}
 use Rattle.selection_fns.proofs.Entries.{entry_of, from_entries, long_entries}
 
 -- ---- the box
@@ -53,18 +47,15 @@ digit_box (n ∷ []) rest (s ∷ region) vector fit =
 -- so many columns as there are places in a row
 pub columns_in : (s : Interval) (region : List Interval) → s.0 ≤ s.1 → 0 < box_size region → box_size (s ∷ region) / (s.1 + 1 - s.0) ≡ box_size region
 columns_in s region order some =
-    let e : box_size (s ∷ region) ≡ box_size region * (s.1 + 1 - s.0) + 0 = omega arith in
-    ap (λ n. n / (s.1 + 1 - s.0)) e ∙ div-mul-add (box_size region) (s.1 + 1 - s.0) 0 (omega arith)
+    ap (λ n. n / (s.1 + 1 - s.0)) (omega arith) ∙ div-mul-add (box_size region) (s.1 + 1 - s.0) 0 (omega arith)
 
 -- ---- the digits
 
 -- radices that are left out before the first one change no digit behind them
 shifted : (zs : List ℤ) (q k : ℕ) (z : ℤ) → 1 ≤ k → digit (drop q zs) k z ≡ digit zs (q + k) z
 shifted zs q k z low =
-    let rest : drop k (drop q zs) ≡ drop (q + k) zs = drop-drop k q zs in
     let place : q + (k - 1) ≡ q + k - 1 = omega arith in
-    let own : get_or (drop q zs) (k - 1) (pos 0) ≡ get_or zs (q + k - 1) (pos 0) = get_or-drop q zs (k - 1) (pos 0) ∙ ap (λ m. get_or zs m (pos 0)) place in
-    λ i. and_then (carried_through (rest i) z) (λ r. Ok (residue (own i) r))
+    λ i. and_then (carried_through ((drop-drop k q zs) i) z) (λ r. Ok (residue ((get_or-drop q zs (k - 1) (pos 0) ∙ ap (λ m. get_or zs m (pos 0)) place) i) r))
 
 -- what the checks and the items of a whole result give
 record Digits (a v digits : ArrayValue) : Type 0 where
@@ -109,8 +100,7 @@ module _ (a b left v digits : ArrayValue) (s : Interval) (region : List Interval
 
   radices_left : numbers left ≡ drop (s.0 - 1) (numbers a)
   radices_left =
-      let dropped = length-drop (s.0 - 1) a.items in
-      ap (map number_of) (left_items ∙ take_all (n + 1 - s.0) (drop (s.0 - 1) a.items) (omega (arith, dropped, many, low, order, high)))
+      ap (map number_of) (left_items ∙ take_all (n + 1 - s.0) (drop (s.0 - 1) a.items) (omega (arith, length-drop (s.0 - 1) a.items, many, low, order, high)))
       ∙ sym (drop-map number_of (s.0 - 1) a.items)
 
   rows_fit : (e f w : ℕ) → e ≤ f → e * w ≤ f * (w * 1)
@@ -121,28 +111,24 @@ module _ (a b left v digits : ArrayValue) (s : Interval) (region : List Interval
 
   number_there : (j : ℕ) → j < m → number_of (item_of v ((j / 1 + 1) ∷ [])) ≡ number_of (item_of b (walk_at region j))
   number_there j below =
-      let place : (j / 1 + 1 - 1) * 1 + 0 ≡ j = omega arith in
       ap (λ shape. number_of (get_or v.items (places_before shape ((j / 1 + 1) ∷ [])) (fill v.item_type))) columns.shaped
-      ∙ ap (λ k. number_of (get_or v.items k (fill v.item_type))) place
+      ∙ ap (λ k. number_of (get_or v.items k (fill v.item_type))) (omega arith)
       ∙ ap (λ t. number_of (get_or v.items j (fill t))) columns.typed
       ∙ ap number_of (columns.each j below)
 
   item_here : (p : ℕ) → p < box_size (s ∷ region) → encode_item a b (walk_at (s ∷ region) p) ≡ Ok (get_or digits.items p (Num (pos 0)))
   item_here p below =
-      let one : m * 1 ≡ m = omega arith in
-      let left_over : p % m < m = mod_below p m some in
-      let place : s.0 - 1 + (p / m + 1) ≡ s.0 + p / m = omega (arith, low) in
       let z = number_of (item_of b (walk_at region (p % m))) in
       let mine : encode_item a b (walk_at (s ∷ region) p) ≡ number_item (digit (numbers a) (s.0 + p / m) z) = rw shaped refl in
       let theirs : encode_item left v ((p / (m * 1) + 1) ∷ (p % (m * 1) / 1 + 1) ∷ []) ≡ number_item (digit (numbers left) (p / (m * 1) + 1) (number_of (item_of v ((p % (m * 1) / 1 + 1) ∷ [])))) = rw left_shape refl in
       let same : encode_item left v (index_after (left.shape ++ v.shape) p) ≡ encode_item a b (walk_at (s ∷ region) p) =
       ap (λ shape. encode_item left v (index_after shape p)) shapes
       ∙ theirs
-      ∙ ap (λ w. number_item (digit (numbers left) (p / w + 1) (number_of (item_of v ((p % w / 1 + 1) ∷ []))))) one
-      ∙ ap (λ x. number_item (digit (numbers left) (p / m + 1) x)) (number_there (p % m) left_over)
+      ∙ ap (λ w. number_item (digit (numbers left) (p / w + 1) (number_of (item_of v ((p % w / 1 + 1) ∷ []))))) (omega arith)
+      ∙ ap (λ x. number_item (digit (numbers left) (p / m + 1) x)) (number_there (p % m) (mod_below p m some))
       ∙ ap (λ zs. number_item (digit zs (p / m + 1) z)) radices_left
       ∙ ap number_item (shifted (numbers a) (s.0 - 1) (p / m + 1) z (omega arith))
-      ∙ ap (λ k. number_item (digit (numbers a) k z)) place
+      ∙ ap (λ k. number_item (digit (numbers a) k z)) (omega (arith, low))
       ∙ sym mine in
       sym same ∙ found.each p (omega (arith, below, enough))
 
@@ -150,10 +136,8 @@ module _ (a b left v digits : ArrayValue) (s : Interval) (region : List Interval
   digits_hold items is =
       let g : ℕ → Result Item Kind = λ p. encode_item a b (walk_at (s ∷ region) p) in
       let count = box_size (s ∷ region) in
-      let long = length-map-range_with_len g 0 count in
-      let taken = length-take count digits.items in
-      let listed : length items ≡ count = omega (arith, ap length is, taken, enough, found.long) in
-      from_entries (map g (range_with_len 0 count)) items (Err Domain) (Num (pos 0)) (long ∙ sym listed) (λ k below.
+      let listed : length items ≡ count = omega (arith, ap length is, length-take count digits.items, enough, found.long) in
+      from_entries (map g (range_with_len 0 count)) items (Err Domain) (Num (pos 0)) ((length-map-range_with_len g 0 count) ∙ sym listed) (λ k below.
       let inside : k < count = omega (arith, below, listed) in
       get_or-map-range_with_len g 0 count k k (Err Domain) inside (omega arith)
       ∙ item_here k inside

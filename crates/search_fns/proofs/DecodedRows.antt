@@ -1,17 +1,11 @@
 -- Decode, a row of digits at a time.
-use Rattle.std.proofs.Common.{◌≡◌, ℕ, ◌+◌, ◌-◌, ◌*◌, ◌<◌, ◌≤◌, false, List, [], ◌∷◌, length, get_or, map, take, drop, ℤ, pos, Ok, Err, refl, ap, sym, ◌∙◌, arith, Result}
-use Rattle.std.{specs.Prelude.{nat_eq, if◌then◌else◌}, specs.List.{range_with_len}, proofs.lemmas.Bool.Decides.{nat_tests}}
-use Rattle.std.{proofs.lemmas.List.{length-map, length-take, length-drop, get_or-take, get_or-drop}, proofs.Math.ListN.{get_or-map}}
-use Rattle.std.proofs.Math.Nat.{mul-le-mul_right}
-use Rattle.arrays_core.{specs.declared.item.Item.TheVariants.{Num}, specs.declared.item.ItemType.TheVariants.{Nums}, specs.declared.item.Item.{Item}}
-use Rattle.arrays_core.{specs.declared.item.Kind.{Kind}, specs.declared.item.Kind.TheVariants.{Limit}, specs.Items.{fill, and_then}}
-use Rattle.arrays_core.{specs.Shapes.{size, indices, places_before, index_after}, specs.Arrays.{ArrayValue, collect, with_items}}
-use Rattle.arrays_core.proofs.Order.{given_in_order, places_before-index_after, length-indices, get_or-indices}
+use Rattle.std.{proofs.Common.{◌≡◌, ℕ, ◌+◌, ◌-◌, ◌*◌, ◌<◌, ◌≤◌, false, List, [], ◌∷◌, length, get_or, map, take, drop, ℤ, pos, Ok, Err, refl, ap, sym, ◌∙◌, arith, Result}, specs.Prelude.{nat_eq, if◌then◌else◌}, specs.List.{range_with_len}, proofs.lemmas.Bool.Decides.{nat_tests}}
+use Rattle.std.{proofs.lemmas.List.{length-map, length-take, length-drop, get_or-take, get_or-drop}, proofs.Math.ListN.{get_or-map}, proofs.Math.Nat.{mul-le-mul_right}}
+use Rattle.arrays_core.{specs.declared.item.Item.TheVariants.{Num}, specs.declared.item.ItemType.TheVariants.{Nums}, specs.declared.item.Item.{Item}, specs.declared.item.Kind.{Kind}, specs.declared.item.Kind.TheVariants.{Limit}, specs.Items.{fill, and_then}, specs.Shapes.{size, indices, places_before, index_after}}
+use Rattle.arrays_core.{specs.Arrays.{ArrayValue, collect, with_items}, proofs.Order.{given_in_order, places_before-index_after, length-indices, get_or-indices}}
 use Rattle.item_fns.specs.Items.{number_item}
 use Rattle.index_region.{specs.Arguments.{number_of, numbers}, specs.Axes.{places_along}}
-use Rattle.search_fns.specs.Decode.{decode_item, digit_count, radix_at, digit_at, worth, decoded}
-use Rattle.search_fns.specs.DecodedRows.{with_one_more, HaveOneMore, LeavesNumbers, AreDecoded, HasLimit}
-use Rattle.search_fns.{proofs.Worths.{digits_after, digit_pair, one_more_digit, number_there}, proofs.DecodeErrors.{limit_of_list, decode_limited}}
+use Rattle.search_fns.{specs.Decode.{decode_item, digit_count, radix_at, digit_at, worth, decoded}, specs.DecodedRows.{with_one_more, HaveOneMore, LeavesNumbers, AreDecoded, HasLimit}, proofs.Worths.{digits_after, digit_pair, one_more_digit, number_there}, proofs.DecodeErrors.{limit_of_list, decode_limited}}
 
 -- ---- a number on its way: with the digits that are left it is worth what all digits are
 
@@ -74,10 +68,9 @@ numbers_of_numbers (z ∷ zs) = ap (λ rest. z ∷ rest) (numbers_of_numbers zs)
 pub digit_there : (b : ArrayValue) (zs : List ℤ) → b.items ≡ map (λ z. Num z) zs → (k place : ℕ) → place < size (drop 1 b.shape)
     → get_or zs ((row_of b.shape k - 1) * size (drop 1 b.shape) + place) (pos 0) ≡ digit_at b (index_after (drop 1 b.shape) place) k
 digit_there b zs items k place h =
-    let index = index_after (drop 1 b.shape) place in
     let first = (row_of b.shape k - 1) * size (drop 1 b.shape) in
     let here : numbers b ≡ zs = ap (map number_of) items ∙ numbers_of_numbers zs in
-    let there = place_there b.shape index k ∙ ap (λ p. first + p) (places_before-index_after (drop 1 b.shape) place h) in
+    let there = place_there b.shape (index_after (drop 1 b.shape) place) k ∙ ap (λ p. first + p) (places_before-index_after (drop 1 b.shape) place h) in
     ap (λ xs. get_or xs (first + place) (pos 0)) (sym here)
     ∙ number_there b (first + place)
     ∙ ap (λ p. number_of (get_or b.items p (fill b.item_type))) (sym there)

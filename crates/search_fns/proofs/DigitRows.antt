@@ -1,6 +1,5 @@
 -- The digits of numbers, a row for each radix, the row of the last radix first.
-use Rattle.std.proofs.Common.{◌≡◌, ℕ, ◌+◌, ◌-◌, ◌*◌, ◌<◌, ◌≤◌, List, length, get_or, drop, ℤ, pos, Ok, ap, sym, ◌∙◌, inl, inr, arith}
-use Rattle.std.{proofs.lemmas.Bool.{cases_lt}, proofs.Math.Nat.{mul-le-mul_right}}
+use Rattle.std.{proofs.Common.{◌≡◌, ℕ, ◌+◌, ◌-◌, ◌*◌, ◌<◌, ◌≤◌, List, length, get_or, drop, ℤ, pos, Ok, ap, sym, ◌∙◌, inl, inr, arith}, proofs.lemmas.Bool.{cases_lt}, proofs.Math.Nat.{mul-le-mul_right}}
 use Rattle.arrays_core.specs.Items.{and_then}
 use Rattle.item_fns.specs.Numbers.{residue}
 use Rattle.search_fns.{specs.Encode.{carried_through, digit}, specs.EncodedRows.{AreCarried, HasRow}, proofs.Radices.{one_more_radix}}
@@ -9,8 +8,7 @@ use Rattle.search_fns.{specs.Encode.{carried_through, digit}, specs.EncodedRows.
 digit_here : (radices : List ℤ) (k : ℕ) (z rest : ℤ) → carried_through (drop (k + 1) radices) z ≡ Ok rest
     → digit radices (k + 1) z ≡ Ok (residue (get_or radices k (pos 0)) rest)
 digit_here radices k z rest h =
-    let place : k + 1 - 1 ≡ k = omega arith in
-    ap (λ r. and_then r (λ x. Ok (residue (get_or radices (k + 1 - 1) (pos 0)) x))) h ∙ ap (λ n. Ok (residue (get_or radices n (pos 0)) rest)) place
+    ap (λ r. and_then r (λ x. Ok (residue (get_or radices (k + 1 - 1) (pos 0)) x))) h ∙ ap (λ n. Ok (residue (get_or radices n (pos 0)) rest)) (omega arith)
 
 module _ (radices zs rests : List ℤ) (k : ℕ) (same : length rests ≡ length zs)
     (left : (j : ℕ) → j < length zs → carried_through (drop (k + 1) radices) (get_or zs j (pos 0)) ≡ Ok (get_or rests j (pos 0))) where

@@ -1,14 +1,10 @@
 -- The array of the digits of an array by radices.
-use Rattle.std.proofs.Common.{◌≡◌, ℕ, zero, suc, true, ◌+◌, ◌*◌, ◌/◌, ◌%◌, ◌<◌, ◌≤◌, List, [], ◌∷◌, ◌++◌, length, get_or, drop, map, ℤ, pos, Ok, refl, ap, sym, ◌∙◌, arith, if◌then◌else◌}
-use Rattle.std.{specs.Prelude.{nat_eq, nat_le, ◌&&◌}, proofs.lemmas.Bool.Decides.{nat_tests}, proofs.lemmas.List.{length-map, get_or-map}}
+use Rattle.std.{proofs.Common.{◌≡◌, ℕ, zero, suc, true, ◌+◌, ◌*◌, ◌/◌, ◌%◌, ◌<◌, ◌≤◌, List, [], ◌∷◌, ◌++◌, length, get_or, drop, map, ℤ, pos, Ok, refl, ap, sym, ◌∙◌, arith, if◌then◌else◌}, specs.Prelude.{nat_eq, nat_le, ◌&&◌}, proofs.lemmas.Bool.Decides.{nat_tests}, proofs.lemmas.List.{length-map, get_or-map}}
 use Rattle.std.{proofs.lemmas.Nat.{div_below, mod_below}, proofs.Math.Nat.{div-add-mod'}}
-use Rattle.arrays_core.{specs.declared.item.Item.{Item}, specs.declared.item.Item.TheVariants.{Num}, specs.declared.item.ItemType.{ItemType}}
-use Rattle.arrays_core.{specs.declared.item.ItemType.TheVariants.{Nums}, specs.declared.item.Kind.TheVariants.{Rank, Domain}, specs.Items.{fill, and_then}}
-use Rattle.arrays_core.{specs.Shapes.{size, index_after}, specs.Arrays.{ArrayValue, IsArray, item_of, collect, with_items}}
-use Rattle.arrays_core.proofs.Order.{given_in_order, places_before-index_after}
+use Rattle.arrays_core.{specs.declared.item.Item.{Item}, specs.declared.item.Item.TheVariants.{Num}, specs.declared.item.ItemType.{ItemType}, specs.declared.item.ItemType.TheVariants.{Nums}, specs.declared.item.Kind.TheVariants.{Rank, Domain}, specs.Items.{fill, and_then}, specs.Shapes.{size, index_after}}
+use Rattle.arrays_core.{specs.Arrays.{ArrayValue, IsArray, item_of, collect, with_items}, proofs.Order.{given_in_order, places_before-index_after}}
 use Rattle.item_fns.specs.Items.{number_item}
-use Rattle.index_region.{specs.Arguments.{is_list, counts_as_numbers, number_of, numbers}, specs.Checks.{Form, form_of, check, limited}}
-use Rattle.index_region.{specs.ArgumentLists.{of_two_arguments}, proofs.Passing.{two_arguments, gives, limited_gives}}
+use Rattle.index_region.{specs.Arguments.{is_list, counts_as_numbers, number_of, numbers}, specs.Checks.{Form, form_of, check, limited}, specs.ArgumentLists.{of_two_arguments}, proofs.Passing.{two_arguments, gives, limited_gives}}
 use Rattle.search_fns.{specs.Encode.{digit, encode_form, encode_item, encode_whole}, specs.EncodedRows.{AreDigits}}
 
 -- a place among rows is in a row of some places
@@ -77,9 +73,8 @@ module _ (a b : ArrayValue) (digits : List ℤ) (long_a : length a.items ≡ siz
   -- there is one for each place of the result
   pub encoded_long : (shape : List ℕ) (item_type : ItemType) → IsEncoded a b shape item_type → length digits ≡ size shape
   encoded_long shape item_type known =
-      let radices : length (numbers a) ≡ size a.shape = length-map a.items number_of ∙ long_a in
       let places : length (numbers b) ≡ size b.shape = length-map b.items number_of ∙ long_b in
-      made.long ∙ (rw (radices, places) (sym (digits_long a.shape b.shape known.few))) ∙ ap size (sym known.shaped)
+      made.long ∙ (rw (length-map a.items number_of ∙ long_a, places) (sym (digits_long a.shape b.shape known.few))) ∙ ap size (sym known.shaped)
 
   -- the digits are the items of the whole result
   encoded_array : (shape : List ℕ) (item_type : ItemType) → encode_form a b ≡ Ok (form_of shape item_type) → IsEncoded a b shape item_type

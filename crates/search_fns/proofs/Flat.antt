@@ -1,8 +1,6 @@
 -- Results that are numbers, made from the items of an argument one by one.
-use Rattle.std.{proofs.Common.{◌≡◌, ℕ, List, length, get_or, map, ℤ, Result, Ok, ap, sym, ◌∙◌}, proofs.lemmas.List.{length-map}, proofs.Math.ListN.{get_or-map}}
-use Rattle.std.proofs.lemmas.Simd.{map-map}
-use Rattle.arrays_core.{specs.declared.item.Item.{Item}, specs.declared.item.Item.TheVariants.{Num}, specs.declared.item.ItemType.{ItemType}}
-use Rattle.arrays_core.{specs.declared.item.ItemType.TheVariants.{Nums}, specs.declared.item.Kind.{Kind}, specs.Items.{fill, and_then}, specs.Shapes.{size}}
+use Rattle.std.{proofs.Common.{◌≡◌, ℕ, List, length, get_or, map, ℤ, Result, Ok, ap, sym, ◌∙◌}, proofs.lemmas.List.{length-map}, proofs.Math.ListN.{get_or-map}, proofs.lemmas.Simd.{map-map}}
+use Rattle.arrays_core.{specs.declared.item.Item.{Item}, specs.declared.item.Item.TheVariants.{Num}, specs.declared.item.ItemType.{ItemType}, specs.declared.item.ItemType.TheVariants.{Nums}, specs.declared.item.Kind.{Kind}, specs.Items.{fill, and_then}, specs.Shapes.{size}}
 use Rattle.arrays_core.{specs.Arrays.{ArrayValue, item_of, collect, with_items}, proofs.Order.{given_in_order, places_before-index_after}}
 use Rattle.index_region.specs.Checks.{form_of, Form, whole}
 

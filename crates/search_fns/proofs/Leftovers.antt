@@ -1,10 +1,7 @@
 -- A digit, from what its radix leaves to the radices before it.
-use Rattle.std.proofs.Common.{◌≡◌, ◌∙◌, ◌+◌, ◌-◌, ◌*◌, ◌%◌, ◌^◌, ap, subst, refl, arith, of_z, to_z, Bool, true, false, if◌then◌else◌, ℤ, pos, negsuc, ◌-ℤ◌, ◌*ℤ◌, Ok, SFits, w64}
-use Rattle.std.{specs.Ordering.{int_eq}, specs.Int.{int_wrap}}
-use Rattle.std.{proofs.lemmas.Int.{ints, wrapping_sub-bits, wrapping_mul-bits, int_wrap_fits, int_wrap-sub_right, to_z-of_z}, proofs.Math.Facts.{Fits-of_z}}
-use Rattle.std.{proofs.Math.Nat.{mod-lt}, proofs.lemmas.Bool.Decides.{Decides-int_eq}}
-use Rattle.item_fns.{specs.Numbers.{residue, floor_div, number_or_limit}, specs.Residue.{IsFromZeroBelow}, proofs.Floors.{held_ok}}
-use Rattle.item_fns.proofs.Rests.{residue_is_rest}
+use Rattle.std.{proofs.Common.{◌≡◌, ◌∙◌, ◌+◌, ◌-◌, ◌*◌, ◌%◌, ◌^◌, ap, subst, refl, arith, of_z, to_z, Bool, true, false, if◌then◌else◌, ℤ, pos, negsuc, ◌-ℤ◌, ◌*ℤ◌, Ok, SFits, w64}, specs.Ordering.{int_eq}, specs.Int.{int_wrap}}
+use Rattle.std.{proofs.lemmas.Int.{ints, wrapping_sub-bits, wrapping_mul-bits, int_wrap_fits, int_wrap-sub_right, to_z-of_z}, proofs.Math.Facts.{Fits-of_z}, proofs.Math.Nat.{mod-lt}, proofs.lemmas.Bool.Decides.{Decides-int_eq}}
+use Rattle.item_fns.{specs.Numbers.{residue, floor_div, number_or_limit}, specs.Residue.{IsFromZeroBelow}, proofs.Floors.{held_ok}, proofs.Rests.{residue_is_rest}}
 use Rattle.search_fns.specs.Encode.{carried}
 
 -- what lies between 0 and a number of 64 bits is of 64 bits
@@ -37,12 +34,10 @@ digit_by_left radix z left f g h is = machine_is radix z left f g h ∙ decide (
     decide : (b : Bool) → int_eq radix (pos 0) ≡ b → (if b then Ok (pos 0) else number_or_limit (floor_div z radix)) ≡ Ok left
         → int_wrap w64 (z -ℤ radix *ℤ left) ≡ (if b then z else z -ℤ radix *ℤ floor_div z radix)
     decide true zero is =
-        let none : radix ≡ pos 0 = (Decides-int_eq radix (pos 0)).0 zero in
-        let whole : z -ℤ radix *ℤ left ≡ z = rw none (omega (arith, ints)) in
+        let whole : z -ℤ radix *ℤ left ≡ z = rw ((Decides-int_eq radix (pos 0)).0 zero) (omega (arith, ints)) in
         ap (int_wrap w64) whole ∙ int_wrap_fits w64 z g
     decide false some is =
-        let whole : left ≡ floor_div z radix = held_ok _ _ is in
         let rest = residue_is_rest radix z some in
         let same : residue radix z ≡ z -ℤ radix *ℤ floor_div z radix = rw some refl in
         let fits : SFits w64 (z -ℤ radix *ℤ floor_div z radix) = subst (SFits w64) same (rest_fits radix (residue radix z) f rest.between) in
-        ap (λ q. int_wrap w64 (z -ℤ radix *ℤ q)) whole ∙ int_wrap_fits w64 _ fits
+        ap (λ q. int_wrap w64 (z -ℤ radix *ℤ q)) (held_ok _ _ is) ∙ int_wrap_fits w64 _ fits

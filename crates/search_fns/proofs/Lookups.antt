@@ -1,6 +1,5 @@
 -- Items looked up in a list by their first places.
-use Rattle.std.proofs.Common.{◌≡◌, ℕ, ◌+◌, ◌<◌, ◌≤◌, Bool, true, false, cond, List, [], ◌∷◌, ◌++◌, length, get_or, take, drop, map, Option, Some, None, pos, refl, ap, sym, ◌∙◌, arith}
-use Rattle.std.{specs.Prelude.{is_some}, specs.Cmp.{IsEquivalence}, specs.List.{list_any, position_from, position_or_len}}
+use Rattle.std.{proofs.Common.{◌≡◌, ℕ, ◌+◌, ◌<◌, ◌≤◌, Bool, true, false, cond, List, [], ◌∷◌, ◌++◌, length, get_or, take, drop, map, Option, Some, None, pos, refl, ap, sym, ◌∙◌, arith}, specs.Prelude.{is_some}, specs.Cmp.{IsEquivalence}, specs.List.{list_any, position_from, position_or_len}}
 use Rattle.std.proofs.lemmas.List.{drop_more, take_more, map-append}
 use Rattle.item_fns.specs.Numbers.{truth}
 use mir.Val.{bool_byte}
@@ -12,13 +11,12 @@ pub one_more_first : {K : Type 0} {eq : K → K → Bool} (laws : IsEquivalence 
     → ((q : K) → n q ≡ cond (eq x q) (Some k) (m q))
     → (q : K) → n q ≡ position_from (eq q) k (drop k xs)
 one_more_first {eq = eq} laws xs x k place m n below next here known put q =
-    let split = drop_more xs k x below in
     put q
     ∙ ap (λ w. cond w (Some k) (m q)) (laws.symm x q)
     ∙ ap (λ r. cond (eq q x) (Some k) r) (known q)
     ∙ ap (λ p. cond (eq q x) (Some k) (position_from (eq q) p (drop p xs))) (sym next)
     ∙ ap (λ y. position_from (eq q) k (y ∷ drop (k + 1) xs)) here
-    ∙ ap (position_from (eq q) k) (sym split)
+    ∙ ap (position_from (eq q) k) (sym (drop_more xs k x below))
 
 -- where there is a first place, it is where the items that fail end
 pub found_at : {K : Type 0} (p : K → Bool) (xs : List K) (i k : ℕ) → position_from p i xs ≡ Some k → i + position_or_len p xs ≡ k

@@ -1,10 +1,8 @@
 -- Numbers carried through radices, and the places of their digits.
-use Rattle.std.proofs.Common.{◌≡◌, ℕ, zero, suc, ◌+◌, ◌-◌, ◌/◌, ◌%◌, min, Bool, false, cond, negsuc, neg_ℤ, ◌-ℤ◌, ◌*ℤ◌, Result, ◌<◌, ◌≤◌, true, List, [], ◌∷◌, ◌++◌, length, get_or, drop, ℤ, pos, Ok, Err, refl, ap, ◌∙◌, arith}
-use Rattle.std.{specs.Prelude.{◌&&◌, nat_le}, specs.Ordering.{int_eq}, proofs.Math.Nat.{div-eq_of_lt, mod-eq_of_lt}, proofs.lemmas.Int.{ints}}
-use Rattle.std.{proofs.lemmas.Bool.Decides.{nat_tests}, proofs.lemmas.List.{drop-drop, drop_more}}
+use Rattle.std.{proofs.Common.{◌≡◌, ℕ, zero, suc, ◌+◌, ◌-◌, ◌/◌, ◌%◌, min, Bool, false, cond, negsuc, neg_ℤ, ◌-ℤ◌, ◌*ℤ◌, Result, ◌<◌, ◌≤◌, true, List, [], ◌∷◌, ◌++◌, length, get_or, drop, ℤ, pos, Ok, Err, refl, ap, ◌∙◌, arith}, specs.Prelude.{◌&&◌, nat_le}, specs.Ordering.{int_eq}, proofs.Math.Nat.{div-eq_of_lt}}
+use Rattle.std.{proofs.lemmas.Int.{ints}, proofs.lemmas.Bool.Decides.{nat_tests}, proofs.lemmas.List.{drop-drop, drop_more}}
 use Rattle.item_fns.specs.Numbers.{residue, floor_div, number_or_limit}
-use Rattle.arrays_core.{specs.declared.item.Kind.{Kind}, specs.declared.item.ItemType.TheVariants.{Nums}, specs.Items.{and_then}}
-use Rattle.arrays_core.{specs.Shapes.{size, is_index_of}, specs.Arrays.{ArrayValue}, proofs.Shapes.{head_of}}
+use Rattle.arrays_core.{specs.declared.item.Kind.{Kind}, specs.declared.item.ItemType.TheVariants.{Nums}, specs.Items.{and_then}, specs.Shapes.{size, is_index_of}, specs.Arrays.{ArrayValue}, proofs.Shapes.{head_of}}
 use Rattle.index_region.{specs.Arguments.{is_list, counts_as_numbers}, specs.Answers.{IsPlaceOf}, proofs.Passing.{passed, place_inside}}
 use Rattle.search_fns.specs.Encode.{carried, carried_through, encode_form}
 
@@ -16,9 +14,8 @@ error_through (radix ∷ radices) (suc n) z e h = ap (λ r. and_then r (carried 
 
 pub error_in_front : (radices : List ℤ) (place k : ℕ) (z : ℤ) (e : Kind) → place ≤ k → carried_through (drop k radices) z ≡ Err e → carried_through (drop place radices) z ≡ Err e
 error_in_front radices place k z e h failed =
-    let same : place + (k - place) ≡ k = omega arith in
     let there : carried_through (drop (k - place) (drop place radices)) z ≡ Err e =
-    ap (λ xs. carried_through xs z) (drop-drop (k - place) place radices ∙ ap (λ n. drop n radices) same) ∙ failed in
+    ap (λ xs. carried_through xs z) (drop-drop (k - place) place radices ∙ ap (λ n. drop n radices) (omega arith)) ∙ failed in
     error_through (drop place radices) (k - place) z e there
 
 -- ---- of 0 nothing is left
@@ -27,8 +24,6 @@ zero_divided : (radix : ℤ) → floor_div (pos 0) radix ≡ pos 0
 zero_divided (pos zero) = refl
 zero_divided (pos (suc a)) = let none : 0 / suc a ≡ 0 = div-eq_of_lt (omega arith) in ap pos none
 zero_divided (negsuc a) =
-    let none : 0 / suc a ≡ 0 = div-eq_of_lt (omega arith) in
-    let nothing : 0 % suc a ≡ 0 = mod-eq_of_lt (omega arith) in
     let up : 0 / suc a + min 1 (0 % suc a) ≡ 0 = omega arith in
     ap (λ n. neg_ℤ (pos n)) up
 
@@ -56,18 +51,15 @@ zero_through (radix ∷ radices) (suc n) z h = ap (λ r. and_then r (carried rad
 
 pub zero_in_front : (radices : List ℤ) (place k : ℕ) (z : ℤ) → place ≤ k → carried_through (drop k radices) z ≡ Ok (pos 0) → carried_through (drop place radices) z ≡ Ok (pos 0)
 zero_in_front radices place k z h none =
-    let same : place + (k - place) ≡ k = omega arith in
     let there : carried_through (drop (k - place) (drop place radices)) z ≡ Ok (pos 0) =
-    ap (λ xs. carried_through xs z) (drop-drop (k - place) place radices ∙ ap (λ n. drop n radices) same) ∙ none in
+    ap (λ xs. carried_through xs z) (drop-drop (k - place) place radices ∙ ap (λ n. drop n radices) (omega arith)) ∙ none in
     zero_through (drop place radices) (k - place) z there
 
 -- ---- index lists of encode's result
 
 pub encode_inside : (a b : ArrayValue) (index : List ℕ) → IsPlaceOf (encode_form a b) index → is_index_of (a.shape ++ b.shape) index ≡ true
 encode_inside a b index h =
-    let rank = passed (is_list a) _ _ index h in
-    let counted = passed (counts_as_numbers a && counts_as_numbers b) _ _ index rank.place in
-    place_inside (a.shape ++ b.shape) Nums index counted.place
+    place_inside (a.shape ++ b.shape) Nums index (passed (counts_as_numbers a && counts_as_numbers b) _ _ index (passed (is_list a) _ _ index h).place).place
 
 pub encode_rank : (a b : ArrayValue) (index : List ℕ) → IsPlaceOf (encode_form a b) index → length a.shape ≤ 1
 encode_rank a b index h = within (length a.shape) (passed (is_list a) _ _ index h).test

@@ -1,12 +1,9 @@
 -- Whole results of index of and of membership.
-use Rattle.std.{proofs.Common.{◌≡◌, ℕ, List, [], ◌∷◌, length, get_or, map, suc, pos, ℤ, Ok, sym, ap, ◌∙◌}, specs.Prelude.{nat_eq}}
-use Rattle.std.specs.List.{list_any, position_or_len}
+use Rattle.std.{proofs.Common.{◌≡◌, ℕ, List, [], ◌∷◌, length, get_or, map, suc, pos, ℤ, Ok, sym, ap, ◌∙◌}, specs.Prelude.{nat_eq}, specs.List.{list_any, position_or_len}}
 use Rattle.item_fns.specs.Numbers.{truth}
-use Rattle.arrays_core.{specs.declared.item.Item.TheVariants.{Num}, specs.declared.item.ItemType.{ItemType}, specs.declared.item.ItemType.TheVariants.{Nums}}
-use Rattle.arrays_core.{specs.declared.item.Kind.TheVariants.{Rank}, specs.Shapes.{size}, specs.Arrays.{ArrayValue}}
+use Rattle.arrays_core.{specs.declared.item.Item.TheVariants.{Num}, specs.declared.item.ItemType.{ItemType}, specs.declared.item.ItemType.TheVariants.{Nums}, specs.declared.item.Kind.TheVariants.{Rank}, specs.Shapes.{size}, specs.Arrays.{ArrayValue}}
 use Rattle.index_region.{specs.Checks.{form_of, Form, limited}, specs.ArgumentLists.{of_two_arguments}, proofs.Passing.{two_arguments, gives, limited_gives}}
-use Rattle.search_fns.{specs.SameItem.{same_item}, specs.IndexOf.{index_of_form, index_of_whole}, specs.Member.{member_form, member_whole}}
-use Rattle.search_fns.proofs.Flat.{flat_whole}
+use Rattle.search_fns.{specs.SameItem.{same_item}, specs.IndexOf.{index_of_form, index_of_whole}, specs.Member.{member_form, member_whole}, proofs.Flat.{flat_whole}}
 
 module _ (args : List ArrayValue) (a b : ArrayValue) (two : length args ≡ 2) (first : a ≡ get_or args 0 a) (second : b ≡ get_or args 1 b) (shape : List ℕ) (item_type : ItemType) where
   both : args ≡ a ∷ b ∷ []

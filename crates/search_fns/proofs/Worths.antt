@@ -1,13 +1,10 @@
 -- Numbers of digits: where the digits and their radices stand, and one more digit.
-use Rattle.std.proofs.Common.{◌≡◌, ◌≢◌, ℕ, suc, ◌+◌, ◌-◌, ◌*◌, ◌<◌, ◌≤◌, ◌==◌, true, false, cond, List, [], ◌∷◌, length, get_or, map, drop, ℤ, pos, ◌+ℤ◌, ◌*ℤ◌, Result, Ok, Err, refl, ap, sym, ◌∙◌, arith}
-use Rattle.std.{specs.Prelude.{◌&&◌, ◌||◌, nat_le, nat_eq, if◌then◌else◌}, specs.List.{range_with_len}, proofs.lemmas.Bool.Decides.{nat_tests}}
-use Rattle.std.{proofs.lemmas.Bool.{and_from, le-leb}, proofs.Math.ListN.{get_or-map}}
-use Rattle.arrays_core.{specs.declared.item.Kind.{Kind}, specs.declared.item.ItemType.{ItemType}, specs.declared.item.ItemType.TheVariants.{Nums, Chars}}
-use Rattle.arrays_core.{specs.Items.{fill, and_then}, specs.Shapes.{size, places_before, is_index_of}, specs.Arrays.{ArrayValue}}
+use Rattle.std.{proofs.Common.{◌≡◌, ◌≢◌, ℕ, suc, ◌+◌, ◌-◌, ◌*◌, ◌<◌, ◌≤◌, ◌==◌, true, false, cond, List, [], ◌∷◌, length, get_or, map, drop, ℤ, pos, ◌+ℤ◌, ◌*ℤ◌, Result, Ok, Err, refl, ap, sym, ◌∙◌, arith}, specs.Prelude.{◌||◌, nat_eq, if◌then◌else◌}, specs.List.{range_with_len}, proofs.lemmas.Bool.Decides.{nat_tests}}
+use Rattle.std.proofs.Math.ListN.{get_or-map}
+use Rattle.arrays_core.{specs.declared.item.Kind.{Kind}, specs.declared.item.ItemType.{ItemType}, specs.declared.item.ItemType.TheVariants.{Nums, Chars}, specs.Items.{fill, and_then}, specs.Shapes.{size, places_before, is_index_of}, specs.Arrays.{ArrayValue}}
 use Rattle.item_fns.specs.Numbers.{number_or_limit}
-use Rattle.index_region.{specs.Arguments.{is_list, has_one_item, counts_as_numbers, numbers, number_of}, specs.Axes.{places_along}, specs.Answers.{IsPlaceOf}}
-use Rattle.index_region.proofs.Passing.{passed, place_inside}
-use Rattle.search_fns.specs.Decode.{decode_form, digit_count, radix_at, digit_at, worth, decoded}
+use Rattle.index_region.{specs.Arguments.{numbers, number_of}, specs.Axes.{places_along}}
+use Rattle.search_fns.specs.Decode.{digit_count, radix_at, digit_at, worth, decoded}
 
 -- ---- what is known at a place of decode's result
 
@@ -17,27 +14,8 @@ pub record Decodes (a b : ArrayValue) (index : List ℕ) : Type 0 where
   pub radices : (k : ℕ) → k ≤ digit_count a b → length a.items ≢ 1 → k ≤ length a.items
   pub axis : (k : ℕ) → k ≤ digit_count a b → places_along b.shape 0 ≢ 1 → k ≤ places_along b.shape 0
 
-at_most_one : (n : ℕ) → nat_le n 1 ≡ true → n ≤ 1
-at_most_one n e = grind (arith, nat_tests)
-
-within_radices : (items n k : ℕ) → k ≤ cond (nat_eq items 1) n items → items ≢ 1 → k ≤ items
-within_radices items n k h e = grind (arith, nat_tests)
-
 within_axis : (items n k : ℕ) → (nat_eq items 1 || (nat_eq n 1 || nat_eq items n)) ≡ true → k ≤ cond (nat_eq items 1) n items → n ≢ 1 → k ≤ n
 within_axis items n k t h e = grind (arith, nat_tests)
-
-pub decodes : (a b : ArrayValue) (index : List ℕ) → IsPlaceOf (decode_form a b) index → Decodes a b index
-decodes a b index h =
-    let n = places_along b.shape 0 in
-    let rank = passed (is_list a) _ _ index h in
-    let agree = passed (has_one_item a || (nat_eq n 1 || nat_eq (length a.items) n)) _ _ index rank.place in
-    let counted = passed (counts_as_numbers a && counts_as_numbers b) _ _ index agree.place in
-    record {
-      list = at_most_one (length a.shape) rank.test;
-      inside = place_inside (drop 1 b.shape) Nums index counted.place;
-      radices = λ k below apart. within_radices (length a.items) n k below apart;
-      axis = λ k below apart. within_axis (length a.items) n k agree.test below apart;
-    }
 
 -- ---- radices
 
@@ -52,8 +30,7 @@ place_on : (shape : List ℕ) (k : ℕ) → length shape ≤ 1 → size shape �
 place_on [] k one some = absurd (some refl)
 place_on (m ∷ n ∷ shape) k one some = absurd (omega arith)
 place_on (n ∷ []) k one some =
-    let many : (n * 1 == 1) ≡ false = not_one (n * 1) some in
-    rw many (omega arith)
+    rw (not_one (n * 1) some) (omega arith)
   where
     not_one : (m : ℕ) → m ≢ 1 → (m == 1) ≡ false
     not_one m h = grind (arith, nat_tests)
@@ -75,9 +52,6 @@ module _ (a b : ArrayValue) (index : List ℕ) where
   pub all_digits : (count : ℕ) → worth (pos 0) (digits_after count 0) ≡ decoded (map (digit_pair a b index) (range_with_len 1 count))
   all_digits count = let same : count - 0 ≡ count = omega arith in rw same refl
 
-  pub no_more_digits : (count before : ℕ) (value : ℤ) → count ≤ before → worth value (digits_after count before) ≡ Ok value
-  no_more_digits count before value h = let none : count - before ≡ 0 = omega arith in rw none refl
-
   pub one_more_digit : (count before : ℕ) (value : ℤ) → before < count
       → worth value (digits_after count before)
       ≡ and_then (and_then (number_or_limit (value *ℤ radix_at a (before + 1))) (λ product. number_or_limit (product +ℤ digit_at b index (before + 1)))) (λ next. worth next (digits_after count (before + 1)))
@@ -90,8 +64,3 @@ module _ (a b : ArrayValue) (index : List ℕ) where
       regroup (Err e) g h = refl
 
 -- ---- index lists of digits
-
-pub digit_inside : (shape index : List ℕ) (place : ℕ) → length shape ≢ 0 → 1 ≤ place → place ≤ get_or shape 0 0 → is_index_of (drop 1 shape) index ≡ true
-    → is_index_of shape (place ∷ index) ≡ true
-digit_inside [] index place some low high h = absurd (some refl)
-digit_inside (n ∷ shape) index place some low high h = and_from _ _ (and_from _ _ (le-leb 1 place low) (le-leb place n high)) h

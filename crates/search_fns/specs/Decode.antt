@@ -1,11 +1,7 @@
 -- Decode, A⊥B: the numbers of digits by radices.
-use Rattle.std.specs.Prelude.{ℕ, nat_eq, ℤ, pos, ◌+ℤ◌, ◌*ℤ◌, ◌&&◌, ◌||◌, if◌then◌else◌, List, [], ◌∷◌, map, length, drop, Result, Ok, false, Some}
-use Rattle.std.specs.List.{range_with_len}
-use Rattle.arrays_core.{specs.declared.item.Item.{Item}, specs.declared.item.ItemType.TheVariants.{Nums}, specs.declared.item.Kind.{Kind}}
-use Rattle.arrays_core.{specs.declared.item.Kind.TheVariants.{Rank, Length, Domain}, specs.Items.{and_then}, specs.Arrays.{ArrayValue, item_of}}
-use Rattle.arrays_core.specs.Shapes.{indices}
-use Rattle.index_region.{specs.Checks.{Form, check, limited, whole}, specs.Arguments.{is_scalar, is_list, has_one_item, counts_as_numbers, number_of}}
-use Rattle.index_region.specs.Axes.{places_along}
+use Rattle.std.{specs.Prelude.{ℕ, nat_eq, ℤ, pos, ◌+ℤ◌, ◌*ℤ◌, ◌&&◌, ◌||◌, if◌then◌else◌, List, [], ◌∷◌, map, length, drop, Result, Ok, false, Some}, specs.List.{range_with_len}}
+use Rattle.arrays_core.{specs.declared.item.Item.{Item}, specs.declared.item.ItemType.TheVariants.{Nums}, specs.declared.item.Kind.{Kind}, specs.declared.item.Kind.TheVariants.{Rank, Length, Domain}, specs.Items.{and_then}, specs.Arrays.{ArrayValue, item_of}, specs.Shapes.{indices}}
+use Rattle.index_region.{specs.Checks.{Form, check, limited, whole}, specs.Arguments.{is_scalar, is_list, has_one_item, counts_as_numbers, number_of}, specs.Axes.{places_along}}
 use Rattle.change_core.{specs.RuleModels.{Use, RuleModel}, specs.Sourced.{two_rule}, specs.Ways.{everywhere}}
 use Rattle.scalar_fns.specs.ScalarExtension.{extended}
 use Rattle.item_fns.{specs.Numbers.{number_or_limit}, specs.Items.{number_item}}

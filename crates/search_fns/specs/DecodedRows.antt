@@ -1,8 +1,6 @@
 -- Decode, a row of digits at a time.
-use Rattle.std.specs.Prelude.{◌≡◌, IsTrue, ℕ, ◌<◌, ◌≤◌, nat_eq, ◌||◌, ℤ, pos, ◌+ℤ◌, ◌*ℤ◌, List, length, get_or, drop, Result, Ok, Err, FitsSigned}
-use Rattle.std.specs.Int.{w64}
-use Rattle.arrays_core.{specs.declared.item.Item.TheVariants.{Num}, specs.declared.item.Kind.{Kind}, specs.declared.item.Kind.TheVariants.{Limit}}
-use Rattle.arrays_core.{specs.Items.{and_then}, specs.Shapes.{size, index_after}, specs.Arrays.{ArrayValue}}
+use Rattle.std.{specs.Prelude.{◌≡◌, IsTrue, ℕ, ◌<◌, ◌≤◌, nat_eq, ◌||◌, ℤ, pos, ◌+ℤ◌, ◌*ℤ◌, List, length, get_or, drop, Result, Ok, Err, FitsSigned}, specs.Int.{w64}}
+use Rattle.arrays_core.{specs.declared.item.Item.TheVariants.{Num}, specs.declared.item.Kind.{Kind}, specs.declared.item.Kind.TheVariants.{Limit}, specs.Items.{and_then}, specs.Shapes.{size, index_after}, specs.Arrays.{ArrayValue}}
 use Rattle.item_fns.specs.Numbers.{number_or_limit}
 use Rattle.index_region.{specs.Arguments.{has_one_item}, specs.Axes.{places_along}}
 use Rattle.search_fns.specs.Decode.{decode_item}

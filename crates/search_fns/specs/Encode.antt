@@ -1,10 +1,7 @@
 -- Encode, A⊤B: numbers as digits by radices.
-use Rattle.std.specs.Prelude.{ℕ, ◌-◌, ℤ, pos, ◌&&◌, if◌then◌else◌, List, [], ◌∷◌, ◌++◌, length, get_or, drop, Result, Ok, ◌+◌, false, map, Some}
-use Rattle.std.{specs.Ordering.{int_eq}, specs.List.{range_with_len}}
-use Rattle.arrays_core.{specs.declared.item.Item.{Item}, specs.declared.item.ItemType.TheVariants.{Nums}, specs.declared.item.Kind.{Kind}}
-use Rattle.arrays_core.{specs.declared.item.Kind.TheVariants.{Rank, Domain}, specs.Items.{and_then}, specs.Arrays.{ArrayValue, item_of}}
-use Rattle.index_region.{specs.Checks.{Form, check, limited, whole}, specs.Arguments.{is_scalar, is_list, counts_as_numbers, number_of, numbers}}
-use Rattle.index_region.specs.Boxes.{whole_of}
+use Rattle.std.{specs.Prelude.{ℕ, ◌-◌, ℤ, pos, ◌&&◌, if◌then◌else◌, List, [], ◌∷◌, ◌++◌, length, get_or, drop, Result, Ok, ◌+◌, false, map, Some}, specs.Ordering.{int_eq}, specs.List.{range_with_len}}
+use Rattle.arrays_core.{specs.declared.item.Item.{Item}, specs.declared.item.ItemType.TheVariants.{Nums}, specs.declared.item.Kind.{Kind}, specs.declared.item.Kind.TheVariants.{Rank, Domain}, specs.Items.{and_then}, specs.Arrays.{ArrayValue, item_of}}
+use Rattle.index_region.{specs.Checks.{Form, check, limited, whole}, specs.Arguments.{is_scalar, is_list, counts_as_numbers, number_of, numbers}, specs.Boxes.{whole_of}}
 use Rattle.change_core.{specs.RuleModels.{RuleModel}, specs.Sourced.{Spread, two_rule}, specs.Ways.{back}}
 use Rattle.item_fns.{specs.Numbers.{residue, floor_div, number_or_limit}, specs.Items.{number_item}}
 

@@ -1,8 +1,6 @@
 -- Index of, A⍳B: the first place of each item of b in a.
 use Rattle.std.{specs.Prelude.{ℕ, suc, nat_eq, pos, List, length, Result, Ok, false}, specs.List.{position_or_len}}
-use Rattle.arrays_core.{specs.declared.item.Item.{Item}, specs.declared.item.Item.TheVariants.{Num}, specs.declared.item.ItemType.TheVariants.{Nums}}
-use Rattle.arrays_core.{specs.declared.item.Kind.{Kind}, specs.declared.item.Kind.TheVariants.{Rank}, specs.Arrays.{ArrayValue, item_of}}
-use Rattle.arrays_core.specs.Shapes.{indices}
+use Rattle.arrays_core.{specs.declared.item.Item.{Item}, specs.declared.item.Item.TheVariants.{Num}, specs.declared.item.ItemType.TheVariants.{Nums}, specs.declared.item.Kind.{Kind}, specs.declared.item.Kind.TheVariants.{Rank}, specs.Arrays.{ArrayValue, item_of}, specs.Shapes.{indices}}
 use Rattle.index_region.specs.Checks.{Form, check, limited, whole}
 use Rattle.change_core.{specs.RuleModels.{RuleModel}, specs.Sourced.{two_rule}, specs.Ways.{alike, everywhere}}
 use Rattle.search_fns.specs.SameItem.{same_item}

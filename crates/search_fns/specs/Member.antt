@@ -1,7 +1,6 @@
 -- Membership, A∊B: which items of a are items of b.
 use Rattle.std.{specs.Prelude.{ℕ, List, Result, Ok, false}, specs.List.{list_any}}
-use Rattle.arrays_core.{specs.declared.item.Item.{Item}, specs.declared.item.Item.TheVariants.{Num}, specs.declared.item.ItemType.TheVariants.{Nums}}
-use Rattle.arrays_core.{specs.declared.item.Kind.{Kind}, specs.Arrays.{ArrayValue, item_of}, specs.Shapes.{indices}}
+use Rattle.arrays_core.{specs.declared.item.Item.{Item}, specs.declared.item.Item.TheVariants.{Num}, specs.declared.item.ItemType.TheVariants.{Nums}, specs.declared.item.Kind.{Kind}, specs.Arrays.{ArrayValue, item_of}, specs.Shapes.{indices}}
 use Rattle.index_region.specs.Checks.{Form, limited, whole}
 use Rattle.change_core.{specs.RuleModels.{RuleModel}, specs.Sourced.{two_rule}, specs.Ways.{alike, everywhere}}
 use Rattle.item_fns.specs.Numbers.{truth}

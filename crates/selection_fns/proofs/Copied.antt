@@ -1,14 +1,10 @@
 -- What the checks of replicate say of the copies.
-use Rattle.std.proofs.Common.{◌≡◌, ℕ, zero, suc, ◌*◌, ◌≤◌, ◌<◌, Bool, true, false, nat_le, ◌&&◌, ◌||◌, nat_eq, List, [], ◌∷◌, length, take, replicate, get_or, refl, sym, ap, subst, arith, Result, Ok, Err}
-use Rattle.std.{specs.Prelude.{max, sum}, specs.List.{list_all}, proofs.lemmas.Bool.{and_parts, leb-true}}
-use Rattle.arrays_core.{specs.declared.item.ItemType.{ItemType}, specs.declared.item.Kind.{Kind}, specs.declared.item.Kind.TheVariants.{Limit}}
-use Rattle.arrays_core.{specs.Arrays.{ArrayValue}, specs.Shapes.{size}}
+use Rattle.std.{proofs.Common.{◌≡◌, ℕ, zero, suc, ◌*◌, ◌≤◌, ◌<◌, Bool, true, false, nat_le, ◌&&◌, ◌||◌, nat_eq, List, [], ◌∷◌, length, take, replicate, get_or, refl, sym, ap, subst, arith, Result, Ok, Err}, specs.Prelude.{max, sum}, specs.List.{list_all}, proofs.lemmas.Bool.{and_parts, leb-true}}
+use Rattle.arrays_core.{specs.declared.item.ItemType.{ItemType}, specs.declared.item.Kind.{Kind}, specs.declared.item.Kind.TheVariants.{Limit}, specs.Arrays.{ArrayValue}, specs.Shapes.{size}}
 use Rattle.function_names.{specs.declared.along.Along.{Along}, specs.Axes.{is_axis, axis_at}}
-use Rattle.index_region.{specs.Arguments.{is_list, has_one_item, counts_as_numbers, none_negative, numbers}, specs.Axes.{places_along}}
-use Rattle.index_region.{specs.Checks.{Form, form_of, check, limited, is_within_limits}, proofs.Passing.{gives}}
+use Rattle.index_region.{specs.Arguments.{is_list, has_one_item, counts_as_numbers, none_negative, numbers}, specs.Axes.{places_along}, specs.Checks.{Form, form_of, check, limited, is_within_limits}, proofs.Passing.{gives}}
 use Rattle.change_core.specs.RuleModels.{HasShape}
-use Rattle.selection_fns.{specs.Replicate.{times, replicated_shape, replicate_form}, specs.Laws.RepeatedPlaces.{sum_front}}
-use Rattle.selection_fns.specs.Laws.CopiedPlaces.{exchanged_there}
+use Rattle.selection_fns.{specs.Replicate.{times, replicated_shape, replicate_form}, specs.Laws.RepeatedPlaces.{sum_front}, specs.Laws.CopiedPlaces.{exchanged_there}}
 
 pub sum_first_same : (first places count : ℕ) → first ≤ places → sum (take first (replicate places count)) ≡ first * count
 sum_first_same zero places count h = let none : 0 * count ≡ 0 = omega arith in sym none
@@ -38,8 +34,7 @@ limited_within shape item_type form h = decide (is_within_limits shape) refl h
   where
     decide : (w : Bool) → is_within_limits shape ≡ w → check w Limit (Ok (form_of shape item_type)) ≡ Ok form → IsLimited shape form
     decide true e h =
-        let wanted : Form = form_of shape item_type in
-        let same : wanted ≡ form = cc in
+        let same : (form_of shape item_type) ≡ form = cc in
         let parts = and_parts _ _ (and_parts (nat_le (length shape) 4 && list_all (λ n. nat_le n 1048576) shape) (nat_le (size shape) 1048576) e).0 in
         record { is = ap (λ (f : Form). f.shape) (sym same); rank = leb-true _ _ parts.0; axes = parts.1 }
     decide false e h = let no : ⊥ = cc in absurd no
@@ -62,8 +57,7 @@ copied_along along a b shape h =
     let n = places_along b.shape axis in
     let asked = form_of shape form.item_type in
     let axes = gives (is_axis rank along) _ _ asked form.is in
-    let ranks = gives (is_list a) _ _ asked axes.is in
-    let lengths = gives (has_one_item a || (nat_eq n 1 || nat_eq (length a.items) n)) _ _ asked ranks.is in
+    let lengths = gives (has_one_item a || (nat_eq n 1 || nat_eq (length a.items) n)) _ _ asked (gives (is_list a) _ _ asked axes.is).is in
     let counted = gives (counts_as_numbers a && none_negative (numbers a)) _ _ asked lengths.is in
     let limits = limited_within (replicated_shape a b.shape axis) b.item_type asked counted.is in
     let copies = exchanged_there along b.shape (sum (times a n)) axes.test in

@@ -1,14 +1,9 @@
 -- The rows of the copies of an array's places.
-use Rattle.std.proofs.Common.{◌≡◌, ℕ, ◌+◌, ◌-◌, ◌<◌, ◌≤◌, true, List, [], ◌∷◌, ◌++◌, length, get_or, set, Ok, ap, sym, subst, ◌∙◌, arith}
-use Rattle.std.{specs.Prelude.{max, sum}, proofs.lemmas.List.{length_push}}
-use Rattle.arrays_core.{specs.Items.{fill}, specs.Arrays.{ArrayValue, IsArray}, specs.Shapes.{is_index_of, places_before}, specs.Building.{IsRowOf}}
-use Rattle.arrays_core.{proofs.Shapes.{places_below}, proofs.Rows.{places_in_row}}
+use Rattle.std.{proofs.Common.{◌≡◌, ℕ, ◌+◌, ◌-◌, ◌<◌, ◌≤◌, true, List, [], ◌∷◌, ◌++◌, length, get_or, set, Ok, ap, sym, subst, ◌∙◌, arith}, specs.Prelude.{max, sum}, proofs.lemmas.List.{length_push}}
+use Rattle.arrays_core.{specs.Items.{fill}, specs.Arrays.{ArrayValue, IsArray}, specs.Shapes.{is_index_of, places_before}, specs.Building.{IsRowOf}, proofs.Shapes.{places_below}, proofs.Rows.{places_in_row}}
 use Rattle.function_names.{specs.declared.along.Along.{Along}, specs.Axes.{axis_at}}
-use Rattle.index_region.{specs.Answers.{IsPlaceOf}, specs.Axes.{places_along}, specs.Checks.{form_of}, specs.Sources.{Place, item_from}}
-use Rattle.index_region.{proofs.Placed.{right_placed}, proofs.RowIndices.{set_before, get_before, set_last, get_last}}
-use Rattle.selection_fns.specs.Replicate.{times, copied_place, replicate_form, replicate_source, replicate_item}
-use Rattle.selection_fns.{specs.Laws.CopiedPlaces.{replicate_gives, exchanged_there}, proofs.Copies.{CopyFacts, copy_facts, copy_source}}
-use Rattle.selection_fns.proofs.SourcePlaces.{replicate_inside}
+use Rattle.index_region.{specs.Answers.{IsPlaceOf}, specs.Axes.{places_along}, specs.Checks.{form_of}, specs.Sources.{Place, item_from}, proofs.Placed.{right_placed}, proofs.RowIndices.{set_before, get_before, set_last, get_last}}
+use Rattle.selection_fns.{specs.Replicate.{times, copied_place, replicate_form, replicate_source, replicate_item}, specs.Laws.CopiedPlaces.{replicate_gives, exchanged_there}, proofs.Copies.{CopyFacts, copy_facts, copy_source}, proofs.SourcePlaces.{replicate_inside}}
 
 -- a row of the copies of an array with axes, along its axis k
 pub record IsCopyRow (along : Along) (a b : ArrayValue) (shape before row : List ℕ) (count k : ℕ) : Type 0 where
@@ -42,7 +37,6 @@ module _ (along : Along) (a b : ArrayValue) (shape before row : List ℕ) (count
   -- what a call answers for the first index of a row
   pub first_copied : (at : List ℕ) → Place 1 at ≡ replicate_source along a b (row ++ 1 ∷ []) → at ≡ copied 1
   first_copied at h =
-      let some = r.row_of.some in
       let same : Place 1 at ≡ Place 1 (copied 1) = h ∙ sym (source 1 (omega arith) (omega arith)) in
       cc
 
@@ -59,7 +53,6 @@ module _ (along : Along) (a b : ArrayValue) (shape before row : List ℕ) (count
   -- an axis that is not the last is before it
   pub before_last : (k ≡ length row → ⊥) → k < length row
   before_last not_last =
-      let some = r.row_of.some in
       let first_facts = facts 1 (omega arith) (omega arith) in
       let long : length b.shape ≡ length row + 1 = sym first_facts.copied.long ∙ length_push row 1 in
       omega (arith, first_facts.below, not_last)

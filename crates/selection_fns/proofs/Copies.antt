@@ -1,18 +1,12 @@
 -- Copies of the places of an axis.
 use Rattle.std.proofs.Common.{◌≡◌, ℕ, zero, suc, ◌+◌, ◌-◌, ◌*◌, ◌/◌, ◌<◌, ◌≤◌, Bool, true, false, nat_le, if◌then◌else◌, ◌&&◌, ◌||◌, nat_eq, All, Result, Ok, Err, List, [], ◌∷◌, length, ◌++◌, map, take, drop, pos, negsuc, unsigned_abs, get_or, set, replicate, insert, remove, refl, ap, sym, subst, ◌∙◌, append-nil, ℤ, arith}
-use Rattle.std.{specs.Option.{is_some}, specs.Prelude.{max, sum, Option, Some, None, IfSome}, specs.List.{list_all}}
-use Rattle.std.{proofs.lemmas.Bool.{and_parts, and_from, leb-true}, proofs.lemmas.List.Folds.{list_all_more}, proofs.lemmas.Bool.Decides.{nat_tests}}
-use Rattle.std.proofs.lemmas.List.{drop_more, take-map, get_or-map, get_or_default, length-append, length-map, length-replicate, get_or-replicate, take_all, take-set, take_more_set}
-use Rattle.std.proofs.Math.Nat.{div-eq-sub-div, div-eq_of_lt}
-use Rattle.arrays_core.{specs.declared.item.Item.{Item}, specs.declared.item.ItemType.{ItemType}, specs.declared.item.Kind.{Kind}}
-use Rattle.arrays_core.{specs.declared.item.Kind.TheVariants.{Axis, Length, Domain, Limit}, specs.Items.{type_of}, specs.Arrays.{ArrayValue, item_of}}
-use Rattle.arrays_core.specs.Shapes.{size, is_index_of}
+use Rattle.std.{specs.Option.{is_some}, specs.Prelude.{max, sum, Option, Some, None, IfSome}, specs.List.{list_all}, proofs.lemmas.Bool.{and_parts, and_from, leb-true}, proofs.lemmas.Bool.Decides.{nat_tests}}
+use Rattle.std.{proofs.lemmas.List.{drop_more, get_or-map, get_or_default, length-append, length-map, length-replicate, get_or-replicate, take_all, take-set, take_more_set}, proofs.Math.Nat.{div-eq-sub-div, div-eq_of_lt}}
+use Rattle.arrays_core.{specs.declared.item.Item.{Item}, specs.declared.item.ItemType.{ItemType}, specs.declared.item.Kind.{Kind}, specs.declared.item.Kind.TheVariants.{Axis, Length, Domain, Limit}, specs.Items.{type_of}, specs.Arrays.{ArrayValue, item_of}, specs.Shapes.{size, is_index_of}}
 use Rattle.function_names.{specs.declared.along.Along.{Along}, specs.Axes.{is_axis, axis_at}}
-use Rattle.index_region.{specs.Checks.{form_of, Form, check, limited}, specs.Sources.{Place, Source}, specs.Axes.{places_along}}
-use Rattle.index_region.{specs.Arguments.{is_list, has_one_item, counts_as_numbers, none_negative, numbers, number_of}, specs.Answers.{IsPlaceOf, HasTypeOf}}
+use Rattle.index_region.{specs.Checks.{form_of, Form, check, limited}, specs.Sources.{Place, Source}, specs.Axes.{places_along}, specs.Arguments.{is_list, has_one_item, counts_as_numbers, none_negative, numbers, number_of}, specs.Answers.{IsPlaceOf, HasTypeOf}}
 use Rattle.index_region.{proofs.Passing.{passed, place_inside, typed_check, typed_limited}, proofs.RowIndices.{axis_below}}
-use Rattle.selection_fns.{specs.Laws.RepeatedPlaces.{sum_front, walk, maker_is_walk}, proofs.Repeated.{sum_same, sum_within, maker_most}}
-use Rattle.selection_fns.specs.Replicate.{is_bit, IsMask, times, maker, counts_checked, copied_place, replicated_shape, replicate_form, replicate_source}
+use Rattle.selection_fns.{specs.Laws.RepeatedPlaces.{sum_front, walk, maker_is_walk}, proofs.Repeated.{sum_same, sum_within, maker_most}, specs.Replicate.{is_bit, IsMask, times, maker, counts_checked, copied_place, replicated_shape, replicate_form, replicate_source}}
 use Rattle.selection_fns.specs.Laws.CopiedPlaces.{IsCopied, is_copied, replicate_gives}
 
 -- the place that makes a copy where each is copied as often
@@ -39,8 +33,7 @@ each_walk (suc n) count i low high = decide (λ j. each_walk n count j) (nat_le 
         let above : count < i = grind (arith, nat_tests) in
         let less : (i - 1) / count ≡ (i - 1 - count) / count + 1 = div-eq-sub-div positive (omega arith) in
         let order : i - 1 - count ≡ i - count - 1 = omega arith in
-        let rest = before (i - count) (omega arith) (omega arith) in
-        ap (λ k. k + 1) (less ∙ ap (λ m. m / count + 1) order) ∙ plus_one _ _ rest ∙ sym (step false h)
+        ap (λ k. k + 1) (less ∙ ap (λ m. m / count + 1) order) ∙ plus_one _ _ (before (i - count) (omega arith) (omega arith)) ∙ sym (step false h)
       where
         plus_one : (a b : ℕ) → a + 1 ≡ b → a + 1 + 1 ≡ suc b
         plus_one a b h = omega arith
@@ -81,11 +74,9 @@ replicated_inside along a b index h =
     let rank = max 1 (length b.shape) in
     let axis = axis_at rank along in
     let n = places_along b.shape axis in
-    let on_axis = passed (is_axis rank along) _ _ index h in
-    let ranks = passed (is_list a) _ _ index on_axis.place in
+    let ranks = passed (is_list a) _ _ index (passed (is_axis rank along) _ _ index h).place in
     let lengths = passed (has_one_item a || (nat_eq n 1 || nat_eq (length a.items) n)) _ _ index ranks.place in
-    let counted = passed (counts_as_numbers a && none_negative (numbers a)) _ _ index lengths.place in
-    place_inside (replicated_shape a b.shape axis) b.item_type index counted.place
+    place_inside (replicated_shape a b.shape axis) b.item_type index (passed (counts_as_numbers a && none_negative (numbers a)) _ _ index lengths.place).place
 
 pub on_axis : (along : Along) (a b : ArrayValue) (index : List ℕ) → IsPlaceOf (replicate_form along a b) index → is_axis (max 1 (length b.shape)) along ≡ true
 on_axis along a b index h = (passed (is_axis (max 1 (length b.shape)) along) _ _ index h).test
@@ -97,9 +88,8 @@ replicate_typed along a b item h =
     let n = places_along b.shape axis in
     let last = limited (replicated_shape a b.shape axis) b.item_type in
     let counted = check (counts_as_numbers a && none_negative (numbers a)) Domain last in
-    let lengths = check (has_one_item a || (nat_eq n 1 || nat_eq (length a.items) n)) Length counted in
     typed_check (is_axis rank along) _ _ item
-    (typed_check (is_list a) _ lengths item
+    (typed_check (is_list a) _ (check (has_one_item a || (nat_eq n 1 || nat_eq (length a.items) n)) Length counted) item
     (typed_check (has_one_item a || (nat_eq n 1 || nat_eq (length a.items) n)) _ counted item
     (typed_check (counts_as_numbers a && none_negative (numbers a)) _ last item
     (typed_limited (replicated_shape a b.shape axis) b.item_type item h))))
@@ -141,8 +131,7 @@ walk_run (count ∷ counts) (suc k) i below low high =
     let least : count + sum (take k counts) < i = subst (λ n. n < i) (sum_front count (take k counts)) low in
     let most : i ≤ count + sum (take k counts) + get_or counts k 0 = subst (λ n. i ≤ n + get_or counts k 0) (sum_front count (take k counts)) high in
     let later : nat_le i count ≡ false = above i count (omega arith) in
-    let rest = walk_run counts k (i - count) (omega arith) (omega arith) (omega arith) in
-    ap (λ (w : Bool). if w then 1 else suc (walk counts (i - count))) later ∙ next _ rest
+    ap (λ (w : Bool). if w then 1 else suc (walk counts (i - count))) later ∙ next _ (walk_run counts k (i - count) (omega arith) (omega arith) (omega arith))
   where
     above : (i count : ℕ) → count < i → nat_le i count ≡ false
     above i count h = grind (arith, nat_tests)
@@ -202,13 +191,11 @@ pub record AreBefore (counts : List ℕ) (k : ℕ) (before : List ℕ) : Type 0 
 pub copies_fit : (counts : List ℕ) (k : ℕ) (before : List ℕ) → AreBefore counts k before → k < length counts → length before + get_or counts k 0 ≤ sum counts
 copies_fit counts k before made h =
     let within = sum_within counts k h in
-    let first = made.first in
     omega arith
 
 pub one_place_more : (counts : List ℕ) (k count : ℕ) (before new : List ℕ) → k < length counts → count ≡ get_or counts k 0 → new ≡ before ++ replicate count k → AreBefore counts k before
     → AreBefore counts (k + 1) new
 one_place_more counts k count before new below same put made =
-    let first = made.first in
     let taken : sum (take (k + 1) counts) ≡ sum (take k counts) + get_or counts k 0 = let next : k + 1 ≡ suc k = omega arith in rw next (sum_taken counts k below) in
     let long : length new ≡ length before + count = rw put (simp (length-append, length-replicate) (omega arith)) in
     let told = holds_with_run before count k (λ i. maker counts (i + 1)) made.is
@@ -252,27 +239,6 @@ pub record IsMaskSoFar (zs : List ℤ) (k : ℕ) (are_bits : Bool) (ones : ℕ) 
   pub bits : are_bits ≡ list_all is_bit (take k zs)
   pub few : ones ≤ k
   pub copies : are_bits ≡ true → ones ≡ sum (map unsigned_abs (take k zs))
-
-pub mask_more : (zs : List ℤ) (k ones one : ℕ) (are_bits still : Bool) → k < length zs → still ≡ (are_bits && is_bit (get_or zs k (pos 0)))
-    → (is_bit (get_or zs k (pos 0)) ≡ true → one ≡ unsigned_abs (get_or zs k (pos 0))) → one ≤ 1 → IsMaskSoFar zs k are_bits ones → IsMaskSoFar zs (k + 1) still (ones + one)
-mask_more zs k ones one are_bits still below is counted low made =
-    let few = made.few in
-    record {
-      bits = is ∙ ap (λ (b : Bool). b && is_bit (get_or zs k (pos 0))) made.bits ∙ sym (list_all_more is_bit zs k (pos 0) below);
-      few = omega arith;
-      copies = λ h.
-          let parts = and_parts are_bits (is_bit (get_or zs k (pos 0))) (sym is ∙ h) in
-          let front = made.copies parts.0 in
-          let here = counted parts.1 in
-          let long = length-map zs unsigned_abs in
-          let more = sum_taken (map unsigned_abs zs) k (omega arith) in
-          let at = get_or-map unsigned_abs zs k (pos 0) 0 below in
-          let next : k + 1 ≡ suc k = omega arith in
-          let whole : sum (take (k + 1) (map unsigned_abs zs)) ≡ sum (take k (map unsigned_abs zs)) + get_or (map unsigned_abs zs) k 0 = rw next more in
-          let front_taken = ap sum (take-map unsigned_abs k zs) in
-          let whole_taken = ap sum (take-map unsigned_abs (k + 1) zs) in
-          omega (arith, front, here, whole, at, front_taken, whole_taken);
-    }
 
 -- a place more, which stands behind the copies before it, and stays there where its count is 1
 pub record IsMaskStep (counts : List ℕ) (k copies : ℕ) (new : List ℕ) : Type 0 where
@@ -319,19 +285,13 @@ pub copy_source : (along : Along) (a b : ArrayValue) (index before : List ℕ) (
     → ((i : ℕ) → i < length before → get_or before i 0 + 1 ≡ copied_place a (places_along b.shape k) (i + 1))
     → Place 1 (set index k (get_or before (get_or index k 0 - 1) 0 + 1)) ≡ replicate_source along a b index
 copy_source along a b index before k some facts long is =
-    let low = facts.copied.low in
-    let high = facts.copied.high in
-    let within = facts.copied.long in
-    let below = facts.below in
     let i = get_or index k 0 - 1 in
     let again : i + 1 ≡ get_or index k 0 = omega arith in
-    let there : get_or index k 0 ≡ get_or index k 1 = get_or_default index k 0 1 (omega arith) in
     let place : get_or before i 0 + 1 ≡ copied_place a (places_along b.shape k) (get_or index k 1) =
-    is i (omega arith) ∙ ap (λ j. copied_place a (places_along b.shape k) j) (again ∙ there) in
-    let array : nat_eq (length b.shape) 0 ≡ false = positive (length b.shape) some in
+    is i (omega arith) ∙ ap (λ j. copied_place a (places_along b.shape k) j) (again ∙ (get_or_default index k 0 1 (omega arith))) in
     ap (λ p. Place 1 (set index k p)) place
     ∙ ap (λ m. Place 1 (set index m (copied_place a (places_along b.shape m) (get_or index m 1)))) facts.axis
-    ∙ sym (ap (λ (w : Bool). source_of w) array)
+    ∙ sym (ap (λ (w : Bool). source_of w) (positive (length b.shape) some))
   where
     source_of : Bool → Source
     source_of w =
@@ -347,9 +307,7 @@ pub copies_within : (a : ArrayValue) (n total : ℕ) (before : List ℕ) → n �
 copies_within a n total before places counts long is =
     λ k d h.
     let there : get_or before k d ≡ get_or before k 0 = get_or_default before k d 0 h in
-    let place = is k (omega (arith, long, h)) in
-    let most = copied_most (nat_eq n 1) (has_one_item a) (k + 1) in
-    omega (arith, there, place, most)
+    omega (arith, there, is k (omega (arith, long, h)), copied_most (nat_eq n 1) (has_one_item a) (k + 1))
   where
     copied_most : (v w : Bool) (i : ℕ) → (if v then 1 else maker (if w then replicate n (unsigned_abs (number_of (item_of a []))) else map unsigned_abs (numbers a)) i) ≤ 1048577
     copied_most true w i = omega arith

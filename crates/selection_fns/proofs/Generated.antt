@@ -1,15 +1,9 @@
 -- The index lists of an index generator's result.
-use Rattle.std.proofs.Common.{◌≡◌, ℕ, Bool, true, false, cond, ◌+◌, ◌*◌, ◌<◌, ◌≤◌, pos, List, [], ◌∷◌, length, get_or, map, Ok, Err, refl, ap, sym, ◌∙◌, arith}
-use Rattle.std.{specs.Prelude.{nat_eq, nat_le, unsigned_abs, ◌&&◌}, specs.List.{range_with_len}, proofs.lemmas.Bool.{false≢true, eqb-true, leb-true}}
-use Rattle.std.{proofs.lemmas.List.FromFn.{length-map-range_with_len, get_or-map-range_with_len}, proofs.Math.Nat.{div-one}}
-use Rattle.std.{proofs.lemmas.Bool.Decides.{nat_tests}, proofs.lemmas.List.{length-map, get_or-map}}
-use Rattle.arrays_core.{specs.declared.item.Item.{Item}, specs.declared.item.Item.TheVariants.{Num}, specs.declared.item.ItemType.{ItemType}}
-use Rattle.arrays_core.{specs.declared.item.ItemType.TheVariants.{Nums}, specs.declared.item.Kind.TheVariants.{Rank, Length, Domain, Limit}}
-use Rattle.arrays_core.{specs.Items.{and_then}, specs.Shapes.{index_after}, specs.Arrays.{ArrayValue, collect, with_items, vector_of}}
-use Rattle.arrays_core.{proofs.Order.{given_in_order}, proofs.Shapes.{as_long}}
-use Rattle.index_region.{specs.Checks.{Form, form_of, is_within_limits}, specs.ArgumentLists.{of_one_argument}}
-use Rattle.index_region.{specs.Arguments.{is_list, has_one_item, counts_as_numbers, none_negative, numbers, number_of}, specs.Answers.{IsPlaceOf}}
-use Rattle.index_region.proofs.Passing.{passed, place_inside, gives, limited_gives}
+use Rattle.std.{proofs.Common.{◌≡◌, ℕ, Bool, true, false, cond, ◌+◌, ◌*◌, ◌<◌, ◌≤◌, pos, List, [], ◌∷◌, length, get_or, map, Ok, Err, refl, ap, sym, ◌∙◌, arith}, specs.Prelude.{nat_eq, nat_le, unsigned_abs, ◌&&◌}, specs.List.{range_with_len}, proofs.lemmas.Bool.{false≢true, eqb-true, leb-true}}
+use Rattle.std.{proofs.lemmas.List.FromFn.{length-map-range_with_len, get_or-map-range_with_len}, proofs.Math.Nat.{div-one}, proofs.lemmas.Bool.Decides.{nat_tests}, proofs.lemmas.List.{length-map, get_or-map}}
+use Rattle.arrays_core.{specs.declared.item.Item.{Item}, specs.declared.item.Item.TheVariants.{Num}, specs.declared.item.ItemType.{ItemType}, specs.declared.item.ItemType.TheVariants.{Nums}, specs.declared.item.Kind.TheVariants.{Rank, Length, Domain, Limit}, specs.Items.{and_then}, specs.Shapes.{index_after}}
+use Rattle.arrays_core.{specs.Arrays.{ArrayValue, collect, with_items, vector_of}, proofs.Order.{given_in_order}, proofs.Shapes.{as_long}}
+use Rattle.index_region.{specs.Checks.{Form, form_of, is_within_limits}, specs.ArgumentLists.{of_one_argument}, specs.Arguments.{is_list, has_one_item, counts_as_numbers, none_negative, numbers, number_of}, specs.Answers.{IsPlaceOf}, proofs.Passing.{passed, place_inside, gives, limited_gives}}
 use Rattle.selection_fns.specs.IndexGenerator.{generator_form, generator_item, generator_whole}
 
 -- there is one index
@@ -17,8 +11,7 @@ pub has_index : (args : List ArrayValue) (index : List ℕ) → IsPlaceOf (of_on
 has_index [] index h = absurd h
 has_index (a ∷ b ∷ args) index h = absurd h
 has_index (n ∷ []) index h =
-    let rank = passed (is_list n) _ _ index h in
-    let one = passed (has_one_item n) _ _ index rank.place in
+    let one = passed (has_one_item n) _ _ index (passed (is_list n) _ _ index h).place in
     let counted = passed (counts_as_numbers n && none_negative (numbers n)) _ _ index one.place in
     let long = as_long (map unsigned_abs (numbers n)) index (place_inside (map unsigned_abs (numbers n)) _ index counted.place) in
     let single = one_item (length n.items) one.test in
@@ -44,8 +37,7 @@ axis_within false false places h = absurd (false≢true h)
 
 generated_of : (n : ArrayValue) (shape : List ℕ) (item_type : ItemType) → generator_form n ≡ Ok (form_of shape item_type) → Generated n shape item_type
 generated_of n shape item_type form =
-    let rank = gives (is_list n) Rank _ (form_of shape item_type) form in
-    let one = gives (has_one_item n) Length _ (form_of shape item_type) rank.is in
+    let one = gives (has_one_item n) Length _ (form_of shape item_type) (gives (is_list n) Rank _ (form_of shape item_type) form).is in
     let counted = gives (counts_as_numbers n && none_negative (numbers n)) Domain _ (form_of shape item_type) one.is in
     let same = limited_gives (map unsigned_abs (numbers n)) Nums (form_of shape item_type) counted.is in
     let limits = gives (is_within_limits (map unsigned_abs (numbers n))) Limit _ (form_of shape item_type) counted.is in

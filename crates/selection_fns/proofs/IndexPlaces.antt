@@ -1,15 +1,10 @@
 -- The places that the items of an indexed reference come from.
-use Rattle.std.proofs.Common.{◌≡◌, ℕ, zero, suc, ◌+◌, ◌-◌, ◌*◌, ◌<◌, ◌≤◌, pos, unsigned_abs, Bool, true, false, List, [], ◌∷◌, ◌++◌, map, length, get_or, take, drop, Some, None, Ok, refl, ap, sym, subst, ◌∙◌, arith}
-use Rattle.std.{specs.List.{list_all, range_with_len}, specs.Prelude.{not, nat_eq, ◌&&◌}, proofs.lemmas.Bool.{and_parts, eqb-true, false≢true}}
-use Rattle.std.proofs.lemmas.List.{length-map, get_or-map}
-use Rattle.std.proofs.lemmas.List.FromFn.{length-map-range_with_len, get_or-map-range_with_len, length-range_with_len, get_or-range_with_len}
-use Rattle.arrays_core.{specs.declared.item.Item.{Item}, specs.declared.item.ItemType.{ItemType}, specs.Building.{listed}, specs.Items.{fill, and_then}}
-use Rattle.arrays_core.{specs.Arrays.{ArrayValue, IsArray, collect, with_items}, specs.Shapes.{size, is_index_of, places_before, index_after, IsWithinLimits}}
+use Rattle.std.{proofs.Common.{◌≡◌, ℕ, zero, suc, ◌+◌, ◌-◌, ◌*◌, ◌<◌, ◌≤◌, pos, unsigned_abs, Bool, true, false, List, [], ◌∷◌, ◌++◌, map, length, get_or, take, drop, Some, None, Ok, refl, ap, sym, subst, ◌∙◌, arith}, specs.List.{list_all, range_with_len}, specs.Prelude.{not, nat_eq, ◌&&◌}}
+use Rattle.std.{proofs.lemmas.Bool.{and_parts, eqb-true, false≢true}, proofs.lemmas.List.{length-map, get_or-map}, proofs.lemmas.List.FromFn.{length-map-range_with_len, get_or-map-range_with_len, length-range_with_len, get_or-range_with_len}}
+use Rattle.arrays_core.{specs.declared.item.Item.{Item}, specs.declared.item.ItemType.{ItemType}, specs.Building.{listed}, specs.Items.{fill, and_then}, specs.Arrays.{ArrayValue, IsArray, collect, with_items}, specs.Shapes.{size, is_index_of, places_before, index_after, IsWithinLimits}}
 use Rattle.arrays_core.{proofs.Shapes.{head_of, places_below}, proofs.Order.{given_in_order, index_after-within, places_before-index_after}}
-use Rattle.index_region.{specs.Arguments.{is_scalar, number_of, numbers}, specs.Checks.{Form, form_of}, proofs.OnAxes.{OnAxis, one_more_inside}}
-use Rattle.index_region.proofs.Passing.{gives, limited_gives}
-use Rattle.selection_fns.specs.Index.{Position, written_positions, count_written, position_axes, indexed_shape, are_numbers, is_on_axis, is_on, are_on, source_index, index_form, index_item, index_whole}
-use Rattle.selection_fns.{specs.IndexPlaces.{sums, ArePlacesOf}, proofs.Indexed.{positions_long}, proofs.IndexedRows.{own_index, item_there}}
+use Rattle.index_region.{specs.Arguments.{is_scalar, number_of, numbers}, specs.Checks.{Form, form_of}, proofs.OnAxes.{OnAxis, one_more_inside}, proofs.Passing.{gives, limited_gives}}
+use Rattle.selection_fns.{specs.Index.{Position, written_positions, count_written, position_axes, indexed_shape, are_numbers, is_on_axis, is_on, are_on, source_index, index_form, index_item, index_whole}, specs.IndexPlaces.{sums, ArePlacesOf}, proofs.Indexed.{positions_long}, proofs.IndexedRows.{own_index, item_there}}
 use Rattle.selection_fns.{proofs.PlaceSums.{length-sums, get_or-sums, sums_below}, proofs.Positions.{split_inside}, proofs.SourcePlaces.{index_on_axis}}
 
 -- ---- shapes joined
@@ -17,8 +12,7 @@ use Rattle.selection_fns.{proofs.PlaceSums.{length-sums, get_or-sums, sums_below
 size_append : (shape rest : List ℕ) → size (shape ++ rest) ≡ size shape * size rest
 size_append [] rest = omega arith
 size_append (n ∷ shape) rest =
-    let more = size_append shape rest in
-    let whole : n * size (shape ++ rest) ≡ n * size shape * size rest = rw more (omega arith) in
+    let whole : n * size (shape ++ rest) ≡ n * size shape * size rest = rw (size_append shape rest) (omega arith) in
     whole
 
 places_append : (shape rest index : List ℕ) → is_index_of (shape ++ rest) index ≡ true
@@ -26,11 +20,9 @@ places_append : (shape rest index : List ℕ) → is_index_of (shape ++ rest) in
 places_append [] rest index h = omega arith
 places_append (n ∷ shape) rest [] h = absurd (false≢true h)
 places_append (n ∷ shape) rest (i ∷ index) h =
-    let more = places_append shape rest index (head_of n i (shape ++ rest) index h).rest in
-    let sized = size_append shape rest in
     let whole : (i - 1) * size (shape ++ rest) + places_before (shape ++ rest) index
     ≡ ((i - 1) * size shape + places_before shape (take (length shape) index)) * size rest + places_before rest (drop (length shape) index) =
-    rw (sized, more) (omega arith) in
+    rw (size_append shape rest, places_append shape rest index (head_of n i (shape ++ rest) index h).rest) (omega arith) in
     whole
 
 -- ---- the places of a list
@@ -39,7 +31,6 @@ places_append (n ∷ shape) rest (i ∷ index) h =
 pub places_inside : (axes : List ℕ) (positions : List Position) (places : List ℕ) → ArePlacesOf axes positions places → (k : ℕ) → k < length places → get_or places k 0 < size axes
 places_inside axes positions places found k h =
     let shape = indexed_shape axes positions in
-    let long = found.as_many in
     let below : k < size shape = omega arith in
     let there = index_after-within shape k below in
     let is : get_or places k 0 ≡ places_before axes (source_index positions (index_after shape k)) =
@@ -68,8 +59,6 @@ whole_axis n step = record {
     axis_is [] h = absurd (false≢true h)
     axis_is (i ∷ at) h =
         let head = head_of n i [] at h in
-        let low = head.low in
-        let high = head.high in
         let here : (i - 1) * 1 + 0 ≡ i - 1 = omega arith in
         ap (λ k. get_or (listed n (λ j. j * step)) k 0) here ∙ get_or-map-range_with_len (λ k. k * step) 0 n (i - 1) (i - 1) 0 (omega arith) (omega arith)
 
@@ -80,7 +69,6 @@ written_indices n step p sound on = record {
   is = λ at h.
       let k = places_before p.shape at in
       let below = places_below p.shape at h in
-      let long = sound.one_item_a_place in
       let numbered = length-map p.items number_of in
       get_or-map (λ z. (unsigned_abs z - 1) * step) (numbers p) k (pos 0) 0 (omega arith)
       ∙ ap (λ z. (unsigned_abs z - 1) * step) (get_or-map number_of p.items k (fill p.item_type) (pos 0) (omega arith));
@@ -119,13 +107,11 @@ module _ (n : ℕ) (axes : List ℕ) (q : Position) (positions : List Position) 
       let at = take (length (position_axes n q)) index in
       let others = drop (length (position_axes n q)) index in
       let before = places_append (position_axes n q) rest index h in
-      let as_many = own.as_many in
-      let long = found.as_many in
       let i = places_before (position_axes n q) at in
       let j = places_before rest others in
       let first = places_below (position_axes n q) at parts.first in
       let second = places_below rest others parts.others in
-      let place : places_before (position_axes n q ++ rest) index ≡ i * length places + j = before ∙ ap (λ m. i * m + j) (sym long) in
+      let place : places_before (position_axes n q ++ rest) index ≡ i * length places + j = before ∙ ap (λ m. i * m + j) (sym found.as_many) in
       let sum : get_or (sums offsets places) (i * length places + j) 0 ≡ get_or offsets i 0 + get_or places j 0 = get_or-sums offsets places i j (omega arith) (omega arith) in
       let left = own.is at parts.first in
       let right = found.is others parts.others in
@@ -157,8 +143,6 @@ last_axis n = record {
     axis_is [] h = absurd (false≢true h)
     axis_is (i ∷ index) h =
         let head = head_of n i [] index h in
-        let low = head.low in
-        let high = head.high in
         let here : (i - 1) * 1 + 0 ≡ i - 1 = omega arith in
         let back : 0 + (i - 1) ≡ (i - 1) * 1 + 0 = omega arith in
         ap (λ k. get_or (range_with_len 0 n) k 0) here ∙ get_or-range_with_len 0 n (i - 1) 0 (omega arith) ∙ back
@@ -185,8 +169,6 @@ factors (suc m) (suc r) h = (omega arith, omega arith, omega arith)
 rest_within : (n : ℕ) (axes : List ℕ) → 0 < n → IsWithinLimits (n ∷ axes) → IsWithinLimits axes
 rest_within zero axes some within = absurd (omega arith)
 rest_within (suc n) axes some within =
-    let sized = within.size_within in
-    let rank = within.rank in
     record { rank = omega arith; axes = λ k d h. within.axes (suc k) d (omega arith); size_within = omega arith }
 
 pub axes_indexed : (n : ℕ) (axes : List ℕ) (q : Position) (positions : List Position) (offsets : List ℕ) (step : ℕ) → AreOffsetsOf n step q offsets → IsWithinLimits (n ∷ axes)
@@ -196,8 +178,6 @@ axes_indexed n axes q positions offsets step own within some =
     let sized = size_append (position_axes n q) (indexed_shape axes positions) in
     let parts = factors (size (position_axes n q)) (size (indexed_shape axes positions)) (omega arith) in
     let first = own.on (index_after (position_axes n q) 0) (index_after-within (position_axes n q) 0 parts.0) in
-    let low = first.low in
-    let high = first.high in
     let axis : 0 < n = omega arith in
     record { axis = axis; within = rest_within n axes axis within; some = parts.1; few = let less = parts.2 in omega arith }
 
@@ -218,8 +198,7 @@ empty_rest axes [] args within same long on some there h = absurd (omega arith)
 empty_rest axes (true ∷ written) args within same long on some there h = let no : ⊥ = cc in absurd no
 empty_rest [] (false ∷ written) args within same long on some there h = absurd (omega arith)
 empty_rest (n ∷ axes) (false ∷ written) args within same long on some there h =
-    let positions = written_positions written args in
-    let known = axes_indexed n axes None positions (listed n (λ k. k * 1)) 1 (whole_axis n 1) within some in
+    let known = axes_indexed n axes None (written_positions written args) (listed n (λ k. k * 1)) 1 (whole_axis n 1) within some in
     record { within = known.within; one_an_axis = omega arith; long = long; on = on; some = known.some; few = known.few; sized = refl }
 
 pub written_rest : (axes : List ℕ) (written : List Bool) (args : List ArrayValue) (p : ArrayValue) → IsWithinLimits axes → length written ≡ length axes → length args ≡ count_written written
@@ -230,9 +209,8 @@ written_rest axes (false ∷ written) args p within same long on some h is sound
 written_rest [] (true ∷ written) args p within same long on some h is sound = absurd (omega arith)
 written_rest (n ∷ axes) (true ∷ written) [] p within same long on some h is sound = absurd (omega arith)
 written_rest (n ∷ axes) (true ∷ written) (a ∷ args) p within same long on some h is sound =
-    let positions = written_positions written args in
     let both = and_parts (is_on n (Some a)) _ on in
-    let known = axes_indexed n axes (Some a) positions _ 1 (written_indices n 1 a (subst IsArray is sound) both.0) within some in
+    let known = axes_indexed n axes (Some a) (written_positions written args) _ 1 (written_indices n 1 a (subst IsArray is sound) both.0) within some in
     record { within = known.within; one_an_axis = omega arith; long = omega arith; on = both.1; some = known.some; few = known.few; sized = refl }
 
 pub empty_more : (axes : List ℕ) (written : List Bool) (args : List ArrayValue) (step : ℕ) (offsets places : List ℕ) → length written ≡ length axes → 0 < length written
@@ -245,16 +223,6 @@ empty_more (n ∷ axes) (false ∷ written) args step offsets places same there 
     subst (λ xs. ArePlacesOf (n ∷ axes) (None ∷ written_positions written args) (sums xs places)) (ap (λ s. listed n (λ k. k * s)) (sym stepped) ∙ sym is)
     (one_axis_more n axes None (written_positions written args) (listed n (λ k. k * size axes)) places (whole_axis n (size axes)) found)
 
--- the first position of those that are written, and its indices on the first axis
-pub written_on : (axes : List ℕ) (written : List Bool) (args : List ArrayValue) (p : ArrayValue) → length written ≡ length axes → length args ≡ count_written written
-    → are_on axes (written_positions written args) ≡ true → get_or written 0 false ≡ true → p ≡ get_or args 0 p → list_all (is_on_axis (get_or axes 0 0)) (numbers p) ≡ true
-written_on axes [] args p same long on h is = let no : ⊥ = cc in absurd no
-written_on axes (false ∷ written) args p same long on h is = let no : ⊥ = cc in absurd no
-written_on [] (true ∷ written) args p same long on h is = absurd (omega arith)
-written_on (n ∷ axes) (true ∷ written) [] p same long on h is = absurd (omega arith)
-written_on (n ∷ axes) (true ∷ written) (a ∷ args) p same long on h is =
-    subst (λ q. list_all (is_on_axis n) (numbers q) ≡ true) (sym is) (and_parts (is_on n (Some a)) _ on).0
-
 pub written_some : (axes : List ℕ) (written : List Bool) (args : List ArrayValue) (p : ArrayValue) → length written ≡ length axes → length args ≡ count_written written
     → 0 < size (indexed_shape axes (written_positions written args)) → get_or written 0 false ≡ true → p ≡ get_or args 0 p → 0 < size p.shape
 written_some axes [] args p same long some h is = let no : ⊥ = cc in absurd no
@@ -263,8 +231,7 @@ written_some [] (true ∷ written) args p same long some h is = absurd (omega ar
 written_some (n ∷ axes) (true ∷ written) [] p same long some h is = absurd (omega arith)
 written_some (n ∷ axes) (true ∷ written) (a ∷ args) p same long some h is =
     let sized = size_append a.shape (indexed_shape axes (written_positions written args)) in
-    let parts = factors (size a.shape) (size (indexed_shape axes (written_positions written args))) (omega arith) in
-    subst (λ q. 0 < size q.shape) (sym is) parts.0
+    subst (λ q. 0 < size q.shape) (sym is) (factors (size a.shape) (size (indexed_shape axes (written_positions written args))) (omega arith)).0
 
 pub written_more : (axes : List ℕ) (written : List Bool) (args : List ArrayValue) (p : ArrayValue) (step : ℕ) (offsets places : List ℕ) → length written ≡ length axes
     → length args ≡ count_written written → are_on axes (written_positions written args) ≡ true → get_or written 0 false ≡ true → p ≡ get_or args 0 p → IsArray p
@@ -290,12 +257,6 @@ empty_last (n ∷ []) (false ∷ []) args places same there h alone is = subst (
 empty_last (n ∷ []) (false ∷ w ∷ written) args places same there h alone is = absurd (omega arith)
 empty_last (n ∷ m ∷ axes) (false ∷ written) args places same there h alone is = absurd (omega arith)
 
-pub none_written : (axes : List ℕ) (written : List Bool) (args : List ArrayValue) (places : List ℕ) → length written ≡ length axes → length written ≡ 0 → places ≡ 0 ∷ []
-    → ArePlacesOf axes (written_positions written args) places
-none_written [] [] args places same none is = subst (ArePlacesOf [] []) (sym is) no_axes
-none_written (n ∷ axes) [] args places same none is = absurd (omega arith)
-none_written axes (w ∷ written) args places same none is = absurd (omega arith)
-
 -- the bounds under which offsets and places are added
 pub record IsSumWithin (offsets places : List ℕ) (m : ℕ) : Type 0 where
   pub few : length offsets * length places ≤ m
@@ -304,13 +265,11 @@ pub record IsSumWithin (offsets places : List ℕ) (m : ℕ) : Type 0 where
 pub sum_within : (axes : List ℕ) (positions : List Position) (offsets places : List ℕ) → ArePlacesOf axes positions (sums offsets places) → IsWithinLimits axes
     → size (indexed_shape axes positions) ≤ 1048576 → IsSumWithin offsets places 1048576
 sum_within axes positions offsets places found within few =
-    let long = found.as_many in
     let counted = length-sums offsets places in
     record {
       few = omega arith;
       fit = λ i j h g.
           let below = sums_below offsets places (size axes) (places_inside axes positions (sums offsets places) found) i j h g in
-          let sized = within.size_within in
           omega arith;
     }
 
@@ -329,11 +288,10 @@ picked_places a positions shape places item_type form shaped typed found =
     each k h =
         let index = index_after shape k in
         let within : is_index_of (indexed_shape a.shape positions) index ≡ true = subst (λ s. is_index_of s index ≡ true) shaped (index_after-within shape k h) in
-        let inside = found.inside index within in
         let place : places_before (indexed_shape a.shape positions) index ≡ k = ap (λ s. places_before s index) (sym shaped) ∙ places_before-index_after shape k h in
         let is : places_before a.shape (source_index positions index) ≡ get_or places k 0 = sym (found.is index within) ∙ ap (λ j. get_or places j 0) place in
         let sized : length places ≡ size shape = found.as_many ∙ ap size (sym shaped) in
-        item_there a (source_index positions index) inside
+        item_there a (source_index positions index) (found.inside index within)
         ∙ ap (λ j. Ok (get_or a.items j (fill a.item_type))) is
         ∙ ap (λ (x : Item). Ok x) (sym (get_or-map (λ j. get_or a.items j (fill a.item_type)) places k 0 (fill a.item_type) (omega arith)))
 

@@ -1,6 +1,5 @@
 -- Indexed references whose checks have passed.
-use Rattle.std.{proofs.Common.{◌≡◌, ℕ, suc, ◌<◌, Bool, true, false, List, [], ◌∷◌, length, refl, arith}, specs.Prelude.{nat_eq, not, ◌&&◌, Result}}
-use Rattle.std.{specs.List.{list_all}, proofs.lemmas.Bool.Decides.{nat_tests}}
+use Rattle.std.{proofs.Common.{◌≡◌, ℕ, suc, ◌<◌, Bool, true, false, List, [], ◌∷◌, length, refl, arith}, specs.Prelude.{nat_eq, not, ◌&&◌, Result}, specs.List.{list_all}, proofs.lemmas.Bool.Decides.{nat_tests}}
 use Rattle.arrays_core.{specs.declared.item.Item.{Item}, specs.declared.item.Kind.{Kind}, specs.Arrays.{ArrayValue}, specs.Shapes.{is_index_of}}
 use Rattle.index_region.{specs.Checks.{Form, whole}, specs.Arguments.{is_scalar}, specs.Answers.{IsPlaceOf}, proofs.Passing.{passed, place_inside}}
 use Rattle.selection_fns.specs.Index.{Position, count_written, written_positions, of_array_and_positions, are_numbers, are_on, indexed_shape, index_form}
@@ -22,8 +21,7 @@ pub has_passed : (a : ArrayValue) (written : List Bool) (args : List ArrayValue)
 has_passed a written args index long h =
     let positions = written_positions written args in
     let rank = passed (not (is_scalar a) && nat_eq (length positions) (length a.shape)) _ _ index h in
-    let counted = passed (list_all are_numbers positions) _ _ index rank.place in
-    let on = passed (are_on a.shape positions) _ _ index counted.place in
+    let on = passed (are_on a.shape positions) _ _ index (passed (list_all are_numbers positions) _ _ index rank.place).place in
     let as_many = positions_long written args long in
     let same = as_many_axes (not (is_scalar a)) (length positions) (length a.shape) rank.test in
     record {

@@ -1,15 +1,10 @@
 -- Rows of an index: what stands along the last axis of the result comes from one row of the array, where the last position has an axis.
-use Rattle.std.proofs.Common.{◌≡◌, ℕ, suc, ◌+◌, ◌-◌, ◌*◌, ◌<◌, ◌≤◌, ℤ, pos, unsigned_abs, Bool, true, false, cond, List, [], ◌∷◌, ◌++◌, length, take, drop, get_or, Some, None, Result, Ok, Err, refl, ap, sym, subst, ◌∙◌, append-nil, arith}
-use Rattle.std.{specs.Prelude.{unwrap_or, not, nat_eq, map, ◌&&◌}, specs.List.{list_all}, proofs.lemmas.Bool.{and_parts, false≢true}}
-use Rattle.std.proofs.lemmas.List.{length-append, length-drop, length_push, take_all, take-append-le, drop-append-le, drop-drop, length-map, get_or-map}
-use Rattle.std.proofs.Math.Seq.{drop-length, get_or-append_seam}
-use Rattle.arrays_core.{specs.declared.item.Item.TheVariants.{Num}, specs.declared.item.ItemType.{ItemType}, specs.declared.item.Kind.{Kind}}
-use Rattle.arrays_core.{specs.Items.{fill}, specs.Arrays.{ArrayValue, IsArray, item_of}, specs.Shapes.{size, is_index_of, places_before}}
-use Rattle.arrays_core.{proofs.Shapes.{as_long, head_of, places_below}, proofs.Rows.{same_row, places_in_row, row_end}}
-use Rattle.index_region.{specs.Checks.{Form}, specs.Arguments.{is_scalar, number_of}, specs.Sources.{Place, item_from}, specs.Answers.{IsRowIn}}
-use Rattle.index_region.{proofs.OnAxes.{OnAxis}, proofs.Passing.{row_passed, row_inside, place_of_row}}
-use Rattle.selection_fns.specs.Index.{Position, written_positions, count_written, of_array_and_positions, position_axes, indexed_shape, is_on, are_on, are_numbers, source_index, index_form, index_item}
-use Rattle.selection_fns.{proofs.Indexed.{has_passed, positions_long}, proofs.Positions.{split_inside}, proofs.SourcePlaces.{index_on_axis}}
+use Rattle.std.{proofs.Common.{◌≡◌, ℕ, suc, ◌+◌, ◌-◌, ◌*◌, ◌<◌, ◌≤◌, ℤ, pos, unsigned_abs, Bool, true, false, cond, List, [], ◌∷◌, ◌++◌, length, take, drop, get_or, Some, None, Result, Ok, Err, refl, ap, sym, subst, ◌∙◌, append-nil, arith}, specs.Prelude.{unwrap_or, not, nat_eq, map, ◌&&◌}, specs.List.{list_all}}
+use Rattle.std.{proofs.lemmas.Bool.{and_parts, false≢true}, proofs.lemmas.List.{length-append, length-drop, length_push, take_all, take-append-le, drop-append-le, drop-drop, length-map, get_or-map}, proofs.Math.Seq.{drop-length, get_or-append_seam}}
+use Rattle.arrays_core.{specs.declared.item.Item.TheVariants.{Num}, specs.declared.item.ItemType.{ItemType}, specs.declared.item.Kind.{Kind}, specs.Items.{fill}, specs.Arrays.{ArrayValue, IsArray, item_of}, specs.Shapes.{size, is_index_of, places_before}, proofs.Shapes.{as_long, head_of, places_below}}
+use Rattle.arrays_core.proofs.Rows.{same_row, places_in_row, row_end}
+use Rattle.index_region.{specs.Checks.{Form}, specs.Arguments.{is_scalar, number_of}, specs.Sources.{Place, item_from}, specs.Answers.{IsRowIn}, proofs.OnAxes.{OnAxis}, proofs.Passing.{row_passed, row_inside, place_of_row}}
+use Rattle.selection_fns.{specs.Index.{Position, written_positions, count_written, of_array_and_positions, position_axes, indexed_shape, is_on, are_on, are_numbers, source_index, index_form, index_item}, proofs.Indexed.{has_passed, positions_long}, proofs.Positions.{split_inside}, proofs.SourcePlaces.{index_on_axis}}
 
 -- ---- the last position
 
@@ -242,8 +237,7 @@ module _ (a : ArrayValue) (positions : List Position) (row : List ℕ) (before c
   item_of_row i low high =
       let first = comes_from 1 (omega arith) (omega arith) in
       let first_there : is_index_of a.shape (others ++ index_at 1 ∷ []) ≡ true = subst (λ at. is_index_of a.shape at ≡ true) first there in
-      let end = row_end a.shape others (index_at 1) first_there in
-      let long = end.long in
+      let long = (row_end a.shape others (index_at 1) first_there).long in
       let last_at : get_or (others ++ index_at 1 ∷ []) (length a.shape - 1) 0 ≡ index_at 1 =
       ap (λ k. get_or (others ++ index_at 1 ∷ []) k 0) (let e : length a.shape - 1 ≡ length others = omega arith in e) ∙ get_or-append_seam others (index_at 1) [] 0 in
       let begun : before + index_at 1 ≡ places_before a.shape (others ++ index_at 1 ∷ []) + 1 =
@@ -251,16 +245,14 @@ module _ (a : ArrayValue) (positions : List Position) (row : List ℕ) (before c
       let below_own = own_below a.shape positions row i one_an_axis some (places i low high) own in
       let on_axis = own_on (get_or a.shape (length a.shape - 1) 0) (last_position positions) (own_part (last_position positions) row) i below_own (last_on a.shape positions one_an_axis some on) sound in
       let axis : get_or a.shape (length a.shape - 1) 0 ≡ get_or a.shape (length others) 0 = ap (λ k. get_or a.shape k 0) (let e : length a.shape - 1 ≡ length others = omega arith in e) in
-      let low_at = on_axis.low in
-      let high_at = on_axis.high in
-      let this_there = same_row a.shape others (index_at 1) (index_at i) first_there low_at (omega arith) in
-      let beside = places_in_row a.shape others (index_at 1) (index_at i) first_there low_at in
+      let this_there = same_row a.shape others (index_at 1) (index_at i) first_there on_axis.low (omega arith) in
+      let beside = places_in_row a.shape others (index_at 1) (index_at i) first_there on_axis.low in
       let below = places_below a.shape (others ++ index_at i ∷ []) this_there in
       let place : places_before a.shape (others ++ index_at i ∷ []) ≡ before + index_at i - 1 = omega arith in
       record {
         is = ap (λ at. item_from a a a.item_type (Place 0 at)) (comes_from i low high) ∙ item_there a (others ++ index_at i ∷ []) this_there
             ∙ ap (λ k. Ok (get_or a.items k (fill a.item_type))) place;
-        low = low_at;
+        low = on_axis.low;
         high = omega arith;
       }
 
@@ -283,10 +275,8 @@ last_index_below (n ∷ []) (i ∷ []) h = omega arith
 last_index_below (n ∷ []) (i ∷ j ∷ at) h = absurd (false≢true (head_of n i [] (j ∷ at) h).rest)
 last_index_below (n ∷ m ∷ shape) (i ∷ []) h = absurd (false≢true (head_of n i (m ∷ shape) [] h).rest)
 last_index_below (n ∷ m ∷ shape) (i ∷ j ∷ at) h =
-    let rest = last_index_below (m ∷ shape) (j ∷ at) (head_of n i (m ∷ shape) (j ∷ at) h).rest in
-    let last = last_later i j at 0 in
     let before : places_before (n ∷ m ∷ shape) (i ∷ j ∷ at) ≡ (i - 1) * size (m ∷ shape) + places_before (m ∷ shape) (j ∷ at) = refl in
-    omega (arith, rest, last, before)
+    omega (arith, last_index_below (m ∷ shape) (j ∷ at) (head_of n i (m ∷ shape) (j ∷ at) h).rest, last_later i j at 0, before)
 
 -- the indices that a row takes lie one after another
 pub indices_of_row : (p : ArrayValue) (zs : List ℤ) (own : List ℕ) (count : ℕ) → IsArray p → p.items ≡ map (λ z. Num z) zs
@@ -295,12 +285,10 @@ pub indices_of_row : (p : ArrayValue) (zs : List ℤ) (own : List ℕ) (count : 
     × ((i : ℕ) → i < count → number_of (item_of p (own ++ (i + 1) ∷ [])) ≡ get_or zs (places_before p.shape (own ++ 1 ∷ []) + i) (pos 0))
 indices_of_row p zs own count sound numbered places some =
     let long : length p.items ≡ length zs = ap length numbered ∙ length-map zs (λ z. Num z) in
-    let first = places 1 (omega arith) (omega arith) in
     let stands : (i : ℕ) → i < count → (places_before p.shape (own ++ (i + 1) ∷ []) ≡ places_before p.shape (own ++ 1 ∷ []) + i) × (places_before p.shape (own ++ 1 ∷ []) + i < length zs) =
     λ i h.
-    let beside = places_in_row p.shape own 1 (i + 1) first (omega arith) in
+    let beside = places_in_row p.shape own 1 (i + 1) (places 1 (omega arith) (omega arith)) (omega arith) in
     let below = places_below p.shape (own ++ (i + 1) ∷ []) (places (i + 1) (omega arith) (omega arith)) in
-    let one = sound.one_item_a_place in
     (omega arith, omega arith) in (
       let last = (stands (count - 1) (omega arith)).1 in omega arith,
       λ i h.
@@ -344,7 +332,6 @@ row_of_index written args a row count item_type long is h =
     let indexed = as_long (indexed_shape a.shape positions) (row ++ 1 ∷ []) first.inside in
     let pushed = length_push row 1 in
     let axes = some_axes a.shape positions (omega arith) in
-    let same = first.one_an_axis in
     record {
       args_are = whole;
       counted = counted;
@@ -384,9 +371,7 @@ module _ (written : List Bool) (args : List ArrayValue) (a : ArrayValue) (row : 
 
   pub run_item : last_position all_positions ≡ None → (j : ℕ) → j < count → index_item a all_positions (row ++ (0 + j + 1) ∷ []) ≡ Ok (get_or a.items (before + j) (fill a.item_type))
   run_item last j h =
-      let item = of_whole last (0 + j + 1) (omega arith) (omega arith) in
-      let place : before + (0 + j + 1) - 1 ≡ before + j = omega arith in
-      item.is ∙ ap (λ k. Ok (get_or a.items k (fill a.item_type))) place
+      (of_whole last (0 + j + 1) (omega arith) (omega arith)).is ∙ ap (λ k. Ok (get_or a.items k (fill a.item_type))) (omega arith)
 
   pub run_inside : last_position all_positions ≡ None → before + count ≤ size a.shape
   run_inside last = let some = known.positive in (of_whole last count (omega arith) (omega arith)).high
@@ -415,7 +400,6 @@ pub own_few : (written : List Bool) (args : List ArrayValue) (a : ArrayValue) (r
     → last_position (written_positions written (drop 1 args)) ≡ Some p → length p.shape ≤ length row + 1
 own_few written args a row count known p last =
     let positions = written_positions written (drop 1 args) in
-    let positive = known.positive in
     let few : own_rank (Some p) ≤ length (indexed_shape a.shape positions) = subst (λ q. own_rank q ≤ length (indexed_shape a.shape positions)) last (own_axes a.shape positions known.one_an_axis known.some) in
     let long = as_long (indexed_shape a.shape positions) (row ++ 1 ∷ []) (known.places 1 (omega arith) (omega arith)) in
     let pushed = length_push row 1 in

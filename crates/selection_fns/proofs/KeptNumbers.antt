@@ -1,13 +1,9 @@
 -- The numbers that a mask keeps, one place after another.
-use Rattle.std.proofs.Common.{◌≡◌, ℕ, zero, suc, ◌+◌, ◌<◌, ◌≤◌, Bool, false, nat_eq, cond, List, [], ◌∷◌, ◌++◌, length, map, get_or, ℤ, pos, negsuc, unsigned_abs, w64, of_z, Ok, refl, ap, sym, ◌∙◌, append-nil, arith}
-use Rattle.std.{specs.Prelude.{max, sum}, proofs.lemmas.List.{length-map, get_or-map, map-append, take_all}}
-use Rattle.arrays_core.{specs.declared.item.Item.{Item}, specs.declared.item.Item.TheVariants.{Num}, specs.declared.item.ItemType.{ItemType}}
-use Rattle.arrays_core.{specs.declared.item.ItemType.TheVariants.{Nums}, specs.Items.{fill}, specs.Arrays.{ArrayValue}, specs.Shapes.{size}}
+use Rattle.std.{proofs.Common.{◌≡◌, ℕ, zero, suc, ◌+◌, ◌<◌, ◌≤◌, Bool, false, nat_eq, cond, List, [], ◌∷◌, ◌++◌, length, map, get_or, ℤ, pos, negsuc, unsigned_abs, w64, of_z, Ok, refl, ap, sym, ◌∙◌, append-nil, arith}, specs.Prelude.{max, sum}, proofs.lemmas.List.{length-map, get_or-map, map-append}}
+use Rattle.arrays_core.{specs.declared.item.Item.{Item}, specs.declared.item.Item.TheVariants.{Num}, specs.declared.item.ItemType.{ItemType}, specs.declared.item.ItemType.TheVariants.{Nums}, specs.Items.{fill}, specs.Arrays.{ArrayValue}, specs.Shapes.{size}}
 use Rattle.function_names.{specs.declared.along.Along.{Along}, specs.Axes.{axis_at}}
 use Rattle.index_region.{specs.Checks.{form_of}, specs.Axes.{places_along}, specs.Arguments.{numbers}, proofs.RowIndices.{axis_below}}
-use Rattle.selection_fns.{specs.Replicate.{maker, times, copied_place, replicate_form, replicate_whole}, specs.Kept.{AreKept}}
-use Rattle.selection_fns.{specs.Laws.CopiedPlaces.{replicate_gives}, proofs.Copies.{AreBefore, copies_fit, one_place_more}, proofs.NumbersAt.{items_at}}
-use Rattle.selection_fns.proofs.Picked.{picked_long, picked_copies}
+use Rattle.selection_fns.{specs.Replicate.{maker, times, copied_place, replicate_form, replicate_whole}, specs.Kept.{AreKept}, specs.Laws.CopiedPlaces.{replicate_gives}, proofs.Copies.{AreBefore, copies_fit, one_place_more}, proofs.NumbersAt.{items_at}, proofs.Picked.{picked_long, picked_copies}}
 
 -- the numbers that the first k places keep
 pub record AreKeptSoFar (counts ns : List ℤ) (k : ℕ) (kept : List ℤ) : Type 0 where
@@ -65,11 +61,6 @@ kept_fit counts ns k kept below so_far =
 pub all_kept : (counts ns : List ℤ) (k : ℕ) (kept : List ℤ) → AreKeptSoFar counts ns k kept → length kept ≡ sum (map unsigned_abs counts) → AreKept counts ns kept
 all_kept counts ns k kept so_far full = record { before = so_far.before; are = so_far.are; long = counted counts ns k kept so_far ∙ full; is = so_far.made.is }
 
-pub kept_of_all : (counts ns : List ℤ) (k : ℕ) (kept : List ℤ) → AreKeptSoFar counts ns k kept → length counts ≤ k → length kept ≡ sum (map unsigned_abs counts)
-kept_of_all counts ns k kept so_far past =
-    let long = length-map counts unsigned_abs in
-    sym (counted counts ns k kept so_far) ∙ so_far.made.first ∙ ap sum (take_all k (map unsigned_abs counts) (omega arith))
-
 -- the numbers of a vector that are kept are the copies of its places
 module _ (along : Along) (a b : ArrayValue) (shape : List ℕ) (ns kept : List ℤ)
     (vector : length b.shape ≡ 1) (as_many : length b.items ≡ size b.shape) (form : replicate_form along a b ≡ Ok (form_of shape b.item_type))
@@ -80,9 +71,7 @@ module _ (along : Along) (a b : ArrayValue) (shape : List ℕ) (ns kept : List �
 
   as_long : places ≡ length b.items
   as_long =
-      let known = replicate_gives along a b shape b.item_type form in
-      let one : max 1 (length b.shape) ≡ 1 = omega arith in
-      let below = axis_below (max 1 (length b.shape)) along known.axis (omega arith) in
+      let below = axis_below (max 1 (length b.shape)) along (replicate_gives along a b shape b.item_type form).axis (omega arith) in
       let first : axis_at (max 1 (length b.shape)) along ≡ 0 = omega arith in
       ap (places_along b.shape) first ∙ alone b.shape vector ∙ sym as_many
     where

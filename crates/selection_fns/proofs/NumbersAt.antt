@@ -1,7 +1,6 @@
 -- Numbers of an array at places, and the items there.
 use Rattle.std.proofs.Common.{◌≡◌, ℕ, zero, suc, List, [], ◌∷◌, map, get_or, ℤ, pos, refl, ap, ◌∙◌}
-use Rattle.arrays_core.{specs.declared.item.Item.{Item}, specs.declared.item.Item.TheVariants.{Num}, specs.declared.item.ItemType.{ItemType}}
-use Rattle.arrays_core.{specs.declared.item.ItemType.TheVariants.{Nums}, specs.Items.{fill}}
+use Rattle.arrays_core.{specs.declared.item.Item.{Item}, specs.declared.item.Item.TheVariants.{Num}, specs.declared.item.ItemType.{ItemType}, specs.declared.item.ItemType.TheVariants.{Nums}, specs.Items.{fill}}
 
 -- the items at places of an array of numbers
 pub items_at : (item_type : ItemType) (items : List Item) (ns : List ℤ) → item_type ≡ Nums → items ≡ map (λ z. Num z) ns → (xs : List ℕ)

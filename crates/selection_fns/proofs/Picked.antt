@@ -1,9 +1,7 @@
 -- The copies of a vector's items, or of a scalar's.
-use Rattle.std.proofs.Common.{◌≡◌, ℕ, ◌+◌, ◌-◌, ◌*◌, ◌/◌, ◌<◌, ◌≤◌, Bool, true, false, nat_le, nat_eq, ◌&&◌, if◌then◌else◌, List, [], ◌∷◌, map, length, get_or, set, insert, remove, Some, None, Ok, refl, ap, sym, ◌∙◌, arith}
-use Rattle.std.{specs.Prelude.{max, sum, unwrap_or}, proofs.lemmas.Bool.Decides.{nat_tests}, proofs.lemmas.List.{length-map, get_or-map}}
-use Rattle.std.{proofs.Math.Nat.{div-one}, proofs.Math.ListN.{get_or-eq_default}}
-use Rattle.arrays_core.{specs.declared.item.Item.{Item}, specs.declared.item.ItemType.{ItemType}, specs.Items.{fill, and_then}}
-use Rattle.arrays_core.{specs.Shapes.{size, index_after}, specs.Arrays.{ArrayValue, item_if_there, collect, with_items}, proofs.Order.{given_in_order}}
+use Rattle.std.{proofs.Common.{◌≡◌, ℕ, ◌+◌, ◌-◌, ◌*◌, ◌/◌, ◌<◌, ◌≤◌, Bool, true, false, nat_le, nat_eq, ◌&&◌, if◌then◌else◌, List, [], ◌∷◌, map, length, get_or, set, insert, remove, Some, None, Ok, refl, ap, sym, ◌∙◌, arith}, specs.Prelude.{max, sum, unwrap_or}, proofs.lemmas.Bool.Decides.{nat_tests}}
+use Rattle.std.{proofs.lemmas.List.{length-map, get_or-map}, proofs.Math.Nat.{div-one}, proofs.Math.ListN.{get_or-eq_default}}
+use Rattle.arrays_core.{specs.declared.item.Item.{Item}, specs.declared.item.ItemType.{ItemType}, specs.Items.{fill, and_then}, specs.Shapes.{size, index_after}, specs.Arrays.{ArrayValue, item_if_there, collect, with_items}, proofs.Order.{given_in_order}}
 use Rattle.function_names.{specs.declared.along.Along.{Along}, specs.Axes.{axis_at}}
 use Rattle.index_region.{specs.Checks.{form_of}, specs.Axes.{places_along}, specs.Sources.{Place, item_from}, proofs.RowIndices.{axis_below}}
 use Rattle.selection_fns.{specs.Replicate.{times, copied_place, replicate_form, replicate_item, replicate_whole}, specs.Laws.CopiedPlaces.{replicate_gives}}
@@ -43,9 +41,7 @@ module _ (along : Along) (a b : ArrayValue) (shape before : List ℕ) (item_type
 
   first_axis : axis_at (max 1 (length b.shape)) along ≡ 0
   first_axis =
-      let known = replicate_gives along a b shape item_type form in
-      let one : max 1 (length b.shape) ≡ 1 = omega arith in
-      let below = axis_below (max 1 (length b.shape)) along known.axis (omega arith) in
+      let below = axis_below (max 1 (length b.shape)) along (replicate_gives along a b shape item_type form).axis (omega arith) in
       omega arith
 
   one_axis : shape ≡ length before ∷ []

@@ -1,8 +1,6 @@
 -- Numbers of one list and of another, added.
-use Rattle.std.proofs.Common.{◌≡◌, ℕ, zero, suc, ◌+◌, ◌*◌, ◌<◌, ◌≤◌, List, [], ◌∷◌, ◌++◌, map, length, get_or, take, refl, ap, sym, ◌∙◌, append-nil, append_assoc, arith}
-use Rattle.std.proofs.lemmas.List.{length-append, length-map, get_or-map, get_or_append_left, get_or-append-add, map-append, take_more, take_all}
-use Rattle.std.{proofs.lemmas.List.FromFn.{fill_by_all, length-range_with_len, get_or-range_with_len}, proofs.lemmas.Nat.{mul-add-lt}}
-use Rattle.std.{proofs.lemmas.Simd.{map-map}, specs.List.{range_with_len}}
+use Rattle.std.{proofs.Common.{◌≡◌, ℕ, zero, suc, ◌+◌, ◌*◌, ◌<◌, ◌≤◌, List, [], ◌∷◌, ◌++◌, map, length, get_or, take, refl, ap, sym, ◌∙◌, append-nil, append_assoc, arith}, proofs.lemmas.List.{length-append, length-map, get_or-map, get_or_append_left, get_or-append-add, map-append, take_more, take_all}}
+use Rattle.std.{proofs.lemmas.List.FromFn.{fill_by_all, length-range_with_len, get_or-range_with_len}, proofs.lemmas.Nat.{mul-add-lt}, proofs.lemmas.Simd.{map-map}, specs.List.{range_with_len}}
 use Rattle.arrays_core.specs.Building.{listed}
 use Rattle.selection_fns.specs.IndexPlaces.{sums}
 
@@ -136,9 +134,7 @@ sums_turned xs (y ∷ z ∷ ys) e = absurd (omega arith)
 
 pub heads_few : (offsets xs ys : List ℕ) (m : ℕ) → 0 < length (sums xs ys) → length offsets * length (sums xs ys) ≤ m → length offsets * length xs ≤ m
 heads_few offsets xs ys m some few =
-    let long = length-sums xs ys in
-    let second = (some_first xs ys some).1 in
-    least (length offsets) (length xs) (length ys) second (rw long at few)
+    least (length offsets) (length xs) (length ys) ((some_first xs ys some).1) (rw (length-sums xs ys) at few)
   where
     least : (a b c : ℕ) → 0 < c → a * (b * c) ≤ m → a * b ≤ m
     least a b zero h few = absurd (omega arith)

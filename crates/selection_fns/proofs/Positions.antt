@@ -1,8 +1,7 @@
 -- Positions, one after another.
-use Rattle.std.proofs.Common.{◌≡◌, ℕ, zero, suc, ◌+◌, ◌-◌, ◌<◌, ◌≤◌, ℤ, pos, negsuc, int_le, unsigned_abs, Bool, true, false, nat_le, ◌&&◌, List, [], ◌∷◌, ◌++◌, map, length, take, drop, get_or, Some, None, refl, subst, sym, arith}
-use Rattle.std.{specs.List.{list_all}, proofs.lemmas.Bool.Decides.{nat_tests}, proofs.lemmas.List.{length-append, length-drop, take_all, drop_more}}
-use Rattle.arrays_core.{specs.declared.item.Item.{Item}, specs.declared.item.ItemType.{ItemType}, specs.declared.item.ItemType.TheVariants.{Nums, Chars}}
-use Rattle.arrays_core.{specs.Items.{fill}, specs.Arrays.{ArrayValue}, specs.Shapes.{is_index_of}}
+use Rattle.std.{proofs.Common.{◌≡◌, ℕ, zero, suc, ◌+◌, ◌-◌, ◌<◌, ◌≤◌, ℤ, pos, negsuc, int_le, unsigned_abs, Bool, true, false, nat_le, ◌&&◌, List, [], ◌∷◌, ◌++◌, map, length, take, drop, get_or, Some, None, refl, subst, sym, arith}, specs.List.{list_all}, proofs.lemmas.Bool.Decides.{nat_tests}}
+use Rattle.std.proofs.lemmas.List.{length-append, length-drop, take_all}
+use Rattle.arrays_core.{specs.declared.item.Item.{Item}, specs.declared.item.ItemType.{ItemType}, specs.declared.item.ItemType.TheVariants.{Nums, Chars}, specs.Items.{fill}, specs.Arrays.{ArrayValue}, specs.Shapes.{is_index_of}}
 use Rattle.index_region.specs.Arguments.{number_of}
 use Rattle.selection_fns.specs.Index.{count_written, written_positions, indexed_shape, is_on_axis, is_on, are_on}
 
@@ -22,13 +21,6 @@ pub record IsWrittenFirst (written : List Bool) (args : List ArrayValue) (a : Ar
   pub counted : count_written (drop 1 written) + 1 ≡ count_written written
   pub there : 0 < length args
 
-pub written_first : (written : List Bool) (args : List ArrayValue) (a : ArrayValue) → length args ≡ count_written written → get_or written 0 false ≡ true
-    → IsWrittenFirst written args a
-written_first [] args a long h = let no : ⊥ = cc in absurd no
-written_first (false ∷ written) args a long h = let no : ⊥ = cc in absurd no
-written_first (true ∷ written) [] a long h = absurd (omega arith)
-written_first (true ∷ written) (p ∷ args) a long h = record { positions = refl; counted = omega arith; there = omega arith }
-
 -- an index list of two shapes joined, in its parts
 pub record IsSplit (shape rest : List ℕ) (index : List ℕ) : Type 0 where
   pub long : length shape ≤ length index
@@ -41,7 +33,6 @@ split_inside (n ∷ shape) rest [] h = let no : ⊥ = cc in absurd no
 split_inside (n ∷ shape) rest (i ∷ index) h =
     let both = and_parts (nat_le 1 i && nat_le i n) (is_index_of (shape ++ rest) index) h in
     let parts = split_inside shape rest index both.1 in
-    let long = parts.long in
     record { long = omega arith; first = rw both.0 parts.first; others = parts.others }
   where
     and_parts : (a b : Bool) → (a && b) ≡ true → (a ≡ true) × (b ≡ true)
@@ -142,14 +133,3 @@ pub place_in : (n : ℕ) (z : ℤ) → is_on_axis n z ≡ true → IsPlaceIn n z
 place_in n (pos zero) h = let no : ⊥ = cc in absurd no
 place_in n (pos (suc k)) h = record { low = omega arith; high = magnitude_within n (pos (suc k)) h; is = refl }
 place_in n (negsuc k) h = let no : ⊥ = cc in absurd no
-
--- the first of those that are all on an axis, and the rest
-pub place_first : (n : ℕ) (zs : List ℤ) (k : ℕ) (d : ℤ) → k < length zs → list_all (is_on_axis n) (drop k zs) ≡ true
-    → (is_on_axis n (get_or zs k d) ≡ true) × (list_all (is_on_axis n) (drop (k + 1) zs) ≡ true)
-place_first n zs k d below h =
-    let more = drop_more zs k d below in
-    and_both (is_on_axis n (get_or zs k d)) _ (subst (λ ys. list_all (is_on_axis n) ys ≡ true) more h)
-  where
-    and_both : (a b : Bool) → (a && b) ≡ true → (a ≡ true) × (b ≡ true)
-    and_both true b h = (refl, h)
-    and_both false b h = let no : ⊥ = cc in absurd no

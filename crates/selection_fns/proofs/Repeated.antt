@@ -1,6 +1,5 @@
 -- The places of an axis, each as often as its count, and the same by a walk over the counts.
-use Rattle.std.proofs.Common.{◌≡◌, ℕ, zero, suc, ◌+◌, ◌-◌, ◌*◌, ◌<◌, ◌≤◌, if◌then◌else◌, List, [], ◌∷◌, ◌++◌, length, take, get_or, map, replicate, pos, unsigned_abs, refl, ap, sym, ◌∙◌, arith}
-use Rattle.std.{specs.Prelude.{nat_eq, sum}, proofs.lemmas.List.{get_or-map}}
+use Rattle.std.{proofs.Common.{◌≡◌, ℕ, zero, suc, ◌+◌, ◌-◌, ◌*◌, ◌<◌, ◌≤◌, if◌then◌else◌, List, [], ◌∷◌, ◌++◌, length, take, get_or, map, replicate, pos, unsigned_abs, refl, ap, sym, ◌∙◌, arith}, specs.Prelude.{nat_eq, sum}, proofs.lemmas.List.{get_or-map}}
 use Rattle.arrays_core.{specs.Items.{fill}, specs.Shapes.{places_before}, specs.Arrays.{ArrayValue, item_of}}
 use Rattle.index_region.specs.Arguments.{numbers, number_of}
 use Rattle.selection_fns.{specs.Replicate.{times, places_repeated, maker}, specs.Laws.RepeatedPlaces.{sum_front}}
@@ -48,10 +47,9 @@ maker_most counts i = entries_most counts 1 (i - 1) (length counts + 1) (omega a
 -- the count of each place, where there is one count
 pub times_of_one : (a : ArrayValue) (n : ℕ) → length a.items ≡ 1 → times a n ≡ replicate n (unsigned_abs (get_or (numbers a) 0 (pos 0)))
 times_of_one a n one =
-    let there = get_or-map number_of a.items 0 (fill a.item_type) (pos 0) (omega arith) in
     ap (λ k. if nat_eq k 1 then replicate n (unsigned_abs (number_of (item_of a []))) else map unsigned_abs (numbers a)) one
     ∙ ap (λ j. replicate n (unsigned_abs (number_of (get_or a.items j (fill a.item_type))))) (none_before a.shape)
-    ∙ ap (λ z. replicate n (unsigned_abs z)) (sym there)
+    ∙ ap (λ z. replicate n (unsigned_abs z)) (sym (get_or-map number_of a.items 0 (fill a.item_type) (pos 0) (omega arith)))
   where
     none_before : (shape : List ℕ) → places_before shape [] ≡ 0
     none_before [] = refl

@@ -1,14 +1,11 @@
 -- Positions and their axes of the result.
-use Rattle.std.proofs.Common.{◌≡◌, ℕ, zero, suc, ◌+◌, ◌<◌, ◌≤◌, Bool, true, false, nat_eq, ◌&&◌, not, List, [], ◌∷◌, ◌++◌, length, take, drop, get_or, pos, unsigned_abs, Option, Some, None, refl, ap, sym, ◌∙◌, subst, arith, length-append}
-use Rattle.std.{specs.List.{list_all}, proofs.lemmas.Bool.{and_parts, eqb-true, cond-true, cond-false}, proofs.lemmas.Bool.Decides.{nat_tests}}
-use Rattle.std.proofs.lemmas.List.{get_or-map, length-drop, length-map, length-take-le}
+use Rattle.std.{proofs.Common.{◌≡◌, ℕ, zero, suc, ◌+◌, ◌<◌, ◌≤◌, Bool, true, false, nat_eq, ◌&&◌, not, List, [], ◌∷◌, ◌++◌, length, take, drop, get_or, pos, unsigned_abs, Option, Some, None, refl, ap, sym, ◌∙◌, subst, arith, length-append}, specs.List.{list_all}}
+use Rattle.std.{proofs.lemmas.Bool.{and_parts, eqb-true, cond-true, cond-false}, proofs.lemmas.Bool.Decides.{nat_tests}, proofs.lemmas.List.{get_or-map, length-drop, length-map, length-take-le}}
 use Rattle.arrays_core.{specs.Arrays.{ArrayValue, item_of}, specs.Items.{fill}, specs.Shapes.{size, index_after}, proofs.Order.{places_before-index_after}}
-use Rattle.index_region.{specs.Arguments.{is_scalar, number_of, numbers}, specs.Boxes.{Interval, cover, cover_between, join_boxes, whole_of}}
-use Rattle.index_region.{specs.Checks.{form_of}, proofs.Boxes.{fits_length, length-index_after}, proofs.Passing.{gives}}
+use Rattle.index_region.{specs.Arguments.{is_scalar, number_of, numbers}, specs.Boxes.{Interval, cover, cover_between, join_boxes, whole_of}, specs.Checks.{form_of}, proofs.Boxes.{fits_length, length-index_after}, proofs.Passing.{gives}}
 use Rattle.change_core.specs.RuleModels.{FitsAt, HasShape, box_at}
-use Rattle.selection_fns.specs.Index.{Position, count_written, written_positions, of_array_and_positions, index_form, indexed_shape, are_numbers, are_on, least_box, place_named, point, position_uses, unselected}
-use Rattle.selection_fns.{proofs.Indexed.{positions_long}, specs.Laws.LeastBoxes.{length-point}, specs.PositionAxes.{axes_before, count_axes}}
-use Rattle.selection_fns.proofs.Copied.{has_form, limited_within}
+use Rattle.selection_fns.{specs.Index.{Position, count_written, written_positions, of_array_and_positions, index_form, indexed_shape, are_numbers, are_on, least_box, place_named, point, position_uses, unselected}, proofs.Indexed.{positions_long}, specs.Laws.LeastBoxes.{length-point}}
+use Rattle.selection_fns.{specs.PositionAxes.{axes_before, count_axes}, proofs.Copied.{has_form, limited_within}}
 
 pub none_selected : (written : List Bool) (which : ℕ) → get_or (false ∷ unselected written) which false ≡ false
 none_selected written zero = refl
@@ -57,9 +54,7 @@ count_shape [] (position ∷ positions) h = absurd (omega arith)
 count_shape (n ∷ axes) [] h = absurd (omega arith)
 count_shape (n ∷ axes) (None ∷ positions) h = let k = count_shape axes positions (omega arith) in omega (arith, k)
 count_shape (n ∷ axes) (Some p ∷ positions) h =
-    let k = count_shape axes positions (omega arith) in
-    let more = length-append p.shape (indexed_shape axes positions) in
-    omega (arith, k, more)
+    omega (arith, count_shape axes positions (omega arith), length-append p.shape (indexed_shape axes positions))
 
 -- what the checks say of the axes of the result
 pub record HasAxes (written : List Bool) (args : List ArrayValue) (shape : List ℕ) : Type 0 where
@@ -75,17 +70,14 @@ has_axes written (a ∷ args) shape n h =
     let form = has_form (index_form a positions) shape h in
     let asked = form_of shape form.item_type in
     let ranks = gives (not (is_scalar a) && nat_eq (length positions) (length a.shape)) _ _ asked form.is in
-    let typed = gives (list_all are_numbers positions) _ _ asked ranks.is in
-    let on = gives (are_on a.shape positions) _ _ asked typed.is in
+    let on = gives (are_on a.shape positions) _ _ asked (gives (list_all are_numbers positions) _ _ asked ranks.is).is in
     let limits = limited_within (indexed_shape a.shape positions) a.item_type asked on.is in
     let same : length positions ≡ length a.shape = eqb-true _ _ (and_parts _ _ ranks.test).1 in
-    let many = positions_long written args (omega arith) in
-    let rank = limits.rank in
     record {
       long = omega arith;
       axes = count_shape a.shape positions same ∙ ap length (sym limits.is);
-      few = subst (λ (s : List ℕ). length s ≤ 4) (sym limits.is) rank;
-      one_an_axis = λ region fit. let k = fits_length region a.shape fit in omega (arith, k, many, same);
+      few = subst (λ (s : List ℕ). length s ≤ 4) (sym limits.is) limits.rank;
+      one_an_axis = λ region fit. let k = fits_length region a.shape fit in omega (arith, k, positions_long written args (omega arith), same);
     }
 
 -- the axes of a written position are among those of the result
@@ -103,27 +95,20 @@ pub position_at : (written : List Bool) (args : List ArrayValue) (which : ℕ) (
     ≡ Some (whole_of (take (before + axes_before (written_positions written args) which) shape) ++ (region ++ whole_of (drop (before + axes_before (written_positions written args) which + length p.shape) shape)))
 position_at [] args which p shape before region n l e = absurd (omega arith)
 position_at (false ∷ written) args which p shape before region n l e =
-    let next : before + 1 + axes_before (written_positions written args) which ≡ before + suc (axes_before (written_positions written args) which) = omega arith in
     position_at written args which p shape (before + 1) region n l e
-    ∙ ap (λ (k : ℕ). Some (whole_of (take k shape) ++ (region ++ whole_of (drop (k + length p.shape) shape)))) next
+    ∙ ap (λ (k : ℕ). Some (whole_of (take k shape) ++ (region ++ whole_of (drop (k + length p.shape) shape)))) (omega arith)
 position_at (true ∷ written) [] which p shape before region n l e = absurd (omega arith)
 position_at (true ∷ written) (a ∷ args) zero p shape before region n l e =
-    let next : before ≡ before + 0 = omega arith in
     ap (λ (x : ArrayValue). Some (whole_of (take before shape) ++ (region ++ whole_of (drop (before + length x.shape) shape)))) (sym e)
-    ∙ ap (λ (k : ℕ). Some (whole_of (take k shape) ++ (region ++ whole_of (drop (k + length p.shape) shape)))) next
+    ∙ ap (λ (k : ℕ). Some (whole_of (take k shape) ++ (region ++ whole_of (drop (k + length p.shape) shape)))) (omega arith)
 position_at (true ∷ written) (a ∷ args) (suc which) p shape before region n l e =
-    let next : before + length a.shape + axes_before (written_positions written args) which ≡ before + (length a.shape + axes_before (written_positions written args) which) = omega arith in
     position_at written args which p shape (before + length a.shape) region (omega arith) (omega arith) e
-    ∙ ap (λ (k : ℕ). Some (whole_of (take k shape) ++ (region ++ whole_of (drop (k + length p.shape) shape)))) next
+    ∙ ap (λ (k : ℕ). Some (whole_of (take k shape) ++ (region ++ whole_of (drop (k + length p.shape) shape)))) (omega arith)
 
 pub fits_at_length : (args : List ArrayValue) (which : ℕ) (p : ArrayValue) (region : List Interval) → which < length args → p ≡ get_or args which p → FitsAt args which region → length region ≡ length p.shape
 fits_at_length [] which p region l e h = absurd (omega arith)
 fits_at_length (a ∷ args) zero p region l e h = fits_length region a.shape h ∙ ap (λ (x : ArrayValue). length x.shape) (sym e)
 fits_at_length (a ∷ args) (suc which) p region l e h = fits_at_length args which p region (omega arith) e h
-
-pub fits_later : (args : List ArrayValue) (which : ℕ) (region : List Interval) → FitsAt args (suc which) region → FitsAt (drop 1 args) which region
-fits_later [] which region h = tt
-fits_later (a ∷ args) which region h = h
 
 -- how long a box is that is made of axes, a box, and axes
 pub record ArePartsLong (shape : List ℕ) (region : List Interval) (before rank : ℕ) : Type 0 where
@@ -133,8 +118,6 @@ pub record ArePartsLong (shape : List ℕ) (region : List Interval) (before rank
 
 pub parts_long : (shape : List ℕ) (region : List Interval) (before rank : ℕ) → before + rank ≤ length shape → length region ≡ rank → ArePartsLong shape region before rank
 parts_long shape region before rank within long =
-    let taken : length (take before shape) ≡ before = length-take-le before shape (omega arith) in
-    let first : length (whole_of (take before shape)) ≡ before = length-map (take before shape) (λ n. (1, n)) ∙ taken in
-    let both = length-append (whole_of (take before shape)) region in
+    let first : length (whole_of (take before shape)) ≡ before = length-map (take before shape) (λ n. (1, n)) ∙ (length-take-le before shape (omega arith)) in
     let dropped = length-drop (before + rank) shape in
-    record { first = first; front = omega (arith, both, first, long); rest = omega (arith, dropped) }
+    record { first = first; front = omega (arith, length-append (whole_of (take before shape)) region, first, long); rest = omega (arith, dropped) }

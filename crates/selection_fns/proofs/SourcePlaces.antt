@@ -1,17 +1,11 @@
 -- The place that a source names lies in its argument.
-use Rattle.std.proofs.Common.{◌≡◌, ℕ, zero, suc, ◌-◌, ◌<◌, ◌≤◌, ℤ, pos, Bool, true, false, ◌||◌, nat_eq, nat_le, if◌then◌else◌, unsigned_abs, List, [], ◌∷◌, length, map, get_or, take, drop, set, insert, remove, replicate, refl, ap, subst, ◌∙◌, arith}
-use Rattle.std.{specs.Prelude.{max, sum}, specs.List.{list_all}, proofs.lemmas.Bool.{and_parts, and_from, eqb-true, eqb-false, false≢true}}
-use Rattle.std.{proofs.lemmas.Bool.Decides.{nat_tests}, proofs.lemmas.Grind.{get_or_default_zero}}
-use Rattle.std.proofs.lemmas.List.{length-map, length-replicate, get_or-map}
-use Rattle.arrays_core.{specs.Items.{fill}, specs.Arrays.{ArrayValue, IsArray, item_of}, specs.Shapes.{is_index_of, places_before}}
-use Rattle.arrays_core.proofs.Shapes.{places_below}
+use Rattle.std.{proofs.Common.{◌≡◌, ℕ, zero, suc, ◌-◌, ◌<◌, ◌≤◌, ℤ, pos, Bool, true, false, ◌||◌, nat_eq, nat_le, if◌then◌else◌, unsigned_abs, List, [], ◌∷◌, length, map, get_or, take, drop, set, insert, remove, replicate, refl, ap, subst, ◌∙◌, arith}, specs.Prelude.{max, sum}, specs.List.{list_all}}
+use Rattle.std.{proofs.lemmas.Bool.{and_parts, and_from, eqb-true, eqb-false, false≢true}, proofs.lemmas.Bool.Decides.{nat_tests}, proofs.lemmas.Grind.{get_or_default_zero}, proofs.lemmas.List.{length-map, length-replicate, get_or-map}}
+use Rattle.arrays_core.{specs.Items.{fill}, specs.Arrays.{ArrayValue, IsArray, item_of}, specs.Shapes.{is_index_of, places_before}, proofs.Shapes.{places_below}}
 use Rattle.function_names.{specs.declared.along.Along.{Along}, specs.Axes.{is_axis, axis_at}}
-use Rattle.index_region.{specs.Arguments.{is_scalar, is_list, has_one_item, number_of, numbers}, specs.Axes.{places_along}, specs.Answers.{IsPlaceOf}}
-use Rattle.index_region.{specs.Sources.{Place}, proofs.Passing.{passed}, proofs.OnAxes.{OnAxis, scalar_inside, one_more_inside}, proofs.RowIndices.{axis_below}}
-use Rattle.selection_fns.specs.Index.{is_on_axis, are_on, written_positions, count_written, indexed_shape, source_index}
-use Rattle.selection_fns.{specs.Replicate.{times, maker, copied_place, replicate_form, replicate_source}, proofs.Positions.{place_in, split_inside}}
-use Rattle.selection_fns.{specs.Laws.RepeatedPlaces.{sum_front, walk, maker_is_walk}, proofs.Repeated.{maker_positive}, specs.Laws.CopiedPlaces.{is_copied}}
-use Rattle.selection_fns.proofs.Copies.{replicated_inside, on_axis}
+use Rattle.index_region.{specs.Arguments.{is_scalar, is_list, has_one_item, number_of, numbers}, specs.Axes.{places_along}, specs.Answers.{IsPlaceOf}, specs.Sources.{Place}, proofs.Passing.{passed}, proofs.OnAxes.{OnAxis, scalar_inside, one_more_inside}, proofs.RowIndices.{axis_below}}
+use Rattle.selection_fns.{specs.Index.{is_on_axis, are_on, written_positions, count_written, indexed_shape, source_index}, specs.Replicate.{times, maker, copied_place, replicate_form, replicate_source}, proofs.Positions.{place_in, split_inside}, specs.Laws.RepeatedPlaces.{sum_front, walk, maker_is_walk}}
+use Rattle.selection_fns.{proofs.Repeated.{maker_positive}, specs.Laws.CopiedPlaces.{is_copied}, proofs.Copies.{replicated_inside, on_axis}}
 
 -- ---- indexes
 
@@ -26,7 +20,6 @@ pub index_on_axis : (n : ℕ) (p : ArrayValue) (at : List ℕ) → IsArray p →
 index_on_axis n p at sound inside on =
     let k = places_before p.shape at in
     let below = places_below p.shape at inside in
-    let long = sound.one_item_a_place in
     let there : k < length p.items = omega arith in
     let numbered = length-map p.items number_of in
     let read : get_or (numbers p) k (pos 0) ≡ number_of (item_of p at) = get_or-map number_of p.items k (fill p.item_type) (pos 0) there in
@@ -114,8 +107,7 @@ pub counts_fit : (along : Along) (a b : ArrayValue) (index : List ℕ) (k : ℕ)
     → (has_one_item a || (nat_eq (places_along b.shape k) 1 || nat_eq (length a.items) (places_along b.shape k))) ≡ true
 counts_fit along a b index k e h =
     let n = places_along b.shape (axis_at (max 1 (length b.shape)) along) in
-    let on_axis = passed (is_axis (max 1 (length b.shape)) along) _ _ index h in
-    let ranks = passed (is_list a) _ _ index on_axis.place in
+    let ranks = passed (is_list a) _ _ index (passed (is_axis (max 1 (length b.shape)) along) _ _ index h).place in
     rw e (passed (has_one_item a || (nat_eq n 1 || nat_eq (length a.items) n)) _ _ index ranks.place).test
 
 -- where a copy comes from lies in the array
@@ -134,7 +126,6 @@ replicate_inside along a b index at e h = by_test (is_scalar b) refl e
     by_test false t e =
         let there = eqb-false (length b.shape) 0 t in
         let rank : max 1 (length b.shape) ≡ length b.shape = omega arith in
-        let axis = on_axis along a b index h in
-        let below : k < length b.shape = omega (arith, rank, axis_below (max 1 (length b.shape)) along axis (omega arith)) in
+        let below : k < length b.shape = omega (arith, rank, axis_below (max 1 (length b.shape)) along (on_axis along a b index h) (omega arith)) in
         let is : at ≡ set index k (copied_place a (places_along b.shape k) (get_or index k 1)) = cc in
         rw is (copied_inside a b.shape index k below (counts_fit along a b index k refl h) (replicated_inside along a b index h))

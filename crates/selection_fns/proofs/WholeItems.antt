@@ -1,13 +1,9 @@
 -- The items in a box of a result that was worked out whole.
-use Rattle.std.proofs.Common.{◌≡◌, ℕ, ◌<◌, true, IsTrue, List, [], length, get_or, map, Some, Result, Ok, Err, refl, ap, sym, ◌∙◌, arith}
-use Rattle.std.{specs.List.{range_with_len}, proofs.lemmas.Bool.{cond-true}, proofs.lemmas.List.{length-map, get_or-map as get_or-map_inside}}
+use Rattle.std.{proofs.Common.{◌≡◌, ℕ, ◌<◌, true, IsTrue, List, [], length, get_or, map, Some, Result, Ok, Err, refl, ap, sym, ◌∙◌, arith}, specs.List.{range_with_len}, proofs.lemmas.Bool.{cond-true}, proofs.lemmas.List.{length-map, get_or-map as get_or-map_inside}}
 use Rattle.std.proofs.lemmas.List.FromFn.{length-map-range_with_len, get_or-map-range_with_len}
-use Rattle.arrays_core.{specs.declared.item.Item.{Item}, specs.declared.item.ItemType.{ItemType}, specs.declared.item.Kind.{Kind}}
-use Rattle.arrays_core.{specs.declared.item.Kind.TheVariants.{Domain}, specs.Items.{all_or_first_error, and_then, fill}}
-use Rattle.arrays_core.{specs.Shapes.{indices, is_index_of, places_before}, specs.Arrays.{ArrayValue, collect, with_items, item_of}}
-use Rattle.arrays_core.{proofs.Order.{length-indices, at_place}, proofs.Shapes.{places_below}}
-use Rattle.index_region.{specs.Boxes.{Interval, box_size, walk_at, fits}, specs.Checks.{Form, form_of, whole}, proofs.Patched.{fits_within}}
-use Rattle.index_region.proofs.Walks.{walk_within}
+use Rattle.arrays_core.{specs.declared.item.Item.{Item}, specs.declared.item.ItemType.{ItemType}, specs.declared.item.Kind.{Kind}, specs.declared.item.Kind.TheVariants.{Domain}, specs.Items.{all_or_first_error, and_then, fill}, specs.Shapes.{indices, is_index_of, places_before}}
+use Rattle.arrays_core.{specs.Arrays.{ArrayValue, collect, with_items, item_of}, proofs.Order.{length-indices, at_place}, proofs.Shapes.{places_below}}
+use Rattle.index_region.{specs.Boxes.{Interval, box_size, walk_at, fits}, specs.Checks.{Form, form_of, whole}, proofs.Patched.{fits_within}, proofs.Walks.{walk_within}}
 use Rattle.change_core.specs.Parts.{items_in}
 use Rattle.selection_fns.{specs.WholeBox.{IsPicked}, proofs.Entries.{entry_of, from_entries}}
 
@@ -27,13 +23,11 @@ whole_items form item shape t w checked made =
         let same : record { item_type = t; shape = shape; items = xs } ≡ w = cc in
         let items : xs ≡ w.items = ap (λ (a : ArrayValue). a.items) same in
         let many = length-map (indices shape) item in
-        let all = length-indices shape in
         record {
           typed = sym (ap (λ (a : ArrayValue). a.item_type) same);
           shaped = sym (ap (λ (a : ArrayValue). a.shape) same);
           each = λ index inside.
-              let below = places_below shape index inside in
-              let there : places_before shape index < length (indices shape) = omega (arith, below, all) in
+              let there : places_before shape index < length (indices shape) = omega (arith, places_below shape index inside, length-indices shape) in
               sym (get_or-map_inside item (indices shape) (places_before shape index) [] (Err Domain) there ∙ ap item (at_place shape index inside))
               ∙ entry_of (map item (indices shape)) xs (places_before shape index) (Err Domain) (fill t) is (omega (arith, there, many))
               ∙ ap (λ ys. Ok (get_or ys (places_before shape index) (fill t))) items;
@@ -45,9 +39,8 @@ box_items form item shape t w a region checked made fit picked =
     let found = whole_items form item shape t w checked made in
     let g : ℕ → Result Item Kind = λ place. item (walk_at region place) in
     let count = box_size region in
-    let long = length-map-range_with_len g 0 count in
     let d = fill w.item_type in (
-      from_entries (map g (range_with_len 0 count)) a.items (Err Domain) d (long ∙ sym picked.long) (λ k below.
+      from_entries (map g (range_with_len 0 count)) a.items (Err Domain) d ((length-map-range_with_len g 0 count) ∙ sym picked.long) (λ k below.
           let inside : k < count = omega (arith, below, picked.long) in
           let there : is_index_of shape (walk_at region k) ≡ true = fits_within region shape (walk_at region k) fit (walk_within region k inside) in
           let there_too : is_index_of w.shape (walk_at region k) ≡ true = ap (λ s. is_index_of s (walk_at region k)) found.shaped ∙ there in

@@ -1,10 +1,7 @@
 -- Indexed reference, A[I;..]: a position is an array of indices, or is empty and stands for its whole axis.
-use Rattle.std.specs.Prelude.{ℕ, suc, nat_eq, ℤ, pos, int_le, unsigned_abs, Bool, true, false, not, ◌&&◌, List, [], ◌∷◌, ◌++◌, length, get_or, take, drop, zip, Option, Some, None, Result, Err, zero, ◌+◌, map, if◌then◌else◌}
-use Rattle.std.specs.List.{list_all}
-use Rattle.arrays_core.{specs.declared.item.Item.{Item}, specs.declared.item.Kind.{Kind}, specs.declared.item.Kind.TheVariants.{Rank, Length, Domain, Index}}
-use Rattle.arrays_core.{specs.Arrays.{ArrayValue, item_of}, specs.Shapes.{size, index_after}}
-use Rattle.index_region.{specs.Checks.{Form, check, limited, whole}, specs.Sources.{Place, Source, item_from}}
-use Rattle.index_region.{specs.Arguments.{is_scalar, counts_as_numbers, number_of, numbers}, specs.Boxes.{Interval, whole_of, join_boxes}}
+use Rattle.std.{specs.Prelude.{ℕ, suc, nat_eq, ℤ, pos, int_le, unsigned_abs, Bool, true, false, not, ◌&&◌, List, [], ◌∷◌, ◌++◌, length, get_or, take, drop, zip, Option, Some, None, Result, Err, zero, ◌+◌, map, if◌then◌else◌}, specs.List.{list_all}}
+use Rattle.arrays_core.{specs.declared.item.Item.{Item}, specs.declared.item.Kind.{Kind}, specs.declared.item.Kind.TheVariants.{Rank, Length, Domain, Index}, specs.Arrays.{ArrayValue, item_of}, specs.Shapes.{size, index_after}}
+use Rattle.index_region.{specs.Checks.{Form, check, limited, whole}, specs.Sources.{Place, Source, item_from}, specs.Arguments.{is_scalar, counts_as_numbers, number_of, numbers}, specs.Boxes.{Interval, whole_of, join_boxes}}
 use Rattle.change_core.{specs.RuleModels.{Use, RuleModel}, specs.Places.{lies_in}, specs.Sourced.{Spread, left_used}}
 use Rattle.selection_fns.specs.Growth.{index_grows}
 

@@ -1,9 +1,7 @@
 -- Index generator, ⍳N: the numbers from 1 up.
 use Rattle.std.specs.Prelude.{ℕ, pos, unsigned_abs, ◌&&◌, List, map, get_or, Result, Ok, [], ◌∷◌, true}
-use Rattle.arrays_core.{specs.declared.item.Item.{Item}, specs.declared.item.Item.TheVariants.{Num}, specs.declared.item.ItemType.TheVariants.{Nums}}
-use Rattle.arrays_core.{specs.declared.item.Kind.{Kind}, specs.declared.item.Kind.TheVariants.{Rank, Length, Domain}, specs.Arrays.{ArrayValue}}
-use Rattle.index_region.{specs.Checks.{Form, check, limited, whole}, specs.Arguments.{is_list, has_one_item, counts_as_numbers, numbers, none_negative}}
-use Rattle.index_region.specs.ArgumentLists.{of_one_argument}
+use Rattle.arrays_core.{specs.declared.item.Item.{Item}, specs.declared.item.Item.TheVariants.{Num}, specs.declared.item.ItemType.TheVariants.{Nums}, specs.declared.item.Kind.{Kind}, specs.declared.item.Kind.TheVariants.{Rank, Length, Domain}, specs.Arrays.{ArrayValue}}
+use Rattle.index_region.{specs.Checks.{Form, check, limited, whole}, specs.Arguments.{is_list, has_one_item, counts_as_numbers, numbers, none_negative}, specs.ArgumentLists.{of_one_argument}}
 use Rattle.change_core.{specs.Growth.{never}, specs.RuleModels.{RuleModel}, specs.Sourced.{uses_of_one}, specs.Ways.{unread}}
 
 -- RANK, LENGTH and DOMAIN in this order; then a vector of n numbers

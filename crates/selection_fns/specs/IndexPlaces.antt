@@ -1,8 +1,7 @@
 -- Places of the items of an indexed reference, each given by how many come before it in the indexed array.
 use Rattle.std.{specs.Prelude.{◌≡◌, ℕ, ◌+◌, IsTrue, List, [], ◌∷◌, ◌++◌, map, length, get_or}, specs.List.{range_with_len}}
 use Rattle.arrays_core.specs.Shapes.{size, is_index_of, places_before}
-use Rattle.selection_fns.{specs.declared.index_places.Row.{Row}, specs.declared.index_places.Row.TheVariants.{Run, Listed}}
-use Rattle.selection_fns.{specs.declared.index_places.Places.{Places}, specs.Index.{Position, indexed_shape, source_index}}
+use Rattle.selection_fns.{specs.declared.index_places.Row.{Row}, specs.declared.index_places.Row.TheVariants.{Run, Listed}, specs.declared.index_places.Places.{Places}, specs.Index.{Position, indexed_shape, source_index}}
 
 -- each number of one list and each of another, added
 abbrev pub sums : List ℕ → List ℕ → List ℕ

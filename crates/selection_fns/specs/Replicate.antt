@@ -1,12 +1,8 @@
 -- Replicate: each place of an axis as often as its count. A scalar is a vector of one item.
-use Rattle.std.specs.Prelude.{◌≡◌, ℕ, suc, ◌-◌, nat_eq, ℤ, pos, int_le, Bool, IsTrue, max, unsigned_abs, ◌&&◌, ◌||◌, if◌then◌else◌, List, [], ◌∷◌, ◌++◌, map, length, get_or, set, replicate, insert, remove, sum, Result, true, take, Some, None}
-use Rattle.std.specs.List.{list_all}
-use Rattle.arrays_core.{specs.declared.item.Item.{Item}, specs.declared.item.Kind.{Kind}, specs.declared.item.Kind.TheVariants.{Axis, Rank, Length, Domain}}
-use Rattle.arrays_core.specs.Arrays.{ArrayValue, item_of}
+use Rattle.std.{specs.Prelude.{◌≡◌, ℕ, suc, ◌-◌, nat_eq, ℤ, pos, int_le, Bool, IsTrue, max, unsigned_abs, ◌&&◌, ◌||◌, if◌then◌else◌, List, [], ◌∷◌, ◌++◌, map, length, get_or, set, replicate, insert, remove, sum, Result, true, take, Some, None}, specs.List.{list_all}}
+use Rattle.arrays_core.{specs.declared.item.Item.{Item}, specs.declared.item.Kind.{Kind}, specs.declared.item.Kind.TheVariants.{Axis, Rank, Length, Domain}, specs.Arrays.{ArrayValue, item_of}}
 use Rattle.function_names.{specs.declared.along.Along.{Along}, specs.Axes.{is_axis, axis_at}}
-use Rattle.index_region.{specs.Checks.{Form, check, limited, whole}, specs.Sources.{Place, Source, item_from}}
-use Rattle.index_region.{specs.Arguments.{is_scalar, is_list, has_one_item, counts_as_numbers, number_of, numbers, none_negative}, specs.Axes.{places_along}}
-use Rattle.index_region.specs.Boxes.{Interval, whole_of}
+use Rattle.index_region.{specs.Checks.{Form, check, limited, whole}, specs.Sources.{Place, Source, item_from}, specs.Arguments.{is_scalar, is_list, has_one_item, counts_as_numbers, number_of, numbers, none_negative}, specs.Axes.{places_along}, specs.Boxes.{Interval, whole_of}}
 use Rattle.change_core.{specs.RuleModels.{RuleModel}, specs.Sourced.{Spread, on_axis, two_sourced}}
 
 -- no copy, or one

@@ -1,7 +1,6 @@
 -- Shape, ⍴B: the axis lengths of an array.
 use Rattle.std.specs.Prelude.{ℕ, ◌-◌, pos, List, [], ◌∷◌, length, get_or, Result, Ok}
-use Rattle.arrays_core.{specs.declared.item.Item.{Item}, specs.declared.item.Item.TheVariants.{Num}, specs.declared.item.ItemType.TheVariants.{Nums}}
-use Rattle.arrays_core.{specs.declared.item.Kind.{Kind}, specs.Arrays.{ArrayValue}}
+use Rattle.arrays_core.{specs.declared.item.Item.{Item}, specs.declared.item.Item.TheVariants.{Num}, specs.declared.item.ItemType.TheVariants.{Nums}, specs.declared.item.Kind.{Kind}, specs.Arrays.{ArrayValue}}
 use Rattle.index_region.specs.Checks.{Form, limited, whole}
 use Rattle.change_core.{specs.RuleModels.{RuleModel}, specs.Sourced.{one_rule}, specs.Ways.{unread}}
 

@@ -1,11 +1,8 @@
 -- What one line is answered, and what lines are.
-use Rattle.std.proofs.Common.{◌≡◌, ℕ, ◌+◌, ◌-◌, ◌<◌, ◌≤◌, Bool, true, false, eqb, ltb, List, [], ◌∷◌, ◌++◌, length, take, get_or, refl, sym, ap, subst, ◌∙◌, arith, count_by, replicate, append_assoc, codes, ⊎_elim}
-use Rattle.std.{specs.Prelude.{◌&&◌}, proofs.lemmas.Bool.{cases_lt, cond_both}, proofs.lemmas.List.Sums.{sum_by-append}}
+use Rattle.std.{proofs.Common.{◌≡◌, ℕ, ◌+◌, ◌-◌, ◌<◌, ◌≤◌, Bool, true, false, eqb, ltb, List, [], ◌∷◌, ◌++◌, length, take, get_or, refl, sym, ap, subst, ◌∙◌, arith, count_by, replicate, append_assoc, codes, ⊎_elim}, specs.Prelude.{◌&&◌}, proofs.lemmas.Bool.{cases_lt, cond_both}, proofs.lemmas.List.Sums.{sum_by-append}}
 use Rattle.std.{proofs.lemmas.List.{take_all, append-nil, length-take, length_push}, specs.Str.{IsUtf8, chars}}
-use Rattle.sheet_cli.{specs.Lines.{longest_line, strip_cr, ended_lines, last_line}, specs.Answer.{State, IsTextAnswer, IsAnswer, too_long, not_text, of_text}}
-use Rattle.sheet_cli.specs.Answers.{IsFlaggedAnswer, Answers, no_lines, line_first, Answered, LinesHaveOneAnswer, IsOnlyAnswer}
-use Rattle.sheet_cli.{specs.Progress.{most_kept, line_after, count_of, AnswersLine}, proofs.Cuts.{next_stripped, long_enough, kept_line}}
-use Rattle.sheet_cli.proofs.OneAnswer.{line_one}
+use Rattle.sheet_cli.{specs.Lines.{longest_line, strip_cr, ended_lines, last_line}, specs.Answer.{State, IsTextAnswer, IsAnswer, too_long, not_text, of_text}, specs.Answers.{IsFlaggedAnswer, Answers, no_lines, line_first, Answered, LinesHaveOneAnswer, IsOnlyAnswer}}
+use Rattle.sheet_cli.{specs.Progress.{most_kept, line_after, count_of, AnswersLine}, proofs.Cuts.{next_stripped, long_enough, kept_line}, proofs.OneAnswer.{line_one}}
 
 -- a line of so many bytes is too long without its CR
 longer : (line : List ℕ) → longest_line + 2 ≤ length line → longest_line < length (strip_cr line)

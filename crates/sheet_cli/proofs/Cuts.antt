@@ -1,9 +1,7 @@
 -- How lines are cut, from the left.
-use Rattle.std.proofs.Common.{◌≡◌, ℕ, zero, suc, ◌+◌, ◌-◌, ◌<◌, ◌≤◌, min, Bool, true, false, cond, eqb, List, [], ◌∷◌, ◌++◌, length, take, get_or, refl, sym, ap, ◌∙◌, arith, ⊎_elim}
-use Rattle.std.{specs.Prelude.{◌==◌, ◌&&◌, Result, is_ok}, specs.Result.{IsOk}, proofs.lemmas.Bool.{and_parts, eqb-true, cases_lt, cond_both}}
+use Rattle.std.{proofs.Common.{◌≡◌, ℕ, zero, suc, ◌+◌, ◌-◌, ◌<◌, ◌≤◌, min, Bool, true, false, cond, eqb, List, [], ◌∷◌, ◌++◌, length, take, get_or, refl, sym, ap, ◌∙◌, arith, ⊎_elim}, specs.Prelude.{◌==◌, ◌&&◌, Result, is_ok}, specs.Result.{IsOk}, proofs.lemmas.Bool.{and_parts, eqb-true, cases_lt, cond_both}}
 use Rattle.std.{proofs.lemmas.List.{take_all, take_more, length-take}, proofs.Math.Seq.{take-append-add}}
-use Rattle.sheet_cli.specs.Lines.{strip_bom, onto_first, ended_lines, onto_last, last_line, line_if_any, lines_of, longest_line}
-use Rattle.sheet_cli.specs.Progress.{most_kept, first_stripped, line_after}
+use Rattle.sheet_cli.{specs.Lines.{strip_bom, onto_first, ended_lines, onto_last, last_line, line_if_any, lines_of, longest_line}, specs.Progress.{most_kept, first_stripped, line_after}}
 
 -- the line that stands after these, without a byte order mark where it is the first
 unfoldable pub next_stripped : List (List ℕ) → List ℕ → List ℕ
@@ -36,16 +34,6 @@ pub ended_lines-push : (xs : List ℕ) (y : ℕ) → eqb y 10 ≡ false → ende
 unfolding ended_lines last_line
 ended_lines-push [] y h = rw h refl
 ended_lines-push (x ∷ xs) y h = rw (ended_lines-push xs y h) refl
-
-pub last_line-push : (xs : List ℕ) (y : ℕ) → eqb y 10 ≡ false → last_line (xs ++ y ∷ []) ≡ last_line xs ++ y ∷ []
-unfolding ended_lines last_line
-last_line-push [] y h = rw h refl
-last_line-push (x ∷ xs) y h = rw (ended_lines-push xs y h, last_line-push xs y h) (by_cases (eqb x 10) (ended_lines xs) (last_line xs))
-  where
-    by_cases : (b : Bool) (ls : List (List ℕ)) (l : List ℕ) → cond b (l ++ y ∷ []) (onto_last x ls (l ++ y ∷ [])) ≡ cond b l (onto_last x ls l) ++ y ∷ []
-    by_cases true ls l = refl
-    by_cases false [] l = refl
-    by_cases false (k ∷ ls) l = refl
 
 -- a byte order mark at the start stands in the first line, ended or not
 first_kept : (a b c : ℕ) (l₀ l₁ l₂ m : List (List ℕ)) (ta tb tc : Bool) → ((a == 239) && (b == 187) && (c == 191)) ≡ false →

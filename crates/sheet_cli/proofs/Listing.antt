@@ -1,6 +1,5 @@
 -- The list of names, one name more.
-use Rattle.std.proofs.Common.{◌≡◌, ℕ, ◌+◌, ◌<◌, List, [], ◌∷◌, ◌++◌, length, take, get_or, sym, ap, ◌∙◌, append_assoc}
-use Rattle.std.proofs.lemmas.List.{take_more, flat_map_more}
+use Rattle.std.{proofs.Common.{◌≡◌, ℕ, ◌+◌, ◌<◌, List, [], ◌∷◌, ◌++◌, length, take, get_or, sym, ap, ◌∙◌, append_assoc}, proofs.lemmas.List.{take_more, flat_map_more}}
 use Rattle.array_text.specs.Text.{line_end}
 use Rattle.sheet_cli.specs.Answer.{names_text}
 

@@ -1,12 +1,9 @@
 -- A line has one answer, and leads to one state.
-use Rattle.std.proofs.Common.{◌≡◌, ℕ, ◌<◌, ◌≤◌, ◌⊎◌, inl, inr, ℤ, List, length, Option, Some, None, Ok, Err, refl, sym, ap, subst, ◌∙◌, arith}
-use Rattle.std.proofs.lemmas.List.{length-map}
+use Rattle.std.{proofs.Common.{◌≡◌, ℕ, ◌<◌, ◌≤◌, ◌⊎◌, inl, inr, ℤ, List, length, Option, Some, None, Ok, Err, refl, sym, ap, subst, ◌∙◌, arith}, proofs.lemmas.List.{length-map}}
 use Rattle.apl_tokens.{specs.Scans.{Scans, SpannedLexeme, Fault, SyntaxAt, LimitAt}, proofs.Complete.{one_answer_of}}
-use Rattle.apl_expr.{specs.Limits.{most_tokens}, specs.declared.fault.LineFault.TheVariants.{Syntax, Limit}, specs.Grammar.{IsTooLarge}}
-use Rattle.apl_expr.specs.Lines.{Meaning, Nothing, Define, Data, Cell, Row, Erase, Show, Names, Cost, Csv, Open, Step, Commit, Drop, IsLine, HasTree}
-use Rattle.apl_expr.{specs.Answers.{lexemes_of, IsAnswered, IsReadAs}, proofs.Commands.{one_meaning_of}}
-use Rattle.sheet_cli.specs.Answer.{State, change_meant, IsOpening, IsCarriedOut, IsTextAnswer, no_line, too_large, carried_out, too_long, not_text, of_text}
-use Rattle.sheet_cli.{specs.Answers.{EachLineHasOneAnswer}, proofs.OneEdit.{edit_one}, proofs.OneEvent.{asked_one}}
+use Rattle.apl_expr.{specs.Limits.{most_tokens}, specs.declared.fault.LineFault.TheVariants.{Syntax, Limit}, specs.Grammar.{IsTooLarge}, specs.Lines.{Meaning, Nothing, Define, Data, Cell, Row, Erase, Show, Names, Cost, Csv, Open, Step, Commit, Drop, IsLine, HasTree}, specs.Answers.{lexemes_of, IsAnswered, IsReadAs}}
+use Rattle.apl_expr.proofs.Commands.{one_meaning_of}
+use Rattle.sheet_cli.{specs.Answer.{State, change_meant, IsOpening, IsCarriedOut, IsTextAnswer, no_line, too_large, carried_out, too_long, not_text, of_text}, specs.Answers.{EachLineHasOneAnswer}, proofs.OneEdit.{edit_one}, proofs.OneEvent.{asked_one}}
 use Rattle.sheet_recalc.specs.Changes as change
 use Rattle.sheet_desk.specs.Desk as desk
 

@@ -1,9 +1,7 @@
 -- What is asked of a slot has one answer, but for want of memory, since the events of a desk have.
-use Rattle.std.proofs.Common.{◌≡◌, ◌≢◌, ℕ, inl, inr, Bool, true, List, [], ◌∷◌, map, codes, Option, Some, None, refl, sym, ap, subst, ◌∙◌}
-use Rattle.std.{specs.Option.{option_map}, proofs.lemmas.Bool.{false≢true}}
+use Rattle.std.{proofs.Common.{◌≡◌, ◌≢◌, ℕ, inl, inr, Bool, true, List, [], ◌∷◌, map, codes, Option, Some, None, refl, sym, ap, subst, ◌∙◌}, specs.Option.{option_map}, proofs.lemmas.Bool.{false≢true}}
 use Rattle.sheet_recalc.specs.Changes.{SheetChange}
-use Rattle.sheet_desk.specs.Desk.{SlotValue, DeskValue, Event, Plain, Answer, Done, Left, Shown, Refused, stale, IsRefused, IsEvent}
-use Rattle.sheet_desk.{specs.Histories.{told_of_slot, AreAlike, names_cycle, IsSameAnswer}, proofs.OneAnswer.{one_answer}}
+use Rattle.sheet_desk.{specs.Desk.{SlotValue, DeskValue, Event, Plain, Answer, Done, Left, Shown, Refused, stale, IsRefused, IsEvent}, specs.Histories.{told_of_slot, AreAlike, names_cycle, IsSameAnswer}, proofs.OneAnswer.{one_answer}}
 use Rattle.sheet_cli.specs.Answer.{OpenChange, State, open_change, state_of, as_stale, IsChangeAnswered, accepted, refused, IsPrintedFor, IsAsked}
 use Rattle.sheet_recalc.specs.declared.refusal.Refusal.TheVariants as why
 

@@ -1,12 +1,10 @@
 -- How a run comes from one pull to the next.
-use Rattle.std.proofs.Common.{◌≡◌, ℕ, ◌+◌, ◌<◌, ◌≤◌, Bool, true, List, [], ◌∷◌, ◌++◌, length, take, refl, sym, ap, ◌∙◌, arith, Option, Result, Ok, Err, OnOk, OnErr, append_assoc, ⊎_elim, ◌⊎◌, inl, inr, length-append}
-use Rattle.std.{proofs.lemmas.List.{append-nil, length_push}, specs.Io.KnownBytes.{Appends, Consumes, Keeps, IsAtEnd}}
-use Rattle.sheet_cli.{specs.declared.run_loop.Tally.{Tally}, specs.Lines.{ended_lines, last_line, lines_of, whole_lines_of}, specs.Answer.{State}}
-use Rattle.sheet_cli.{specs.Answers.{StoppedAt}, specs.Run.{Completes, BreaksOff, IsCut}}
+use Rattle.std.{proofs.Common.{◌≡◌, ℕ, ◌+◌, ◌<◌, ◌≤◌, Bool, true, List, [], ◌∷◌, ◌++◌, length, take, refl, sym, ap, ◌∙◌, arith, Option, Result, Ok, Err, OnOk, OnErr, append_assoc, ⊎_elim, ◌⊎◌, inl, inr, length-append}, proofs.lemmas.List.{append-nil, length_push}}
+use Rattle.std.specs.Io.KnownBytes.{Appends, Consumes, Keeps, IsAtEnd}
+use Rattle.sheet_cli.{specs.declared.run_loop.Tally.{Tally}, specs.Lines.{ended_lines, last_line, lines_of, whole_lines_of}, specs.Answer.{State}, specs.Answers.{StoppedAt}, specs.Run.{Completes, BreaksOff, IsCut}}
 use Rattle.sheet_cli.specs.Progress.{most_kept, first_stripped, line_after, AnswersLine, Standing, standing, IsMidway, Feeds, StopsIn, Finishes, StopsAtEnd}
 use Rattle.sheet_cli.proofs.Cuts.{next_stripped, ended_lines-lf, last_line-lf, ended_lines-piece, last_line-piece, take-piece, ended_lines-bom, first_stripped-push, first_stripped-append, length-first_stripped, ended_lines-append, kept_empty, line_if_any-none, line_if_any-some, lines_of-is, kept_line}
-use Rattle.sheet_cli.proofs.Devices.{Appends-none, Appends-more, Consumes-none, Consumes-more, Consumes-keeps}
-use Rattle.sheet_cli.proofs.AnswerLemmas.{AnswersLine-kept, Answered-push, Answered-none, only_answer}
+use Rattle.sheet_cli.{proofs.Devices.{Appends-none, Appends-more, Consumes-none, Consumes-more, Consumes-keeps}, proofs.AnswerLemmas.{AnswersLine-kept, Answered-push, Answered-none, only_answer}}
 
 -- before the first byte
 pub IsMidway-start : (old : State) (tally : Tally) → tally ≡ record { lines = 0; refused_for_memory = 0 } → IsMidway old [] (standing [] tally old) []

@@ -1,15 +1,10 @@
 -- What one line is answered.
-use Rattle.std.specs.Prelude.{◌≡◌, ◌≢◌, ℕ, ℤ, ◌<◌, ◌≤◌, nat_lt, Bool, true, false, List, [], ◌++◌, length, map, codes, decimal, Option, Some, None, Result, Ok, Err, if◌then◌else◌}
-use Rattle.std.{specs.List.{flat_map}, specs.Option.{option_map}, specs.Map.{keys_of}, specs.Str.{IsUtf8, chars}}
-use Rattle.apl_expr.specs.declared.fault.LineFault.TheVariants.{Syntax, Limit}
-use Rattle.apl_expr.specs.Lines.{Meaning, Nothing, Define, Data, Cell, Row, Erase, Show, Names, Cost, Csv, Open, Step, Commit, Drop}
-use Rattle.apl_expr.specs.Answers.{IsAnswered, IsReadAs}
-use Rattle.arrays_core.{specs.Arrays.{ArrayValue}, specs.declared.fault.Fault.{Fault}, specs.declared.item.Item.{Item}, specs.declared.item.ItemType.{ItemType}}
-use Rattle.arrays_core.specs.declared.item.ItemType.TheVariants.{Nums, Chars}
+use Rattle.std.{specs.Prelude.{◌≡◌, ◌≢◌, ℕ, ℤ, ◌<◌, ◌≤◌, nat_lt, Bool, true, false, List, [], ◌++◌, length, map, codes, decimal, Option, Some, None, Result, Ok, Err, if◌then◌else◌}, specs.List.{flat_map}, specs.Option.{option_map}, specs.Map.{keys_of}, specs.Str.{IsUtf8, chars}}
+use Rattle.apl_expr.{specs.declared.fault.LineFault.TheVariants.{Syntax, Limit}, specs.Lines.{Meaning, Nothing, Define, Data, Cell, Row, Erase, Show, Names, Cost, Csv, Open, Step, Commit, Drop}, specs.Answers.{IsAnswered, IsReadAs}}
+use Rattle.arrays_core.{specs.Arrays.{ArrayValue}, specs.declared.fault.Fault.{Fault}, specs.declared.item.Item.{Item}, specs.declared.item.ItemType.{ItemType}, specs.declared.item.ItemType.TheVariants.{Nums, Chars}}
 use Rattle.array_text.{specs.Text.{line_end, item_number, array_text, fault_text}, specs.Tables.{table_text}}
 use Rattle.formula_core.specs.Meaning.{eval}
-use Rattle.sheet_recalc.{specs.Names.{Binding, binding}, specs.Meaning.{val}, specs.Changes.{SheetChange, Accepts, Refuses}, specs.Costs.{HasCost}}
-use Rattle.sheet_recalc.specs.declared.refusal.Refusal.{Refusal}
+use Rattle.sheet_recalc.{specs.Names.{Binding, binding}, specs.Meaning.{val}, specs.Changes.{SheetChange, Accepts, Refuses}, specs.Costs.{HasCost}, specs.declared.refusal.Refusal.{Refusal}}
 use Rattle.sheet_desk.specs.Desk.{SlotValue, DeskValue, IsEvent}
 use Rattle.sheet_cli.specs.Lines.{longest_line, strip_cr}
 use Rattle.sheet_recalc.specs.Names as sheet

@@ -1,9 +1,7 @@
 -- How the program ends, with what status, and what it tells of that.
 use Rattle.std.specs.Prelude.{ℕ, List, [], ◌++◌, codes, decimal, Option, Some, None, Result, Ok, Err}
 use Rattle.program_words.specs.declared.reading.WordsFault.{WordsFault}
-use Rattle.sheet_cli.specs.declared.ending.Ending.{Ending}
-use Rattle.sheet_cli.specs.declared.ending.Ending.TheVariants.{Done, Run, Table, CannotRead, NoMemory, BadName, BadWords}
-use Rattle.sheet_cli.specs.declared.host.NotRead.{NotRead}
+use Rattle.sheet_cli.{specs.declared.ending.Ending.{Ending}, specs.declared.ending.Ending.TheVariants.{Done, Run, Table, CannotRead, NoMemory, BadName, BadWords}, specs.declared.host.NotRead.{NotRead}}
 use Rattle.array_text.{specs.declared.table_fault.TableFault.{TableFault}, specs.Text.{line_end}}
 use Rattle.program_words.specs.declared.reading.WordsFault.TheVariants as fault
 use Rattle.sheet_cli.specs.declared.host.NotRead.TheVariants as unread

@@ -1,6 +1,5 @@
 -- What contracts see of what the program is started in: its words, and the files of paths, each where it is known.
-use Rattle.std.{specs.Prelude.{◌≡◌, ℕ, List, All, Option, Some, IfSome}, specs.Str.{IsUtf8}, specs.declared.io.ErrorKind.{ErrorKind}}
-use Rattle.std.specs.declared.io.ErrorKind.TheVariants.{OutOfMemory}
+use Rattle.std.{specs.Prelude.{◌≡◌, ℕ, List, All, Option, Some, IfSome}, specs.Str.{IsUtf8}, specs.declared.io.ErrorKind.{ErrorKind}, specs.declared.io.ErrorKind.TheVariants.{OutOfMemory}}
 use Rattle.clap.specs.Words.{Text}
 use Rattle.sheet_cli.{specs.declared.host.NoWords.{NoWords}, specs.declared.host.NotRead.{NotRead}}
 use Rattle.sheet_cli.specs.declared.host.NoWords.TheVariants as words

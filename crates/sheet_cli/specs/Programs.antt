@@ -1,17 +1,13 @@
 -- What the program does with its words, its files and its devices.
-use Rattle.std.specs.Prelude.{◌≡◌, ℕ, Bool, true, List, [], ◌∷◌, replicate, Option, Some, None, Ok, Err, IfSome, ◌⊎◌, string_bytes}
-use Rattle.std.{specs.Io.KnownBytes.{Appends}, specs.declared.alloc.Global.{Global}, specs.declared.string.String.{String}}
+use Rattle.std.{specs.Prelude.{◌≡◌, ℕ, Bool, true, List, [], ◌∷◌, replicate, Option, Some, None, Ok, Err, IfSome, ◌⊎◌, string_bytes}, specs.Io.KnownBytes.{Appends}, specs.declared.alloc.Global.{Global}, specs.declared.string.String.{String}}
 use Rattle.clap.specs.Words.{Text, fault_of, subcommand_of, takes}
 use Rattle.arrays_core.specs.Arrays.{ArrayValue}
 use Rattle.array_text.specs.Tables.{IsTableRead, records_of}
-use Rattle.program_words.{specs.Asked.{IsNotBadWords, IsNotText, IsRefusalOf, Means}, specs.Program.{aplsheet}, specs.declared.reading.Words.{Words}}
-use Rattle.program_words.specs.declared.reading.WordsFault.{WordsFault}
+use Rattle.program_words.{specs.Asked.{IsNotBadWords, IsNotText, IsRefusalOf, Means}, specs.Program.{aplsheet}, specs.declared.reading.Words.{Words}, specs.declared.reading.WordsFault.{WordsFault}}
 use Rattle.sheet_recalc.specs.Names.{Names, Data}
 use Rattle.sheet_desk.specs.Slots.{slot_count}
-use Rattle.sheet_cli.{specs.Answer.{State}, specs.Endings.{OfWords, ending_of, status_of, told_of}}
-use Rattle.sheet_cli.{specs.Hosts.{HostValue, HasWords, HasNoText, ReadsFile, FailsToRead, Opens, FailsToOpen}, specs.Run.{Completes, BreaksOff, IsCut}}
-use Rattle.sheet_cli.{specs.declared.ending.Ending.{Ending}, specs.declared.ending.Ending.TheVariants.{Done, Run, Table, CannotRead, NoMemory}}
-use Rattle.sheet_cli.specs.declared.run_loop.Tally.{Tally}
+use Rattle.sheet_cli.{specs.Answer.{State}, specs.Endings.{OfWords, ending_of, status_of, told_of}, specs.Hosts.{HostValue, HasWords, HasNoText, ReadsFile, FailsToRead, Opens, FailsToOpen}, specs.Run.{Completes, BreaksOff, IsCut}, specs.declared.ending.Ending.{Ending}}
+use Rattle.sheet_cli.{specs.declared.ending.Ending.TheVariants.{Done, Run, Table, CannotRead, NoMemory}, specs.declared.run_loop.Tally.{Tally}}
 use Rattle.sheet_cli.specs.declared.run_loop.RunFault.TheVariants as run
 
 -- the words have no fault, and mean this

@@ -1,7 +1,6 @@
 -- How far a run is between two bytes.
 use Rattle.std.specs.Prelude.{◌≡◌, ℕ, zero, suc, ◌+◌, Bool, true, false, List, [], ◌∷◌, ◌++◌, length, take}
-use Rattle.sheet_cli.{specs.Lines.{longest_line, strip_bom, ended_lines, last_line, lines_of}, specs.Answer.{State}}
-use Rattle.sheet_cli.{specs.Answers.{IsFlaggedAnswer, Answered, StoppedAt, IsWrittenInPart}, specs.declared.run_loop.Tally.{Tally}}
+use Rattle.sheet_cli.{specs.Lines.{longest_line, strip_bom, ended_lines, last_line, lines_of}, specs.Answer.{State}, specs.Answers.{IsFlaggedAnswer, Answered, StoppedAt, IsWrittenInPart}, specs.declared.run_loop.Tally.{Tally}}
 
 -- the most bytes that are kept of a line that has not ended: a longest line, a CR, a byte too many and a byte order mark
 abbrev pub most_kept : ℕ

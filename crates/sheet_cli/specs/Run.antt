@@ -1,7 +1,6 @@
 -- What a run read, wrote and did. The bytes of a source and a sink are those they have left and have taken, where known.
 use Rattle.std.{specs.Prelude.{◌≡◌, ℕ, ◌-◌, ◌^◌, Bool, true, List, length, Option, ◌⊎◌}, specs.Io.KnownBytes.{Appends, Consumes, IsAtEnd}}
-use Rattle.sheet_cli.{specs.Lines.{lines_of, whole_lines_of}, specs.Answer.{State}, specs.Answers.{IsWrittenInPart, Answered, IsOnlyAnswer}}
-use Rattle.sheet_cli.specs.declared.run_loop.Tally.{Tally}
+use Rattle.sheet_cli.{specs.Lines.{lines_of, whole_lines_of}, specs.Answer.{State}, specs.Answers.{IsWrittenInPart, Answered, IsOnlyAnswer}, specs.declared.run_loop.Tally.{Tally}}
 
 -- the whole input was read, and its lines answered
 pub record Completes (source₁ source₂ sink₁ sink₂ : Option (List ℕ)) (old new : State) (tally : Tally) : Type 0 where

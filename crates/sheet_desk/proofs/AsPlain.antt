@@ -1,9 +1,7 @@
 -- A change that is opened and committed makes the same change of the desk as a plain change does.
-use Rattle.std.proofs.Common.{◌≡◌, Bool, true, false, ◌||◌, List, [], ◌∷◌, ◌++◌, Option, Some, None, refl, sym, ap, subst, ◌∙◌}
-use Rattle.std.proofs.lemmas.Bool.{false≢true}
+use Rattle.std.{proofs.Common.{◌≡◌, Bool, true, false, ◌||◌, List, [], ◌∷◌, ◌++◌, Option, Some, None, refl, sym, ap, subst, ◌∙◌}, proofs.lemmas.Bool.{false≢true}}
 use Rattle.sheet_recalc.{specs.Names.{Names}, specs.Changes.{SheetChange, Accepts}, specs.Costs.{HasCost, HasTicks}}
-use Rattle.sheet_desk.specs.Desk.{DeskValue, SlotValue, Event, Open, Step, Commit, Drop, Plain, Show, Answer, Done, Left, Shown, Refused, with_held, AreEvents, IsMade}
-use Rattle.sheet_desk.specs.Histories.{makes_change, make_change, made_by, opened_after, committed, open_changes, AreAccepted, IsSameChange, OpenedIsAsPlain}
+use Rattle.sheet_desk.{specs.Desk.{DeskValue, SlotValue, Event, Open, Step, Commit, Drop, Plain, Show, Answer, Done, Left, Shown, Refused, with_held, AreEvents, IsMade}, specs.Histories.{makes_change, make_change, made_by, opened_after, committed, open_changes, AreAccepted, IsSameChange, OpenedIsAsPlain}}
 use Rattle.sheet_desk.{proofs.Committed.{names_committed}, proofs.Kept.{stale_changed}, proofs.Spent.{accepts_one}}
 
 -- an event that makes no change makes none of those that are committed

@@ -2,10 +2,8 @@
 use Rattle.std.{proofs.Common.{◌≡◌, ℕ, zero, suc, ℤ, List, [], ◌∷◌, ◌++◌, map, Option, Some, None, refl, sym, ap, subst, ◌∙◌, arith}, specs.Option.{option_map}}
 use Rattle.formula_core.specs.Meaning.{eval}
 use Rattle.sheet_recalc.{specs.Names.{Names}, specs.Meaning.{val}, specs.Changes.{SheetChange, Accepts}}
-use Rattle.sheet_desk.specs.Slots.{with_slot}
-use Rattle.sheet_desk.specs.Desk.{DeskValue, SlotValue, Event, Open, Step, Commit, Drop, Plain, Show, Answer, Done, Left, Shown, Refused, stale, with_held, IsEvent, IsMade, IsStepped}
-use Rattle.sheet_desk.specs.Histories.{open_changes, the_change, made_by, opened_after, committed, AreAccepted, NamesAreOfChangesCommitted, ShowsAreOfChangesCommitted}
-use Rattle.sheet_desk.{proofs.Slotted.{slot_in-map, with_slot-map}, proofs.Placed.{with_slot_same}, proofs.Spent.{accepts_one}}
+use Rattle.sheet_desk.{specs.Slots.{with_slot}, specs.Desk.{DeskValue, SlotValue, Event, Open, Step, Commit, Drop, Plain, Show, Answer, Done, Left, Shown, Refused, stale, with_held, IsEvent, IsMade, IsStepped}}
+use Rattle.sheet_desk.{specs.Histories.{open_changes, the_change, made_by, opened_after, committed, AreAccepted, NamesAreOfChangesCommitted, ShowsAreOfChangesCommitted}, proofs.Slotted.{slot_in-map, with_slot-map}, proofs.Placed.{with_slot_same}, proofs.Spent.{accepts_one}}
 
 accepted_append : (old mid new : Names) (xs ys : List SheetChange) → AreAccepted old xs mid → AreAccepted mid ys new → AreAccepted old (xs ++ ys) new
 accepted_append old mid new [] ys h rest = subst (λ (names : Names). AreAccepted names ys new) h rest

@@ -1,7 +1,5 @@
 -- The count of steps is one number.
-use Rattle.std.{proofs.Common.{◌≡◌, ◌≤◌, ◌+◌, ⊎_elim, ℕ, List, [], ◌∷◌, ◌++◌, sym, ap, subst, ◌∙◌, arith}, specs.List.{Contains, sum_by}}
-use Rattle.std.proofs.lemmas.List.Sums.{sum_by-cons, sum_by-append}
-use Rattle.std.proofs.lemmas.List.Elements.{Contains-append_left, Contains-append_right, Contains-append_cases}
+use Rattle.std.{proofs.Common.{◌≡◌, ◌≤◌, ◌+◌, ⊎_elim, ℕ, List, [], ◌∷◌, ◌++◌, sym, ap, subst, ◌∙◌, arith}, specs.List.{Contains, sum_by}, proofs.lemmas.List.Sums.{sum_by-cons, sum_by-append}, proofs.lemmas.List.Elements.{Contains-append_left, Contains-append_right, Contains-append_cases}}
 use Rattle.dep_order.{specs.Follows.{IsOnce}, proofs.Following.{contains_here, contains_there, contains_cases, contains_none}}
 use Rattle.sheet_recalc.{specs.Names.{Names}, specs.Costs.{IsStepCount, functions_in}, proofs.Keeping.{distinct_once}}
 

@@ -1,11 +1,8 @@
 -- A change that stays open is stale exactly where another was made.
-use Rattle.std.proofs.Common.{◌≡◌, ◌≢◌, ℕ, zero, suc, ℤ, Bool, true, false, ◌||◌, List, [], ◌∷◌, map, Option, Some, None, refl, sym, ap, subst, ◌∙◌, arith}
-use Rattle.std.specs.Option.{option_map}
+use Rattle.std.{proofs.Common.{◌≡◌, ◌≢◌, ℕ, zero, suc, ℤ, Bool, true, false, ◌||◌, List, [], ◌∷◌, map, Option, Some, None, refl, sym, ap, subst, ◌∙◌, arith}, specs.Option.{option_map}}
 use Rattle.sheet_recalc.specs.Changes.{SheetChange}
-use Rattle.sheet_desk.specs.Slots.{slot_in}
-use Rattle.sheet_desk.specs.Desk.{DeskValue, SlotValue, Event, Open, Step, Commit, Drop, Plain, Show, Answer, Done, Left, Shown, Refused, stale, held_in, with_held, IsEvent, IsStepped, AreEvents}
-use Rattle.sheet_desk.{specs.Histories.{makes_change, make_change, Keeps, AllKeep, HoldsStale, StaleWhereChanged}, proofs.Slotted.{slot_in-map, with_slot-map}}
-use Rattle.sheet_desk.proofs.Placed.{slot_in-same, slot_in-other, with_slot_same}
+use Rattle.sheet_desk.{specs.Slots.{slot_in}, specs.Desk.{DeskValue, SlotValue, Event, Open, Step, Commit, Drop, Plain, Show, Answer, Done, Left, Shown, Refused, stale, held_in, with_held, IsEvent, IsStepped, AreEvents}, specs.Histories.{makes_change, make_change, Keeps, AllKeep, HoldsStale, StaleWhereChanged}}
+use Rattle.sheet_desk.{proofs.Slotted.{slot_in-map, with_slot-map}, proofs.Placed.{slot_in-same, slot_in-other, with_slot_same}}
 
 or_false : (b : Bool) → (b || false) ≡ b
 or_false true = refl

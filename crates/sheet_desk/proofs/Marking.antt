@@ -1,6 +1,5 @@
 -- A list of which each element is replaced in turn.
-use Rattle.std.proofs.Common.{◌≡◌, ℕ, ◌+◌, ◌<◌, List, [], ◌∷◌, ◌++◌, map, length, get_or, set, take, drop, sym, ap, ◌∙◌, append_assoc, length-take, arith}
-use Rattle.std.proofs.lemmas.List.{length-map, drop_more, take_more, map-append, set_at, get_or_at}
+use Rattle.std.{proofs.Common.{◌≡◌, ℕ, ◌+◌, ◌<◌, List, [], ◌∷◌, ◌++◌, map, length, get_or, set, take, drop, sym, ap, ◌∙◌, append_assoc, length-take, arith}, proofs.lemmas.List.{length-map, drop_more, take_more, map-append, set_at, get_or_at}}
 
 module _ {X : Type 0} (f : X → X) (xs : List X) (i : ℕ) (d : X) (below : i < length xs) where
   front : length (map f (take i xs)) ≡ i

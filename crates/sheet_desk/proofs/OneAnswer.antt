@@ -1,13 +1,10 @@
 -- An event has one answer at desks that are alike, but for want of memory and which cycle is named.
-use Rattle.std.proofs.Common.{◌≡◌, ◌≢◌, ◌⊎◌, ⊎_elim, inl, inr, ℕ, zero, suc, ◌-◌, ℤ, Bool, true, false, eqb, List, [], ◌∷◌, map, Option, Some, None, refl, sym, ap, subst, ◌∙◌, arith, if◌then◌else◌}
-use Rattle.std.specs.Option.{option_map}
+use Rattle.std.{proofs.Common.{◌≡◌, ◌≢◌, ◌⊎◌, ⊎_elim, inl, inr, ℕ, zero, suc, ◌-◌, ℤ, Bool, true, false, eqb, List, [], ◌∷◌, map, Option, Some, None, refl, sym, ap, subst, ◌∙◌, arith, if◌then◌else◌}, specs.Option.{option_map}}
 use Rattle.formula_core.specs.Meaning.{eval}
-use Rattle.sheet_recalc.{specs.Names.{Names}, specs.Meaning.{val}, specs.Changes.{SheetChange, Accepts, Refuses}}
-use Rattle.sheet_recalc.{specs.Costs.{HasCost, IsStepCount, changed_name}, specs.declared.refusal.Refusal.{Refusal}}
+use Rattle.sheet_recalc.{specs.Names.{Names}, specs.Meaning.{val}, specs.Changes.{SheetChange, Accepts, Refuses}, specs.Costs.{HasCost, IsStepCount, changed_name}, specs.declared.refusal.Refusal.{Refusal}}
 use Rattle.sheet_desk.specs.Slots.{slot_in, with_slot}
 use Rattle.sheet_desk.specs.Desk.{DeskValue, SlotValue, Event, Open, Step, Commit, Drop, Plain, Show, Answer, Done, Left, Shown, Refused, steps_told, stale, held_in, with_held, open_refusal, step_refusal, commit_refusal, drop_refusal, slot_refusal, RefusesThen, IsOpened, IsStepped, IsMade, IsCommitted, IsEvent}
-use Rattle.sheet_desk.{specs.Histories.{told_of_slot, AreAlike, IsSameAnswer, EachEventHasOneAnswer}, proofs.Slotted.{slot_in-map, with_slot-map}}
-use Rattle.sheet_desk.{proofs.Spent.{accepts_one}, proofs.Counted.{count_one}, proofs.Causes.{accepted_refused, refused_one}}
+use Rattle.sheet_desk.{specs.Histories.{told_of_slot, AreAlike, IsSameAnswer, EachEventHasOneAnswer}, proofs.Slotted.{slot_in-map, with_slot-map}, proofs.Spent.{accepts_one}, proofs.Counted.{count_one}, proofs.Causes.{accepted_refused, refused_one}}
 use Rattle.sheet_recalc.specs.declared.refusal.Refusal.TheVariants as why
 
 -- what answers tell of a slot

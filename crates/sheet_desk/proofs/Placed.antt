@@ -1,6 +1,5 @@
 -- What the slot of a number holds, after something was put in a slot.
-use Rattle.std.proofs.Common.{◌≡◌, ◌≢◌, ℕ, zero, suc, ℤ, pos, negsuc, List, [], ◌∷◌, set, Option, Some, slice_get, refl, sym, ap, ◌∙◌}
-use Rattle.std.{proofs.lemmas.List.{set-get_or}, proofs.lemmas.Option.{get_or_from_slice_get}}
+use Rattle.std.{proofs.Common.{◌≡◌, ◌≢◌, ℕ, zero, suc, ℤ, pos, negsuc, List, [], ◌∷◌, set, Option, Some, slice_get, refl, sym, ap, ◌∙◌}, proofs.lemmas.List.{set-get_or}, proofs.lemmas.Option.{get_or_from_slice_get}}
 use Rattle.sheet_desk.specs.Slots.{slot_in, with_slot}
 
 module _ {A : Type 0} where

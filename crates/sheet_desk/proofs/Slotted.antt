@@ -1,10 +1,8 @@
 -- Slots by their numbers and by their places, which are counted from 0.
-use Rattle.std.proofs.Common.{◌≡◌, ℕ, zero, suc, ◌+◌, ◌<◌, ℤ, pos, negsuc, Bool, true, false, List, map, length, get_or, set, Option, Some, None, is_some, refl, sym, ap, subst, ◌∙◌, add-one}
-use Rattle.std.{specs.Option.{option_map}, proofs.lemmas.Bool.{false≢true}, proofs.lemmas.List.{map-set}, proofs.Math.Seq.{map-set_same}}
+use Rattle.std.{proofs.Common.{◌≡◌, ℕ, zero, suc, ◌+◌, ◌<◌, ℤ, pos, negsuc, Bool, true, false, List, map, length, get_or, set, Option, Some, None, is_some, refl, sym, ap, subst, ◌∙◌, add-one}, specs.Option.{option_map}, proofs.lemmas.Bool.{false≢true}, proofs.lemmas.List.{map-set}, proofs.Math.Seq.{map-set_same}}
 use Rattle.std.{proofs.lemmas.Int.{to_z-of_z}, proofs.lemmas.Option.{slice_get-map, slice_get-get_or}}
 use Rattle.sheet_recalc.{specs.Names.{SheetValue}, specs.History.{change_of}, specs.Pending.{steps_left}, specs.declared.pending.Pending.{Pending}}
-use Rattle.sheet_desk.{specs.Slots.{slot_in, with_slot}, specs.Desk.{DeskValue, SlotValue, held_in, with_held}, specs.Held.{slot_value_of, slot_values_of}}
-use Rattle.sheet_desk.specs.declared.slot.Slot.{Slot}
+use Rattle.sheet_desk.{specs.Slots.{slot_in, with_slot}, specs.Desk.{DeskValue, SlotValue, held_in, with_held}, specs.Held.{slot_value_of, slot_values_of}, specs.declared.slot.Slot.{Slot}}
 use mir.Syntax.{w64}
 use mir.Val.{to_z, of_z, SFits}
 

@@ -1,8 +1,6 @@
 -- What was computed for a change that is made is no more than it costs.
 use Rattle.std.proofs.Common.{◌≡◌, ◌≤◌, ℕ, Ok, Result, subst, sym, ◌∙◌}
-use Rattle.sheet_recalc.{specs.Names.{Names, SheetValue}, specs.Changes.{SheetChange, Define, Store, Put, SetCell, AddRow, Erase, Accepts}}
-use Rattle.sheet_recalc.{specs.Costs.{HasCost}, specs.Pending.{IsPendingOn, steps_left, names_after}, specs.declared.pending.Pending.{Pending}}
-use Rattle.sheet_recalc.proofs.Stepped.{is_ready, whole_cost}
+use Rattle.sheet_recalc.{specs.Names.{Names, SheetValue}, specs.Changes.{SheetChange, Define, Store, Put, SetCell, AddRow, Erase, Accepts}, specs.Costs.{HasCost}, specs.Pending.{IsPendingOn, steps_left, names_after}, specs.declared.pending.Pending.{Pending}, proofs.Stepped.{is_ready, whole_cost}}
 
 same_ok : {A B : Type 0} {r : Result A B} {a b : A} → r ≡ Ok a → r ≡ Ok b → a ≡ b
 same_ok p q = cc

@@ -1,10 +1,8 @@
 -- All that is open is marked as stale.
-use Rattle.std.proofs.Common.{◌≡◌, ℕ, zero, suc, ℤ, pos, negsuc, List, [], ◌∷◌, map, length, get_or, set, Option, Some, None, refl, sym, ap, subst, ◌∙◌, length-set}
-use Rattle.std.{specs.List.{All}, specs.Option.{option_map}, proofs.lemmas.Bool.{false≢true}, proofs.lemmas.List.{length-map}}
+use Rattle.std.{proofs.Common.{◌≡◌, ℕ, zero, suc, ℤ, pos, negsuc, List, [], ◌∷◌, map, length, get_or, set, Option, Some, None, refl, sym, ap, subst, ◌∙◌, length-set}, specs.List.{All}, specs.Option.{option_map}, proofs.lemmas.Bool.{false≢true}, proofs.lemmas.List.{length-map}}
 use Rattle.std.{proofs.lemmas.List.Elements.{All-get_or, All-map, All-set}, proofs.lemmas.Option.{slice_get_within, get_or_from_slice_get}}
 use Rattle.sheet_recalc.specs.Names.{SheetValue}
-use Rattle.sheet_desk.{specs.Slots.{slot_count, slot_in, with_slot}, specs.Desk.{SlotValue, stale}}
-use Rattle.sheet_desk.{specs.Held.{IsOpenOn, AreOpenOn, marked, slot_value_of, slot_values_of}, specs.declared.slot.Slot.{Slot}}
+use Rattle.sheet_desk.{specs.Slots.{slot_count, slot_in, with_slot}, specs.Desk.{SlotValue, stale}, specs.Held.{IsOpenOn, AreOpenOn, marked, slot_value_of, slot_values_of}, specs.declared.slot.Slot.{Slot}}
 
 -- what holds of all slots holds of the one that a number names
 pub all_in : {A : Type 0} (P : Option A → Type 0) (slots : List (Option A)) (k : ℤ) (held : Option A) → All P slots → slot_in slots k ≡ Some held → P held

@@ -1,11 +1,9 @@
 -- The desk: a sheet, and beside it up to eight changes that are open at once, each worked out by steps in a slot of its own.
-use Rattle.std.specs.Prelude.{◌≡◌, ℕ, ◌+◌, ◌-◌, ◌<◌, ◌≤◌, ◌⊎◌, ℤ, min, eqb, true, false, Bool, List, [], ◌∷◌, map, Option, Some, None, if◌then◌else◌}
-use Rattle.std.specs.Option.{option_map}
+use Rattle.std.{specs.Prelude.{◌≡◌, ℕ, ◌+◌, ◌-◌, ◌<◌, ◌≤◌, ◌⊎◌, ℤ, min, eqb, true, false, Bool, List, [], ◌∷◌, map, Option, Some, None, if◌then◌else◌}, specs.Option.{option_map}}
 use Rattle.apl_expr.specs.Trees.{Tree}
 use Rattle.formula_core.specs.Meaning.{eval}
 use Rattle.arrays_core.specs.Outcomes.{Outcome}
-use Rattle.sheet_recalc.{specs.Names.{Names}, specs.Meaning.{val}, specs.Changes.{SheetChange, Accepts, Refuses}}
-use Rattle.sheet_recalc.{specs.Costs.{HasCost, HasTicks, changed_name, expression_cost, IsStepCost, IsStepCount}, specs.declared.refusal.Refusal.{Refusal}}
+use Rattle.sheet_recalc.{specs.Names.{Names}, specs.Meaning.{val}, specs.Changes.{SheetChange, Accepts, Refuses}, specs.Costs.{HasCost, HasTicks, changed_name, expression_cost, IsStepCost, IsStepCount}, specs.declared.refusal.Refusal.{Refusal}}
 use Rattle.sheet_recalc.specs.declared.refusal.Refusal.TheVariants.{NoMemory, Stale, NotReady, NoSlot, SlotInUse}
 use Rattle.sheet_desk.specs.Slots.{slot_in, with_slot}
 

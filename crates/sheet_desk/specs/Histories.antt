@@ -4,8 +4,7 @@ use Rattle.apl_expr.specs.Trees.{Tree}
 use Rattle.formula_core.specs.Meaning.{eval}
 use Rattle.arrays_core.specs.Outcomes.{Outcome}
 use Rattle.sheet_recalc.{specs.Names.{Names}, specs.Meaning.{val}, specs.Changes.{SheetChange, Accepts}, specs.Costs.{NoItemFails, changed_name, asked_change}}
-use Rattle.sheet_desk.specs.Slots.{slot_in, with_slot}
-use Rattle.sheet_desk.specs.Desk.{DeskValue, SlotValue, Event, Open, Commit, Drop, Plain, Show, Answer, Done, Left, Shown, Refused, held_in, IsEvent, AreEvents}
+use Rattle.sheet_desk.{specs.Slots.{slot_in, with_slot}, specs.Desk.{DeskValue, SlotValue, Event, Open, Commit, Drop, Plain, Show, Answer, Done, Left, Shown, Refused, held_in, IsEvent, AreEvents}}
 use Rattle.sheet_recalc.specs.declared.refusal.Refusal.TheVariants as why
 
 -- the changes that are open, slot by slot

@@ -1,11 +1,10 @@
 -- What a sheet keeps of a change: what it cost, and the items that were computed.
-use Rattle.std.{proofs.Common.{◌≡◌, ◌≢◌, ◌+◌, ◌≤◌, ◌<◌, ◌∙◌, ℕ, List, Some, Ok, min, sym, ap, arith}, specs.Prelude.{Vec}}
+use Rattle.std.{proofs.Common.{◌≡◌, ◌≢◌, ◌+◌, ◌≤◌, ◌<◌, ◌∙◌, ℕ, List, Some, Ok, sym, ap, arith}, specs.Prelude.{Vec}}
 use Rattle.arrays_core.specs.Arrays.{ArrayValue}
 use Rattle.index_region.{specs.declared.delta.Delta.{Delta}, specs.declared.delta.Delta.TheVariants.{Whole}}
 use Rattle.change_core.specs.Meters.{ticked}
 use Rattle.apl_expr.specs.Trees.{Tree}
-use Rattle.sheet_recalc.{specs.Names.{Names, Data, Formula, binding, put}, specs.Live.{TellsUsers}, specs.Meaning.{val}}
-use Rattle.sheet_recalc.{proofs.Binding.{rebound_own, rebound_same}, proofs.Live.{val_data}}
+use Rattle.sheet_recalc.{specs.Names.{Names, Data, Formula, binding, put}, specs.Live.{TellsUsers}, specs.Meaning.{val}, proofs.Binding.{rebound_own, rebound_same}, proofs.Live.{val_data}}
 
 -- a name that is bound to an array shows it
 pub shows_put : (names : Names) (name : List ℕ) (a : ArrayValue) → val (put names name (Data a)) name ≡ Ok a
@@ -15,10 +14,6 @@ shows_put names name a = val_data (put names name (Data a)) name a (rebound_own 
 pub whole_put : (names new : Names) (name : List ℕ) (a : ArrayValue) (change : Delta) → change ≡ Whole (Ok a) → put names name (Data a) ≡ new → change ≡ Whole (val new name)
 whole_put names new name a change is same = is ∙ (ap (λ r. Whole r) (sym (shows_put names name a)) ∙ ap (λ ns. Whole (val ns name)) same)
 
--- what was spent before and what the plans cost, together
-pub spent_more : (spent planned total cost : ℕ) → planned ≡ ticked 0 cost → total ≡ min (spent + planned) 18446744073709551615 → total ≡ ticked spent cost
-spent_more spent planned total cost is sum = omega (arith, is, sum)
-
 -- no more items are computed than the change costs
 pub few_ticks : (spent cost ticks total : ℕ) → ticks ≤ spent + cost → ticks < 18446744073709551616 → total ≡ ticked spent cost → ticks ≤ total
 few_ticks spent cost ticks total made fits sum = omega (arith, made, fits, sum)
@@ -26,10 +21,6 @@ few_ticks spent cost ticks total made fits sum = omega (arith, made, fits, sum)
 -- what an expression costs, and then what its array costs
 pub expression_more : (spent expression cost total : ℕ) → spent ≡ ticked 0 expression → total ≡ ticked spent cost → total ≡ ticked 0 (expression + cost)
 expression_more spent expression cost total is sum = omega (arith, is, sum)
-
--- a change that works out no expression costs what the formulas do
-pub formulas_alone : (cost total : ℕ) → total ≡ ticked 0 cost → total ≡ ticked 0 (0 + cost)
-formulas_alone cost total is = omega (arith, is)
 
 -- where other data is put under a name that holds data, each name refers to what it did
 pub table_kept : {S : Type 0} (names : Names) (name : List ℕ) (a b : ArrayValue) (users : List (List ℕ × Vec (List ℕ) S)) → binding names name ≡ Some (Data a) → TellsUsers names users → TellsUsers (put names name (Data b)) users

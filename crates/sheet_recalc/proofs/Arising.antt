@@ -1,15 +1,10 @@
 -- The error of a tree has no origin yet, or a name in the tree shows it: so each error leads back to its origin.
-use Rattle.std.proofs.Common.{◌≡◌, ℕ, ◌⊎◌, inl, inr, List, [], ◌∷◌, ◌++◌, Option, Some, None, Result, Ok, Err, refl, sym, ap, ◌∙◌, subst, ⊎_elim}
-use Rattle.std.{specs.List.{Contains}, proofs.lemmas.List.Elements.{Contains-append_left, Contains-append_right}}
+use Rattle.std.{proofs.Common.{◌≡◌, ℕ, ◌⊎◌, inl, inr, List, [], ◌∷◌, ◌++◌, Option, Some, None, Result, Ok, Err, refl, sym, ap, ◌∙◌, subst, ⊎_elim}, specs.List.{Contains}, proofs.lemmas.List.Elements.{Contains-append_left, Contains-append_right}}
 use Rattle.dep_order.proofs.Following.{contains_here}
-use Rattle.apl_expr.specs.Trees.{Tree, Const, Name, Monad, Dyad, Index, Reduce, Scan, Outer, Inner, Positions, NoPositions, Empty, Filled}
-use Rattle.apl_expr.{specs.declared.functions.Function1.{Function1}, specs.declared.functions.Function2.{Function2}}
-use Rattle.arrays_core.{specs.Arrays.{ArrayValue}, specs.Items.{and_then}, specs.declared.fault.Fault.{Fault}, specs.declared.item.Kind.{Kind}}
-use Rattle.arrays_core.{specs.declared.item.Kind.TheVariants.{Value}, specs.Outcomes.{Outcome, fault, given}}
-use Rattle.formula_core.specs.Meaning.{eval, eval_positions, names_in, names_in_positions, array_of, of_right, of_both, applied1, applied2}
-use Rattle.formula_core.specs.Outcomes.{arisen_in}
-use Rattle.sheet_recalc.{specs.Names.{Names, Binding, Data, Formula, binding, Refers}, specs.Meaning.{val, with_origin, shown_beside}}
-use Rattle.sheet_recalc.{specs.Locality.{ArisesAt, ErrorsAriseWhereReached}, proofs.Solution.{by_references, acyclic_settled}}
+use Rattle.apl_expr.{specs.Trees.{Tree, Const, Name, Monad, Dyad, Index, Reduce, Scan, Outer, Inner, Positions, NoPositions, Empty, Filled}, specs.declared.functions.Function1.{Function1}, specs.declared.functions.Function2.{Function2}}
+use Rattle.arrays_core.{specs.Arrays.{ArrayValue}, specs.Items.{and_then}, specs.declared.fault.Fault.{Fault}, specs.declared.item.Kind.{Kind}, specs.declared.item.Kind.TheVariants.{Value}, specs.Outcomes.{Outcome, fault, given}}
+use Rattle.formula_core.{specs.Meaning.{eval, eval_positions, names_in, names_in_positions, array_of, of_right, of_both, applied1, applied2}, specs.Outcomes.{arisen_in}}
+use Rattle.sheet_recalc.{specs.Names.{Names, Binding, Data, Formula, binding, Refers}, specs.Meaning.{val, with_origin, shown_beside}, specs.Locality.{ArisesAt, ErrorsAriseWhereReached}, proofs.Solution.{by_references, acyclic_settled}}
 use Rattle.apl_expr.specs.declared.functions.Function1.TheVariants as function1
 use Rattle.apl_expr.specs.declared.functions.Function2.TheVariants as function2
 

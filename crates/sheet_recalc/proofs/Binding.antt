@@ -1,7 +1,6 @@
 -- What names are bound to after one is bound anew, or removed.
 use Rattle.std.{proofs.Common.{◌≡◌, ◌≢◌, ℕ, Bool, true, false, List, Option, Some, None, refl, sym, ◌∙◌}, specs.Str.{bytes_eq}}
-use Rattle.sheet_recalc.{specs.Names.{Names, Binding, binding, put, without, rebound}, proofs.NameEquality.{equal-true, equal-same}}
-use Rattle.sheet_recalc.{proofs.Putting.{lookup_put}, proofs.Removing.{lookup_others}}
+use Rattle.sheet_recalc.{specs.Names.{Names, Binding, binding, put, without, rebound}, proofs.NameEquality.{equal-true, equal-same}, proofs.Putting.{lookup_put}, proofs.Removing.{lookup_others}}
 
 -- what a name is bound to, after one is bound anew
 pub bound_same : (old : Names) (name : List ℕ) (b : Binding) (q : List ℕ) → q ≢ name → binding (put old name b) q ≡ binding old q

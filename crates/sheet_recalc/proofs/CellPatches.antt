@@ -1,10 +1,7 @@
 -- The patch of one place.
 use Rattle.std.proofs.Common.{◌≡◌, ℕ, Ok, ◌+◌, List, [], ◌∷◌, set, true, refl, sym, ap, subst, arith}
-use Rattle.arrays_core.{specs.declared.item.Item.{Item}, specs.Arrays.{ArrayValue, IsArray}, specs.Items.{type_of}, specs.Shapes.{is_index_of, places_before}}
-use Rattle.arrays_core.{specs.declared.item.ItemType.{ItemType}, specs.declared.item.ItemType.TheVariants.{Nums, Chars}}
-use Rattle.index_region.{specs.Boxes.{box_size, walk_at}, specs.Patches.{PatchValue, FitsPatch, patched}}
-use Rattle.index_region.{proofs.OnePlace.{one_place_size, one_place_fits, one_place_walk}, proofs.Written.{IsWritten, written_none, written_more, written_all}}
-use Rattle.index_region.specs.Arguments.{is_same_type}
+use Rattle.arrays_core.{specs.declared.item.Item.{Item}, specs.Arrays.{ArrayValue, IsArray}, specs.Items.{type_of}, specs.Shapes.{is_index_of, places_before}, specs.declared.item.ItemType.{ItemType}, specs.declared.item.ItemType.TheVariants.{Nums, Chars}}
+use Rattle.index_region.{specs.Boxes.{box_size, walk_at}, specs.Patches.{PatchValue, FitsPatch, patched}, proofs.OnePlace.{one_place_size, one_place_fits, one_place_walk}, proofs.Written.{IsWritten, written_none, written_more, written_all}, specs.Arguments.{is_same_type}}
 use Rattle.sheet_recalc.{specs.Cells.{with_item, item_put}, specs.Costs.{cell_patch}}
 
 -- an array with a patch of one place is the array with the item there
@@ -34,7 +31,3 @@ same_types Chars Nums e = absurd (let never : ⊥ = cc in never)
 pub item_is_put : (a : ArrayValue) (index : List ℕ) (items : List Item) (item : Item) → IsArray a → is_index_of a.shape index ≡ true → items ≡ item ∷ [] → type_of item ≡ a.item_type
     → item_put a index items ≡ Ok (patched a (cell_patch index item))
 item_is_put a index items item sound inside only typed = rw (only, same_types (type_of item) a.item_type typed) (ap Ok (sym (patched_one a index item sound inside typed)))
-
--- a patch lies in the array also once it was written
-pub fits_patched : (a : ArrayValue) (p : PatchValue) → FitsPatch a p → FitsPatch (patched a p) p
-fits_patched a p fit = record { inside = fit.inside; typed = fit.typed }

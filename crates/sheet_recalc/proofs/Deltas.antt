@@ -1,13 +1,10 @@
 -- What changed of each name is one step from what changed of all names; of what the changed name does not reach, nothing did.
-use Rattle.std.proofs.Common.{◌≡◌, ℕ, zero, suc, false, List, Option, Some, None, length, refl, sym, ap, ◌∙◌, subst, ⊎_elim, if◌then◌else◌}
-use Rattle.std.{specs.Str.{bytes_eq}, specs.List.{Contains}, proofs.lemmas.Bool.{cond-true, cond-false, false_from_ne_true}}
+use Rattle.std.{proofs.Common.{◌≡◌, ℕ, zero, suc, false, List, Option, Some, None, length, refl, sym, ap, ◌∙◌, subst, ⊎_elim, if◌then◌else◌}, specs.Str.{bytes_eq}, specs.List.{Contains}, proofs.lemmas.Bool.{cond-true, cond-false, false_from_ne_true}}
 use Rattle.apl_expr.specs.Trees.{Tree}
 use Rattle.index_region.{specs.declared.delta.Delta.{Delta}, specs.declared.delta.Delta.TheVariants.{Same}}
 use Rattle.formula_core.{specs.Meaning.{names_in}, proofs.Alike.{change_alike, unchanged_costs_nothing}}
 use Rattle.dep_order.{specs.Follows.{Follows}, proofs.Following.{follows_has}}
-use Rattle.sheet_recalc.specs.Names.{Names, Binding, Data, Formula, binding, Refers}
-use Rattle.sheet_recalc.{specs.Costs.{origin_delta, delta_by, names_change, delta_at, name_delta, sheet_change}, proofs.NameEquality.{equal-true, equal-same}}
-use Rattle.sheet_recalc.proofs.Scratch.{settles, IsNameOrder}
+use Rattle.sheet_recalc.{specs.Names.{Names, Binding, Data, Formula, binding, Refers}, specs.Costs.{origin_delta, delta_by, names_change, delta_at, name_delta, sheet_change}, proofs.NameEquality.{equal-true, equal-same}, proofs.Scratch.{settles, IsNameOrder}}
 use Rattle.formula_core.specs.Changes as formula
 
 -- `found` are the name and all that reach it
@@ -47,11 +44,6 @@ module _ (old new : Names) (name : List ℕ) (own : Delta) where
       by : (d : ℕ) → delta_at d old new name own name ≡ own
       by zero = cond-true _ _ _ (equal-same name name refl)
       by (suc d) = cond-true _ _ _ (equal-same name name refl)
-
-  -- of any other name, what its formula makes of it
-  pub delta_apart : (order : List (List ℕ)) → IsNameOrder new order → (q : List ℕ) → bytes_eq q name ≡ false
-      → name_delta old new name own q ≡ delta_by q (binding new q) (sheet_change old new name own)
-  delta_apart order o q apart = delta_is order o q ∙ cond-false _ _ _ apart
 
   module _ (found : List (List ℕ)) (closed : Follows (λ a b. Refers new b a) (λ x. ⊥) found) (named : Contains found name) where
     unreached_by : (c : formula.NamesChange) (q : List ℕ) (b : Option Binding) → binding new q ≡ b → (Contains found q → ⊥) → ((x : List ℕ) → (Contains found x → ⊥) → c.delta x ≡ Same) → delta_by q b c ≡ Same

@@ -1,6 +1,5 @@
 -- Entries by their places.
-use Rattle.std.proofs.Common.{◌≡◌, ◌+◌, ◌<◌, ◌∙◌, ℕ, zero, suc, List, [], ◌∷◌, ◌++◌, Some, None, length, take, get_or, slice_get, refl, ap, arith}
-use Rattle.std.{specs.Map.{keys_of}, proofs.lemmas.List.{take_more}}
+use Rattle.std.{proofs.Common.{◌≡◌, ◌+◌, ◌<◌, ◌∙◌, ℕ, zero, suc, List, [], ◌∷◌, ◌++◌, Some, None, length, take, get_or, slice_get, refl, ap, arith}, specs.Map.{keys_of}, proofs.lemmas.List.{take_more}}
 
 module _ {X : Type 0} where
   -- the entry at a place has the name there

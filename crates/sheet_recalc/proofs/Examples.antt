@@ -1,12 +1,10 @@
 -- Worked examples of the definitions, each true by computation.
 use Rattle.std.{proofs.Common.{◌≡◌, ℕ, Some, Ok, Err, List, [], ◌∷◌, length, map, refl}, specs.Prelude.{ℤ, pos, negsuc}}
-use Rattle.arrays_core.{specs.Arrays.{ArrayValue}, specs.declared.item.Item.TheVariants.{Num, Char}, specs.declared.item.ItemType.TheVariants.{Nums, Chars}}
-use Rattle.arrays_core.{specs.declared.item.Kind.{Kind}, specs.Outcomes.{Outcome, fault}}
+use Rattle.arrays_core.{specs.Arrays.{ArrayValue}, specs.declared.item.Item.TheVariants.{Num, Char}, specs.declared.item.ItemType.TheVariants.{Nums, Chars}, specs.declared.item.Kind.{Kind}, specs.Outcomes.{Outcome, fault}}
 use Rattle.apl_expr.{specs.Trees.{Tree, Const, Numbers, Text, Name, Dyad}, specs.declared.expr.Dyadic.TheVariants.{Scalar}}
 use Rattle.function_names.{specs.declared.scalar.Scalar2.{Scalar2}, specs.declared.scalar.Scalar2.TheVariants.{Plus, Times, Divide}}
 use Rattle.formula_core.specs.Meaning.{eval}
-use Rattle.sheet_recalc.{specs.Names.{Names, Data, Formula, binding, put}, specs.Meaning.{val}, specs.Cells.{cell_put}, specs.Rows.{row_put}}
-use Rattle.sheet_recalc.specs.declared.refusal.Refusal.TheVariants.{NotFound, NotData, Rank, Index, Length, Domain, Limit}
+use Rattle.sheet_recalc.{specs.Names.{Names, Data, Formula, binding, put}, specs.Meaning.{val}, specs.Cells.{cell_put}, specs.Rows.{row_put}, specs.declared.refusal.Refusal.TheVariants.{NotFound, NotData, Rank, Index, Length, Domain, Limit}}
 use Rattle.arrays_core.specs.declared.item.Kind.TheVariants as kind
 
 abbrev numbers : List ℤ → ArrayValue

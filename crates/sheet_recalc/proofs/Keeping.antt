@@ -1,14 +1,8 @@
 -- How an order of the names is kept when a name is bound anew, and what stays as it was.
-use Rattle.std.proofs.Common.{◌≡◌, ◌≢◌, ℕ, zero, suc, ◌<◌, ◌≤◌, ◌⊎◌, inl, inr, Bool, true, false, not, List, [], ◌∷◌, ◌++◌, length, slice_index_or, filter, None, is_some, IsSome, refl, sym, ap, ◌∙◌, subst, arith, ⊎_elim}
-use Rattle.std.{specs.Str.{bytes_eq}, specs.List.{Contains, IsDistinct, list_any, AllByRecursion}, proofs.lemmas.Bool.{false≢true}}
-use Rattle.std.{proofs.lemmas.List.{get_or_default}, proofs.lemmas.Map.Steps.{length-le_from_keys}}
-use Rattle.std.proofs.lemmas.Map.Views.{Contains-from_any, list_any-from_Contains}
-use Rattle.std.{proofs.lemmas.List.Elements.{Contains-append_left, Contains-append_right, Contains-append_cases}, specs.Prelude.{Vec}}
-use Rattle.dep_order.{specs.Reachability.{Chain}, specs.Follows.{Follows, IsOnce}, specs.Users.{Uses, IsWithin}}
-use Rattle.dep_order.proofs.Following.{contains_here, contains_there, contains_one, contains_cases, contains_none, follows_append, follows_at, follows_has, follows_kept, follows_backward, backward, backward_has, backward_only}
-use Rattle.sheet_recalc.{specs.Names.{Names, binding, Refers}, specs.Meaning.{shown_beside, val}, specs.NameOrder.{IsKeptOrder}, specs.Live.{TellsUsers}}
-use Rattle.sheet_recalc.proofs.NameEquality.{names_equal, equal-true, equal-same}
-use Rattle.sheet_recalc.proofs.Scratch.{shown_same, val_is, val_absent, cases_binding, front, IsNameOrder}
+use Rattle.std.{proofs.Common.{◌≡◌, ◌≢◌, ℕ, zero, suc, ◌<◌, ◌≤◌, ◌⊎◌, inl, inr, Bool, true, false, not, List, [], ◌∷◌, ◌++◌, length, slice_index_or, filter, None, is_some, IsSome, refl, sym, ap, ◌∙◌, subst, arith, ⊎_elim}, specs.Str.{bytes_eq}, specs.List.{Contains, IsDistinct, list_any, AllByRecursion}}
+use Rattle.std.{proofs.lemmas.Bool.{false≢true}, proofs.lemmas.List.{get_or_default}, proofs.lemmas.Map.Steps.{length-le_from_keys}, proofs.lemmas.Map.Views.{Contains-from_any, list_any-from_Contains}, proofs.lemmas.List.Elements.{Contains-append_left, Contains-append_right, Contains-append_cases}, specs.Prelude.{Vec}}
+use Rattle.dep_order.{specs.Reachability.{Chain}, specs.Follows.{Follows, IsOnce}, specs.Users.{Uses, IsWithin}, proofs.Following.{contains_here, contains_there, contains_one, contains_cases, contains_none, follows_append, follows_at, follows_has, follows_kept, follows_backward, backward, backward_has, backward_only}}
+use Rattle.sheet_recalc.{specs.Names.{Names, binding, Refers}, specs.Meaning.{shown_beside, val}, specs.NameOrder.{IsKeptOrder}, specs.Live.{TellsUsers}, proofs.NameEquality.{names_equal, equal-true, equal-same}, proofs.Scratch.{shown_same, val_is, val_absent, cases_binding, front, IsNameOrder}}
 
 -- a name is among these, or not
 pub cases_among : (P : Type 0) (names : List (List ℕ)) (q : List ℕ) → (Contains names q → P) → ((Contains names q → ⊥) → P) → P

@@ -1,23 +1,14 @@
 -- Entries, the names that they stand for, and what they show.
-use Rattle.std.proofs.Common.{◌≡◌, ℕ, zero, suc, ◌+◌, ◌-◌, ◌<◌, ◌≤◌, Bool, true, false, cond, List, [], ◌∷◌, ◌++◌, length, take, get_or, slice_get, ⊎_elim, ◌⊎◌, Option, Some, None, Ok, Err, IsSome, is_some, refl, sym, ap, ◌∙◌, subst, arith, not, if◌then◌else◌}
-use Rattle.std.{specs.Str.{bytes_eq}, specs.Map.{lookup, keys_of, set_value}, specs.Option.{option_map, unwrap_or}, specs.List.{IsDistinct, Contains}}
-use Rattle.std.{specs.Prelude.{Vec}, proofs.lemmas.Bool.{false≢true}, proofs.lemmas.List.{take_all, take_more, length-map, same_from_push}}
-use Rattle.std.{proofs.lemmas.List.Elements.{Contains-push_cases}, proofs.lemmas.Map.Views.{Contains-keys_from_lookup}}
+use Rattle.std.{proofs.Common.{◌≡◌, ℕ, zero, suc, ◌+◌, ◌-◌, ◌<◌, ◌≤◌, Bool, true, false, cond, List, [], ◌∷◌, ◌++◌, length, take, get_or, slice_get, ⊎_elim, ◌⊎◌, Option, Some, None, Ok, IsSome, is_some, refl, sym, ap, ◌∙◌, subst, arith, not, if◌then◌else◌}, specs.Str.{bytes_eq}}
+use Rattle.std.{specs.Map.{lookup, keys_of, set_value}, specs.Option.{option_map, unwrap_or}, specs.List.{IsDistinct, Contains}, specs.Prelude.{Vec}, proofs.lemmas.Bool.{false≢true}, proofs.lemmas.List.{take_all, take_more, length-map, same_from_push}, proofs.lemmas.List.Elements.{Contains-push_cases}}
+use Rattle.std.proofs.lemmas.Map.Views.{Contains-keys_from_lookup}
 use Rattle.indexmap.specs.IndexMap.{insert_entry, set_value_at}
-use Rattle.arrays_core.{specs.Arrays.{ArrayValue}, specs.declared.item.Kind.TheVariants.{Value}, specs.Outcomes.{Outcome, fault}}
-use Rattle.dep_order.{specs.Reachability.{Chain, IsAcyclic, Reaches}, specs.Users.{Uses, EndsWith, EachFollowsUsers, HasNothing}}
-use Rattle.dep_order.proofs.Following.{contains_none}
+use Rattle.arrays_core.{specs.Arrays.{ArrayValue}, specs.Outcomes.{Outcome}}
+use Rattle.dep_order.{specs.Reachability.{Chain, IsAcyclic, Reaches}, specs.Users.{Uses, EndsWith, EachFollowsUsers, HasNothing}, proofs.Following.{contains_none}}
 use Rattle.formula_core.specs.Plans.{PlanValue}
-use Rattle.sheet_recalc.{specs.Names.{Names, Data, binding, put, without, Refers}, specs.Meaning.{shown_beside, val, val_at}}
-use Rattle.sheet_recalc.specs.Entries.{names_of, binding_of, entry_outcome, adopting}
-use Rattle.sheet_recalc.specs.Live.{IsRightEntry, IsCurrent, IsLive, IsReach, CanAdopt, AreRightOnceTaken, IsAdopting, entry_after, plan_in}
-use Rattle.sheet_recalc.{specs.declared.entry.Entry.{Entry}, proofs.NameEquality.{names_equal, equal-true, equal-same}, proofs.Scratch.{val_absent}}
-use Rattle.sheet_recalc.{proofs.Putting.{lookup_put}, proofs.Removing.{others, lookup_others, names_of_others}}
+use Rattle.sheet_recalc.{specs.Names.{Names, Data, binding, put, without, Refers}, specs.Meaning.{shown_beside, val, val_at}, specs.Entries.{names_of, binding_of, entry_outcome, adopting}, specs.Live.{IsRightEntry, IsCurrent, IsLive, IsReach, CanAdopt, AreRightOnceTaken, IsAdopting, entry_after, plan_in}}
+use Rattle.sheet_recalc.{specs.declared.entry.Entry.{Entry}, proofs.NameEquality.{names_equal, equal-true, equal-same}, proofs.Putting.{lookup_put}, proofs.Removing.{others, lookup_others, names_of_others}}
 use Rattle.sheet_recalc.specs.declared.entry.Entry.TheVariants as entry
-
--- what a name shows, by what the entries hold
-abbrev pub shown_by : List (List ℕ × Entry) → List ℕ → Outcome
-shown_by entries name = unwrap_or (option_map (entry_outcome name) (lookup (bytes_eq name) entries)) (Err (fault Value))
 
 pub binding_of_name : (es : List (List ℕ × Entry)) (q : List ℕ) → binding (names_of es) q ≡ option_map binding_of (lookup (bytes_eq q) es)
 binding_of_name [] q = refl
@@ -129,14 +120,6 @@ pub value_is : (es : List (List ℕ × Entry)) → IsCurrent es → (q : List �
     → option_map (entry_outcome q) o ≡ (if is_some (binding (names_of es) q) then Some (val (names_of es) q) else None)
 value_is es current q (Some e) is = rw (binding_of_name es q, ← is) (ap Some (right_shows (val (names_of es)) q e (current q e (sym is))))
 value_is es current q None is = rw (binding_of_name es q, ← is) refl
-
--- what the entries hold is what the names show
-pub holding_val : (es : List (List ℕ × Entry)) → IsCurrent es → (q : List ℕ) → shown_by es q ≡ val (names_of es) q
-holding_val es current q = by (lookup (bytes_eq q) es) refl
-  where
-    by : (o : Option Entry) → lookup (bytes_eq q) es ≡ o → unwrap_or (option_map (entry_outcome q) o) (Err (fault Value)) ≡ val (names_of es) q
-    by None is = sym (val_absent (names_of es) (length (names_of es)) q (binding_of_name es q ∙ ap (option_map binding_of) is))
-    by (Some e) is = right_shows (val (names_of es)) q e (current q e is)
 
 -- the plan beside each name, once one is put beside one of them, or taken from there
 pub put_beside : (es new : List (List ℕ × Option PlanValue)) (k : List ℕ) (p : Option PlanValue) → ((q : List ℕ) → lookup (bytes_eq q) new ≡ cond (bytes_eq k q) (Some p) (lookup (bytes_eq q) es))

@@ -1,10 +1,8 @@
 -- An accepted change keeps the names acyclic, and the value of each name that is apart from the changed name.
 use Rattle.std.{proofs.Common.{◌≡◌, ◌≢◌, ℕ, List, [], ◌∷◌, Option, Some, None, refl, sym, ap, ◌∙◌, subst}, specs.Option.{option_map_or}}
 use Rattle.dep_order.specs.Reachability.{IsAcyclic}
-use Rattle.sheet_recalc.{specs.Names.{Names, Binding, Data, Formula, binding, rebound, Refers, referred}, specs.Meaning.{val, shown_beside}}
-use Rattle.sheet_recalc.{specs.Changes.{SheetChange, Accepts, Define, Store, Put, SetCell, AddRow, Erase}, specs.Costs.{changed_name}}
-use Rattle.sheet_recalc.{specs.Locality.{IsApartFrom, StaysWhereUnreached}, proofs.Binding.{rebound_same}, proofs.Cycles.{no_cycle_anew}}
-use Rattle.sheet_recalc.{proofs.Scratch.{shown_same}, proofs.Solution.{by_references, acyclic_settled}}
+use Rattle.sheet_recalc.{specs.Names.{Names, Binding, Data, Formula, binding, rebound, Refers, referred}, specs.Meaning.{val, shown_beside}, specs.Changes.{SheetChange, Accepts, Define, Store, Put, SetCell, AddRow, Erase}, specs.Costs.{changed_name}, specs.Locality.{IsApartFrom, StaysWhereUnreached}}
+use Rattle.sheet_recalc.{proofs.Binding.{rebound_same}, proofs.Cycles.{no_cycle_anew}, proofs.Scratch.{shown_same}, proofs.Solution.{by_references, acyclic_settled}}
 
 -- what a name that is apart refers to is apart
 pub refers_apart : (names : Names) (name q x : List ℕ) → IsApartFrom names name q → Refers names q x → IsApartFrom names name x

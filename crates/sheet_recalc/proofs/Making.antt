@@ -1,11 +1,8 @@
 -- A change that is worked out at once.
 use Rattle.std.{proofs.Common.{◌≡◌, ◌<◌, ◌∙◌, ℕ, false, sym, subst, arith}, specs.Map.{keys_of}}
 use Rattle.change_core.specs.Meters.{MeterValue}
-use Rattle.sheet_recalc.{specs.Names.{SheetValue}, specs.Tables.{Tables}, specs.Changes.{SheetChange}, specs.Costs.{AreAllThatReach}}
-use Rattle.sheet_recalc.specs.Planning.{AllWait, CanBe, IsPlanning, IsProposed}
-use Rattle.sheet_recalc.specs.Pending.{HasPlace, IsLaidOut, IsLaidOutOn, IsPendingOn, names_after, outline_for, steps_left}
-use Rattle.sheet_recalc.{specs.declared.pending.Pending.{Pending}, specs.declared.plans.Plans.{Plans}, proofs.Forward.{all_made}}
-use Rattle.sheet_recalc.proofs.Stepped.{begun_of_laid_out, of_laid_out, is_ready, IsAllReady}
+use Rattle.sheet_recalc.{specs.Names.{SheetValue}, specs.Tables.{Tables}, specs.Changes.{SheetChange}, specs.Costs.{AreAllThatReach}, specs.Planning.{AllWait, CanBe, IsPlanning, IsProposed}, specs.Pending.{HasPlace, IsLaidOut, IsLaidOutOn, IsPendingOn, names_after, outline_for, steps_left}}
+use Rattle.sheet_recalc.{specs.declared.pending.Pending.{Pending}, specs.declared.plans.Plans.{Plans}, proofs.Forward.{all_made}, proofs.Stepped.{begun_of_laid_out, of_laid_out, is_ready, IsAllReady}}
 
 -- what was found for a proposal is laid out
 pub laid_out : (t : Tables) (p : Pending) (spent : ℕ) → IsProposed (outline_for t p) → CanBe (outline_for t p) → HasPlace t p.growth p.proposal → IsPlanning (outline_for t p) spent p.plans p.meter.ticks → AllWait p.plans

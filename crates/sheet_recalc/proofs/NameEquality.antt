@@ -1,6 +1,5 @@
 -- Names are compared by their texts.
-use Rattle.std.{proofs.Common.{◌≡◌, ℕ, List, [], ◌∷◌, true, refl}, specs.Str.{bytes_eq}, specs.Cmp.{IsEquivalence}, proofs.lemmas.Bool.{and_parts, false≢true}}
-use Rattle.std.{proofs.lemmas.Cmp.{nat_list_eq_equiv}, proofs.lemmas.Slice.Eq.{bytes_eq-Decides}}
+use Rattle.std.{proofs.Common.{◌≡◌, ℕ, List, [], ◌∷◌, true, refl}, specs.Str.{bytes_eq}, specs.Cmp.{IsEquivalence}, proofs.lemmas.Bool.{and_parts, false≢true}, proofs.lemmas.Cmp.{nat_list_eq_equiv}, proofs.lemmas.Slice.Eq.{bytes_eq-Decides}}
 use lib.Pointwise.{pointwise}
 
 pub names_equal : IsEquivalence bytes_eq

@@ -1,27 +1,17 @@
 -- What a plan makes of a formula makes the name show what it is to show.
-use Rattle.std.proofs.Common.{◌≡◌, ℕ, zero, suc, ◌<◌, ◌-◌, Bool, true, false, List, [], ◌∷◌, ◌++◌, length, map, get_or, Option, Some, None, IsSome, Result, Ok, Err, IfOk, refl, sym, ap, ◌∙◌, subst, arith, ⊎_elim}
-use Rattle.std.{specs.Borrow.{Bor}, specs.Str.{bytes_eq}, specs.Map.{lookup}, specs.List.{Contains}, specs.Option.{option_map, option_map_or}}
-use Rattle.std.{proofs.lemmas.Bool.{false≢true}, proofs.lemmas.List.{length-map, length-append, map-append, get_or-map}}
-use Rattle.std.{proofs.lemmas.List.Elements.{Contains-append_cases}, proofs.Math.Seq.{get_or-append_seam}, specs.declared.alloc.AllocError.{AllocError}}
+use Rattle.std.{proofs.Common.{◌≡◌, ℕ, zero, suc, ◌<◌, ◌-◌, Bool, true, false, List, [], ◌∷◌, ◌++◌, length, map, get_or, Option, Some, None, IsSome, Ok, Err, IfOk, refl, sym, ap, ◌∙◌, subst, arith, ⊎_elim}, specs.Borrow.{Bor}, specs.Str.{bytes_eq}, specs.Map.{lookup}, specs.List.{Contains}}
+use Rattle.std.{specs.Option.{option_map, option_map_or}, proofs.lemmas.Bool.{false≢true}, proofs.lemmas.List.{length-map, length-append, map-append, get_or-map}, proofs.lemmas.List.Elements.{Contains-append_cases}, proofs.Math.Seq.{get_or-append_seam}}
 use Rattle.dep_order.proofs.Following.{contains_one}
 use Rattle.apl_expr.specs.Trees.{Tree}
-use Rattle.arrays_core.{specs.Arrays.{ArrayValue, IsArray}, specs.declared.fault.Fault.{Fault}, specs.declared.item.Kind.TheVariants.{Value}}
-use Rattle.arrays_core.{specs.Growth.{grown_by}, specs.Outcomes.{Outcome, fault}}
+use Rattle.arrays_core.{specs.Arrays.{ArrayValue, IsArray}, specs.declared.fault.Fault.{Fault}, specs.declared.item.Kind.TheVariants.{Value}, specs.Growth.{grown_by}, specs.Outcomes.{Outcome, fault}}
 use Rattle.index_region.{specs.Patches.{patched}, specs.declared.delta.Delta.{Delta}, specs.declared.delta.Delta.TheVariants.{Same, Patch, Grown, Whole}}
-use Rattle.change_core.specs.Meters.{ticked}
 use Rattle.change_rules.{specs.Currency.{applied}, specs.Nodes.{is_same}}
-use Rattle.formula_core.{specs.Meaning.{eval, names_in}, specs.Tables.{subtrees}, specs.Formulas.{FormulaValue, root_result}}
-use Rattle.formula_core.{specs.Changes.{NamesChange, FitsIn, IsNameChanged}, specs.declared.kept.NodeChange.{NodeChange}}
-use Rattle.formula_core.{specs.Holdings.{Holding, holding_at, not_worked_out, no_change, taking, adopted}, specs.Inputs.{IsInput, IsAllOrNothing}}
-use Rattle.formula_core.specs.Plans.{PlanValue, IsPlanOf, IsPlanned, root_change, node_change, IsNameSound, AreInputs, IsTold, tree_cost}
-use Rattle.formula_core.{specs.declared.input.Input.{Input}, specs.declared.input.Input.TheVariants.{Good, Bad}, proofs.Rooted.{before_root, root_last}}
+use Rattle.formula_core.{specs.Meaning.{eval, names_in}, specs.Tables.{subtrees}, specs.Formulas.{FormulaValue, root_result}, specs.Changes.{NamesChange, FitsIn, IsNameChanged}, specs.declared.kept.NodeChange.{NodeChange}, specs.Holdings.{Holding, holding_at, not_worked_out, no_change, taking, adopted}}
+use Rattle.formula_core.{specs.Inputs.{IsInput, IsAllOrNothing}, specs.Plans.{PlanValue, IsPlanOf, IsPlanned, root_change, node_change, IsNameSound, AreInputs, IsTold, tree_cost}, specs.declared.input.Input.{Input}, specs.declared.input.Input.TheVariants.{Good, Bad}, proofs.Rooted.{before_root, root_last}}
 use Rattle.formula_core.specs.Outcomes.{arisen_in}
-use Rattle.sheet_recalc.{specs.Names.{Names, Binding, Formula, binding}, specs.Meaning.{with_origin, shown_beside, val}}
-use Rattle.sheet_recalc.{specs.Costs.{origin_delta, delta_by, binding_cost}, specs.Entries.{names_of, binding_of}, specs.Live.{IsRightEntry}}
-use Rattle.sheet_recalc.specs.ProposedSheet.{Outline, is_data, data_entry, proposed_entry, own_entry, proposed_names, proposed_delta, proposed_change, entry_of}
-use Rattle.sheet_recalc.specs.Planning.{IsProposed, IsPlanAt, ArePlans, HasItsPlan, IsUntouched, NeedsNoPlan, IsProposalAt, name_cost}
-use Rattle.sheet_recalc.{specs.declared.entry.Entry.{Entry}, specs.declared.proposal.Proposal.{Proposal}, proofs.NameEquality.{equal-true, equal-same}}
-use Rattle.sheet_recalc.{proofs.Scratch.{val_absent}, proofs.Live.{val_data, binding_of_name}, proofs.Proposed.{bound_own, bound_other}}
+use Rattle.sheet_recalc.{specs.Names.{Names, Binding, Formula, binding}, specs.Meaning.{with_origin, shown_beside, val}, specs.Costs.{origin_delta, delta_by, binding_cost}, specs.Entries.{names_of, binding_of}, specs.Live.{IsRightEntry}}
+use Rattle.sheet_recalc.{specs.ProposedSheet.{Outline, is_data, data_entry, proposed_entry, own_entry, proposed_names, proposed_delta, proposed_change, entry_of}, specs.Planning.{IsProposed, IsPlanAt, ArePlans, HasItsPlan, IsUntouched, NeedsNoPlan, IsProposalAt, name_cost}, specs.declared.entry.Entry.{Entry}}
+use Rattle.sheet_recalc.{specs.declared.proposal.Proposal.{Proposal}, proofs.NameEquality.{equal-true, equal-same}, proofs.Scratch.{val_absent}, proofs.Live.{val_data, binding_of_name}, proofs.Proposed.{bound_own, bound_other}}
 use Rattle.sheet_recalc.specs.declared.entry.Entry.TheVariants as entry
 use Rattle.sheet_recalc.specs.declared.proposal.Proposal.TheVariants as proposed
 
@@ -406,16 +396,3 @@ of_one P x one y c = subst P (sym (contains_one x y c)) one
 
 pub of_two : (P : List ℕ → Type 0) (x z : List ℕ) → P x → P z → (y : List ℕ) → Contains (x ∷ z ∷ []) y → P y
 of_two P x z one two = all_more P (x ∷ []) z (of_one P x one) two
-
--- the plan that a formula makes of itself is one of the name
-module _ (o : Outline) where
-  pub plan_made : (q : List ℕ) (f : FormulaValue) → entry_of o q ≡ Some (entry.Formula f) → (inputs : List Input) (r : Result PlanValue AllocError)
-      → IsTold f (proposed_change o) inputs → IfOk r (IsPlanOf f) → IfOk r (λ p. (c : NamesChange) → IsTold f c inputs → IsPlanned f c p) → IfOk r (IsPlanAt o q)
-  plan_made q f held inputs (Err e) told fits planned = tt
-  plan_made q f held inputs (Ok p) told fits planned = record { formula = f; held = held; of = fits; planned = planned (proposed_change o) told }
-
-  pub plan_costs : IsProposed o → (q : List ℕ) (f : FormulaValue) → entry_of o q ≡ Some (entry.Formula f) → (inputs : List Input) (r : Result PlanValue AllocError)
-      → IsTold f (proposed_change o) inputs → IfOk r (λ p. (c : NamesChange) → IsTold f c inputs → IsPlanned f c p)
-      → IfOk r (λ p. p.cost ≡ ticked 0 (name_cost o.name (proposed_change o) (proposed_names o) q))
-  plan_costs ready q f held inputs (Err e) told planned = tt
-  plan_costs ready q f held inputs (Ok p) told planned = (planned (proposed_change o) told).cost ∙ ap (ticked 0) (formula_cost o ready q f held)

@@ -1,8 +1,6 @@
 -- What names are bound to once one of a sheet's is bound anew, or removed, by its entries.
-use Rattle.std.{proofs.Common.{◌≡◌, ℕ, false, true, List, Option, sym, ap, ◌∙◌}, specs.Str.{bytes_eq}, specs.Map.{lookup}, specs.Option.{option_map}}
-use Rattle.std.proofs.lemmas.Bool.{false≢true}
-use Rattle.sheet_recalc.{specs.Names.{Binding, binding, rebound}, specs.Entries.{names_of, binding_of}, specs.declared.entry.Entry.{Entry}}
-use Rattle.sheet_recalc.{proofs.NameEquality.{equal-true, equal-same}, proofs.Binding.{rebound_same, rebound_own}, proofs.Live.{binding_of_name}}
+use Rattle.std.{proofs.Common.{◌≡◌, ℕ, false, true, List, Option, sym, ap, ◌∙◌}, specs.Str.{bytes_eq}, specs.Map.{lookup}, specs.Option.{option_map}, proofs.lemmas.Bool.{false≢true}}
+use Rattle.sheet_recalc.{specs.Names.{Binding, binding, rebound}, specs.Entries.{names_of, binding_of}, specs.declared.entry.Entry.{Entry}, proofs.NameEquality.{equal-true, equal-same}, proofs.Binding.{rebound_same, rebound_own}, proofs.Live.{binding_of_name}}
 
 module _ (es : List (List ℕ × Entry)) (name : List ℕ) (b : Option Binding) where
   pub bound_own : (q : List ℕ) → bytes_eq q name ≡ true → binding (rebound (names_of es) name b) q ≡ b

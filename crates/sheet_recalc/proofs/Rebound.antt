@@ -1,24 +1,13 @@
 -- A name is bound anew, or removed: the names that reach it, and itself, are found; either it would reach itself, or the order is kept.
-use Rattle.std.{proofs.Common.{◌≡◌, ◌≢◌, ℕ, ◌⊎◌, ◌↔◌, inl, inr, List, [], ◌∷◌, Option, Some, None, refl, sym, ◌∙◌, subst, arith, ⊎_elim}, specs.Str.{bytes_eq}}
-use Rattle.std.{specs.List.{Contains, IsDistinct}, specs.Prelude.{Vec}, specs.Option.{option_map_or}}
-use Rattle.dep_order.{specs.Reachability.{Chain, Reaches, IsAcyclic}, specs.Follows.{Follows}, specs.Users.{Uses, EachFollowsUsers, HasNoEmptyBut}}
-use Rattle.dep_order.proofs.Following.{contains_none, follows_weaker, follows_has}
-use Rattle.sheet_recalc.specs.Names.{Names, Binding, Data, Formula, binding, put, rebound, Refers, referred, referred_by, IsSheet}
-use Rattle.sheet_recalc.{specs.Meaning.{val, IsSettled}, specs.Costs.{AreAllThatReach}, specs.Entries.{names_of}, specs.Live.{IsLive, IsCurrent, TellsUsers}}
-use Rattle.sheet_recalc.{specs.ProposedSheet.{IsReaching}, specs.NameOrder.{IsKeptOrder, HasOrder}, specs.declared.entry.Entry.{Entry}}
-use Rattle.sheet_recalc.{proofs.Binding.{rebound_same, rebound_own}, proofs.Scratch.{val_is, acyclic_from_order}}
-use Rattle.sheet_recalc.proofs.Keeping.{cases_name, distinct_once, name_order, kept_order, unaffected}
+use Rattle.std.{proofs.Common.{◌≡◌, ◌≢◌, ℕ, ◌⊎◌, ◌↔◌, inl, inr, List, [], ◌∷◌, Option, Some, None, refl, sym, ◌∙◌, subst, arith, ⊎_elim}, specs.Str.{bytes_eq}, specs.List.{Contains, IsDistinct}, specs.Prelude.{Vec}, specs.Option.{option_map_or}}
+use Rattle.dep_order.{specs.Reachability.{Chain, Reaches, IsAcyclic}, specs.Follows.{Follows}, specs.Users.{Uses, EachFollowsUsers, HasNoEmptyBut}, proofs.Following.{contains_none, follows_weaker, follows_has}}
+use Rattle.sheet_recalc.{specs.Names.{Names, Binding, Data, Formula, binding, put, rebound, Refers, referred, referred_by, IsSheet}, specs.Meaning.{val, IsSettled}, specs.Costs.{AreAllThatReach}, specs.Entries.{names_of}, specs.Live.{IsLive, IsCurrent, TellsUsers}, specs.ProposedSheet.{IsReaching}}
+use Rattle.sheet_recalc.{specs.NameOrder.{IsKeptOrder, HasOrder}, specs.declared.entry.Entry.{Entry}, proofs.Binding.{rebound_same, rebound_own}, proofs.Scratch.{val_is, acyclic_from_order}, proofs.Keeping.{cases_name, distinct_once, name_order, kept_order, unaffected}}
 
 -- what a name refers to
 pub refers_to : (names : Names) (a : List ℕ) (b : Binding) (c : List ℕ) → binding names a ≡ Some b → Contains (referred b) c → Refers names a c
 refers_to names a (Data d) c is h = absurd (omega (arith, h.1))
 refers_to names a (Formula t) c is h = (t, is, h)
-
-pub refers_in : (names : Names) (a : List ℕ) (b : Binding) (c : List ℕ) → binding names a ≡ Some b → Refers names a c → Contains (referred b) c
-refers_in names a b c is r =
-    let same : Some b ≡ Some (Formula r.0) = sym is ∙ r.1 in
-    let this : b ≡ Formula r.0 = cc in
-    subst (λ (d : Binding). Contains (referred d) c) (sym this) r.2
 
 -- the names that stand in what a name is bound to are those that it refers to
 pub refers_referred : (names : Names) (a c : List ℕ) → Refers names a c → Contains (referred_by names a) c
@@ -143,14 +132,3 @@ live_after {S} es users names is sheet order tells used current = record {
   used = used;
   current = current;
 }
-
--- the same entries with a table that says the same
-pub live_same : {S : Type 0} (es after : List (List ℕ × Entry)) (users now : List (List ℕ × Vec (List ℕ) S)) → IsLive es users → after ≡ es → ((a b : List ℕ) → Uses bytes_eq now a b ↔ Uses bytes_eq users a b) → HasNoEmptyBut bytes_eq now [] → IsLive after now
-live_same {S} es after users now live is same used = subst (λ (fs : List (List ℕ × Entry)). IsLive fs now) (sym is) (record {
-  sheet = live.sheet;
-  order = live.order;
-  kept = live.kept;
-  tells = λ a b. ((λ u. (live.tells a b).0 ((same a b).0 u)), (λ r. (same a b).1 ((live.tells a b).1 r)));
-  used = used;
-  current = live.current;
-})

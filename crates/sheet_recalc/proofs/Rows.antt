@@ -1,11 +1,9 @@
 -- Rows of data: the types of their items, and that a row which passes the checks is put.
-use Rattle.std.{proofs.Common.{◌≡◌, ℕ, ℤ, List, [], ◌∷◌, length, drop, true, false, Some, Ok, Err, refl, sym, ◌∙◌, ◌<◌, arith, eq-eqb}, specs.Prelude.{◌==◌}}
-use Rattle.std.proofs.lemmas.Bool.{false_from_ne_true}
+use Rattle.std.{proofs.Common.{◌≡◌, ℕ, ℤ, List, [], ◌∷◌, length, true, false, Some, Ok, refl, eq-eqb}, specs.Prelude.{◌==◌}}
 use Rattle.apl_expr.specs.Trees.{Numbers, Text}
-use Rattle.arrays_core.{specs.Arrays.{ArrayValue}, specs.Growth.{one_longer, grown_by}, specs.Shapes.{IsWithinLimits, size}, specs.declared.item.Item.{Item}}
-use Rattle.arrays_core.{specs.declared.item.ItemType.{ItemType}, specs.declared.item.ItemType.TheVariants.{Nums, Chars}}
-use Rattle.index_region.{specs.Checks.{is_within_limits}, proofs.Passing.{is_within_from, within_limits}, specs.Arguments.{is_same_type}}
-use Rattle.sheet_recalc.{specs.Cells.{literal_items}, specs.declared.refusal.Refusal.TheVariants.{Limit}, specs.Rows.{items_in_row, are_of_type, row_items_put}}
+use Rattle.arrays_core.{specs.Arrays.{ArrayValue}, specs.Growth.{one_longer, grown_by}, specs.Shapes.{IsWithinLimits}, specs.declared.item.Item.{Item}, specs.declared.item.ItemType.{ItemType}, specs.declared.item.ItemType.TheVariants.{Nums, Chars}}
+use Rattle.index_region.{proofs.Passing.{is_within_from}, specs.Arguments.{is_same_type}}
+use Rattle.sheet_recalc.{specs.Cells.{literal_items}, specs.Rows.{items_in_row, are_of_type, row_items_put}}
 
 all_numbers : (ns : List ℤ) → are_of_type Nums (literal_items (Numbers ns)) ≡ true
 all_numbers [] = refl
@@ -31,16 +29,3 @@ pub row_is_put : (a : ArrayValue) (count : ℕ) (row : List Item) → items_in_r
     → row_items_put a (items_in_row a.shape) row ≡ Ok (grown_by a row)
 row_is_put a count row has long typed limits =
     rw (has, eq-eqb (length row) count long, typed, is_within_from (one_longer a.shape) limits) refl
-
--- one that passes all but the last is refused for the limits
-pub row_is_beyond : (a : ArrayValue) (count : ℕ) (row : List Item) → items_in_row a.shape ≡ Some count → length row ≡ count → are_of_type a.item_type row ≡ true → (IsWithinLimits (one_longer a.shape) → ⊥)
-    → row_items_put a (items_in_row a.shape) row ≡ Err Limit
-row_is_beyond a count row has long typed beyond =
-    rw (has, eq-eqb (length row) count long, typed, false_from_ne_true (is_within_limits (one_longer a.shape)) (λ t. beyond (within_limits (one_longer a.shape) t))) refl
-
--- a row has as many items as one place of the first axis, of which there is one
-pub row_fits : (shape : List ℕ) (count : ℕ) → items_in_row shape ≡ Some count → (0 < length shape) × (count ≡ size (drop 1 shape))
-row_fits [] count has = absurd (let no : ⊥ = cc in no)
-row_fits (n ∷ []) count has = let one : 1 ≡ count = cc in (omega arith, sym one)
-row_fits (n ∷ columns ∷ []) count has = let same : columns ≡ count = cc in (omega arith, sym same ∙ (let places : columns ≡ size (columns ∷ []) = omega arith in places))
-row_fits (n ∷ columns ∷ k ∷ shape) count has = absurd (let no : ⊥ = cc in no)

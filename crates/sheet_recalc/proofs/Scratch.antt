@@ -1,7 +1,6 @@
 -- Where each name stands after all that it refers to, one step from what the names show gives what they show: a greater depth
 -- changes nothing. And then nothing reaches itself.
-use Rattle.std.proofs.Common.{◌≡◌, ℕ, zero, suc, ◌<◌, List, [], ◌∷◌, take, length, slice_index_or, Option, Some, None, Err, IsSome, refl, sym, ap, ◌∙◌, subst, arith, ◌≤◌}
-use Rattle.std.{specs.List.{Contains}, proofs.lemmas.List.{get_or-take, get_or_default, length-take}}
+use Rattle.std.{proofs.Common.{◌≡◌, ℕ, zero, suc, ◌<◌, List, [], ◌∷◌, take, length, slice_index_or, Option, Some, None, Err, IsSome, refl, sym, ap, ◌∙◌, subst, arith, ◌≤◌}, specs.List.{Contains}, proofs.lemmas.List.{get_or-take, get_or_default, length-take}}
 use Rattle.dep_order.specs.Reachability.{Chain, IsAcyclic}
 use Rattle.apl_expr.specs.Trees.{Tree}
 use Rattle.arrays_core.{specs.declared.item.Kind.TheVariants.{Value}, specs.Outcomes.{Outcome, fault}}

@@ -1,10 +1,8 @@
 -- In an acyclic sheet the value of each name follows from the values of the names in its formula: no other assignment satisfies the sheet.
-use Rattle.std.{proofs.Common.{◌≡◌, ℕ, zero, suc, ◌<◌, ◌≤◌, List, [], ◌∷◌, length, IsSome, refl, sym, ◌∙◌, subst, arith, ⊎_elim}, specs.List.{Contains}}
-use Rattle.std.{proofs.lemmas.Map.Steps.{length-le_from_keys}, proofs.lemmas.Map.Views.{Contains-from_any}}
+use Rattle.std.{proofs.Common.{◌≡◌, ℕ, zero, suc, ◌<◌, ◌≤◌, List, [], ◌∷◌, length, IsSome, refl, sym, ◌∙◌, subst, arith, ⊎_elim}, specs.List.{Contains}, proofs.lemmas.Map.Steps.{length-le_from_keys}, proofs.lemmas.Map.Views.{Contains-from_any}}
 use Rattle.dep_order.{specs.Follows.{IsOnce}, specs.Reachability.{Reaches, IsAcyclic}, proofs.Following.{contains_none, contains_cases}}
 use Rattle.arrays_core.specs.Outcomes.{Outcome}
-use Rattle.sheet_recalc.{specs.Names.{Names, binding, Refers}, specs.Meaning.{val_at, val, Satisfies, IsSettled, IsOnlySolution}}
-use Rattle.sheet_recalc.{proofs.NameEquality.{names_equal, equal-true}, proofs.Keeping.{once_distinct}, proofs.Scratch.{shown_same, val_absent, cases_binding}}
+use Rattle.sheet_recalc.{specs.Names.{Names, binding, Refers}, specs.Meaning.{val_at, val, Satisfies, IsSettled, IsOnlySolution}, proofs.NameEquality.{names_equal, equal-true}, proofs.Keeping.{once_distinct}, proofs.Scratch.{shown_same, val_absent, cases_binding}}
 
 module _ (names : Names) where
   -- each refers to the next, and the last is present

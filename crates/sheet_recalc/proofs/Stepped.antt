@@ -1,13 +1,9 @@
 -- A change that is being worked out, after a step, and in the end.
-use Rattle.std.proofs.Common.{◌≡◌, ◌+◌, ◌<◌, ◌≤◌, ◌∙◌, ℕ, List, Bool, true, false, not, refl, sym, ap, subst, arith, if◌then◌else◌}
-use Rattle.std.proofs.lemmas.Bool.{false≢true}
+use Rattle.std.{proofs.Common.{◌≡◌, ◌+◌, ◌<◌, ◌≤◌, ◌∙◌, ℕ, List, Bool, true, false, not, refl, sym, ap, subst, arith, if◌then◌else◌}, proofs.lemmas.Bool.{false≢true}}
 use Rattle.change_core.specs.Meters.{ticked, MeterValue}
-use Rattle.sheet_recalc.{specs.Names.{SheetValue}, specs.Tables.{Tables}, specs.Changes.{SheetChange}}
-use Rattle.sheet_recalc.specs.Costs.{HasCost, HasTicks, NoItemFails, expression_cost, formulas_cost, changed_name, own_delta, IsNodeCost, IsStepCost}
-use Rattle.sheet_recalc.{specs.ProposedSheet.{proposed_change}, specs.Planning.{IsOnTheWay, NoneFails}}
-use Rattle.sheet_recalc.specs.Pending.{outline_for, names_after, steps_left, IsBegunOn, IsLaidOut, IsLaidOutOn, IsPendingOn, IsReadyToMake}
-use Rattle.sheet_recalc.{specs.declared.pending.Pending.{Pending}, specs.declared.plans.Plans.{Plans}, proofs.Accounted.{expression_more}}
-use Rattle.sheet_recalc.{proofs.Dependents.{cost_of_dependents}, proofs.Forward.{all_planned, all_cost, all_few, all_whole}}
+use Rattle.sheet_recalc.{specs.Names.{SheetValue}, specs.Tables.{Tables}, specs.Changes.{SheetChange}, specs.Costs.{HasCost, HasTicks, NoItemFails, expression_cost, formulas_cost, changed_name, own_delta, IsNodeCost, IsStepCost}, specs.ProposedSheet.{proposed_change}, specs.Planning.{IsOnTheWay, NoneFails}}
+use Rattle.sheet_recalc.{specs.Pending.{outline_for, names_after, steps_left, IsBegunOn, IsLaidOut, IsLaidOutOn, IsPendingOn, IsReadyToMake}, specs.declared.pending.Pending.{Pending}, specs.declared.plans.Plans.{Plans}, proofs.Accounted.{expression_more}, proofs.Dependents.{cost_of_dependents}}
+use Rattle.sheet_recalc.proofs.Forward.{all_planned, all_cost, all_few, all_whole}
 use Rattle.formula_core.specs.Changes as formula
 
 -- the pending change is worked out, and its cost

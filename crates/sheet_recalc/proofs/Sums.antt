@@ -1,13 +1,10 @@
 -- What a change costs is what it costs at the names that are found; and counts that stay at the greatest number.
-use Rattle.std.proofs.Common.{◌≡◌, ℕ, ◌+◌, min, Bool, true, false, List, [], ◌∷◌, Some, refl, sym, ap, ◌∙◌, subst, arith, ⊎_elim, if◌then◌else◌}
-use Rattle.std.{specs.Str.{bytes_eq}, specs.Map.{lookup, keys_of}, specs.Option.{option_map_or}, specs.List.{Contains, IsDistinct, AllByRecursion, sum_by}}
+use Rattle.std.{proofs.Common.{◌≡◌, ℕ, ◌+◌, Bool, true, false, List, [], ◌∷◌, Some, refl, sym, ap, ◌∙◌, subst, arith, ⊎_elim, if◌then◌else◌}, specs.Str.{bytes_eq}, specs.Map.{lookup, keys_of}, specs.Option.{option_map_or}, specs.List.{Contains, IsDistinct, AllByRecursion, sum_by}}
 use Rattle.std.{proofs.lemmas.Bool.{cond-false, false≢true}, proofs.lemmas.List.Sums.{sum_by-cons}, proofs.lemmas.Map.Views.{lookup-from_Contains}}
 use Rattle.index_region.specs.declared.delta.Delta.TheVariants.{Same}
-use Rattle.change_core.specs.Meters.{ticked, most_ticks}
 use Rattle.formula_core.{specs.Plans.{tree_cost}, proofs.Alike.{unchanged_tree_costs_nothing}}
 use Rattle.dep_order.{specs.Follows.{Follows, IsOnce}, proofs.Following.{contains_here, contains_there, contains_cases, contains_none}}
-use Rattle.sheet_recalc.{specs.Names.{Names, Binding, Data, Formula, binding, Refers}, specs.Costs.{binding_cost, formulas_cost}}
-use Rattle.sheet_recalc.{proofs.NameEquality.{names_equal, equal-true, equal-same}, proofs.Deltas.{apart_from_found, not_named}}
+use Rattle.sheet_recalc.{specs.Names.{Names, Binding, Data, Formula, binding, Refers}, specs.Costs.{binding_cost, formulas_cost}, proofs.NameEquality.{names_equal, equal-true, equal-same}, proofs.Deltas.{apart_from_found, not_named}}
 use Rattle.formula_core.specs.Changes as formula
 
 -- a number at one name alone
@@ -102,11 +99,3 @@ module _ (new : Names) (name : List ℕ) (c : formula.NamesChange) (found : List
       → formulas_cost name c new ≡ sum_by (λ q. option_map_or (λ b. binding_cost name c (q, b)) (binding new q) 0) found
   cost_found distinct once = sum_found (binding_cost name c) new found distinct once
       (λ q b stands none. costs_nothing q b (lookup-from_Contains names_equal q b new distinct stands) none)
-
--- a meter that rises twice
-pub ticked_more : (a b c : ℕ) → ticked (ticked a b) c ≡ ticked a (b + c)
-ticked_more a b c = omega arith
-
--- counts that stay at the greatest number, added
-pub ticked_sum : (m n : ℕ) → min (ticked 0 m + ticked 0 n) most_ticks ≡ ticked 0 (m + n)
-ticked_sum m n = omega arith

@@ -1,22 +1,13 @@
 -- Plans that are made one after another, in an order in which each name comes after all that it refers to.
-use Rattle.std.proofs.Common.{◌≡◌, ◌≢◌, ℕ, ◌<◌, ◌+◌, inl, inr, Bool, true, false, cond, List, [], ◌∷◌, ◌++◌, length, map, Option, Some, None, is_some, refl, sym, ap, ◌∙◌, subst, arith, ⊎_elim}
-use Rattle.std.{specs.Str.{bytes_eq}, specs.List.{Contains, IsDistinct}, specs.Option.{option_map, option_map_or}, proofs.lemmas.Bool.{false≢true}}
-use Rattle.std.{proofs.lemmas.List.{map-append}, proofs.lemmas.List.Sums.{sum_by_push}}
-use Rattle.std.proofs.lemmas.List.Elements.{Contains-append_left, Contains-append_right, Contains-append_cases}
+use Rattle.std.{proofs.Common.{◌≡◌, ◌≢◌, ℕ, ◌<◌, ◌+◌, inl, inr, Bool, true, false, cond, List, [], ◌∷◌, ◌++◌, length, map, Option, Some, None, is_some, refl, sym, ap, ◌∙◌, subst, arith, ⊎_elim}, specs.Str.{bytes_eq}, specs.List.{Contains, IsDistinct}, specs.Option.{option_map, option_map_or}}
+use Rattle.std.{proofs.lemmas.Bool.{false≢true}, proofs.lemmas.List.{map-append}, proofs.lemmas.List.Sums.{sum_by_push}, proofs.lemmas.List.Elements.{Contains-append_left, Contains-append_right, Contains-append_cases}}
 use Rattle.apl_expr.specs.Trees.{Tree, Const, Name, Monad, Dyad, Index, Reduce, Scan, Outer, Inner, Positions, NoPositions, Empty, Filled}
 use Rattle.arrays_core.specs.Outcomes.{Outcome}
-use Rattle.formula_core.{specs.Meaning.{names_in, names_in_positions}, specs.Tables.{inside, inside_positions, subtrees}}
-use Rattle.formula_core.{specs.Formulas.{FormulaValue, root_result}, specs.Holdings.{Holding, holding_at}, specs.Plans.{PlanValue}}
-use Rattle.formula_core.{specs.Sums.{total_of, summed_in, summed_at}, proofs.Alike.{eval_alike}}
+use Rattle.formula_core.{specs.Meaning.{names_in, names_in_positions}, specs.Tables.{inside, inside_positions, subtrees}, specs.Formulas.{FormulaValue, root_result}, specs.Holdings.{Holding, holding_at}, specs.Plans.{PlanValue}, specs.Sums.{total_of, summed_in, summed_at}, proofs.Alike.{eval_alike}}
 use Rattle.dep_order.{specs.Follows.{Follows, IsOnce}, proofs.Following.{contains_none, contains_one, follows_has, follows_front, follows_behind}}
-use Rattle.sheet_recalc.{specs.Names.{Names, Binding, Data, Formula, binding, Refers}, specs.Meaning.{val, with_origin}}
-use Rattle.sheet_recalc.{specs.Costs.{delta_by, binding_cost, functions_of}, specs.Entries.{names_of, binding_of, adopting}}
-use Rattle.sheet_recalc.specs.Live.{IsRightEntry, AreRightOnceTaken, CanAdopt}
-use Rattle.sheet_recalc.specs.ProposedSheet.{Outline, proposed_names, proposed_change, own_entry, entry_of}
-use Rattle.sheet_recalc.specs.Planning.{IsProposed, IsUntouched, IsPlanAt, NeedsNoPlan, HasItsPlan, IsUnderWay, name_cost, names_cost, functions_at}
-use Rattle.sheet_recalc.{specs.declared.entry.Entry.{Entry}, proofs.NameEquality.{equal-true, equal-same}, proofs.Scratch.{val_absent}}
-use Rattle.sheet_recalc.{proofs.Keeping.{once_distinct, distinct_once, once_front}, proofs.Live.{val_data, binding_of_name}}
-use Rattle.sheet_recalc.proofs.PlannedNames.{at_root, binding_entry, entry_other, delta_other, shows_formula, formula_old, plan_now}
+use Rattle.sheet_recalc.{specs.Names.{Names, Binding, Data, Formula, binding, Refers}, specs.Meaning.{val, with_origin}, specs.Costs.{delta_by, binding_cost, functions_of}, specs.Entries.{names_of, binding_of, adopting}, specs.Live.{IsRightEntry, AreRightOnceTaken, CanAdopt}}
+use Rattle.sheet_recalc.{specs.ProposedSheet.{Outline, proposed_names, proposed_change, own_entry, entry_of}, specs.Planning.{IsProposed, IsUntouched, IsPlanAt, NeedsNoPlan, HasItsPlan, IsUnderWay, name_cost, names_cost, functions_at}, specs.declared.entry.Entry.{Entry}, proofs.NameEquality.{equal-true, equal-same}}
+use Rattle.sheet_recalc.{proofs.Scratch.{val_absent}, proofs.Keeping.{once_distinct, distinct_once, once_front}, proofs.Live.{val_data, binding_of_name}, proofs.PlannedNames.{at_root, binding_entry, entry_other, delta_other, shows_formula, formula_old, plan_now}}
 use Rattle.apl_expr.specs.declared.functions.Function1.TheVariants as function1
 use Rattle.sheet_recalc.specs.declared.entry.Entry.TheVariants as entry
 

@@ -1,10 +1,8 @@
 -- An edit of one cell.
 use Rattle.std.specs.Prelude.{◌≡◌, ℕ, ℤ, pos, negsuc, ◌==◌, ◌&&◌, nat_le, Bool, List, [], ◌∷◌, map, length, set, Option, Some, None, Result, Ok, Err, if◌then◌else◌}
 use Rattle.apl_expr.specs.Trees.{Literal, Numbers, Text}
-use Rattle.arrays_core.{specs.Arrays.{ArrayValue}, specs.Items.{type_of}, specs.Shapes.{is_index_of, places_before}, specs.declared.item.Item.{Item}}
-use Rattle.arrays_core.specs.declared.item.Item.TheVariants.{Num, Char}
-use Rattle.sheet_recalc.{specs.Names.{Binding, Data, Formula}, specs.declared.refusal.Refusal.{Refusal}}
-use Rattle.sheet_recalc.specs.declared.refusal.Refusal.TheVariants.{NotFound, NotData, Rank, Index, Length, Domain, NoMemory}
+use Rattle.arrays_core.{specs.Arrays.{ArrayValue}, specs.Items.{type_of}, specs.Shapes.{is_index_of, places_before}, specs.declared.item.Item.{Item}, specs.declared.item.Item.TheVariants.{Num, Char}}
+use Rattle.sheet_recalc.{specs.Names.{Binding, Data, Formula}, specs.declared.refusal.Refusal.{Refusal}, specs.declared.refusal.Refusal.TheVariants.{NotFound, NotData, Rank, Index, Length, Domain, NoMemory}}
 use Rattle.index_region.specs.Arguments.{is_same_type}
 
 -- a number as an index, where 0 is one that no axis has

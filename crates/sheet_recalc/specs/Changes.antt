@@ -4,8 +4,7 @@ use Rattle.dep_order.specs.Reachability.{IsAcyclic, IsCycle}
 use Rattle.apl_expr.specs.Trees.{Tree, Literal}
 use Rattle.arrays_core.specs.Arrays.{ArrayValue}
 use Rattle.formula_core.specs.Meaning.{eval}
-use Rattle.sheet_recalc.{specs.Names.{Names, Binding, Data, Formula, binding, put, without, Refers, most_names}, specs.Meaning.{val}, specs.Cells.{cell_put}}
-use Rattle.sheet_recalc.{specs.Rows.{row_put}, specs.declared.refusal.Refusal.{Refusal}}
+use Rattle.sheet_recalc.{specs.Names.{Names, Binding, Data, Formula, binding, put, without, Refers, most_names}, specs.Meaning.{val}, specs.Cells.{cell_put}, specs.Rows.{row_put}, specs.declared.refusal.Refusal.{Refusal}}
 use Rattle.sheet_recalc.specs.declared.refusal.Refusal.TheVariants as why
 
 -- a change that a sheet is asked for

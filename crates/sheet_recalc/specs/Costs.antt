@@ -1,15 +1,12 @@
 -- What a change changes of each name, and what it costs.
-use Rattle.std.specs.Prelude.{◌≡◌, ◌⊎◌, ◌↔◌, ◌||◌, ◌+◌, ◌<◌, ◌≤◌, ℕ, zero, suc, List, [], ◌∷◌, map, length, filter, Bool, true, Option, Some, Ok, Err, if◌then◌else◌}
-use Rattle.std.{specs.Str.{bytes_eq}, specs.List.{Contains, IsDistinct, list_any, sum_by}, specs.Option.{option_map_or}}
+use Rattle.std.{specs.Prelude.{◌≡◌, ◌⊎◌, ◌↔◌, ◌||◌, ◌+◌, ◌<◌, ◌≤◌, ℕ, zero, suc, List, [], ◌∷◌, map, length, filter, Bool, true, Option, Some, Ok, Err, if◌then◌else◌}, specs.Str.{bytes_eq}, specs.List.{Contains, IsDistinct, list_any, sum_by}, specs.Option.{option_map_or}}
 use Rattle.dep_order.specs.Reachability.{Reaches}
 use Rattle.arrays_core.{specs.declared.item.Item.{Item}, specs.Items.{type_of}, specs.Outcomes.{Outcome}}
 use Rattle.index_region.{specs.declared.delta.Delta.{Delta}, specs.declared.delta.Delta.TheVariants.{Same, Patch, Grown, Whole}, specs.Patches.{PatchValue}}
 use Rattle.change_core.specs.Meters.{ticked}
-use Rattle.formula_core.{specs.Meaning.{names_in}, specs.Formulas.{operations}, specs.Plans.{tree_cost, node_cost_at, AllComputed}}
-use Rattle.formula_core.specs.Tables.{subtrees, tree_at}
+use Rattle.formula_core.{specs.Meaning.{names_in}, specs.Formulas.{operations}, specs.Plans.{tree_cost, node_cost_at, AllComputed}, specs.Tables.{subtrees, tree_at}}
 use Rattle.apl_expr.specs.Trees.{Tree}
-use Rattle.sheet_recalc.{specs.Names.{Names, Binding, Data, Formula, binding, Refers}, specs.Meaning.{val, with_origin}}
-use Rattle.sheet_recalc.{specs.Cells.{index_of_numbers, literal_items}, specs.Changes.{SheetChange, Accepts, Define, Store, Put, SetCell, AddRow, Erase}}
+use Rattle.sheet_recalc.{specs.Names.{Names, Binding, Data, Formula, binding, Refers}, specs.Meaning.{val, with_origin}, specs.Cells.{index_of_numbers, literal_items}, specs.Changes.{SheetChange, Accepts, Define, Store, Put, SetCell, AddRow, Erase}}
 use Rattle.formula_core.specs.Changes as formula
 
 -- a patch of the one place at an index list

@@ -1,7 +1,6 @@
 -- What a list of changes is answered, and where it leads.
 use Rattle.std.specs.Prelude.{◌≡◌, ℕ, List, [], ◌∷◌, Result, Ok, Err}
-use Rattle.sheet_recalc.{specs.Names.{Names, SheetValue}, specs.Costs.{HasCost, HasTicks}}
-use Rattle.sheet_recalc.{specs.Changes.{SheetChange, Define, Store, SetCell, AddRow, Erase, Accepts, Refuses}, specs.declared.refusal.Refusal.{Refusal}}
+use Rattle.sheet_recalc.{specs.Names.{Names, SheetValue}, specs.Costs.{HasCost, HasTicks}, specs.Changes.{SheetChange, Define, Store, SetCell, AddRow, Erase, Accepts, Refuses}, specs.declared.refusal.Refusal.{Refusal}}
 use Rattle.apl_expr.specs.Trees.{tree_of, literal_of}
 use Rattle.apl_expr.specs.declared.command.Change as code
 use Rattle.apl_expr.specs.declared.command.Change.TheVariants as made

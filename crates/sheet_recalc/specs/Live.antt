@@ -1,10 +1,8 @@
 -- What the entries of a sheet keep.
-use Rattle.std.{specs.Prelude.{◌≡◌, ◌≤◌, ℕ, List, [], ◌↔◌, ◌⊎◌, Bool, true, Option, Some, None, Ok, Vec, if◌then◌else◌}, specs.List.{Contains, IsDistinct}}
-use Rattle.std.{specs.Str.{bytes_eq}, specs.Map.{lookup, keys_of}, specs.Option.{unwrap_or}}
+use Rattle.std.{specs.Prelude.{◌≡◌, ◌≤◌, ℕ, List, [], ◌↔◌, ◌⊎◌, Bool, true, Option, Some, None, Ok, Vec, if◌then◌else◌}, specs.List.{Contains, IsDistinct}, specs.Str.{bytes_eq}, specs.Map.{lookup, keys_of}, specs.Option.{unwrap_or}}
 use Rattle.arrays_core.specs.Outcomes.{Outcome}
 use Rattle.formula_core.{specs.Formulas.{IsHeld, root_result}, specs.Plans.{PlanValue, IsPlanOf}}
-use Rattle.sheet_recalc.{specs.Names.{Names, Refers, IsSheet}, specs.Meaning.{val, with_origin}, specs.NameOrder.{IsKeptOrder}}
-use Rattle.sheet_recalc.{specs.Entries.{names_of, adopting}, specs.declared.entry.Entry.{Entry}}
+use Rattle.sheet_recalc.{specs.Names.{Names, Refers, IsSheet}, specs.Meaning.{val, with_origin}, specs.NameOrder.{IsKeptOrder}, specs.Entries.{names_of, adopting}, specs.declared.entry.Entry.{Entry}}
 use Rattle.dep_order.{specs.Reachability.{Reaches}, specs.Users.{Uses, EndsWith, EachFollowsUsers, HasNoEmptyBut, HasNothing}}
 use Rattle.sheet_recalc.specs.declared.entry.Entry.TheVariants as entry
 

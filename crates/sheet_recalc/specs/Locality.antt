@@ -2,11 +2,9 @@
 use Rattle.std.{specs.Prelude.{◌≡◌, ◌≢◌, ◌⊎◌, ℕ, List, Option, Some, None, Err}, specs.List.{Contains}}
 use Rattle.dep_order.specs.Reachability.{Reaches}
 use Rattle.apl_expr.specs.Trees.{Tree}
-use Rattle.arrays_core.{specs.declared.fault.Fault.{Fault}, specs.declared.item.Kind.{Kind}, specs.declared.item.Kind.TheVariants.{Value}}
-use Rattle.arrays_core.specs.Outcomes.{fault}
+use Rattle.arrays_core.{specs.declared.fault.Fault.{Fault}, specs.declared.item.Kind.{Kind}, specs.declared.item.Kind.TheVariants.{Value}, specs.Outcomes.{fault}}
 use Rattle.formula_core.{specs.Meaning.{eval, names_in}, specs.Changes.{cost_at}}
-use Rattle.sheet_recalc.{specs.Names.{Names, Formula, binding, Refers, IsSheet}, specs.Meaning.{val}, specs.Changes.{SheetChange, Accepts}}
-use Rattle.sheet_recalc.specs.Costs.{changed_name, asked_change}
+use Rattle.sheet_recalc.{specs.Names.{Names, Formula, binding, Refers, IsSheet}, specs.Meaning.{val}, specs.Changes.{SheetChange, Accepts}, specs.Costs.{changed_name, asked_change}}
 
 -- q is another name than this one, and does not reach it
 abbrev pub IsApartFrom : Names → List ℕ → List ℕ → Type 0

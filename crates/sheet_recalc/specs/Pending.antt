@@ -1,16 +1,13 @@
 -- A change that is worked out, and not made yet.
-use Rattle.std.{specs.Prelude.{◌≡◌, ◌≤◌, ◌<◌, ◌+◌, ℕ, List, [], length, true, false, not, Option, Some, None, Box, if◌then◌else◌}, specs.Str.{bytes_eq}}
-use Rattle.std.specs.Map.{keys_of}
+use Rattle.std.{specs.Prelude.{◌≡◌, ◌≤◌, ◌<◌, ◌+◌, ℕ, List, [], length, true, false, not, Option, Some, None, Box, if◌then◌else◌}, specs.Str.{bytes_eq}, specs.Map.{keys_of}}
 use Rattle.indexmap.specs.IndexMap.{spare}
 use Rattle.dep_order.{specs.Room.{FindRoom, AreListsFor}, specs.Users.{HasRoomFor}}
 use Rattle.change_core.specs.Meters.{ticked}
 use Rattle.index_region.specs.declared.delta.Delta.TheVariants.{Whole}
 use Rattle.formula_core.{specs.Meaning.{names_in}, specs.Plans.{PlanValue}}
-use Rattle.sheet_recalc.{specs.Names.{Names, SheetValue, IsSheet}, specs.NameOrder.{HasOrder}, specs.Changes.{SheetChange, Accepts, HasRoomForName}}
-use Rattle.sheet_recalc.{specs.Costs.{changed_name, asked_change, expression_cost, AreAllThatReach, IsNodeCost}, specs.Entries.{names_of}}
-use Rattle.sheet_recalc.{specs.Live.{AreRightOnceTaken, plan_in}, specs.Planning.{IsProposalAt, IsProposed, IsPlanning, AllWait, IsOnTheWay}}
-use Rattle.sheet_recalc.{specs.ProposedSheet.{Outline, own_entry, proposed_names, proposed_change}, specs.Tables.{Tables}}
-use Rattle.sheet_recalc.{specs.declared.growth.Growth.{Growth}, specs.declared.pending.Pending.{Pending}, specs.declared.proposal.Proposal.{Proposal}}
+use Rattle.sheet_recalc.{specs.Names.{Names, SheetValue, IsSheet}, specs.NameOrder.{HasOrder}, specs.Changes.{SheetChange, Accepts, HasRoomForName}, specs.Costs.{changed_name, asked_change, expression_cost, AreAllThatReach, IsNodeCost}, specs.Entries.{names_of}, specs.Live.{AreRightOnceTaken, plan_in}}
+use Rattle.sheet_recalc.{specs.Planning.{IsProposalAt, IsProposed, IsPlanning, AllWait, IsOnTheWay}, specs.ProposedSheet.{Outline, own_entry, proposed_names, proposed_change}, specs.Tables.{Tables}, specs.declared.growth.Growth.{Growth}, specs.declared.pending.Pending.{Pending}}
+use Rattle.sheet_recalc.specs.declared.proposal.Proposal.{Proposal}
 use Rattle.sheet_recalc.specs.declared.proposal.Proposal.TheVariants as proposed
 
 -- a change in outline, by how the names lie

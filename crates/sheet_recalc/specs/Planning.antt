@@ -1,18 +1,13 @@
 -- How the plans of a change are made.
-use Rattle.std.specs.Prelude.{◌≡◌, ◌≢◌, ◌⊎◌, ◌+◌, ◌≤◌, ◌<◌, ℕ, List, [], ◌∷◌, ◌++◌, Bool, true, false, Option, Some, None, Ok, IfOk, take, length, IsSome, if◌then◌else◌}
-use Rattle.std.{specs.Str.{bytes_eq}, specs.Map.{keys_of}, specs.List.{Contains, IsDistinct, sum_by}, specs.Option.{option_map_or}}
+use Rattle.std.{specs.Prelude.{◌≡◌, ◌≢◌, ◌⊎◌, ◌+◌, ◌≤◌, ◌<◌, ℕ, List, [], ◌∷◌, ◌++◌, Bool, true, false, Option, Some, None, Ok, IfOk, take, length, IsSome, if◌then◌else◌}, specs.Str.{bytes_eq}, specs.Map.{keys_of}, specs.List.{Contains, IsDistinct, sum_by}, specs.Option.{option_map_or}}
 use Rattle.arrays_core.specs.Arrays.{ArrayValue, IsArray}
 use Rattle.apl_expr.specs.Trees.{Tree}
 use Rattle.index_region.{specs.Patches.{FitsPatch}, specs.Tails.{FitsTail}, specs.declared.delta.Delta.TheVariants.{Same, Patch, Grown, Whole}}
 use Rattle.change_core.specs.Meters.{ticked}
 use Rattle.formula_core.{specs.Meaning.{names_in}, specs.Formulas.{FormulaValue}, specs.Progress.{operations_among, IsPlannedTo}, specs.Tables.{subtrees}}
 use Rattle.dep_order.specs.Follows.{Follows}
-use Rattle.sheet_recalc.{specs.Names.{Names, Formula, binding, Refers, IsSheet}, specs.NameOrder.{HasOrder}, specs.Changes.{HasRoomForName}}
-use Rattle.sheet_recalc.{specs.Meaning.{val, IsSettled}, specs.Costs.{delta_by, binding_cost, functions_in, NoItemFails}, specs.Entries.{names_of, HasData}}
-use Rattle.sheet_recalc.specs.Live.{IsCurrent, plan_in}
-use Rattle.sheet_recalc.specs.ProposedSheet.{Outline, outline_of, is_data, proposed_names, proposed_delta, proposed_change, proposed_cost, entry_of}
-use Rattle.sheet_recalc.{specs.declared.ahead.Ahead.{Ahead}, specs.declared.entry.Entry.{Entry}, specs.declared.plans.Plans.{Plans}}
-use Rattle.sheet_recalc.specs.declared.proposal.Proposal.{Proposal}
+use Rattle.sheet_recalc.{specs.Names.{Names, Formula, binding, Refers, IsSheet}, specs.NameOrder.{HasOrder}, specs.Changes.{HasRoomForName}, specs.Meaning.{val, IsSettled}, specs.Costs.{delta_by, binding_cost, functions_in, NoItemFails}, specs.Entries.{names_of, HasData}, specs.Live.{IsCurrent, plan_in}}
+use Rattle.sheet_recalc.{specs.ProposedSheet.{Outline, outline_of, is_data, proposed_names, proposed_delta, proposed_change, proposed_cost, entry_of}, specs.declared.ahead.Ahead.{Ahead}, specs.declared.entry.Entry.{Entry}, specs.declared.plans.Plans.{Plans}, specs.declared.proposal.Proposal.{Proposal}}
 use Rattle.formula_core.specs.Changes as formula
 use Rattle.formula_core.specs.Plans as formula_plan
 use Rattle.sheet_recalc.specs.declared.entry.Entry.TheVariants as entry

@@ -5,9 +5,8 @@ use Rattle.change_rules.specs.Currency.{applied}
 use Rattle.dep_order.{specs.Follows.{Follows}, specs.Reachability.{Reaches}}
 use Rattle.arrays_core.specs.Outcomes.{Outcome}
 use Rattle.formula_core.specs.Meaning.{names_in}
-use Rattle.sheet_recalc.{specs.Names.{Names, Refers, rebound}, specs.Entries.{names_of, binding_of}, specs.Meaning.{val}}
-use Rattle.sheet_recalc.{specs.Costs.{sheet_change, formulas_cost}, specs.Live.{entry_after}, specs.declared.entry.Entry.{Entry}}
-use Rattle.sheet_recalc.{specs.declared.proposal.Proposal.{Proposal}, specs.declared.proposed_sheet.ProposedSheet.{ProposedSheet}}
+use Rattle.sheet_recalc.{specs.Names.{Names, Refers, rebound}, specs.Entries.{names_of, binding_of}, specs.Meaning.{val}, specs.Costs.{sheet_change, formulas_cost}, specs.Live.{entry_after}, specs.declared.entry.Entry.{Entry}, specs.declared.proposal.Proposal.{Proposal}}
+use Rattle.sheet_recalc.specs.declared.proposed_sheet.ProposedSheet.{ProposedSheet}
 use Rattle.formula_core.specs.Changes as formula
 use Rattle.sheet_recalc.specs.declared.entry.Entry.TheVariants as entry
 use Rattle.sheet_recalc.specs.declared.proposal.Proposal.TheVariants as proposed

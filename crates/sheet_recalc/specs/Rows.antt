@@ -1,11 +1,9 @@
 -- A row at the end of data.
 use Rattle.std.{specs.Prelude.{ℕ, ◌==◌, Bool, List, [], ◌∷◌, length, Option, Some, None, Result, Ok, Err, if◌then◌else◌}, specs.List.{list_all}}
 use Rattle.apl_expr.specs.Trees.{Literal}
-use Rattle.arrays_core.{specs.Arrays.{ArrayValue}, specs.Growth.{one_longer, grown_by}, specs.Items.{type_of}, specs.declared.item.Item.{Item}}
-use Rattle.arrays_core.specs.declared.item.ItemType.{ItemType}
+use Rattle.arrays_core.{specs.Arrays.{ArrayValue}, specs.Growth.{one_longer, grown_by}, specs.Items.{type_of}, specs.declared.item.Item.{Item}, specs.declared.item.ItemType.{ItemType}}
 use Rattle.index_region.{specs.Checks.{is_within_limits}, specs.Arguments.{is_same_type}}
-use Rattle.sheet_recalc.{specs.Names.{Binding, Data, Formula}, specs.Cells.{literal_items}, specs.declared.refusal.Refusal.{Refusal}}
-use Rattle.sheet_recalc.specs.declared.refusal.Refusal.TheVariants.{NotFound, NotData, Rank, Length, Domain, Limit}
+use Rattle.sheet_recalc.{specs.Names.{Binding, Data, Formula}, specs.Cells.{literal_items}, specs.declared.refusal.Refusal.{Refusal}, specs.declared.refusal.Refusal.TheVariants.{NotFound, NotData, Rank, Length, Domain, Limit}}
 
 -- how many items a row has: one of a vector, one a column of a table; other arrays have no rows
 abbrev pub items_in_row : List ℕ → Option ℕ

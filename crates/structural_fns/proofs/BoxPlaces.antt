@@ -13,8 +13,7 @@ first_inside (s ∷ region) (n ∷ shape) h =
     let parts = and_parts (nat_le 1 s.0 && nat_le s.0 s.1 && nat_le s.1 n) (fits region shape) h in
     let on_axis = and_parts (nat_le 1 s.0 && nat_le s.0 s.1) (nat_le s.1 n) parts.0 in
     let first = and_parts (nat_le 1 s.0) (nat_le s.0 s.1) on_axis.0 in
-    let high : s.0 ≤ n = omega (arith, leb-true s.0 s.1 first.1, leb-true s.1 n on_axis.1) in
-    and_from _ _ (and_from _ _ first.0 (le-leb s.0 n high)) (first_inside region shape parts.1)
+    and_from _ _ (and_from _ _ first.0 (le-leb s.0 n (omega (arith, leb-true s.0 s.1 first.1, leb-true s.1 n on_axis.1)))) (first_inside region shape parts.1)
 
 pub last_inside : (region : List Interval) (shape : List ℕ) → fits region shape ≡ true → is_index_of shape (last_of_box region) ≡ true
 last_inside [] [] h = h
@@ -24,8 +23,7 @@ last_inside (s ∷ region) (n ∷ shape) h =
     let parts = and_parts (nat_le 1 s.0 && nat_le s.0 s.1 && nat_le s.1 n) (fits region shape) h in
     let on_axis = and_parts (nat_le 1 s.0 && nat_le s.0 s.1) (nat_le s.1 n) parts.0 in
     let first = and_parts (nat_le 1 s.0) (nat_le s.0 s.1) on_axis.0 in
-    let low : 1 ≤ s.1 = omega (arith, leb-true 1 s.0 first.0, leb-true s.0 s.1 first.1) in
-    and_from _ _ (and_from _ _ (le-leb 1 s.1 low) on_axis.1) (last_inside region shape parts.1)
+    and_from _ _ (and_from _ _ (le-leb 1 s.1 (omega (arith, leb-true 1 s.0 first.0, leb-true s.0 s.1 first.1))) on_axis.1) (last_inside region shape parts.1)
 
 -- the first lies in the box
 first_within : (region : List Interval) (shape : List ℕ) → fits region shape ≡ true → is_within region (first_of_box region) ≡ true

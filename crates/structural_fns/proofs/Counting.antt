@@ -1,12 +1,9 @@
 -- Counts and index lists, one axis after another.
 use Rattle.std.proofs.Common.{◌≡◌, ℕ, zero, suc, ◌+◌, ◌-◌, ◌<◌, ◌≤◌, ℤ, pos, unsigned_abs, Bool, true, false, if◌then◌else◌, ◌&&◌, nat_le, Result, Ok, Err, All, List, [], ◌∷◌, length, replicate, ap, get_or, drop, refl, subst, sym, ◌∙◌, arith}
 use Rattle.std.{proofs.lemmas.List.{drop_more, length-map, length-replicate, get_or-map, get_or-replicate}, proofs.lemmas.Bool.{lt-leb}, specs.List.{list_all}}
-use Rattle.arrays_core.{specs.declared.item.ItemType.{ItemType}, specs.declared.item.Kind.{Kind}, specs.declared.item.Kind.TheVariants.{Limit}}
-use Rattle.arrays_core.{specs.Arrays.{ArrayValue}, specs.Shapes.{size, IsWithinLimits, is_index_of}, proofs.Shapes.{as_long, head_at}}
-use Rattle.arrays_core.proofs.NextIndex.{drop_inside}
+use Rattle.arrays_core.{specs.declared.item.ItemType.{ItemType}, specs.declared.item.Kind.{Kind}, specs.declared.item.Kind.TheVariants.{Limit}, specs.Arrays.{ArrayValue}, specs.Shapes.{size, IsWithinLimits, is_index_of}, proofs.Shapes.{as_long, head_at}, proofs.NextIndex.{drop_inside}}
 use Rattle.index_region.{specs.Checks.{form_of, check, Form, limited}, specs.Arguments.{numbers, number_of, is_scalar}}
-use Rattle.structural_fns.{specs.Reshape.{magnitudes}, specs.Take.{taken_place, taken_places}, specs.Drop.{dropped_shape, kept_place, kept_places}}
-use Rattle.structural_fns.specs.AxisCounts.{counted_shape}
+use Rattle.structural_fns.{specs.Reshape.{magnitudes}, specs.Take.{taken_place, taken_places}, specs.Drop.{dropped_shape, kept_place, kept_places}, specs.AxisCounts.{counted_shape}}
 
 pub numbers_long : (a : ArrayValue) → length (numbers a) ≡ length a.items
 numbers_long a = length-map a.items number_of
@@ -46,11 +43,6 @@ pub taken_more : (shape : List ℕ) (counts : List ℤ) (index : List ℕ) (k : 
     → taken_places (drop k shape) (drop k counts) (drop k index)
     ≡ taken_place (get_or shape k 0) (get_or counts k (pos 0)) (get_or index k 0) ∷ taken_places (drop (k + 1) shape) (drop (k + 1) counts) (drop (k + 1) index)
 taken_more shape counts index k s c i = rw (drop_more shape k 0 s, drop_more counts k (pos 0) c, drop_more index k 0 i) refl
-
-pub dropped_more : (shape : List ℕ) (counts : List ℤ) (k : ℕ) → k < length shape → k < length counts
-    → dropped_shape (drop k shape) (drop k counts)
-    ≡ (get_or shape k 0 - unsigned_abs (get_or counts k (pos 0))) ∷ dropped_shape (drop (k + 1) shape) (drop (k + 1) counts)
-dropped_more shape counts k s c = rw (drop_more shape k 0 s, drop_more counts k (pos 0) c) refl
 
 pub kept_more : (counts : List ℤ) (index : List ℕ) (k : ℕ) → k < length counts → k < length index
     → kept_places (drop k counts) (drop k index)
@@ -94,7 +86,6 @@ left_at a b index k within long limits inside h =
     let head = head_at left index k (omega arith) (omega arith) (drop_inside k left index inside) in
     let e = dropped_at shape (numbers a) k (omega arith) (omega arith) in
     let high : get_or index k 0 ≤ get_or shape k 0 - unsigned_abs (get_or (numbers a) k (pos 0)) = subst (λ n. get_or index k 0 ≤ n) e head.high in
-    let low = head.low in
     let bound : get_or shape k 0 ≤ 1048576 = counted_within a b within k 0 (omega arith) in
     record { there = omega arith; four = omega (arith, limits.rank); bound = omega arith }
 

@@ -1,13 +1,8 @@
 -- The rows of what is left of an array.
-use Rattle.std.proofs.Common.{◌≡◌, ℕ, suc, ◌+◌, ◌-◌, ◌<◌, ◌≤◌, ℤ, pos, negsuc, nat_eq, true, List, [], ◌∷◌, ◌++◌, length, get_or, Ok, refl, ap, sym, ◌∙◌, arith}
-use Rattle.std.proofs.lemmas.Bool.{eqb-true}
-use Rattle.arrays_core.{specs.declared.item.ItemType.{ItemType}, specs.Items.{fill}, specs.Arrays.{ArrayValue, IsArray}}
-use Rattle.arrays_core.{specs.Shapes.{is_index_of, places_before}, specs.Building.{IsRowOf}, proofs.Shapes.{places_below}, proofs.Rows.{row_end, places_in_row}}
-use Rattle.index_region.{specs.Answers.{IsRowIn}, specs.Arguments.{numbers, is_list, counts_as_numbers}, proofs.Passing.{row_passed, row_inside}}
-use Rattle.index_region.proofs.Placed.{right_placed}
-use Rattle.structural_fns.{specs.AxisCounts.{counted_shape, uncounted}, specs.Drop.{drop_form, drop_item, dropped_shape, kept_place, kept_places}}
-use Rattle.structural_fns.{proofs.Counting.{numbers_long, dropped_long}, proofs.SourcePlaces.{kept_inside, uncounted_inside}}
-use Rattle.structural_fns.proofs.TakenRows.{uncounted_place}
+use Rattle.std.{proofs.Common.{◌≡◌, ℕ, suc, ◌+◌, ◌-◌, ◌<◌, ◌≤◌, ℤ, pos, negsuc, nat_eq, true, List, [], ◌∷◌, ◌++◌, length, get_or, Ok, refl, ap, sym, ◌∙◌, arith}, proofs.lemmas.Bool.{eqb-true}}
+use Rattle.arrays_core.{specs.declared.item.ItemType.{ItemType}, specs.Items.{fill}, specs.Arrays.{ArrayValue, IsArray}, specs.Shapes.{is_index_of, places_before}, specs.Building.{IsRowOf}, proofs.Shapes.{places_below}, proofs.Rows.{row_end, places_in_row}}
+use Rattle.index_region.{specs.Answers.{IsRowIn}, specs.Arguments.{numbers, is_list, counts_as_numbers}, proofs.Passing.{row_passed, row_inside}, proofs.Placed.{right_placed}}
+use Rattle.structural_fns.{specs.AxisCounts.{counted_shape, uncounted}, specs.Drop.{drop_form, drop_item, dropped_shape, kept_place, kept_places}, proofs.Counting.{numbers_long, dropped_long}, proofs.SourcePlaces.{kept_inside, uncounted_inside}, proofs.TakenRows.{uncounted_place}}
 
 -- what is known of a row of what is left
 record LeftRow (a b : ArrayValue) (row : List ℕ) (count : ℕ) (item_type : ItemType) : Type 0 where
@@ -19,9 +14,8 @@ left_row : (a b : ArrayValue) (row : List ℕ) (count : ℕ) (item_type : ItemTy
 left_row a b row count item_type h =
     let listed = row_passed (is_list a) _ _ row count item_type h in
     let as_many = row_passed (nat_eq (length a.items) (length (counted_shape a b))) _ _ row count item_type listed.row_in in
-    let numbered = row_passed (counts_as_numbers a) _ _ row count item_type as_many.row_in in
     let left = dropped_shape (counted_shape a b) (numbers a) in
-    let inside = row_inside left b.item_type row count item_type numbered.row_in in
+    let inside = row_inside left b.item_type row count item_type (row_passed (counts_as_numbers a) _ _ row count item_type as_many.row_in).row_in in
     let same = eqb-true (length a.items) (length (counted_shape a b)) as_many.test in
     let long = numbers_long a in
     let as_left = dropped_long (counted_shape a b) (numbers a) (omega arith) in
@@ -58,16 +52,14 @@ module _ (a b : ArrayValue) (row : List ℕ) (count : ℕ) (item_type : ItemType
 
   place_at : (j : ℕ) → j < count → places_before b.shape (uncounted b (at_index (0 + j + 1))) ≡ first + j
   place_at j h =
-      let known = left_row a b row count item_type is in
-      let places = places_of_row (numbers a) row known.long in
+      let places = places_of_row (numbers a) row (left_row a b row count item_type is).long in
       let shape = counted_shape a b in
       let others = kept_places (numbers a) row in
       let z = get_or (numbers a) (length row) (pos 0) in
       let begin : is_index_of shape (at_index 1) ≡ true = inside_at 0 (omega arith) in
       let here : is_index_of shape (others ++ kept_place z 1 ∷ []) ≡ true = ap (is_index_of shape) (sym (places.is 1)) ∙ begin in
       let there : is_index_of shape (others ++ kept_place z (0 + j + 1) ∷ []) ≡ true = ap (is_index_of shape) (sym (places.is (0 + j + 1))) ∙ inside_at j h in
-      let end = row_end shape others (kept_place z (0 + j + 1)) there in
-      let beside = places_in_row shape others (kept_place z 1) (kept_place z (0 + j + 1)) here end.low in
+      let beside = places_in_row shape others (kept_place z 1) (kept_place z (0 + j + 1)) here (row_end shape others (kept_place z (0 + j + 1)) there).low in
       let next = next_kept z j in
       let now : places_before shape (at_index 1) ≡ places_before shape (others ++ kept_place z 1 ∷ []) = ap (places_before shape) (places.is 1) in
       let then : places_before shape (at_index (0 + j + 1)) ≡ places_before shape (others ++ kept_place z (0 + j + 1) ∷ []) = ap (places_before shape) (places.is (0 + j + 1)) in

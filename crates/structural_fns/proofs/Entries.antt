@@ -14,6 +14,4 @@ range_more n k h =
 -- where the checks have passed there is an entry for each axis
 pub entries_long : (a b : ArrayValue) (index : List ℕ) → IsPlaceOf (transpose_by_form a b) index → length a.items ≡ length b.shape
 entries_long a b index h =
-    let list = passed (is_list a) _ _ index h in
-    let long = passed (nat_eq (length a.items) (length b.shape)) _ _ index list.place in
-    eqb-true (length a.items) (length b.shape) long.test
+    eqb-true (length a.items) (length b.shape) (passed (nat_eq (length a.items) (length b.shape)) _ _ index (passed (is_list a) _ _ index h).place).test

@@ -1,16 +1,11 @@
 -- The rows of a catenation.
-use Rattle.std.proofs.Common.{◌≡◌, ℕ, ◌+◌, ◌-◌, ◌*◌, ◌<◌, ◌≤◌, min, nat_eq, nat_le, Bool, true, false, cond, if◌then◌else◌, List, [], ◌∷◌, ◌++◌, length, get_or, set, insert, remove, Some, None, Result, Ok, refl, ap, sym, subst, ◌∙◌, ◌⊎◌, inl, inr, arith}
-use Rattle.std.{specs.Prelude.{unwrap_or, not, ◌&&◌}, proofs.lemmas.Bool.{eqb-true, eqb-false, le-leb, leb-true}}
-use Rattle.std.proofs.lemmas.List.{set-append_left, get_or_append_left, append-nil}
-use Rattle.std.{proofs.lemmas.List.Edits.{remove-append_left, remove-append_right, length-insert, get_or-insert_at}, proofs.Math.Seq.{set-append_seam}}
-use Rattle.arrays_core.{specs.declared.item.Item.{Item}, specs.declared.item.ItemType.{ItemType}, specs.declared.item.Kind.{Kind}, specs.Items.{fill}}
-use Rattle.arrays_core.{specs.Arrays.{ArrayValue, IsArray, item_of}, specs.Building.{listed, with_row}, specs.Shapes.{is_index_of, places_before}}
-use Rattle.arrays_core.{proofs.Shapes.{places_below}, proofs.Rows.{places_in_row, with_row_none, with_row_more}}
+use Rattle.std.{proofs.Common.{◌≡◌, ℕ, ◌+◌, ◌-◌, ◌*◌, ◌<◌, ◌≤◌, min, nat_eq, nat_le, Bool, true, false, cond, if◌then◌else◌, List, [], ◌∷◌, ◌++◌, length, get_or, set, insert, remove, Some, None, Result, Ok, refl, ap, sym, subst, ◌∙◌, ◌⊎◌, inl, inr, arith}, specs.Prelude.{unwrap_or, not, ◌&&◌}}
+use Rattle.std.{proofs.lemmas.Bool.{eqb-true, eqb-false, le-leb, leb-true}, proofs.lemmas.List.{set-append_left, get_or_append_left, append-nil}, proofs.lemmas.List.Edits.{remove-append_left, remove-append_right, length-insert, get_or-insert_at}, proofs.Math.Seq.{set-append_seam}}
+use Rattle.arrays_core.{specs.declared.item.Item.{Item}, specs.declared.item.ItemType.{ItemType}, specs.declared.item.Kind.{Kind}, specs.Items.{fill}, specs.Arrays.{ArrayValue, IsArray, item_of}, specs.Building.{listed, with_row}, specs.Shapes.{is_index_of, places_before}, proofs.Shapes.{places_below}}
+use Rattle.arrays_core.proofs.Rows.{places_in_row, with_row_none, with_row_more}
 use Rattle.function_names.{specs.declared.along.Along.{Along}, specs.Axes.{is_axis, axis_at}}
-use Rattle.index_region.{specs.Answers.{IsRowIn}, specs.Arguments.{is_scalar, has_items}, specs.Sources.{Place, item_from}}
-use Rattle.index_region.proofs.Passing.{RowInside, row_passed, row_inside, place_of_row}
-use Rattle.structural_fns.specs.Catenate.{joined_rank, joined_places, other_axes, ranks_join, axes_agree, types_join, joined_type, joined_shape, in_side, in_side_of_row, catenate_form, catenate_item}
-use Rattle.structural_fns.{specs.Laws.SharedAxes.{shared_long}, proofs.Sides.{right_typed}, proofs.SidePlaces.{JoinFacts, join_facts}}
+use Rattle.index_region.{specs.Answers.{IsRowIn}, specs.Arguments.{is_scalar, has_items}, specs.Sources.{Place, item_from}, proofs.Passing.{RowInside, row_passed, row_inside, place_of_row}}
+use Rattle.structural_fns.{specs.Catenate.{joined_rank, joined_places, other_axes, ranks_join, axes_agree, types_join, joined_type, joined_shape, in_side, in_side_of_row, catenate_form, catenate_item}, specs.Laws.SharedAxes.{shared_long}, proofs.Sides.{right_typed}, proofs.SidePlaces.{JoinFacts, join_facts}}
 use Rattle.structural_fns.proofs.SteppedRows.{listed_same, step_of_two, at_end}
 
 -- all places of a row come from one place of a side, or from places one after another
@@ -85,10 +80,9 @@ stepped shape at before kept (inr moves) inside =
       stride = 1;
       is = λ i low high.
           let first = moves.is (before + 1) in
-          let here = moves.is (before + i) in
           let begin : is_index_of shape (moves.others ++ (before + 1 - moves.skipped) ∷ []) ≡ true = rw first at (inside (before + 1) (omega arith) (omega arith)) in
           let far = places_in_row shape moves.others (before + 1 - moves.skipped) (before + i - moves.skipped) begin (omega (arith, moves.low)) in
-          rw (here, first) (omega (arith, moves.low));
+          rw (moves.is (before + i), first) (omega (arith, moves.low));
     }
 
 -- a part of a row that comes from one side
@@ -165,14 +159,20 @@ checked : (along : Along) (a b : ArrayValue) (row : List ℕ) (count : ℕ) (ite
 checked along a b row count item_type h =
     let r = joined_rank a b in
     let k = axis_at r along in
-    let on_axis = row_passed (is_axis r along) _ _ row count item_type h in
-    let ranks = row_passed (ranks_join a b) _ _ row count item_type on_axis.row_in in
-    let axes = row_passed (axes_agree r k a b) _ _ row count item_type ranks.row_in in
-    let types = row_passed (types_join a b) _ _ row count item_type axes.row_in in
+    let ranks = row_passed (ranks_join a b) _ _ row count item_type (row_passed (is_axis r along) _ _ row count item_type h).row_in in
+    let types = row_passed (types_join a b) _ _ row count item_type (row_passed (axes_agree r k a b) _ _ row count item_type ranks.row_in).row_in in
     record { ranks = ranks.test; types = types.test; inside = row_inside (joined_shape r k a b) (joined_type a b) row count item_type types.row_in }
 
-module _ (along : Along) (a b : ArrayValue) (row : List ℕ) (count : ℕ) (item_type : ItemType) (axis places : ℕ) (meant : axis ≡ axis_at (joined_rank a b) along)
-    (as_many : places ≡ joined_places (joined_rank a b) axis a) (below : axis < joined_rank a b) (h : IsRowIn (catenate_form along a b) row count item_type) where
+-- a row of a catenation along an axis, with the places that the left argument takes of the axis
+pub record IsJoinedRow (along : Along) (a b : ArrayValue) (row : List ℕ) (count : ℕ) (item_type : ItemType) (axis places : ℕ) : Type 0 where
+  pub meant : axis ≡ axis_at (joined_rank a b) along
+  pub as_many : places ≡ joined_places (joined_rank a b) axis a
+  pub below : axis < joined_rank a b
+  pub row_in : IsRowIn (catenate_form along a b) row count item_type
+
+module _ {along : Along} {a b : ArrayValue} {row : List ℕ} {count : ℕ} {item_type : ItemType} {axis places : ℕ} (joined : IsJoinedRow along a b row count item_type axis places) where
+  open joined use {meant, as_many, below, row_in as h}
+
   abbrev checks : Checked along a b row count item_type
   checks = checked along a b row count item_type h
 
@@ -190,14 +190,10 @@ module _ (along : Along) (a b : ArrayValue) (row : List ℕ) (count : ℕ) (item
 
   pub rank_of_row : joined_rank a b ≡ length row + 1
   rank_of_row =
-      let long = length-insert others (axis_at (joined_rank a b) along) both_places (omega (arith, shared, within)) in
-      omega (arith, long, shared, checks.inside.row_of.long)
+      omega (arith, length-insert others (axis_at (joined_rank a b) along) both_places (omega (arith, shared, within)), shared, checks.inside.row_of.long)
 
   pub axis_below : axis ≤ length row
   axis_below = omega (arith, rank_of_row, below)
-
-  pub short_row : length row < 4
-  short_row = checks.inside.row_of.rank
 
   pub places_within : axis ≡ length row → places ≤ count
   places_within last =

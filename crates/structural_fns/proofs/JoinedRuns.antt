@@ -1,16 +1,11 @@
 -- Catenate along the first axis, where the items of each side are a run of the result's.
-use Rattle.std.proofs.Common.{◌≡◌, ℕ, zero, suc, ◌+◌, ◌-◌, ◌*◌, ◌/◌, ◌%◌, ◌<◌, ◌≤◌, Bool, true, false, ◌||◌, if◌then◌else◌, nat_eq, List, [], ◌∷◌, ◌++◌, length, get_or, Ok, refl, sym, ap, subst, ◌∙◌, inl, inr, arith}
-use Rattle.std.{specs.Prelude.{bytes_eq}, proofs.lemmas.Bool.{le-leb, lt-leb, cases_lt}, proofs.lemmas.Bool.Decides.{nat_tests}}
-use Rattle.std.{proofs.lemmas.Slice.Eq.{bytes_eq-Decides}, proofs.lemmas.Nat.{div_below}}
-use Rattle.std.proofs.Math.Nat.{mul-add-div_right, mul-add-mod_self_right, mod-eq_of_lt}
-use Rattle.std.proofs.lemmas.List.{get_or_append_left, get_or-append_right, get_or_default, length-append}
-use Rattle.arrays_core.{specs.declared.item.Item.{Item}, specs.declared.item.ItemType.{ItemType}}
-use Rattle.arrays_core.{specs.declared.item.Kind.TheVariants.{Axis as AxisKind, Rank, Length, Domain}, specs.Items.{fill, and_then}}
-use Rattle.arrays_core.{specs.Shapes.{size, index_after}, specs.Arrays.{ArrayValue, IsArray, collect, with_items}, proofs.Order.{given_in_order}}
+use Rattle.std.{proofs.Common.{◌≡◌, ℕ, zero, suc, ◌+◌, ◌-◌, ◌*◌, ◌/◌, ◌%◌, ◌<◌, ◌≤◌, Bool, true, false, ◌||◌, if◌then◌else◌, nat_eq, List, [], ◌∷◌, ◌++◌, length, get_or, Ok, refl, sym, ap, subst, ◌∙◌, inl, inr, arith}, specs.Prelude.{bytes_eq}, proofs.lemmas.Bool.{le-leb, lt-leb, cases_lt}}
+use Rattle.std.{proofs.lemmas.Bool.Decides.{nat_tests}, proofs.lemmas.Slice.Eq.{bytes_eq-Decides}, proofs.lemmas.Nat.{div_below}, proofs.Math.Nat.{mul-add-div_right, mul-add-mod_self_right, mod-eq_of_lt}, proofs.lemmas.List.{get_or_append_left, get_or-append_right, get_or_default, length-append}}
+use Rattle.arrays_core.{specs.declared.item.Item.{Item}, specs.declared.item.ItemType.{ItemType}, specs.declared.item.Kind.TheVariants.{Axis as AxisKind, Rank, Length, Domain}, specs.Items.{fill, and_then}, specs.Shapes.{size, index_after}, specs.Arrays.{ArrayValue, IsArray, collect, with_items}}
+use Rattle.arrays_core.proofs.Order.{given_in_order}
 use Rattle.function_names.{specs.declared.along.Along.{Along}, specs.Axes.{is_axis, axis_at}}
 use Rattle.index_region.{specs.Arguments.{is_scalar}, specs.Checks.{form_of}, proofs.Passing.{gives}}
-use Rattle.structural_fns.specs.Catenate.{joined_rank, joined_places, other_axes, ranks_join, axes_agree, joined_type, joined_shape, types_join, in_side, catenate_item, catenate_form, catenate_whole}
-use Rattle.structural_fns.{proofs.Runs.{item_after, limited_is, positive}, specs.Laws.SharedAxes.{shared_long}}
+use Rattle.structural_fns.{specs.Catenate.{joined_rank, joined_places, other_axes, ranks_join, axes_agree, joined_type, joined_shape, types_join, in_side, catenate_item, catenate_form, catenate_whole}, proofs.Runs.{item_after, limited_is, positive}, specs.Laws.SharedAxes.{shared_long}}
 
 -- ---- a side whose items are taken once, in row-major order, beside the other axes of the result
 
@@ -73,8 +68,7 @@ module _ (a b : ArrayValue) (ranks : ranks_join a b ≡ true) where
       let rank = joined_rank a b in
       let neither : (is_scalar a || is_scalar b) ≡ false = ap (λ w. w || is_scalar b) e ∙ f in
       let equal : bytes_eq (other_axes rank 0 a) (other_axes rank 0 b) ≡ true = sym (ap (λ w. w || bytes_eq (other_axes rank 0 a) (other_axes rank 0 b)) neither) ∙ h in
-      let same : other_axes rank 0 a ≡ other_axes rank 0 b = (bytes_eq-Decides (other_axes rank 0 a) (other_axes rank 0 b)).0 equal in
-      ap (λ w. other_axes rank 0 (if w then b else a)) e ∙ same
+      ap (λ w. other_axes rank 0 (if w then b else a)) e ∙ ((bytes_eq-Decides (other_axes rank 0 a) (other_axes rank 0 b)).0 equal)
 
   pub right_whole : axes_agree (joined_rank a b) 0 a b ≡ true → (is_scalar b ≡ true → joined_rank a b ≡ 1) → IsWhole (joined_rank a b) (result_axes a b) b
   right_whole agree run =
@@ -93,14 +87,12 @@ module _ (along : Along) (a b : ArrayValue) (others : List ℕ) (first : axis_at
       → catenate_item along a b (index_after (more ∷ others) k) ≡ Ok (get_or (a.items ++ b.items) k (fill (joined_type a b)))
   left_item whole long more k h =
       let m = joined_places (joined_rank a b) 0 a in
-      let sized = whole.sized in
       let inside : k < m * size others = omega arith in
       let below = div_below k (size others) m (second_positive m (size others) k inside) inside in
-      let test = le-leb (k / size others + 1) m (omega arith) in
       let there : k < size a.shape = omega arith in
       let found : get_or a.items k (fill a.item_type) ≡ get_or (a.items ++ b.items) k (fill (joined_type a b)) =
       get_or_default a.items k (fill a.item_type) (fill (joined_type a b)) h ∙ sym (get_or_append_left a.items b.items (fill (joined_type a b)) k h) in
-      rw (first, test, whole.placed (k / size others + 1) k there, item_after a k there) (ap (λ x. Ok x) found)
+      rw (first, le-leb (k / size others + 1) m (omega arith), whole.placed (k / size others + 1) k there, item_after a k there) (ap (λ x. Ok x) found)
 
   right_item : IsWhole (joined_rank a b) others a → IsWhole (joined_rank a b) others b → length a.items ≡ size a.shape → length b.items ≡ size b.shape
       → (more k : ℕ) → length a.items ≤ k → k < length a.items + length b.items
@@ -108,20 +100,17 @@ module _ (along : Along) (a b : ArrayValue) (others : List ℕ) (first : axis_at
   right_item left right left_long right_long more k past h =
       let m = joined_places (joined_rank a b) 0 a in
       let t = size others in
-      let left_sized = left.sized in
-      let right_sized = right.sized in
       let j = k - length a.items in
       let inside : j < joined_places (joined_rank a b) 0 b * t = omega arith in
       let some = second_positive (joined_places (joined_rank a b) 0 b) t j inside in
       let split : k ≡ m * t + j = omega arith in
       let quotient : k / t ≡ m + j / t = ap (λ n. n / t) split ∙ mul-add-div_right {m = t} some m j in
       let remainder : k % t ≡ j % t = ap (λ n. n % t) split ∙ mul-add-mod_self_right m t j in
-      let test = lt-leb (k / t + 1) m (omega arith) in
       let place : k / t + 1 - m ≡ j / t + 1 = omega arith in
       let there : j < size b.shape = omega arith in
       let found : get_or b.items j (fill b.item_type) ≡ get_or (a.items ++ b.items) k (fill (joined_type a b)) =
       get_or_default b.items j (fill b.item_type) (fill (joined_type a b)) (omega arith) ∙ sym (get_or-append_right a.items b.items (length a.items) k (fill (joined_type a b)) refl past) in
-      rw (first, test, place, remainder, right.placed (k / t + 1) j there, item_after b j there) (ap (λ x. Ok x) found)
+      rw (first, lt-leb (k / t + 1) m (omega arith), place, remainder, right.placed (k / t + 1) j there, item_after b j there) (ap (λ x. Ok x) found)
 
   -- both runs, one after the other
   runs_collected : IsWhole (joined_rank a b) others a → IsWhole (joined_rank a b) others b → length a.items ≡ size a.shape → length b.items ≡ size b.shape
@@ -148,26 +137,19 @@ module _ (along : Along) (a b : ArrayValue) (shape : List ℕ) (item_type : Item
   pub joined_runs : IsArray a → IsArray b → (is_scalar a ≡ true → joined_rank a b ≡ 1) → (is_scalar b ≡ true → joined_rank a b ≡ 1) → AreJoined along a b shape
   joined_runs left_sound right_sound left_run right_run =
       let rank = joined_rank a b in
-      let axis = axis_at rank along in
-      let there = gives (is_axis rank along) AxisKind _ (form_of shape item_type) form in
-      let ranks = gives (ranks_join a b) Rank _ (form_of shape item_type) there.is in
-      let agree = gives (axes_agree rank axis a b) Length _ (form_of shape item_type) ranks.is in
-      let types = gives (types_join a b) Domain _ (form_of shape item_type) agree.is in
-      let parts = limited_is types.is in
+      let ranks = gives (ranks_join a b) Rank _ (form_of shape item_type) (gives (is_axis rank along) AxisKind _ (form_of shape item_type) form).is in
+      let agree = gives (axes_agree rank (axis_at rank along) a b) Length _ (form_of shape item_type) ranks.is in
+      let parts = limited_is (gives (types_join a b) Domain _ (form_of shape item_type) agree.is).is in
       let more = joined_places rank 0 a + joined_places rank 0 b in
       let shaped : shape ≡ more ∷ result_axes a b = parts.0 ∙ ap (λ n. joined_shape rank n a b) first in
       let left = left_whole a b ranks.test left_run in
       let right = right_whole a b ranks.test (ap (λ n. axes_agree rank n a b) (sym first) ∙ agree.test) right_run in
-      let left_sized = left.sized in
-      let right_sized = right.sized in
-      let left_long = left_sound.one_item_a_place in
-      let right_long = right_sound.one_item_a_place in
       let sized : length a.items + length b.items ≡ size (more ∷ result_axes a b) = omega arith in
       let typed : catenate_form along a b ≡ Ok (form_of shape (joined_type a b)) = form ∙ ap (λ t. Ok (form_of shape t)) parts.1 in
       let formed : catenate_form along a b ≡ Ok (form_of (more ∷ result_axes a b) (joined_type a b)) = typed ∙ ap (λ xs. Ok (form_of xs (joined_type a b))) shaped in
       record {
         as_many = sized ∙ ap size (sym shaped);
         whole = ap (λ r. and_then r (λ f. collect f.item_type f.shape (catenate_item along a b))) formed
-            ∙ runs_collected along a b (result_axes a b) first left right left_long right_long more sized
+            ∙ runs_collected along a b (result_axes a b) first left right left_sound.one_item_a_place right_sound.one_item_a_place more sized
             ∙ ap (λ xs. Ok (record { item_type = joined_type a b; shape = xs; items = a.items ++ b.items })) (sym shaped);
       }

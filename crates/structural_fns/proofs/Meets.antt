@@ -1,6 +1,5 @@
 -- Intervals that go to one axis, met one by one.
-use Rattle.std.{proofs.Common.{◌≡◌, ℕ, zero, suc, ◌-◌, ◌<◌, List, [], ◌∷◌, length, drop, get_or, unsigned_abs, arith, ◌∙◌}, proofs.lemmas.List.{length-map}}
-use Rattle.std.proofs.lemmas.Bool.{cond-false, false_from_ne_true, eqb-true}
+use Rattle.std.{proofs.Common.{◌≡◌, ℕ, zero, suc, ◌-◌, ◌<◌, List, [], ◌∷◌, length, drop, get_or, unsigned_abs, arith, ◌∙◌}, proofs.lemmas.List.{length-map}, proofs.lemmas.Bool.{cond-false, false_from_ne_true, eqb-true}}
 use Rattle.arrays_core.specs.Arrays.{ArrayValue}
 use Rattle.index_region.{specs.Arguments.{number_of, numbers}, specs.Boxes.{Interval}}
 use Rattle.change_core.specs.Ways.{meet_at}

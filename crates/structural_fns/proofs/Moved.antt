@@ -1,6 +1,5 @@
 -- Intervals that take and drop move, one axis after another.
-use Rattle.std.proofs.Common.{◌≡◌, ◌+◌, ◌<◌, ◌≤◌, ℕ, zero, suc, ℤ, pos, List, [], ◌∷◌, length, get_or, drop, refl, true, ◌&&◌, nat_le, arith}
-use Rattle.std.{proofs.lemmas.Bool.{and_parts, leb-true, false≢true}, proofs.lemmas.List.{drop_more}}
+use Rattle.std.{proofs.Common.{◌≡◌, ◌+◌, ◌<◌, ◌≤◌, ℕ, zero, suc, ℤ, pos, List, [], ◌∷◌, length, get_or, drop, refl, true, ◌&&◌, nat_le, arith}, proofs.lemmas.Bool.{and_parts, leb-true, false≢true}, proofs.lemmas.List.{drop_more}}
 use Rattle.index_region.specs.Boxes.{Interval, fits}
 use Rattle.change_core.specs.Ways.{images}
 use Rattle.structural_fns.{specs.Take.{taken, taken_axes}, specs.Drop.{kept, kept_axes}}

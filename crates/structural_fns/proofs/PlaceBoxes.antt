@@ -1,12 +1,10 @@
 -- Worked cases of the boxes of ravel, reshape, take, drop and catenate, computed.
 use Rattle.std.proofs.Common.{◌≡◌, refl, ℕ, pos, negsuc, List, [], ◌∷◌, Some, None}
-use Rattle.arrays_core.{specs.Arrays.{ArrayValue}, proofs.CaseWords.{nums, ints, chars, scalar, no_text}}
+use Rattle.arrays_core.{specs.Arrays.{ArrayValue}, proofs.CaseWords.{◌⇒◌, AllSame, nums, ints, chars, scalar, no_text}}
 use Rattle.function_names.specs.declared.along.Along.TheVariants.{First, Last, Axis}
 use Rattle.index_region.specs.Boxes.{Interval}
-use Rattle.change_core.{specs.declared.reach.Reach.{Reach}, specs.declared.reach.Reach.TheVariants.{Unmoved, Inside, Anew}, specs.RuleModels.{RuleModel}}
-use Rattle.change_core.specs.Reaches.{reach_of}
-use Rattle.structural_fns.{specs.Ravel.{ravel_rule}, specs.Reshape.{reshape_rule}, specs.Take.{take_rule}, specs.Drop.{drop_rule}}
-use Rattle.structural_fns.specs.Catenate.{catenate_rule}
+use Rattle.change_core.{specs.declared.reach.Reach.{Reach}, specs.declared.reach.Reach.TheVariants.{Unmoved, Inside, Anew}, specs.RuleModels.{RuleModel}, specs.Reaches.{reach_of}}
+use Rattle.structural_fns.{specs.Ravel.{ravel_rule}, specs.Reshape.{reshape_rule}, specs.Take.{take_rule}, specs.Drop.{drop_rule}, specs.Catenate.{catenate_rule}}
 
 -- what may change of f B where a box of B changed
 abbrev of_one : RuleModel → ArrayValue → List Interval → Reach
@@ -40,45 +38,29 @@ counts m n = nums (2 ∷ []) (m ∷ n ∷ [])
 
 -- ---- ravel
 
-ravel_of_column : of_one ravel_rule table ((1, 2) ∷ (3, 3) ∷ []) ≡ Inside ((3, 6) ∷ [])
-ravel_of_column = refl
-
-ravel_of_row : of_one ravel_rule table ((2, 2) ∷ (1, 2) ∷ []) ≡ Inside ((4, 5) ∷ [])
-ravel_of_row = refl
-
-ravel_of_scalar : of_one ravel_rule (scalar 7) [] ≡ Inside ((1, 1) ∷ [])
-ravel_of_scalar = refl
+ravel_cases : AllSame (
+    of_one ravel_rule table ((1, 2) ∷ (3, 3) ∷ []) ⇒ Inside ((3, 6) ∷ []) ∷  -- ravel of column
+    of_one ravel_rule table ((2, 2) ∷ (1, 2) ∷ []) ⇒ Inside ((4, 5) ∷ []) ∷  -- ravel of row
+    of_one ravel_rule (scalar 7) [] ⇒ Inside ((1, 1) ∷ []) ∷  -- ravel of scalar
+    [])
+ravel_cases = refl
 
 -- ---- reshape
 
-reshape_in_row : of_right reshape_rule (counts 3 4) twelve ((6, 7) ∷ []) ≡ Inside ((2, 2) ∷ (2, 3) ∷ [])
-reshape_in_row = refl
-
-reshape_over_rows : of_right reshape_rule (counts 3 4) twelve ((4, 5) ∷ []) ≡ Inside ((1, 2) ∷ (1, 4) ∷ [])
-reshape_over_rows = refl
-
--- items are needed again
-reshape_again : of_right reshape_rule (counts 3 4) five ((2, 2) ∷ []) ≡ Inside ((1, 3) ∷ (1, 4) ∷ [])
-reshape_again = refl
-
--- as many items as places, and places that are not needed
-reshape_all : of_right reshape_rule (scalar 5) five ((2, 2) ∷ []) ≡ Inside ((2, 2) ∷ [])
-reshape_all = refl
-
-reshape_past : of_right reshape_rule (counts 2 2) twelve ((5, 5) ∷ []) ≡ Unmoved
-reshape_past = refl
-
-reshape_partly_past : of_right reshape_rule (counts 2 2) twelve ((4, 9) ∷ []) ≡ Inside ((2, 2) ∷ (2, 2) ∷ [])
-reshape_partly_past = refl
-
-reshape_of_scalar : of_right reshape_rule three (scalar 7) [] ≡ Inside ((1, 1) ∷ (1, 2) ∷ (1, 3) ∷ [])
-reshape_of_scalar = refl
-
-reshape_to_scalar : of_right reshape_rule no_text five ((1, 2) ∷ []) ≡ Inside []
-reshape_to_scalar = refl
-
-reshape_to_no_items : of_right reshape_rule (counts 0 3) five ((1, 5) ∷ []) ≡ Unmoved
-reshape_to_no_items = refl
+reshape_cases : AllSame (
+    of_right reshape_rule (counts 3 4) twelve ((6, 7) ∷ []) ⇒ Inside ((2, 2) ∷ (2, 3) ∷ []) ∷  -- reshape in row
+    of_right reshape_rule (counts 3 4) twelve ((4, 5) ∷ []) ⇒ Inside ((1, 2) ∷ (1, 4) ∷ []) ∷  -- reshape over rows
+    -- items are needed again
+    of_right reshape_rule (counts 3 4) five ((2, 2) ∷ []) ⇒ Inside ((1, 3) ∷ (1, 4) ∷ []) ∷
+    -- as many items as places, and places that are not needed
+    of_right reshape_rule (scalar 5) five ((2, 2) ∷ []) ⇒ Inside ((2, 2) ∷ []) ∷
+    of_right reshape_rule (counts 2 2) twelve ((5, 5) ∷ []) ⇒ Unmoved ∷  -- reshape past
+    of_right reshape_rule (counts 2 2) twelve ((4, 9) ∷ []) ⇒ Inside ((2, 2) ∷ (2, 2) ∷ []) ∷  -- reshape partly past
+    of_right reshape_rule three (scalar 7) [] ⇒ Inside ((1, 1) ∷ (1, 2) ∷ (1, 3) ∷ []) ∷  -- reshape of scalar
+    of_right reshape_rule no_text five ((1, 2) ∷ []) ⇒ Inside [] ∷  -- reshape to scalar
+    of_right reshape_rule (counts 0 3) five ((1, 5) ∷ []) ⇒ Unmoved ∷  -- reshape to no items
+    [])
+reshape_cases = refl
 
 reshape_counts : of_left reshape_rule (counts 2 2) twelve ((1, 1) ∷ []) ≡ Anew
 reshape_counts = refl
@@ -88,63 +70,39 @@ reshape_both = refl
 
 -- ---- take
 
--- ¯3↑
-take_last : of_right take_rule (ints [] (negsuc 2 ∷ [])) five ((3, 3) ∷ []) ≡ Inside ((1, 1) ∷ [])
-take_last = refl
-
-take_last_past : of_right take_rule (ints [] (negsuc 2 ∷ [])) five ((2, 2) ∷ []) ≡ Unmoved
-take_last_past = refl
-
-take_last_partly : of_right take_rule (ints [] (negsuc 2 ∷ [])) five ((1, 4) ∷ []) ≡ Inside ((1, 2) ∷ [])
-take_last_partly = refl
-
--- ¯7↑, two places of fill before
-take_beyond : of_right take_rule (ints [] (negsuc 6 ∷ [])) five ((1, 2) ∷ []) ≡ Inside ((3, 4) ∷ [])
-take_beyond = refl
-
-take_first : of_right take_rule (scalar 2) five ((2, 4) ∷ []) ≡ Inside ((2, 2) ∷ [])
-take_first = refl
-
-take_first_past : of_right take_rule (scalar 2) five ((3, 4) ∷ []) ≡ Unmoved
-take_first_past = refl
-
--- ¯1 2↑
-take_of_table : of_right take_rule (ints (2 ∷ []) (negsuc 0 ∷ pos 2 ∷ [])) table ((1, 2) ∷ (2, 3) ∷ []) ≡ Inside ((1, 1) ∷ (2, 2) ∷ [])
-take_of_table = refl
-
--- ¯2 3↑7
-take_of_scalar : of_right take_rule (ints (2 ∷ []) (negsuc 1 ∷ pos 3 ∷ [])) (scalar 7) [] ≡ Inside ((2, 2) ∷ (1, 1) ∷ [])
-take_of_scalar = refl
-
-take_nothing : of_right take_rule (scalar 0) five ((1, 5) ∷ []) ≡ Unmoved
-take_nothing = refl
+take_cases : AllSame (
+    -- ¯3↑
+    of_right take_rule (ints [] (negsuc 2 ∷ [])) five ((3, 3) ∷ []) ⇒ Inside ((1, 1) ∷ []) ∷
+    of_right take_rule (ints [] (negsuc 2 ∷ [])) five ((2, 2) ∷ []) ⇒ Unmoved ∷  -- take last past
+    of_right take_rule (ints [] (negsuc 2 ∷ [])) five ((1, 4) ∷ []) ⇒ Inside ((1, 2) ∷ []) ∷  -- take last partly
+    -- ¯7↑, two places of fill before
+    of_right take_rule (ints [] (negsuc 6 ∷ [])) five ((1, 2) ∷ []) ⇒ Inside ((3, 4) ∷ []) ∷
+    of_right take_rule (scalar 2) five ((2, 4) ∷ []) ⇒ Inside ((2, 2) ∷ []) ∷  -- take first
+    of_right take_rule (scalar 2) five ((3, 4) ∷ []) ⇒ Unmoved ∷  -- take first past
+    -- ¯1 2↑
+    of_right take_rule (ints (2 ∷ []) (negsuc 0 ∷ pos 2 ∷ [])) table ((1, 2) ∷ (2, 3) ∷ []) ⇒ Inside ((1, 1) ∷ (2, 2) ∷ []) ∷
+    -- ¯2 3↑7
+    of_right take_rule (ints (2 ∷ []) (negsuc 1 ∷ pos 3 ∷ [])) (scalar 7) [] ⇒ Inside ((2, 2) ∷ (1, 1) ∷ []) ∷
+    of_right take_rule (scalar 0) five ((1, 5) ∷ []) ⇒ Unmoved ∷  -- take nothing
+    [])
+take_cases = refl
 
 take_counts : of_left take_rule (scalar 2) five [] ≡ Anew
 take_counts = refl
 
 -- ---- drop
 
-drop_first : of_right drop_rule (scalar 2) five ((2, 4) ∷ []) ≡ Inside ((1, 2) ∷ [])
-drop_first = refl
-
-drop_first_past : of_right drop_rule (scalar 2) five ((1, 2) ∷ []) ≡ Unmoved
-drop_first_past = refl
-
--- ¯2↓
-drop_last : of_right drop_rule (ints [] (negsuc 1 ∷ [])) five ((3, 5) ∷ []) ≡ Inside ((3, 3) ∷ [])
-drop_last = refl
-
-drop_last_past : of_right drop_rule (ints [] (negsuc 1 ∷ [])) five ((4, 5) ∷ []) ≡ Unmoved
-drop_last_past = refl
-
-drop_of_table : of_right drop_rule (counts 0 1) table ((1, 2) ∷ (2, 2) ∷ []) ≡ Inside ((1, 2) ∷ (1, 1) ∷ [])
-drop_of_table = refl
-
-drop_of_scalar : of_right drop_rule (counts 0 0) (scalar 7) [] ≡ Inside ((1, 1) ∷ (1, 1) ∷ [])
-drop_of_scalar = refl
-
-drop_all : of_right drop_rule (scalar 7) five ((1, 5) ∷ []) ≡ Unmoved
-drop_all = refl
+drop_cases : AllSame (
+    of_right drop_rule (scalar 2) five ((2, 4) ∷ []) ⇒ Inside ((1, 2) ∷ []) ∷  -- drop first
+    of_right drop_rule (scalar 2) five ((1, 2) ∷ []) ⇒ Unmoved ∷  -- drop first past
+    -- ¯2↓
+    of_right drop_rule (ints [] (negsuc 1 ∷ [])) five ((3, 5) ∷ []) ⇒ Inside ((3, 3) ∷ []) ∷
+    of_right drop_rule (ints [] (negsuc 1 ∷ [])) five ((4, 5) ∷ []) ⇒ Unmoved ∷  -- drop last past
+    of_right drop_rule (counts 0 1) table ((1, 2) ∷ (2, 2) ∷ []) ⇒ Inside ((1, 2) ∷ (1, 1) ∷ []) ∷  -- drop of table
+    of_right drop_rule (counts 0 0) (scalar 7) [] ⇒ Inside ((1, 1) ∷ (1, 1) ∷ []) ∷  -- drop of scalar
+    of_right drop_rule (scalar 7) five ((1, 5) ∷ []) ⇒ Unmoved ∷  -- drop all
+    [])
+drop_cases = refl
 
 drop_counts : of_left drop_rule (scalar 2) five [] ≡ Anew
 drop_counts = refl
@@ -171,16 +129,12 @@ catenate_row = refl
 catenate_row_before : of_left (catenate_rule First) three table ((2, 2) ∷ []) ≡ Inside ((1, 1) ∷ (2, 2) ∷ [])
 catenate_row_before = refl
 
--- a scalar is repeated over the other axes
-catenate_column : of_right (catenate_rule (Axis (pos 2))) table (scalar 0) [] ≡ Inside ((1, 2) ∷ (4, 4) ∷ [])
-catenate_column = refl
-
-catenate_after_column : of_right (catenate_rule (Axis (pos 2))) (scalar 0) table ((2, 2) ∷ (1, 2) ∷ []) ≡ Inside ((2, 2) ∷ (2, 3) ∷ [])
-catenate_after_column = refl
-
-catenate_scalars : of_right (catenate_rule Last) (scalar 1) (scalar 2) [] ≡ Inside ((2, 2) ∷ [])
-catenate_scalars = refl
-
--- a result without items: (0 0⍴0),'a'
-catenate_no_items : of_right (catenate_rule Last) (nums (0 ∷ 0 ∷ []) []) (chars [] (97 ∷ [])) [] ≡ Unmoved
-catenate_no_items = refl
+catenate_cases : AllSame (
+    -- a scalar is repeated over the other axes
+    of_right (catenate_rule (Axis (pos 2))) table (scalar 0) [] ⇒ Inside ((1, 2) ∷ (4, 4) ∷ []) ∷
+    of_right (catenate_rule (Axis (pos 2))) (scalar 0) table ((2, 2) ∷ (1, 2) ∷ []) ⇒ Inside ((2, 2) ∷ (2, 3) ∷ []) ∷  -- catenate after column
+    of_right (catenate_rule Last) (scalar 1) (scalar 2) [] ⇒ Inside ((2, 2) ∷ []) ∷  -- catenate scalars
+    -- a result without items: (0 0⍴0),'a'
+    of_right (catenate_rule Last) (nums (0 ∷ 0 ∷ []) []) (chars [] (97 ∷ [])) [] ⇒ Unmoved ∷
+    [])
+catenate_cases = refl

@@ -1,10 +1,7 @@
 -- The rows of an array whose places along an axis stand the other way round.
-use Rattle.std.proofs.Common.{◌≡◌, ℕ, suc, ◌+◌, ◌-◌, ◌<◌, ◌≤◌, true, List, [], ◌∷◌, ◌++◌, length, get_or, set, Ok, ap, sym, ◌∙◌, arith}
-use Rattle.std.proofs.lemmas.List.{get_or_default}
-use Rattle.arrays_core.{specs.declared.item.ItemType.{ItemType}, specs.Items.{fill}, specs.Arrays.{ArrayValue, IsArray}}
-use Rattle.arrays_core.{specs.Shapes.{is_index_of, places_before}, specs.Building.{IsRowOf}, proofs.Shapes.{places_below}, proofs.Rows.{places_in_row}}
-use Rattle.index_region.{specs.Answers.{IsRowIn}, specs.Axes.{places_along}, proofs.Passing.{row_passed, row_inside}, proofs.Placed.{left_placed}}
-use Rattle.index_region.proofs.RowIndices.{set_before, get_before, set_last, get_last, axis_below}
+use Rattle.std.{proofs.Common.{◌≡◌, ℕ, suc, ◌+◌, ◌-◌, ◌<◌, ◌≤◌, true, List, [], ◌∷◌, ◌++◌, length, get_or, set, Ok, ap, sym, ◌∙◌, arith}, proofs.lemmas.List.{get_or_default}}
+use Rattle.arrays_core.{specs.declared.item.ItemType.{ItemType}, specs.Items.{fill}, specs.Arrays.{ArrayValue, IsArray}, specs.Shapes.{is_index_of, places_before}, specs.Building.{IsRowOf}, proofs.Shapes.{places_below}, proofs.Rows.{places_in_row}}
+use Rattle.index_region.{specs.Answers.{IsRowIn}, specs.Axes.{places_along}, proofs.Passing.{row_passed, row_inside}, proofs.Placed.{left_placed}, proofs.RowIndices.{set_before, get_before, set_last, get_last, axis_below}}
 use Rattle.function_names.{specs.Axes.{is_axis, axis_at}, specs.declared.along.Along.{Along}}
 use Rattle.structural_fns.{specs.Reverse.{reverse_form, reverse_item}, proofs.SourcePlaces.{reversed_inside}}
 
@@ -20,8 +17,7 @@ module _ (along : Along) (b : ArrayValue) (row : List ℕ) (count : ℕ) (item_t
 
   row_of : IsRowOf b.shape row count
   row_of =
-      let checked = row_passed (is_axis (length b.shape) along) _ _ row count item_type is in
-      (row_inside b.shape b.item_type row count item_type checked.row_in).row_of
+      (row_inside b.shape b.item_type row count item_type (row_passed (is_axis (length b.shape) along) _ _ row count item_type is).row_in).row_of
 
   inside_at : (j : ℕ) → j < count → is_index_of b.shape (at_index (0 + j + 1)) ≡ true
   inside_at j h = reversed_inside b.shape (row ++ (0 + j + 1) ∷ []) axis (row_of.places (0 + j + 1) (omega arith) (omega arith))

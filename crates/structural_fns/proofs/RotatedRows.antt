@@ -1,16 +1,11 @@
 -- The rows of an array whose places are moved along an axis.
-use Rattle.std.proofs.Common.{◌≡◌, ℕ, zero, suc, pos, negsuc, ◌+◌, ◌-◌, ◌*◌, ◌/◌, ◌%◌, ◌<◌, ◌≤◌, ◌⊎◌, inl, inr, ℤ, ◌+ℤ◌, ◌-ℤ◌, unsigned_abs, nat_eq, ◌||◌, bytes_eq, if◌then◌else◌, true, List, [], ◌∷◌, ◌++◌, length, get_or, set, remove, Ok, ap, sym, subst, ◌∙◌, arith}
-use Rattle.std.{specs.Int.{int_rem_euclid}, proofs.lemmas.Bool.{cases_lt, eq-eqb}, proofs.lemmas.Int.{ints}, proofs.lemmas.List.{get_or_default}}
-use Rattle.std.proofs.lemmas.Nat.{mod_below, mod-mul-add, div-add-mod'}
-use Rattle.arrays_core.{specs.declared.item.ItemType.{ItemType}, specs.Items.{fill}, specs.Arrays.{ArrayValue, IsArray}}
-use Rattle.arrays_core.{specs.Shapes.{size, is_index_of, places_before}, proofs.Shapes.{places_below}, proofs.Rows.{places_in_row}}
+use Rattle.std.{proofs.Common.{◌≡◌, ℕ, zero, suc, pos, negsuc, ◌+◌, ◌-◌, ◌*◌, ◌/◌, ◌%◌, ◌<◌, ◌≤◌, ◌⊎◌, inl, inr, ℤ, ◌+ℤ◌, ◌-ℤ◌, unsigned_abs, nat_eq, ◌||◌, bytes_eq, if◌then◌else◌, true, List, [], ◌∷◌, ◌++◌, length, get_or, set, remove, Ok, ap, sym, subst, ◌∙◌, arith}, specs.Int.{int_rem_euclid}}
+use Rattle.std.{proofs.lemmas.Bool.{cases_lt, eq-eqb}, proofs.lemmas.Int.{ints}, proofs.lemmas.List.{get_or_default}, proofs.lemmas.Nat.{mod-mul-add}}
+use Rattle.arrays_core.{specs.declared.item.ItemType.{ItemType}, specs.Items.{fill}, specs.Arrays.{ArrayValue, IsArray}, specs.Shapes.{size, is_index_of, places_before}, proofs.Shapes.{places_below}, proofs.Rows.{places_in_row}}
 use Rattle.scalar_fns.specs.ScalarExtension.{extended}
 use Rattle.function_names.{specs.declared.along.Along.{Along}, specs.Axes.{is_axis, axis_at}}
-use Rattle.index_region.{specs.Answers.{IsRowIn}, specs.Arguments.{has_one_item, counts_as_numbers, number_of}, specs.Axes.{places_along}}
-use Rattle.index_region.{proofs.Passing.{RowInside, row_passed, row_inside}, proofs.Placed.{right_placed}}
-use Rattle.index_region.proofs.RowIndices.{set_before, get_before, set_last, get_last, remove_last, axis_below}
-use Rattle.structural_fns.{specs.Rotate.{rotate_form, rotate_item, rotated_place, rotation}, proofs.SourcePlaces.{rotated_inside}}
-use Rattle.structural_fns.proofs.Turning.{residue_euclid}
+use Rattle.index_region.{specs.Answers.{IsRowIn}, specs.Arguments.{has_one_item, counts_as_numbers, number_of}, specs.Axes.{places_along}, proofs.Passing.{RowInside, row_passed, row_inside}, proofs.Placed.{right_placed}, proofs.RowIndices.{set_before, get_before, set_last, get_last, remove_last, axis_below}}
+use Rattle.structural_fns.{specs.Rotate.{rotate_form, rotate_item, rotated_place, rotation}, proofs.SourcePlaces.{rotated_inside}, proofs.Turning.{residue_euclid}}
 
 -- ---- the place after a place, counted round the end of an axis
 
@@ -19,8 +14,6 @@ next_mod_of q r n a below e = ap (λ m. m % n) e ∙ mod-mul-add q n r below
 
 next_mod : (a n : ℕ) → 0 < n → ((a + 1) % n ≡ a % n + 1) × (a % n + 1 < n) ⊎ ((a + 1) % n ≡ 0) × (a % n + 1 ≡ n)
 next_mod a n some =
-    let whole = div-add-mod' a n in
-    let below = mod_below a n some in
     elim (cases_lt (a % n + 1) n) [
       | inl less ↦ inl (next_mod_of (a / n) (a % n + 1) n (a + 1) less (omega arith), less)
       | inr more ↦
@@ -37,7 +30,6 @@ record NextPlace (n p q : ℕ) : Type 0 where
 
 next_positive : (n a : ℕ) → 0 < n → NextPlace n (suc (a % n)) (suc ((a + 1) % n))
 next_positive n a some =
-    let below = mod_below a n some in
     elim (next_mod a n some) [
       | inl less ↦ record { low = omega arith; high = omega arith; inside = λ h. omega (arith, less.0); around = λ e. absurd (omega (arith, less.1)) }
       | inr last ↦ record { low = omega arith; high = omega arith; inside = λ h. absurd (omega (arith, last.1)); around = λ e. omega (arith, last.0) }
@@ -45,7 +37,6 @@ next_positive n a some =
 
 next_negative : (n a : ℕ) → 0 < n → NextPlace n (suc (n - 1 - (a + 1) % n)) (suc (n - 1 - a % n))
 next_negative n a some =
-    let below = mod_below a n some in
     elim (next_mod a n some) [
       | inl less ↦ record { low = omega arith; high = omega arith; inside = λ h. omega (arith, less.0, less.1); around = λ e. absurd (omega (arith, less.0, less.1)) }
       | inr last ↦ record { low = omega arith; high = omega arith; inside = λ h. absurd (omega (arith, last.0)); around = λ e. omega (arith, last.0, last.1) }
@@ -57,7 +48,6 @@ next_euclid n (pos a) some =
     subst (λ w. NextPlace n (suc (a % n)) (suc (unsigned_abs (int_rem_euclid w (pos n))))) (sym next) (next_positive n a some)
 next_euclid n (negsuc zero) some =
     let next : negsuc zero +ℤ pos 1 ≡ pos 0 = omega (arith, ints) in
-    let none : 0 % n ≡ 0 = next_mod_of 0 0 n 0 some (omega arith) in
     let here : NextPlace n (suc (n - 1 - 0 % n)) (suc (0 % n)) = record { low = omega arith; high = omega arith; inside = λ h. absurd (omega arith); around = λ e. omega arith } in
     subst (λ w. NextPlace n (suc (n - 1 - 0 % n)) (suc (unsigned_abs (int_rem_euclid w (pos n))))) (sym next) here
 next_euclid n (negsuc (suc a)) some =
@@ -123,8 +113,7 @@ module _ (along : Along) (a b : ArrayValue) (row : List ℕ) (count : ℕ) (item
       let on_axis = row_passed (is_axis (length b.shape) along) _ _ row count item_type is in
       let ranks = row_passed (has_one_item a || nat_eq (suc (length a.shape)) (length b.shape)) _ _ row count item_type on_axis.row_in in
       let shapes = row_passed (has_one_item a || bytes_eq a.shape (remove b.shape axis)) _ _ row count item_type ranks.row_in in
-      let numbers = row_passed (counts_as_numbers a) _ _ row count item_type shapes.row_in in
-      row_inside b.shape b.item_type row count item_type numbers.row_in
+      row_inside b.shape b.item_type row count item_type (row_passed (counts_as_numbers a) _ _ row count item_type shapes.row_in).row_in
 
   inside_at : (j : ℕ) → j < count → is_index_of b.shape (at_index (0 + j + 1)) ≡ true
   inside_at j h =

@@ -1,17 +1,10 @@
 -- Results whose items are a run of those of an argument.
-use Rattle.std.proofs.Common.{◌≡◌, ℕ, ◌+◌, ◌-◌, ◌/◌, ◌%◌, ◌<◌, ◌≤◌, List, [], ◌∷◌, ◌++◌, take, drop, length, get_or, Some, Result, Ok, Bool, true, false, cond, refl, sym, ap, subst, ◌∙◌, arith}
-use Rattle.std.{specs.Prelude.{unwrap_or, not, nat_eq, ◌&&◌}, proofs.lemmas.Bool.{eqb-true, eqb-false}, proofs.lemmas.Bool.Decides.{nat_tests}}
-use Rattle.std.{proofs.lemmas.Nat.{mod_below}, proofs.lemmas.List.FromFn.{fill_by_all, length-map-range_with_len, get_or-map-range_with_len}}
-use Rattle.std.{proofs.Math.ListN.{get_or-eq_default}, proofs.Math.Nat.{div-one, mod-eq_of_lt}}
-use Rattle.std.proofs.lemmas.List.{length-take-le, length-drop, get_or-take, get_or-drop}
-use Rattle.arrays_core.{specs.declared.item.Item.{Item}, specs.declared.item.ItemType.{ItemType}, specs.declared.item.Kind.{Kind}}
-use Rattle.arrays_core.{specs.declared.item.Kind.TheVariants.{Rank, Domain}, specs.Items.{fill, and_then}, specs.Building.{listed}}
-use Rattle.arrays_core.{specs.Shapes.{size, index_after, places_before}, specs.Arrays.{ArrayValue, item_if_there, collect, with_items}}
-use Rattle.arrays_core.proofs.Order.{given_in_order, index_after-within, places_before-index_after}
-use Rattle.index_region.{specs.Checks.{form_of, Form, limited}, specs.Arguments.{is_list, counts_as_numbers, none_negative, numbers}}
-use Rattle.index_region.{specs.ArgumentLists.{of_one_argument, of_two_arguments}, specs.Sources.{Place, Fill, item_from}, proofs.Passing.{gives, limited_gives}}
+use Rattle.std.{proofs.Common.{◌≡◌, ℕ, ◌+◌, ◌-◌, ◌%◌, ◌<◌, ◌≤◌, List, [], ◌∷◌, ◌++◌, take, drop, length, get_or, Some, Result, Ok, Bool, true, false, cond, refl, sym, ap, subst, ◌∙◌, arith}, specs.Prelude.{unwrap_or, not, nat_eq, ◌&&◌}, proofs.lemmas.Bool.{eqb-true, eqb-false}, proofs.lemmas.Bool.Decides.{nat_tests}}
+use Rattle.std.{proofs.lemmas.Nat.{mod_below}, proofs.lemmas.List.FromFn.{fill_by_all, length-map-range_with_len, get_or-map-range_with_len}, proofs.Math.ListN.{get_or-eq_default}, proofs.Math.Nat.{mod-eq_of_lt}, proofs.lemmas.List.{length-take-le, length-drop, get_or-take, get_or-drop}}
+use Rattle.arrays_core.{specs.declared.item.Item.{Item}, specs.declared.item.ItemType.{ItemType}, specs.declared.item.Kind.{Kind}, specs.declared.item.Kind.TheVariants.{Rank, Domain}, specs.Items.{fill, and_then}, specs.Building.{listed}, specs.Shapes.{size, index_after, places_before}}
+use Rattle.arrays_core.{specs.Arrays.{ArrayValue, item_if_there, collect, with_items}, proofs.Order.{given_in_order, index_after-within, places_before-index_after}}
+use Rattle.index_region.{specs.Checks.{form_of, Form, limited}, specs.Arguments.{is_list, counts_as_numbers, none_negative, numbers}, specs.ArgumentLists.{of_one_argument, of_two_arguments}, specs.Sources.{Place, Fill, item_from}, proofs.Passing.{gives, limited_gives}}
 use Rattle.structural_fns.{specs.Reshape.{magnitudes, again_under, reshape_form, reshape_item, reshape_whole}, specs.Ravel.{ravel_item, ravel_whole}}
-use Rattle.structural_fns.proofs.SteppedRows.{listed_same}
 
 -- the item at the index list that has k before it
 pub item_after : (b : ArrayValue) (k : ℕ) → k < size b.shape → item_if_there b (index_after b.shape k) ≡ Some (get_or b.items k (fill b.item_type))
@@ -36,11 +29,8 @@ run_collected item_type shape rule items skipped d inside gives =
 module _ (b : ArrayValue) (inside : size b.shape ≤ length b.items) where
   ravelled_item : (k : ℕ) → k < size (size b.shape ∷ []) → ravel_item b (index_after (size b.shape ∷ []) k) ≡ Ok (get_or b.items (0 + k) (fill b.item_type))
   ravelled_item k h =
-      let below : k < size b.shape = omega arith in
-      let divided : k / 1 ≡ k = div-one k in
-      let place : k / 1 + 1 - 1 ≡ k = omega arith in
-      ap (λ n. item_from b b b.item_type (Place 0 (index_after b.shape n))) place
-      ∙ ap (λ o. Ok (unwrap_or o (fill b.item_type))) (item_after b k below)
+      ap (λ n. item_from b b b.item_type (Place 0 (index_after b.shape n))) (omega arith)
+      ∙ ap (λ o. Ok (unwrap_or o (fill b.item_type))) (item_after b k (omega arith))
       ∙ ap (λ n. Ok (get_or b.items n (fill b.item_type))) (let same : k ≡ 0 + k = omega arith in same)
 
   pub ravelled : limited (size b.shape ∷ []) b.item_type ≡ Ok (form_of (size b.shape ∷ []) b.item_type) → ravel_whole b ≡ Ok (record { item_type = b.item_type; shape = size b.shape ∷ []; items = take (size (size b.shape ∷ [])) (drop 0 b.items) })
@@ -101,8 +91,7 @@ pub record ReshapePassed (a b : ArrayValue) (shape : List ℕ) (item_type : Item
 reshape_passed : (a b : ArrayValue) (shape : List ℕ) (item_type : ItemType) → reshape_form a b ≡ Ok (form_of shape item_type) → ReshapePassed a b shape item_type
 reshape_passed a b shape item_type form =
     let listed = gives (is_list a) Rank _ (form_of shape item_type) form in
-    let counted = gives (counts_as_numbers a && none_negative (numbers a)) Domain _ (form_of shape item_type) listed.is in
-    let parts = limited_is counted.is in
+    let parts = limited_is (gives (counts_as_numbers a && none_negative (numbers a)) Domain _ (form_of shape item_type) listed.is).is in
     record { form = form; shaped = parts.0; typed = parts.1 }
 
 pub reshape_answer : (args : List ArrayValue) (b v : ArrayValue) (shape : List ℕ) (item_type : ItemType)
@@ -131,9 +120,8 @@ module _ (a b : ArrayValue) (as_many : length b.items ≡ size b.shape) where
     where
       decide : (none : Bool) → nat_eq (length b.items) 0 ≡ none → reshape_item a b (index_after (magnitudes a) k) ≡ Ok (again k)
       decide true e =
-          let none = eqb-true (length b.items) 0 e in
           ap (λ w. item_from a b b.item_type (cond (not w) (Place 1 (index_after b.shape (places_before (magnitudes a) (index_after (magnitudes a) k) % size b.shape))) Fill)) e
-          ∙ ap (λ (x : Item). Ok x) (sym (get_or-eq_default b.items (fill b.item_type) (omega (arith, none))))
+          ∙ ap (λ (x : Item). Ok x) (sym (get_or-eq_default b.items (fill b.item_type) (omega (arith, eqb-true (length b.items) 0 e))))
       decide false e =
           let some = eqb-false (length b.items) 0 e in
           let before : places_before (magnitudes a) (index_after (magnitudes a) k) % size b.shape ≡ k % size b.shape = ap (λ n. n % size b.shape) (places_before-index_after (magnitudes a) k h) in
@@ -161,10 +149,6 @@ recycled_answer (a ∷ c ∷ []) b v shape item_type two same passed as_many mad
     let passed = reshape_passed a b shape item_type here in
     let form : reshape_form a b ≡ Ok (form_of (magnitudes a) b.item_type) = here ∙ ap (λ xs. Ok (form_of xs item_type)) passed.shaped ∙ ap (λ t. Ok (form_of (magnitudes a) t)) passed.typed in
     ap (λ x. reshape_whole a x) (sym same) ∙ recycles a b as_many form ∙ ap (λ xs. Ok (again_under b xs)) (sym passed.shaped) ∙ ap (λ w. Ok w) (sym made)
-
--- the items as they are built
-pub fill_again : (xs : List Item) (n : ℕ) (x d : Item) → length xs ≡ 0 → x ≡ d → listed n (λ k. x) ≡ listed n (λ k. get_or xs (k % length xs) d)
-fill_again xs n x d none same = listed_same n (λ k. x) (λ k. get_or xs (k % length xs) d) (λ k h. same ∙ sym (get_or-eq_default xs d (omega (arith, none))))
 
 pub all_listed : (xs : List Item) (d : Item) (n : ℕ) → n ≡ length xs → [] ++ listed n (λ k. get_or xs (0 + k) d) ≡ xs
 all_listed xs d n e =

@@ -1,12 +1,9 @@
 -- The place in a side that an item of a catenation comes from lies in that side.
-use Rattle.std.proofs.Common.{◌≡◌, ℕ, zero, suc, ◌+◌, ◌<◌, ◌≤◌, Bool, true, false, ◌||◌, if◌then◌else◌, nat_eq, List, [], ◌∷◌, length, get_or, set, insert, remove, bytes_eq, refl, ap, sym, subst, ◌∙◌, arith}
-use Rattle.std.{proofs.lemmas.Bool.{and_parts, and_from, eqb-true, false≢true}, proofs.lemmas.Slice.Eq.{bytes_eq-Decides}}
+use Rattle.std.{proofs.Common.{◌≡◌, ℕ, zero, suc, ◌+◌, ◌<◌, ◌≤◌, Bool, true, false, ◌||◌, if◌then◌else◌, nat_eq, List, [], ◌∷◌, length, get_or, set, insert, remove, bytes_eq, refl, ap, sym, subst, ◌∙◌, arith}, proofs.lemmas.Bool.{and_parts, and_from, eqb-true, false≢true}, proofs.lemmas.Slice.Eq.{bytes_eq-Decides}}
 use Rattle.arrays_core.{specs.Arrays.{ArrayValue}, specs.Shapes.{is_index_of}, proofs.Shapes.{head_of}}
 use Rattle.function_names.{specs.declared.along.Along.{Along}, specs.Axes.{is_axis, axis_at}}
-use Rattle.index_region.{specs.Arguments.{is_scalar}, specs.Answers.{IsPlaceOf}, proofs.Passing.{passed, place_inside}}
-use Rattle.index_region.proofs.OnAxes.{OnAxis, scalar_inside, one_more_inside}
-use Rattle.structural_fns.specs.Catenate.{joined_rank, joined_places, other_axes, ranks_join, axes_agree, types_join, joined_type, joined_shape, in_side, catenate_form}
-use Rattle.structural_fns.specs.Laws.SharedAxes.{shared_long}
+use Rattle.index_region.{specs.Arguments.{is_scalar}, specs.Answers.{IsPlaceOf}, proofs.Passing.{passed, place_inside}, proofs.OnAxes.{OnAxis, scalar_inside, one_more_inside}}
+use Rattle.structural_fns.{specs.Catenate.{joined_rank, joined_places, other_axes, ranks_join, axes_agree, types_join, joined_type, joined_shape, in_side, catenate_form}, specs.Laws.SharedAxes.{shared_long}}
 
 -- an index list of a shape with one more axis
 record IsOfMore (others : List ℕ) (n : ℕ) (index : List ℕ) (k : ℕ) : Type 0 where
@@ -74,8 +71,7 @@ join_facts along a b index below h =
     let axis = axis_at rank along in
     let ranks = passed (ranks_join a b) _ _ index (passed (is_axis rank along) _ _ index h).place in
     let axes = passed (axes_agree rank axis a b) _ _ index ranks.place in
-    let types = passed (types_join a b) _ _ index axes.place in
-    let inside = place_inside (joined_shape rank axis a b) (joined_type a b) index types.place in
+    let inside = place_inside (joined_shape rank axis a b) (joined_type a b) index (passed (types_join a b) _ _ index axes.place).place in
     let others = other_axes rank axis (if is_scalar a then b else a) in
     let shared = shared_long a b axis below ranks.test in
     let more = of_more others (joined_places rank axis a + joined_places rank axis b) index axis (omega arith) inside in

@@ -1,14 +1,9 @@
 -- The two sides of a catenation.
-use Rattle.std.proofs.Common.{◌≡◌, ℕ, ◌+◌, ◌<◌, Bool, true, false, not, ◌&&◌, ◌||◌, if◌then◌else◌, List, length, refl, ◌∙◌, arith}
-use Rattle.std.{proofs.lemmas.Bool.{false≢true}, proofs.lemmas.List.Edits.{length-insert}}
-use Rattle.arrays_core.{specs.declared.item.Item.{Item}, specs.declared.item.ItemType.{ItemType}, specs.declared.item.ItemType.TheVariants.{Nums, Chars}}
-use Rattle.arrays_core.{specs.declared.item.Kind.TheVariants.{Axis as AxisKind, Rank, Length, Domain}, specs.Items.{type_of}, specs.Arrays.{ArrayValue}}
-use Rattle.arrays_core.proofs.Shapes.{as_long}
+use Rattle.std.{proofs.Common.{◌≡◌, ℕ, ◌+◌, ◌<◌, Bool, true, false, not, ◌&&◌, ◌||◌, if◌then◌else◌, List, length, refl, ◌∙◌, arith}, proofs.lemmas.Bool.{false≢true}, proofs.lemmas.List.Edits.{length-insert}}
+use Rattle.arrays_core.{specs.declared.item.Item.{Item}, specs.declared.item.ItemType.{ItemType}, specs.declared.item.ItemType.TheVariants.{Nums, Chars}, specs.declared.item.Kind.TheVariants.{Axis as AxisKind, Rank, Length, Domain}, specs.Items.{type_of}, specs.Arrays.{ArrayValue}, proofs.Shapes.{as_long}}
 use Rattle.function_names.{specs.declared.along.Along.{Along}, specs.Axes.{is_axis, axis_at}}
-use Rattle.index_region.{specs.Checks.{check, limited}, specs.Arguments.{is_scalar, has_items, is_same_type}, specs.Answers.{IsPlaceOf, HasTypeOf}}
-use Rattle.index_region.proofs.Passing.{passed, place_inside, typed_check, typed_limited}
-use Rattle.structural_fns.specs.Catenate.{joined_rank, joined_places, other_axes, ranks_join, axes_agree, types_join, joined_type, joined_shape, catenate_form}
-use Rattle.structural_fns.specs.Laws.SharedAxes.{shared_long}
+use Rattle.index_region.{specs.Checks.{check, limited}, specs.Arguments.{is_scalar, has_items, is_same_type}, specs.Answers.{IsPlaceOf, HasTypeOf}, proofs.Passing.{passed, place_inside, typed_check, typed_limited}}
+use Rattle.structural_fns.{specs.Catenate.{joined_rank, joined_places, other_axes, ranks_join, axes_agree, types_join, joined_type, joined_shape, catenate_form}, specs.Laws.SharedAxes.{shared_long}}
 
 same_types : (left right : Bool) (s t : ItemType)
     → ((not left || not right) || is_same_type s t) ≡ true → right ≡ true
@@ -27,11 +22,8 @@ right_typed a b h e = same_types (has_items a) (has_items b) a.item_type b.item_
 pub join_types : (along : Along) (a b : ArrayValue) (index : List ℕ) → IsPlaceOf (catenate_form along a b) index → types_join a b ≡ true
 join_types along a b index h =
     let rank = joined_rank a b in
-    let axis = axis_at rank along in
-    let on_axis = passed (is_axis rank along) _ _ index h in
-    let ranks = passed (ranks_join a b) _ _ index on_axis.place in
-    let axes = passed (axes_agree rank axis a b) _ _ index ranks.place in
-    (passed (types_join a b) _ _ index axes.place).test
+    let ranks = passed (ranks_join a b) _ _ index (passed (is_axis rank along) _ _ index h).place in
+    (passed (types_join a b) _ _ index (passed (axes_agree rank (axis_at rank along) a b) _ _ index ranks.place).place).test
 
 -- an index list of the result has an index for each of its axes
 pub join_long : (along : Along) (a b : ArrayValue) (index : List ℕ) → axis_at (joined_rank a b) along < joined_rank a b
@@ -57,8 +49,7 @@ join_typed along a b item h =
     let last = limited (joined_shape rank axis a b) (joined_type a b) in
     let types = check (types_join a b) Domain last in
     let axes = check (axes_agree rank axis a b) Length types in
-    let ranks = check (ranks_join a b) Rank axes in
-    typed_check (is_axis rank along) AxisKind ranks item
+    typed_check (is_axis rank along) AxisKind (check (ranks_join a b) Rank axes) item
     (typed_check (ranks_join a b) Rank axes item
     (typed_check (axes_agree rank axis a b) Length types item
     (typed_check (types_join a b) Domain last item

@@ -1,17 +1,10 @@
 -- The place that a source names lies in its argument.
-use Rattle.std.proofs.Common.{◌≡◌, ℕ, zero, suc, ◌≤◌, map, zip, ◌+◌, ◌-◌, ◌<◌, ◌%◌, nat_eq, ◌&&◌, ℤ, pos, negsuc, ◌+ℤ◌, ◌-ℤ◌, unsigned_abs, Bool, true, false, if◌then◌else◌, List, [], ◌∷◌, length, get_or, replicate, set, reverse, refl, subst, arith}
-use Rattle.std.{specs.Int.{int_rem_euclid}, specs.List.{filter}, proofs.lemmas.Bool.{and_parts, leb-true, eqb-true, eq-eqb, false≢true}}
-use Rattle.std.proofs.lemmas.List.{length-map, get_or-map, length-reverse, get_or-reverse}
-use Rattle.std.{proofs.lemmas.List.FromFn.{get_or-map-range_with_len, length-map-range_with_len}, proofs.lemmas.Grind.{get_or_default_zero}}
-use Rattle.std.proofs.lemmas.Nat.{mod_below}
-use Rattle.arrays_core.{specs.Arrays.{ArrayValue}, specs.Shapes.{size, is_index_of, index_after}, proofs.Order.{index_after-within}}
-use Rattle.arrays_core.proofs.Shapes.{as_long, head_of}
-use Rattle.index_region.{specs.Axes.{places_along}, specs.Arguments.{is_scalar, is_list, counts_as_numbers, numbers}, specs.Answers.{IsPlaceOf}}
-use Rattle.index_region.{proofs.Passing.{passed, place_inside}, proofs.OnAxes.{OnAxis, scalar_inside, one_more_inside, on_axis, inside_by_axes, set_inside}}
-use Rattle.structural_fns.{specs.Ravel.{ravel_form}, specs.Transpose.{transpose_form}, specs.Rotate.{rotated_place}}
-use Rattle.structural_fns.{specs.AxisCounts.{counted_shape, uncounted}, specs.Drop.{dropped_shape, kept_places}}
-use Rattle.structural_fns.specs.DyadicTranspose.{axes_to, greatest_of, least_of, all_positive, are_axes, lengths_at, transposed_shape, gathered, transpose_by_form}
-use Rattle.structural_fns.{proofs.Turning.{residue_euclid}, proofs.Counting.{numbers_long, magnitudes_long, magnitude_at}, proofs.Entries.{entries_long}}
+use Rattle.std.{proofs.Common.{◌≡◌, ℕ, zero, suc, ◌≤◌, map, zip, ◌+◌, ◌-◌, ◌<◌, ◌%◌, nat_eq, ◌&&◌, ℤ, pos, negsuc, ◌+ℤ◌, ◌-ℤ◌, unsigned_abs, Bool, true, false, if◌then◌else◌, List, [], ◌∷◌, length, get_or, replicate, set, reverse, refl, subst, arith}, specs.Int.{int_rem_euclid}, specs.List.{filter}}
+use Rattle.std.{proofs.lemmas.Bool.{and_parts, leb-true, eqb-true, eq-eqb, false≢true}, proofs.lemmas.List.{length-map, get_or-map, length-reverse, get_or-reverse}, proofs.lemmas.List.FromFn.{get_or-map-range_with_len, length-map-range_with_len}, proofs.lemmas.Grind.{get_or_default_zero}, proofs.lemmas.Nat.{mod_below}}
+use Rattle.arrays_core.{specs.Arrays.{ArrayValue}, specs.Shapes.{size, is_index_of, index_after}, proofs.Order.{index_after-within}, proofs.Shapes.{as_long, head_of}}
+use Rattle.index_region.{specs.Axes.{places_along}, specs.Arguments.{is_scalar, is_list, counts_as_numbers, numbers}, specs.Answers.{IsPlaceOf}, proofs.Passing.{passed, place_inside}, proofs.OnAxes.{OnAxis, scalar_inside, one_more_inside, on_axis, inside_by_axes, set_inside}}
+use Rattle.structural_fns.{specs.Ravel.{ravel_form}, specs.Transpose.{transpose_form}, specs.Rotate.{rotated_place}, specs.AxisCounts.{counted_shape, uncounted}, specs.Drop.{dropped_shape, kept_places}}
+use Rattle.structural_fns.{specs.DyadicTranspose.{axes_to, greatest_of, least_of, all_positive, are_axes, lengths_at, transposed_shape, gathered, transpose_by_form}, proofs.Turning.{residue_euclid}, proofs.Counting.{numbers_long, magnitudes_long, magnitude_at}, proofs.Entries.{entries_long}}
 
 pub ravel_inside : (b : ArrayValue) (index : List ℕ) → IsPlaceOf (ravel_form b) index
     → is_index_of b.shape (index_after b.shape (get_or index 0 0 - 1)) ≡ true
@@ -44,17 +37,15 @@ transpose_inside b index h =
     let other : ℕ = length index - 1 - k in
     let on = on_axis (reverse shape) index other inside (omega arith) in
     let i = get_or-reverse index k 0 (omega arith) in
-    let n = get_or-reverse shape other 0 (omega arith) in
     let back : length shape - 1 - other ≡ k = omega arith in
-    let axis : get_or (reverse shape) other 0 ≡ get_or shape k 0 = rw back at n in
+    let axis : get_or (reverse shape) other 0 ≡ get_or shape k 0 = rw back at (get_or-reverse shape other 0 (omega arith)) in
     record { low = omega (arith, on.low); high = omega (arith, on.high) })
 
 -- a place that is counted round the end of an axis is on it
 pub rotated_on_axis : (n : ℕ) (amount : ℤ) (i : ℕ) → 0 < n → OnAxis n (rotated_place n amount i)
 rotated_on_axis n amount i some =
     let z = (pos i +ℤ amount) -ℤ pos 1 in
-    let e = residue_euclid n z some in
-    rw e (rest z)
+    rw (residue_euclid n z some) (rest z)
   where
     rest : (z : ℤ) → OnAxis n (suc (unsigned_abs (int_rem_euclid z (pos n))))
     rest (pos a) = record { low = omega arith; high = omega (arith, mod_below a n some) }
@@ -112,8 +103,7 @@ least_at : (axes shape : List ℕ) (k j : ℕ) → k < length axes → k < lengt
 least_at [] shape k j a s e = absurd (omega arith)
 least_at (x ∷ axes) [] k j a s e = absurd (omega arith)
 least_at (x ∷ axes) (n ∷ shape) zero j a s e =
-    let here : nat_eq x j ≡ true = eq-eqb x j e in
-    rw here (first_at_most n (lengths_at axes shape j))
+    rw (eq-eqb x j e) (first_at_most n (lengths_at axes shape j))
 least_at (x ∷ axes) (n ∷ shape) (suc k) j a s e = later (nat_eq x j) (least_at axes shape k j (omega arith) (omega arith) e)
   where
     others : List (ℕ × ℕ)

@@ -1,13 +1,10 @@
 -- Rows of a result whose items are evenly spaced in an argument.
-use Rattle.std.proofs.Common.{◌≡◌, ℕ, zero, suc, ◌+◌, ◌-◌, ◌*◌, ◌<◌, ◌≤◌, true, cond, List, [], ◌∷◌, ◌++◌, length, get_or, drop, reverse, Some, None, Result, Ok, refl, ap, ◌∙◌, arith, min, nat_eq, Bool, false, map, Err}
-use Rattle.std.{specs.Prelude.{unwrap_or}, specs.List.{range_with_len}, proofs.lemmas.Bool.{false≢true, eqb-true, eqb-false}}
-use Rattle.std.proofs.lemmas.List.{length-reverse, reverse-append}
-use Rattle.arrays_core.{specs.declared.item.Item.{Item}, specs.declared.item.ItemType.{ItemType}, specs.declared.item.Kind.{Kind}, specs.Items.{fill}}
-use Rattle.arrays_core.{specs.Arrays.{ArrayValue, IsArray}, specs.Building.{listed, with_row}, specs.Shapes.{size, is_index_of, places_before, IsWithinLimits}}
+use Rattle.std.{proofs.Common.{◌≡◌, ℕ, zero, suc, ◌+◌, ◌-◌, ◌*◌, ◌<◌, ◌≤◌, true, cond, List, [], ◌∷◌, ◌++◌, length, get_or, drop, reverse, Some, None, Result, Ok, refl, ap, ◌∙◌, arith, min, nat_eq, Bool, false, map, Err}, specs.Prelude.{unwrap_or}, specs.List.{range_with_len}}
+use Rattle.std.{proofs.lemmas.Bool.{false≢true, eqb-true, eqb-false}, proofs.lemmas.List.{length-reverse, reverse-append}}
+use Rattle.arrays_core.{specs.declared.item.Item.{Item}, specs.declared.item.ItemType.{ItemType}, specs.declared.item.Kind.{Kind}, specs.Items.{fill}, specs.Arrays.{ArrayValue, IsArray}, specs.Building.{listed, with_row}, specs.Shapes.{size, is_index_of, places_before, IsWithinLimits}}
 use Rattle.arrays_core.{proofs.Shapes.{places_below, head_of}, proofs.Rows.{with_row_none, with_row_more}}
 use Rattle.index_region.{specs.Checks.{Form}, specs.Answers.{IsRowIn}, specs.Sources.{Place, item_from}, proofs.Passing.{row_inside, place_of_row}}
-use Rattle.structural_fns.{specs.Transpose.{transpose_form, transpose_item}, specs.DyadicTranspose.{axes_to, gathered, transpose_by_form, transpose_by_item}}
-use Rattle.structural_fns.proofs.SourcePlaces.{transpose_inside, gathered_inside}
+use Rattle.structural_fns.{specs.Transpose.{transpose_form, transpose_item}, specs.DyadicTranspose.{axes_to, gathered, transpose_by_form, transpose_by_item}, proofs.SourcePlaces.{transpose_inside, gathered_inside}}
 
 pub one_argument : (args : List ArrayValue) (b : ArrayValue) → length args ≡ 1 → b ≡ get_or args 0 b → args ≡ b ∷ []
 one_argument [] b h e = absurd (omega arith)
@@ -46,8 +43,7 @@ module _ (b : ArrayValue) (at : ℕ → List ℕ) (count step : ℕ)
   place_at : (j : ℕ) → j < count → places_before b.shape (at (0 + j + 1)) ≡ first + j * step
   place_at j h =
       let back : 0 + j + 1 - 1 ≡ j = omega arith in
-      let there = stepped (0 + j + 1) (omega arith) (omega arith) in
-      rw (back, ← begins) at there
+      rw (back, ← begins) at (stepped (0 + j + 1) (omega arith) (omega arith))
 
   pub steps_inside : IsArray b → (k : ℕ) → k < count → first + k * step < length b.items
   steps_inside sound k h =
@@ -93,7 +89,6 @@ fewer_axes [] index h some w = absurd (omega arith)
 fewer_axes (n ∷ shape) [] h some w = absurd (false≢true h)
 fewer_axes (n ∷ shape) (i ∷ index) h some w =
     let head = head_of n i shape index h in
-    let below = places_below shape index head.rest in
     record {
       rank = omega (arith, w.rank);
       axes = λ k d there. w.axes (suc k) d (omega arith);

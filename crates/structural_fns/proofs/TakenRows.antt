@@ -1,14 +1,10 @@
 -- The rows of what is taken.
-use Rattle.std.proofs.Common.{◌≡◌, ℕ, zero, suc, ◌+◌, ◌-◌, ◌<◌, ◌≤◌, min, ℤ, pos, negsuc, unsigned_abs, nat_eq, Bool, true, false, cond, if◌then◌else◌, List, [], ◌∷◌, ◌++◌, length, get_or, replicate, Some, None, Result, Ok, refl, ap, sym, subst, ◌∙◌, arith}
-use Rattle.std.{specs.Prelude.{unwrap_or, int_le}, proofs.lemmas.Bool.{eqb-true, false≢true, le-leb}}
-use Rattle.arrays_core.{specs.declared.item.Item.{Item}, specs.declared.item.ItemType.{ItemType}, specs.declared.item.Kind.{Kind}, specs.Items.{fill}}
-use Rattle.arrays_core.{specs.Arrays.{ArrayValue, IsArray}, specs.Building.{listed, with_row}, specs.Shapes.{size, is_index_of, places_before}}
-use Rattle.arrays_core.{proofs.Shapes.{places_below}, proofs.Rows.{row_end, same_row, places_in_row, with_row_none, with_row_more, with_row_then}}
-use Rattle.index_region.{specs.Answers.{IsRowIn, IsPlaceOf}, specs.Arguments.{numbers, is_scalar, is_list, counts_as_numbers}}
-use Rattle.index_region.{specs.Sources.{Place, Fill, item_from}, proofs.Passing.{passed, place_inside, row_passed, row_inside}}
-use Rattle.structural_fns.{specs.AxisCounts.{counted_shape, uncounted}, specs.Reshape.{magnitudes}}
-use Rattle.structural_fns.specs.Take.{take_form, take_item, taken_place, taken_places, AreOnLastAxis}
-use Rattle.structural_fns.{proofs.Counting.{numbers_long, magnitudes_long, magnitude_at}, proofs.SourcePlaces.{uncounted_inside}}
+use Rattle.std.{proofs.Common.{◌≡◌, ℕ, zero, suc, ◌+◌, ◌-◌, ◌<◌, ◌≤◌, min, ℤ, pos, negsuc, unsigned_abs, nat_eq, Bool, true, false, cond, if◌then◌else◌, List, [], ◌∷◌, ◌++◌, length, get_or, replicate, Some, None, Result, Ok, refl, ap, sym, subst, ◌∙◌, arith}, specs.Prelude.{unwrap_or, int_le}}
+use Rattle.std.proofs.lemmas.Bool.{eqb-true, false≢true, le-leb}
+use Rattle.arrays_core.{specs.declared.item.Item.{Item}, specs.declared.item.ItemType.{ItemType}, specs.declared.item.Kind.{Kind}, specs.Items.{fill}, specs.Arrays.{ArrayValue, IsArray}, specs.Building.{listed, with_row}, specs.Shapes.{size, is_index_of, places_before}, proofs.Shapes.{places_below}}
+use Rattle.arrays_core.proofs.Rows.{row_end, same_row, places_in_row, with_row_none, with_row_more, with_row_then}
+use Rattle.index_region.{specs.Answers.{IsRowIn, IsPlaceOf}, specs.Arguments.{numbers, is_scalar, is_list, counts_as_numbers}, specs.Sources.{Place, Fill, item_from}, proofs.Passing.{passed, place_inside, row_passed, row_inside}}
+use Rattle.structural_fns.{specs.AxisCounts.{counted_shape, uncounted}, specs.Reshape.{magnitudes}, specs.Take.{take_form, take_item, taken_place, taken_places, AreOnLastAxis}, proofs.Counting.{numbers_long, magnitudes_long, magnitude_at}, proofs.SourcePlaces.{uncounted_inside}}
 
 -- what is known of a row of what is taken
 pub record TakenRow (a b : ArrayValue) (row : List ℕ) (count : ℕ) (item_type : ItemType) : Type 0 where
@@ -22,17 +18,14 @@ pub taken_row : (a b : ArrayValue) (row : List ℕ) (count : ℕ) (item_type : I
 taken_row a b row count item_type h =
     let listed = row_passed (is_list a) _ _ row count item_type h in
     let as_many = row_passed (nat_eq (length a.items) (length (counted_shape a b))) _ _ row count item_type listed.row_in in
-    let numbered = row_passed (counts_as_numbers a) _ _ row count item_type as_many.row_in in
-    let inside = row_inside (magnitudes a) b.item_type row count item_type numbered.row_in in
+    let inside = row_inside (magnitudes a) b.item_type row count item_type (row_passed (counts_as_numbers a) _ _ row count item_type as_many.row_in).row_in in
     let same = eqb-true (length a.items) (length (counted_shape a b)) as_many.test in
     let long = magnitudes_long a in
-    let r = inside.row_of in
-    let mark = magnitude_at a (length row) (omega (arith, r.long)) in
     record {
-      rank = r.rank;
-      axes = omega (arith, r.long);
-      counts = omega (arith, r.long);
-      taken = sym mark ∙ r.whole;
+      rank = inside.row_of.rank;
+      axes = omega (arith, inside.row_of.long);
+      counts = omega (arith, inside.row_of.long);
+      taken = sym (magnitude_at a (length row) (omega (arith, inside.row_of.long))) ∙ inside.row_of.whole;
       typed = inside.typed;
     }
 
@@ -43,8 +36,7 @@ pub record TakenLong (a b : ArrayValue) (row : List ℕ) : Type 0 where
 
 pub taken_long : (a b : ArrayValue) (row : List ℕ) (i : ℕ) → IsPlaceOf (take_form a b) (row ++ i ∷ []) → TakenLong a b row
 taken_long a b row i h =
-    let listed = passed (is_list a) _ _ (row ++ i ∷ []) h in
-    let as_many = passed (nat_eq (length a.items) (length (counted_shape a b))) _ _ (row ++ i ∷ []) listed.place in
+    let as_many = passed (nat_eq (length a.items) (length (counted_shape a b))) _ _ (row ++ i ∷ []) (passed (is_list a) _ _ (row ++ i ∷ []) h).place in
     let numbered = passed (counts_as_numbers a) _ _ (row ++ i ∷ []) as_many.place in
     let end = row_end (magnitudes a) row i (place_inside (magnitudes a) b.item_type (row ++ i ∷ []) numbered.place) in
     let same = eqb-true (length a.items) (length (counted_shape a b)) as_many.test in

@@ -1,14 +1,10 @@
 -- Take and drop of a vector: a run of its items.
-use Rattle.std.proofs.Common.{◌≡◌, ℕ, suc, ◌+◌, ◌-◌, ◌*◌, ◌/◌, ◌<◌, ◌≤◌, ℤ, List, [], ◌∷◌, take, drop, length, get_or, map, Result, Ok, refl, sym, ap, ◌∙◌, arith}
-use Rattle.std.{specs.Prelude.{pos, negsuc, unsigned_abs, nat_eq, IfOk}, proofs.Math.Nat.{div-one}, proofs.lemmas.Bool.{eqb-true}}
-use Rattle.std.proofs.lemmas.Result.{IfOk-weaker}
-use Rattle.arrays_core.{specs.declared.item.Item.{Item}, specs.declared.item.ItemType.{ItemType}, specs.declared.item.Kind.{Kind}}
-use Rattle.arrays_core.{specs.declared.item.Kind.TheVariants.{Rank, Length, Domain}, specs.Items.{fill, and_then}, specs.Shapes.{size}}
-use Rattle.arrays_core.{specs.Arrays.{ArrayValue, IsArray, collect}, proofs.Order.{index_after-within}}
+use Rattle.std.{proofs.Common.{◌≡◌, ℕ, ◌+◌, ◌-◌, ◌*◌, ◌/◌, ◌<◌, ◌≤◌, ℤ, List, [], ◌∷◌, take, drop, length, get_or, map, Result, Ok, refl, sym, ap, ◌∙◌, arith}, specs.Prelude.{pos, negsuc, unsigned_abs, nat_eq, IfOk}, proofs.lemmas.Bool.{eqb-true}, proofs.lemmas.Result.{IfOk-weaker}}
+use Rattle.arrays_core.{specs.declared.item.Item.{Item}, specs.declared.item.ItemType.{ItemType}, specs.declared.item.Kind.{Kind}, specs.declared.item.Kind.TheVariants.{Rank, Length, Domain}, specs.Items.{fill, and_then}, specs.Shapes.{size}, specs.Arrays.{ArrayValue, IsArray, collect}}
+use Rattle.arrays_core.proofs.Order.{index_after-within}
 use Rattle.index_region.{specs.Checks.{form_of}, specs.Arguments.{is_list, counts_as_numbers, numbers}, proofs.Passing.{gives}}
-use Rattle.structural_fns.{specs.Reshape.{magnitudes}, specs.AxisCounts.{counted_shape, counted_form}}
-use Rattle.structural_fns.{specs.Take.{taken_place, take_form, take_item, take_whole}, specs.Drop.{kept_place, dropped_shape, drop_form, drop_item, drop_whole}}
-use Rattle.structural_fns.{proofs.Counting.{numbers_long}, proofs.Runs.{item_after, run_collected, limited_is}}
+use Rattle.structural_fns.{specs.Reshape.{magnitudes}, specs.AxisCounts.{counted_shape, counted_form}, specs.Take.{taken_place, take_form, take_item, take_whole}, specs.Drop.{kept_place, dropped_shape, drop_form, drop_item, drop_whole}, proofs.Counting.{numbers_long}}
+use Rattle.structural_fns.proofs.Runs.{item_after, run_collected, limited_is}
 
 -- what is known where the checks of counts have passed
 pub record CountsPassed (asked : List ℕ) (a b : ArrayValue) (shape : List ℕ) (item_type : ItemType) : Type 0 where
@@ -21,8 +17,7 @@ pub counts_passed : (asked : List ℕ) (a b : ArrayValue) (shape : List ℕ) (it
 counts_passed asked a b shape item_type h =
     let listed = gives (is_list a) Rank _ (form_of shape item_type) h in
     let long = gives (nat_eq (length a.items) (length (counted_shape a b))) Length _ (form_of shape item_type) listed.is in
-    let last = gives (counts_as_numbers a) Domain _ (form_of shape item_type) long.is in
-    let parts = limited_is last.is in
+    let parts = limited_is (gives (counts_as_numbers a) Domain _ (form_of shape item_type) long.is).is in
     record { shaped = parts.0; typed = parts.1; long = eqb-true _ _ long.test }
 
 -- a vector, by its parts
@@ -58,12 +53,8 @@ taken_item item_type n items a z skipped k counted place below =
 
 place_moves : (n : ℕ) (z : ℤ) (k : ℕ) → unsigned_abs z ≤ n → taken_place n z (k / 1 + 1) ≡ (taken_place n z 1 - 1 + k) / 1 + 1
 place_moves n (pos c) k h =
-    let d : k / 1 ≡ k = div-one k in
-    let e : (1 - 1 + k) / 1 ≡ 1 - 1 + k = div-one (1 - 1 + k) in
     omega arith
 place_moves n (negsuc c) k h =
-    let d : k / 1 ≡ k = div-one k in
-    let e : (1 + n - suc c - 1 + k) / 1 ≡ 1 + n - suc c - 1 + k = div-one (1 + n - suc c - 1 + k) in
     omega arith
 
 first_fits : (n : ℕ) (z : ℤ) → unsigned_abs z ≤ n → taken_place n z 1 - 1 + unsigned_abs z ≤ n
@@ -113,12 +104,8 @@ kept_item item_type n items a z skipped k counted place below =
 
 kept_moves : (z : ℤ) (k : ℕ) → kept_place z (k / 1 + 1) ≡ (kept_place z 1 - 1 + k) / 1 + 1
 kept_moves (pos c) k =
-    let d : k / 1 ≡ k = div-one k in
-    let e : (1 + c - 1 + k) / 1 ≡ 1 + c - 1 + k = div-one (1 + c - 1 + k) in
     omega arith
 kept_moves (negsuc c) k =
-    let d : k / 1 ≡ k = div-one k in
-    let e : (1 - 1 + k) / 1 ≡ 1 - 1 + k = div-one (1 - 1 + k) in
     omega arith
 
 kept_fits : (n : ℕ) (z : ℤ) → unsigned_abs z ≤ n → kept_place z 1 - 1 + (n - unsigned_abs z) ≤ n
@@ -148,8 +135,7 @@ pub dropped_vector : (a b : ArrayValue) (shape : List ℕ) → drop_form a b ≡
 dropped_vector a b shape form one_axis sound =
     let n = get_or b.shape 0 0 in
     let v = of_vector b.item_type n b.items in
-    let is = vector_is b one_axis in
-    let here : drop_form a v ≡ Ok (form_of shape b.item_type) = ap (λ x. drop_form a x) (sym is) ∙ form in
+    let here : drop_form a v ≡ Ok (form_of shape b.item_type) = ap (λ x. drop_form a x) (sym (vector_is b one_axis)) ∙ form in
     let passed = counts_passed (dropped_shape (counted_shape a v) (numbers a)) a v shape b.item_type here in
     let counted = one_number a passed.long in
     let whole : length b.items ≡ n * 1 = sound.one_item_a_place ∙ ap size (only b.shape 0 one_axis) in
@@ -171,9 +157,7 @@ pub record FirstKept (a b : ArrayValue) (shape : List ℕ) : Type 0 where
 pub first_kept : (a b : ArrayValue) (shape : List ℕ) → drop_form a b ≡ Ok (form_of shape b.item_type) → length b.shape ≡ 1 → IsArray b → 0 < size shape → FirstKept a b shape
 first_kept a b shape form one_axis sound some =
     let z = get_or (numbers a) 0 (pos 0) in
-    let d = dropped_vector a b shape form one_axis sound in
-    let sized : size shape ≡ (length b.items - unsigned_abs z) * 1 = ap size d.shaped in
-    let within = d.within in
+    let sized : size shape ≡ (length b.items - unsigned_abs z) * 1 = ap size (dropped_vector a b shape form one_axis sound).shaped in
     let below : unsigned_abs z ≤ length b.items = omega arith in
     let fits = kept_fits (length b.items) z below in
     record { bound = omega arith; fits = omega arith }
@@ -189,7 +173,6 @@ kept_run a b shape skipped form one_axis sound fits begins =
     let d = dropped_vector a b shape form one_axis sound in
     let shaped : shape ≡ (n - unsigned_abs z) ∷ [] = d.shaped ∙ ap (λ m. (m - unsigned_abs z) ∷ []) (sym d.long) in
     let sized : size shape ≡ (n - unsigned_abs z) * 1 = ap size shaped in
-    let long = d.long in
     let here : drop_form a v ≡ Ok (form_of ((n - unsigned_abs z) ∷ []) b.item_type) = ap (λ x. drop_form a x) (sym is) ∙ form ∙ ap (λ xs. Ok (form_of xs b.item_type)) shaped in
-    ap (λ x. drop_whole a x) is ∙ kept_whole b.item_type n b.items a z skipped d.counted long (omega arith) (λ some. begins (omega arith)) here
+    ap (λ x. drop_whole a x) is ∙ kept_whole b.item_type n b.items a z skipped d.counted d.long (omega arith) (λ some. begins (omega arith)) here
     ∙ ap (λ xs. Ok (run_of b xs skipped)) (sym shaped)

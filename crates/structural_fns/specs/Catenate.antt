@@ -1,10 +1,8 @@
 -- Catenate: two arrays after one another along an axis.
 use Rattle.std.specs.Prelude.{ℕ, suc, ◌+◌, ◌-◌, max, nat_eq, nat_le, Bool, not, ◌&&◌, ◌||◌, if◌then◌else◌, List, [], ◌∷◌, ◌++◌, length, get_or, set, insert, remove, Result, false, Some, ◌≡◌, ◌≤◌, ◌⊎◌}
-use Rattle.arrays_core.{specs.declared.item.Item.{Item}, specs.declared.item.ItemType.{ItemType}, specs.declared.item.Kind.{Kind}}
-use Rattle.arrays_core.{specs.declared.item.Kind.TheVariants.{Axis, Rank, Length, Domain}, specs.Arrays.{ArrayValue}}
+use Rattle.arrays_core.{specs.declared.item.Item.{Item}, specs.declared.item.ItemType.{ItemType}, specs.declared.item.Kind.{Kind}, specs.declared.item.Kind.TheVariants.{Axis, Rank, Length, Domain}, specs.Arrays.{ArrayValue}}
 use Rattle.function_names.{specs.declared.along.Along.{Along}, specs.Axes.{is_axis, axis_at}}
-use Rattle.index_region.{specs.Checks.{check, Form, limited, whole}, specs.Arguments.{is_scalar, has_items, is_same_type}}
-use Rattle.index_region.{specs.Sources.{Place, Source, item_from}, specs.Boxes.{Interval, whole_of}}
+use Rattle.index_region.{specs.Checks.{check, Form, limited, whole}, specs.Arguments.{is_scalar, has_items, is_same_type}, specs.Sources.{Place, Source, item_from}, specs.Boxes.{Interval, whole_of}}
 use Rattle.change_core.{specs.RuleModels.{RuleModel}, specs.Sourced.{Spread, on_axis, two_sourced}}
 use Rattle.scalar_fns.specs.ScalarExtension.{same_shape}
 

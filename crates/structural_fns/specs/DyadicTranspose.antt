@@ -1,10 +1,7 @@
 -- Dyadic transpose, A⍉B: axis i of b goes to axis A[i].
-use Rattle.std.specs.Prelude.{ℕ, ◌-◌, max, min, nat_eq, ℤ, pos, int_le, unsigned_abs, Bool, ◌&&◌, List, [], ◌∷◌, map, length, get_or, zip, Result, true, Some, None}
-use Rattle.std.specs.List.{filter, list_all, list_any, range_with_len}
-use Rattle.arrays_core.{specs.declared.item.Item.{Item}, specs.declared.item.Kind.{Kind}, specs.declared.item.Kind.TheVariants.{Rank, Length, Domain}}
-use Rattle.arrays_core.specs.Arrays.{ArrayValue}
-use Rattle.index_region.{specs.Checks.{check, Form, limited, whole}, specs.Arguments.{is_list, counts_as_numbers, numbers}}
-use Rattle.index_region.specs.Sources.{Place, Source, item_from}
+use Rattle.std.{specs.Prelude.{ℕ, ◌-◌, max, min, nat_eq, ℤ, pos, int_le, unsigned_abs, Bool, ◌&&◌, List, [], ◌∷◌, map, length, get_or, zip, Result, true, Some, None}, specs.List.{filter, list_all, list_any, range_with_len}}
+use Rattle.arrays_core.{specs.declared.item.Item.{Item}, specs.declared.item.Kind.{Kind}, specs.declared.item.Kind.TheVariants.{Rank, Length, Domain}, specs.Arrays.{ArrayValue}}
+use Rattle.index_region.{specs.Checks.{check, Form, limited, whole}, specs.Arguments.{is_list, counts_as_numbers, numbers}, specs.Sources.{Place, Source, item_from}}
 use Rattle.change_core.{specs.RuleModels.{RuleModel}, specs.Sourced.{Spread, two_sourced}, specs.Ways.{meets}}
 
 -- the axes that the axes of b go to, counted from 1

@@ -1,7 +1,6 @@
 -- Ravel, ,B: the items in row-major order, as a vector.
 use Rattle.std.specs.Prelude.{ℕ, ◌-◌, List, [], ◌∷◌, get_or, Result, ◌+◌, Some}
-use Rattle.arrays_core.{specs.declared.item.Item.{Item}, specs.declared.item.Kind.{Kind}, specs.Arrays.{ArrayValue}}
-use Rattle.arrays_core.specs.Shapes.{size, index_after, places_before}
+use Rattle.arrays_core.{specs.declared.item.Item.{Item}, specs.declared.item.Kind.{Kind}, specs.Arrays.{ArrayValue}, specs.Shapes.{size, index_after, places_before}}
 use Rattle.index_region.{specs.Checks.{Form, limited, whole}, specs.Sources.{Place, Source, item_from}}
 use Rattle.change_core.{specs.Places.{first_of_box, last_of_box}, specs.RuleModels.{RuleModel}, specs.Sourced.{Spread, one_sourced}}
 

@@ -1,9 +1,7 @@
 -- Reshape, A⍴B: the items in row-major order, again and again, under another shape.
 use Rattle.std.specs.Prelude.{ℕ, ◌%◌, unsigned_abs, ◌&&◌, if◌then◌else◌, List, map, length, get_or, Result, true, None}
-use Rattle.arrays_core.{specs.declared.item.Item.{Item}, specs.declared.item.Kind.{Kind}, specs.declared.item.Kind.TheVariants.{Rank, Domain}}
-use Rattle.arrays_core.{specs.Arrays.{ArrayValue}, specs.Items.{fill}, specs.Building.{listed}, specs.Shapes.{size, index_after, places_before}}
-use Rattle.index_region.{specs.Checks.{check, Form, limited, whole}, specs.Arguments.{is_list, has_items, counts_as_numbers, numbers, none_negative}}
-use Rattle.index_region.specs.Sources.{Place, Fill, Source, item_from}
+use Rattle.arrays_core.{specs.declared.item.Item.{Item}, specs.declared.item.Kind.{Kind}, specs.declared.item.Kind.TheVariants.{Rank, Domain}, specs.Arrays.{ArrayValue}, specs.Items.{fill}, specs.Building.{listed}, specs.Shapes.{size, index_after, places_before}}
+use Rattle.index_region.{specs.Checks.{check, Form, limited, whole}, specs.Arguments.{is_list, has_items, counts_as_numbers, numbers, none_negative}, specs.Sources.{Place, Fill, Source, item_from}}
 use Rattle.change_core.{specs.Places.{by_place}, specs.RuleModels.{RuleModel}, specs.Sourced.{Spread, two_sourced}}
 
 -- the lengths of axes that an array of numbers asks for, whatever their signs

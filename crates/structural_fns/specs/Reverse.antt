@@ -1,10 +1,8 @@
 -- Reverse, ⌽B along an axis: its places from the last to the first. A scalar's index list is empty, and so nothing is set.
 use Rattle.std.specs.Prelude.{ℕ, suc, ◌-◌, List, length, get_or, set, Result}
-use Rattle.arrays_core.{specs.declared.item.Item.{Item}, specs.declared.item.Kind.{Kind}, specs.declared.item.Kind.TheVariants.{Axis}}
-use Rattle.arrays_core.specs.Arrays.{ArrayValue}
+use Rattle.arrays_core.{specs.declared.item.Item.{Item}, specs.declared.item.Kind.{Kind}, specs.declared.item.Kind.TheVariants.{Axis}, specs.Arrays.{ArrayValue}}
 use Rattle.function_names.{specs.declared.along.Along.{Along}, specs.Axes.{is_axis, axis_at}}
-use Rattle.index_region.{specs.Checks.{check, Form, limited, whole}, specs.Axes.{places_along}, specs.Sources.{Place, Source, item_from}}
-use Rattle.index_region.specs.Boxes.{Interval}
+use Rattle.index_region.{specs.Checks.{check, Form, limited, whole}, specs.Axes.{places_along}, specs.Sources.{Place, Source, item_from}, specs.Boxes.{Interval}}
 use Rattle.change_core.{specs.RuleModels.{RuleModel}, specs.Sourced.{Spread, on_axis, one_sourced}}
 
 -- the checks, and the shape and the type of the result

@@ -1,10 +1,8 @@
 -- Rotate, A⌽B along an axis: its places moved along it, and round its end.
 use Rattle.std.specs.Prelude.{ℕ, suc, nat_eq, ℤ, pos, ◌+ℤ◌, ◌-ℤ◌, unsigned_abs, ◌||◌, List, length, get_or, set, remove, Result, ◌==◌, if◌then◌else◌, [], ◌∷◌, map, insert, false, Some}
-use Rattle.arrays_core.{specs.declared.item.Item.{Item}, specs.declared.item.Kind.{Kind}, specs.declared.item.Kind.TheVariants.{Axis, Rank, Length, Domain}}
-use Rattle.arrays_core.{specs.Arrays.{ArrayValue}, specs.Shapes.{size}}
+use Rattle.arrays_core.{specs.declared.item.Item.{Item}, specs.declared.item.Kind.{Kind}, specs.declared.item.Kind.TheVariants.{Axis, Rank, Length, Domain}, specs.Arrays.{ArrayValue}, specs.Shapes.{size}}
 use Rattle.function_names.{specs.declared.along.Along.{Along}, specs.Axes.{is_axis, axis_at}}
-use Rattle.index_region.{specs.Checks.{check, Form, limited, whole}, specs.Arguments.{has_one_item, counts_as_numbers, number_of}, specs.Axes.{places_along}}
-use Rattle.index_region.{specs.Sources.{Place, Source, item_from}, specs.Boxes.{whole_of}}
+use Rattle.index_region.{specs.Checks.{check, Form, limited, whole}, specs.Arguments.{has_one_item, counts_as_numbers, number_of}, specs.Axes.{places_along}, specs.Sources.{Place, Source, item_from}, specs.Boxes.{whole_of}}
 use Rattle.change_core.{specs.RuleModels.{RuleModel, Use}, specs.Sourced.{Spread, on_axis, right_used, two_rule}}
 use Rattle.scalar_fns.specs.ScalarExtension.{same_shape, extended}
 use Rattle.item_fns.specs.Numbers.{residue}

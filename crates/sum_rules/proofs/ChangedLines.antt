@@ -1,21 +1,14 @@
 -- The lines of an array in which each of some lines has one new number.
-use Rattle.std.proofs.Common.{◌≡◌, ◌≢◌, ℕ, ◌+◌, ◌-◌, ◌*◌, ◌/◌, ◌<◌, ◌≤◌, ℤ, pos, true, false, List, length, get_or, set, map, remove, insert, refl, ap, sym, subst, ◌∙◌, arith, nat_eq, inl, inr}
-use Rattle.std.proofs.lemmas.Bool.{cases_Bool, cond-true, cond-false, eqb-true, eqb-false}
-use Rattle.std.proofs.lemmas.List.{length-map, ext_get_or, get_or_default, get_or-set_same, get_or-set_other}
-use Rattle.std.{proofs.lemmas.List.FromFn.{length-map-range_with_len, get_or-map-range_with_len}, proofs.Math.ListN.{get_or-map}}
-use Rattle.std.proofs.Math.Nat.{mul-div_cancel}
-use Rattle.arrays_core.{specs.declared.item.Item.{Item}, specs.declared.item.Item.TheVariants.{Num, Char}, specs.declared.item.ItemType.TheVariants.{Nums}}
-use Rattle.arrays_core.{specs.Arrays.{ArrayValue, item_of}, specs.Items.{fill, type_of}, specs.Shapes.{size, is_index_of, places_before}}
-use Rattle.arrays_core.proofs.Shapes.{places_below}
+use Rattle.std.{proofs.Common.{◌≡◌, ◌≢◌, ℕ, ◌+◌, ◌-◌, ◌*◌, ◌/◌, ◌<◌, ◌≤◌, ℤ, pos, true, false, List, length, get_or, set, map, remove, insert, refl, ap, sym, subst, ◌∙◌, arith, nat_eq, inl, inr}, proofs.lemmas.Bool.{cases_Bool, cond-true, cond-false, eqb-true, eqb-false}}
+use Rattle.std.{proofs.lemmas.List.{length-map, ext_get_or, get_or_default, get_or-set_same, get_or-set_other}, proofs.lemmas.List.FromFn.{length-map-range_with_len, get_or-map-range_with_len}, proofs.Math.ListN.{get_or-map}, proofs.Math.Nat.{mul-div_cancel}}
+use Rattle.arrays_core.{specs.declared.item.Item.{Item}, specs.declared.item.Item.TheVariants.{Num, Char}, specs.declared.item.ItemType.TheVariants.{Nums}, specs.Arrays.{ArrayValue, item_of}, specs.Items.{fill, type_of}, specs.Shapes.{size, is_index_of, places_before}, proofs.Shapes.{places_below}}
 use Rattle.function_names.{specs.declared.scalar.Scalar2.{Scalar2}, specs.declared.along.Along.{Along}}
 use Rattle.item_fns.{specs.Folds.{strided, line_start}, proofs.RightFolds.{length-strided, get_or-strided}, specs.RightFold.{fold_right}}
-use Rattle.index_region.{specs.Arguments.{number_of}, specs.Axes.{places_along}, specs.Boxes.{Interval, box_size, box_offset, is_within, walk_at}}
-use Rattle.index_region.{specs.Patches.{PatchValue, IsPatch, FitsPatch, patched, patched_item}, proofs.Boxes.{fits_length}}
-use Rattle.index_region.{proofs.Patched.{fits_within, patched_at}, proofs.Walks.{offset_below, offset_of_walk, walk_of_offset, walk_within}}
+use Rattle.index_region.{specs.Arguments.{number_of}, specs.Axes.{places_along}, specs.Boxes.{Interval, box_size, box_offset, is_within, walk_at}, specs.Patches.{PatchValue, IsPatch, FitsPatch, patched, patched_item}, proofs.Boxes.{fits_length}, proofs.Patched.{fits_within, patched_at}}
+use Rattle.index_region.proofs.Walks.{offset_below, offset_of_walk, walk_of_offset, walk_within}
 use Rattle.fold_trees.specs.ArrayLines.{TreesValue, line_through, numbers_through, with_number}
 use Rattle.reduce_fns.{specs.Laws.LineIndices.{inside}, proofs.Lines.{long_with_axis, remove_inserted, stride}, proofs.Reduced.{start_is}, specs.Lines.{line}}
-use Rattle.sum_rules.{specs.LineSums.{StandFor, array_of_shape, line_length, line_step}, specs.Totals.{StoodFor, is_one_a_line, box_of_lines}}
-use Rattle.sum_rules.{proofs.OneAxis.{FitsAxis, fits_axis, size_with_one, walk_with_one, within_axis}, proofs.Lines.{line_through_place, some_step}}
+use Rattle.sum_rules.{specs.LineSums.{StandFor, array_of_shape, line_length, line_step}, specs.Totals.{StoodFor, is_one_a_line, box_of_lines}, proofs.OneAxis.{FitsAxis, fits_axis, size_with_one, walk_with_one, within_axis}, proofs.Lines.{line_through_place, some_step}}
 
 -- an item of numbers is its number
 number_item_is : (x : Item) → type_of x ≡ Nums → x ≡ Num (number_of x)
@@ -25,8 +18,7 @@ number_item_is (Char c) h = absurd (let no : ⊥ = cc in no)
 -- steps of one place are told apart by their number
 same_steps : (first step i j : ℕ) → 0 < step → first + i * step ≡ first + j * step → i ≡ j
 same_steps first step i j some e =
-    let products : i * step ≡ j * step = omega (arith, e) in
-    sym (mul-div_cancel i some) ∙ ap (λ k. k / step) products ∙ mul-div_cancel j some
+    sym (mul-div_cancel i some) ∙ ap (λ k. k / step) (omega (arith, e)) ∙ mul-div_cancel j some
 
 module _ (axis : ℕ) (t : TreesValue) (a : ArrayValue) (p : PatchValue) (stand : StandFor t axis a) (fit : FitsPatch a p) (one : is_one_a_line axis p.region ≡ true) where
   abbrev n : ℕ

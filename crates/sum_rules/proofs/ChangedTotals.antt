@@ -1,22 +1,15 @@
 -- The totals of which one number of the line is new.
-use Rattle.std.proofs.Common.{◌≡◌, ℕ, ◌-◌, ◌*◌, ◌<◌, ◌≤◌, Bool, true, false, ◌&&◌, not, if◌then◌else◌, nat_eq, is_ok, List, [], ◌∷◌, length, map, remove, Option, Some, None, Result, Ok, Err, IfOk, OnOk, refl, ap, sym, subst, ◌∙◌, arith}
-use Rattle.std.{specs.Prelude.{◌==◌}, specs.List.{range_with_len}, specs.declared.alloc.AllocError.{AllocError}, proofs.lemmas.Bool.{cond-false, false≢true}}
-use Rattle.arrays_core.{specs.Arrays.{ArrayValue, collect}, specs.Items.{all_or_first_error, and_then}, specs.declared.item.ItemType.TheVariants.{Nums}}
-use Rattle.arrays_core.{specs.declared.item.Item.{Item}, specs.declared.item.Kind.{Kind}, specs.declared.item.ItemType.{ItemType}, specs.Outcomes.{Outcome}}
-use Rattle.index_region.{specs.Axes.{places_along}, specs.Boxes.{Interval, box_size, walk_at, met, unless_empty, join_boxes}, specs.Checks.{Form, form_of}}
-use Rattle.index_region.{specs.Patches.{PatchValue, patched}, specs.Tails.{TailValue}, specs.declared.delta.Delta.{Delta}}
+use Rattle.std.{proofs.Common.{◌≡◌, ℕ, ◌-◌, ◌*◌, ◌<◌, ◌≤◌, Bool, true, false, ◌&&◌, not, if◌then◌else◌, nat_eq, is_ok, List, [], ◌∷◌, length, map, remove, Option, Some, None, Result, Ok, Err, IfOk, OnOk, refl, ap, sym, subst, ◌∙◌, arith}, specs.Prelude.{◌==◌}, specs.List.{range_with_len}}
+use Rattle.std.{specs.declared.alloc.AllocError.{AllocError}, proofs.lemmas.Bool.{cond-false, false≢true}}
+use Rattle.arrays_core.{specs.Arrays.{ArrayValue, collect}, specs.Items.{all_or_first_error, and_then}, specs.declared.item.ItemType.TheVariants.{Nums}, specs.declared.item.Item.{Item}, specs.declared.item.Kind.{Kind}, specs.declared.item.ItemType.{ItemType}, specs.Outcomes.{Outcome}}
+use Rattle.index_region.{specs.Axes.{places_along}, specs.Boxes.{Interval, box_size, walk_at, met, unless_empty, join_boxes}, specs.Checks.{Form, form_of}, specs.Patches.{PatchValue, patched}, specs.Tails.{TailValue}, specs.declared.delta.Delta.{Delta}}
 use Rattle.index_region.specs.declared.delta.Delta.TheVariants.{Same, Patch, Grown, Whole}
-use Rattle.reduce_fns.{specs.declared.reduce.Reduce.{Reduce}, specs.Reduce.{reduce_form, reduce_item, reduce_whole}, specs.Laws.ReducedShapes.{reduce_facts}}
-use Rattle.reduce_fns.specs.Growth.{is_along_a_later_axis}
+use Rattle.reduce_fns.{specs.declared.reduce.Reduce.{Reduce}, specs.Reduce.{reduce_form, reduce_item, reduce_whole}, specs.Laws.ReducedShapes.{reduce_facts}, specs.Growth.{is_along_a_later_axis}}
 use Rattle.function_names.{specs.Axes.{axis_at, is_axis}, specs.declared.along.Along.{Along}}
 use Rattle.fold_trees.specs.ArrayLines.{TreesValue}
-use Rattle.change_core.{specs.declared.reach.Reach.TheVariants.{Inside, Unmoved}, specs.Parts.{items_in}, specs.Reaches.{as_reach, reach_by, reach_of}}
-use Rattle.change_core.{proofs.Filling.{few_places}, specs.RuleModels.{form_size}, specs.Meters.{ticked}, proofs.Regions.{fit_some, met_fit}}
-use Rattle.change_rules.specs.Nodes.{Argument, all_patched_at_most, all_same, is_patched_at_most, is_same, is_error, moved_by, node_cost, node_delta, node_grows, reached_cost, reached_delta, size_in}
-use Rattle.change_rules.{specs.Evaluation.{evaluation}, proofs.Nodes.{delta_reached}}
-use Rattle.sum_rules.specs.LineSums.{array_of_shape, length_along}
-use Rattle.sum_rules.specs.Totals.{AreFolds, HasAllJoins, StoodFor, is_by_trees, is_narrow, is_one_a_line, box_of_lines, total_rule}
-use Rattle.sum_rules.proofs.ChangedLines.{as_many_lines, fits_axes, line_there, now_is}
+use Rattle.change_core.{specs.declared.reach.Reach.TheVariants.{Inside, Unmoved}, specs.Parts.{items_in}, specs.Reaches.{as_reach, reach_by, reach_of}, proofs.Filling.{few_places}, specs.RuleModels.{form_size}, specs.Meters.{ticked}, proofs.Regions.{fit_some, met_fit}}
+use Rattle.change_rules.{specs.Nodes.{Argument, all_patched_at_most, all_same, is_patched_at_most, is_same, is_error, moved_by, node_cost, node_delta, node_grows, reached_cost, reached_delta, size_in}, specs.Evaluation.{evaluation}, proofs.Nodes.{delta_reached}}
+use Rattle.sum_rules.{specs.LineSums.{array_of_shape, length_along}, specs.Totals.{AreFolds, HasAllJoins, StoodFor, is_by_trees, is_narrow, is_one_a_line, box_of_lines, total_rule}, proofs.ChangedLines.{as_many_lines, fits_axes, line_there, now_is}}
 
 -- the axis that is meant stays under a patch
 axis_before : (along : Along) (t : TreesValue) (p : PatchValue) (now : ArrayValue) (stood : StoodFor along t p now) → axis_at (length now.shape) along ≡ axis_at (length stood.before.shape) along
@@ -55,7 +48,6 @@ module _ (fold : Reduce) (t : TreesValue) (p : PatchValue) (now : ArrayValue) (s
       → (total : Result Item Kind) → total ≡ reduce_item fold.function fold.along (patched (array_of_shape shape t.numbers) p) (remove index (axis_at (length shape) fold.along))
       → items_in (reduce_item fold.function fold.along now) region ≡ all_or_first_error (total ∷ [])
   one_total shape region shaped is single index first total total_is =
-      let item = reduce_item fold.function fold.along now in
       let same : patched (array_of_shape shape t.numbers) p ≡ now = ap (λ (axes : List ℕ). patched (array_of_shape axes t.numbers) p) shaped ∙ now_is fold.along t p now stood in
       let before_is : axis_at (length shape) fold.along ≡ axis = ap (λ (axes : List ℕ). axis_at (length axes) fold.along) shaped ∙ axis_is in
       let some : 0 < box_size (box_of_lines axis p.region) = omega (arith, single, ap box_size is, ap (λ k. box_size (box_of_lines k p.region)) axis_is) in
@@ -64,9 +56,8 @@ module _ (fold : Reduce) (t : TreesValue) (p : PatchValue) (now : ArrayValue) (s
       ∙ line_there axis t stood.before p stood.lines stood.fit one_before 0 some
       ∙ ap (λ k. walk_at (box_of_lines k p.region) 0) (sym axis_is)
       ∙ ap (λ (r : List Interval). walk_at r 0) (sym is) in
-      let total_there : total ≡ item (walk_at region 0) = total_is ∙ (λ i. reduce_item fold.function fold.along (same i) (there i)) in
-      ap (λ k. all_or_first_error (map (λ before. item (walk_at region before)) (range_with_len 0 k))) single
-      ∙ ap (λ (r : Result Item Kind). all_or_first_error (r ∷ [])) (sym total_there)
+      ap (λ k. all_or_first_error (map (λ before. (reduce_item fold.function fold.along now) (walk_at region before)) (range_with_len 0 k))) single
+      ∙ ap (λ (r : Result Item Kind). all_or_first_error (r ∷ [])) (sym (total_is ∙ (λ i. reduce_item fold.function fold.along (same i) (there i))))
 
   -- the box of what may change of the result
   module _ (shape : List ℕ) (type : ItemType) (form : reduce_form fold.along now ≡ Ok (form_of shape type)) where
@@ -152,12 +143,6 @@ cost_grown fold arg tail (Err e) is first = ap (λ (d : Delta). node_cost (total
 cost_grown fold arg tail (Ok v) is first =
     ap (λ (d : Delta). node_cost (total_rule fold) ((arg.0, record { ref_ptr = arg.1.ref_ptr; now = d }) ∷ []) (Ok v)) is
     ∙ cond-false (node_grows (total_rule fold) (grown_to arg tail ∷ [])) _ _ (stay_as_many fold.along arg.0 first)
-
--- and so are the totals that held an error, where a box of the argument is new
-pub delta_anew : (fold : Reduce) (arg : Argument) (p : PatchValue) (old : Outcome) → arg.1.now ≡ Patch p → is_ok old ≡ false
-    → node_delta (total_rule fold) (arg ∷ []) old ≡ Whole (evaluation (total_rule fold) (arg.0 ∷ []))
-delta_anew fold arg p (Ok v) is failed = absurd (false≢true (sym failed))
-delta_anew fold arg p (Err e) is failed = ap (λ (d : Delta). node_delta (total_rule fold) ((arg.0, record { ref_ptr = arg.1.ref_ptr; now = d }) ∷ []) (Err e)) is
 
 pub cost_anew : (fold : Reduce) (arg : Argument) (p : PatchValue) (old : Outcome) → arg.1.now ≡ Patch p → is_ok old ≡ false
     → node_cost (total_rule fold) (arg ∷ []) old ≡ form_size ((total_rule fold).form (arg.0 ∷ []))

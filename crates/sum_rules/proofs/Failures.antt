@@ -1,16 +1,10 @@
 -- The lines of one fold all fail alike, so one that fails decides what all totals come to.
-use Rattle.std.proofs.Common.{◌≡◌, ◌∙◌, ℕ, zero, suc, ◌<◌, ℤ, pos, ◌+ℤ◌, ◌*ℤ◌, Bool, true, false, ◌&&◌, ◌||◌, List, [], ◌∷◌, length, map, get_or, insert, Result, Ok, Err, if◌then◌else◌, nat_lt, refl, ap, sym, arith, inl, inr}
-use Rattle.std.{specs.List.{range_with_len}, specs.Ordering.{int_eq}, proofs.lemmas.Bool.{cases_Bool, false≢true, ltb-false, ltb-true}}
-use Rattle.std.{proofs.lemmas.List.{get_or_past, length-map}, proofs.Math.ListN.{get_or-map}}
-use Rattle.arrays_core.{specs.declared.item.Item.{Item}, specs.declared.item.Item.TheVariants.{Num, Char}}
-use Rattle.arrays_core.{specs.declared.item.ItemType.TheVariants.{Nums, Chars}, specs.declared.item.Kind.{Kind}}
-use Rattle.arrays_core.{specs.declared.item.Kind.TheVariants.{Domain, Limit}, specs.Arrays.{ArrayValue, IsArray, collect, item_of, with_items}}
-use Rattle.arrays_core.{specs.Items.{after, all_or_first_error, and_then, fill, type_of}, specs.Shapes.{indices, index_after, size, places_before}}
-use Rattle.arrays_core.proofs.Order.{get_or-indices, length-indices}
-use Rattle.function_names.{specs.Axes.{axis_at}, specs.declared.along.Along.{Along}, specs.declared.scalar.Scalar2.{Scalar2}}
-use Rattle.function_names.specs.declared.scalar.Scalar2.TheVariants.{Plus, Times, Maximum, Minimum, And, Or}
-use Rattle.item_fns.{specs.Identities.{identity_of}, specs.Items.{dyadic_on_items, number_item}}
-use Rattle.item_fns.{specs.Numbers.{as_truth, dyadic_on_numbers, is_number, number_or_limit, on_truths}, specs.RightFold.{fold_right, identity_item}}
+use Rattle.std.{proofs.Common.{◌≡◌, ◌∙◌, ℕ, zero, suc, ◌<◌, ℤ, pos, ◌+ℤ◌, ◌*ℤ◌, Bool, true, false, ◌&&◌, ◌||◌, List, [], ◌∷◌, length, map, get_or, insert, Result, Ok, Err, if◌then◌else◌, nat_lt, refl, ap, sym, arith, inl, inr}, specs.List.{range_with_len}, specs.Ordering.{int_eq}}
+use Rattle.std.{proofs.lemmas.Bool.{cases_Bool, false≢true, ltb-false, ltb-true}, proofs.lemmas.List.{get_or_past, length-map}, proofs.Math.ListN.{get_or-map}}
+use Rattle.arrays_core.{specs.declared.item.Item.{Item}, specs.declared.item.Item.TheVariants.{Num, Char}, specs.declared.item.ItemType.TheVariants.{Nums, Chars}, specs.declared.item.Kind.{Kind}, specs.declared.item.Kind.TheVariants.{Domain, Limit}, specs.Arrays.{ArrayValue, IsArray, collect, item_of, with_items}}
+use Rattle.arrays_core.{specs.Items.{after, all_or_first_error, and_then, fill, type_of}, specs.Shapes.{indices, index_after, size, places_before}, proofs.Order.{get_or-indices, length-indices}}
+use Rattle.function_names.{specs.Axes.{axis_at}, specs.declared.along.Along.{Along}, specs.declared.scalar.Scalar2.{Scalar2}, specs.declared.scalar.Scalar2.TheVariants.{Plus, Times, Maximum, Minimum, And, Or}}
+use Rattle.item_fns.{specs.Identities.{identity_of}, specs.Items.{dyadic_on_items, number_item}, specs.Numbers.{as_truth, dyadic_on_numbers, is_number, number_or_limit, on_truths}, specs.RightFold.{fold_right, identity_item}}
 use Rattle.index_region.specs.Axes.{places_along}
 use Rattle.reduce_fns.specs.Reduce.{reduce_item}
 use Rattle.fold_trees.specs.FoldTrees.{has_trees}

@@ -2,10 +2,8 @@
 use Rattle.std.{proofs.Common.{◌≡◌, ◌∙◌, ◌++◌, ℕ, ℤ, List, map, refl, sym, subst}, proofs.lemmas.List.{map-append}}
 use Rattle.arrays_core.{specs.declared.item.Item.TheVariants.{Num}, specs.declared.item.ItemType.TheVariants.{Nums}, specs.Growth.{grown_by, one_longer}}
 use Rattle.fold_trees.specs.FoldTrees.{FoldsValue}
-use Rattle.sum_rules.specs.LineSums.{SummedValue, array_of_shape, StandFor}
-use Rattle.sum_rules.{specs.NewLines.{lines_behind, new_numbers, trees_grown, AreNewLinesOf, FitsSums, FitsTrees}, specs.declared.new_lines.Growth.{Growth}}
-use Rattle.sum_rules.{specs.declared.new_lines.Growth.TheVariants.{Lines, Places}, proofs.MoreLines.{length_stays, old_lines, stand_grown, step_stays}}
-use Rattle.sum_rules.proofs.MorePlaces.{fit_next, stand_longer}
+use Rattle.sum_rules.{specs.LineSums.{SummedValue, array_of_shape, StandFor}, specs.NewLines.{lines_behind, new_numbers, trees_grown, AreNewLinesOf, FitsSums, FitsTrees}, specs.declared.new_lines.Growth.{Growth}, specs.declared.new_lines.Growth.TheVariants.{Lines, Places}}
+use Rattle.sum_rules.{proofs.MoreLines.{length_stays, old_lines, stand_grown, step_stays}, proofs.MorePlaces.{fit_next, stand_longer}}
 
 -- the array of these numbers, whose lines along an axis are summed up
 abbrev pub held : (axis : ℕ) → List ℕ → FoldsValue → SummedValue

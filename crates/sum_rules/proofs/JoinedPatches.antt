@@ -1,12 +1,9 @@
 -- What is joined for a patch of one place of an array whose lines are kept as trees.
 use Rattle.std.{proofs.Common.{◌≡◌, ◌∙◌, ℕ, ℤ, List, [], ◌∷◌, get_or, set, map, true, refl, sym, ap, subst, arith}, proofs.lemmas.List.{map-set}}
-use Rattle.arrays_core.{specs.declared.item.Item.{Item}, specs.declared.item.Item.TheVariants.{Num}, specs.declared.item.ItemType.TheVariants.{Nums}}
-use Rattle.arrays_core.{specs.Arrays.{ArrayValue, IsArray}, specs.Items.{fill}, specs.Shapes.{places_before}}
-use Rattle.index_region.{specs.Arguments.{number_of}, specs.Boxes.{box_size, walk_at}, specs.Patches.{PatchValue, FitsPatch, patched}}
-use Rattle.index_region.proofs.Written.{IsWritten, written_none, written_more, written_all}
+use Rattle.arrays_core.{specs.declared.item.Item.{Item}, specs.declared.item.Item.TheVariants.{Num}, specs.declared.item.ItemType.TheVariants.{Nums}, specs.Arrays.{ArrayValue, IsArray}, specs.Items.{fill}, specs.Shapes.{places_before}}
+use Rattle.index_region.{specs.Arguments.{number_of}, specs.Boxes.{box_size, walk_at}, specs.Patches.{PatchValue, FitsPatch, patched}, proofs.Written.{IsWritten, written_none, written_more, written_all}}
 use Rattle.fold_trees.{specs.ArrayLines.{TreesValue}, specs.FoldTrees.{FoldsValue}}
-use Rattle.sum_rules.{specs.LineSums.{StandFor, array_of_shape}, specs.JoinedPatches.{IsJoinedIn, IsJoinedWith}}
-use Rattle.sum_rules.specs.declared.joined_patch.JoinedPatch.{JoinedPatch}
+use Rattle.sum_rules.{specs.LineSums.{StandFor, array_of_shape}, specs.JoinedPatches.{IsJoinedIn, IsJoinedWith}, specs.declared.joined_patch.JoinedPatch.{JoinedPatch}}
 
 -- a patch of one number puts it at its place
 pub one_written : (shape : List ℕ) (numbers : List ℤ) (p : PatchValue) (number : ℤ) → IsArray (array_of_shape shape numbers) → FitsPatch (array_of_shape shape numbers) p → box_size p.region ≡ 1

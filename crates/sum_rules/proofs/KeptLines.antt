@@ -1,21 +1,14 @@
 -- The lines of an array in which a patch that has one place a line changes nothing.
-use Rattle.std.proofs.Common.{◌≡◌, ◌∙◌, ℕ, zero, suc, ◌+◌, ◌-◌, ◌*◌, ◌/◌, ◌<◌, ℤ, pos, true, false, List, [], ◌∷◌, length, get_or, map, remove, insert, refl, ap, sym, subst, arith, inl, inr, Result}
-use Rattle.std.{specs.List.{range_with_len}, proofs.lemmas.Bool.{and_from, and_parts, cases_Bool, cond-false, eqb-true, false≢true}}
-use Rattle.std.{proofs.lemmas.List.{length-map, ext_get_or, get_or_default}, proofs.lemmas.List.FromFn.{length-map-range_with_len, get_or-map-range_with_len}}
-use Rattle.std.{proofs.Math.ListN.{get_or-map}, proofs.Math.Nat.{mul-div_cancel}}
-use Rattle.arrays_core.{specs.declared.item.Kind.{Kind}, specs.Items.{all_or_first_error, fill}, specs.declared.item.Item.{Item}}
-use Rattle.arrays_core.{specs.declared.item.Item.TheVariants.{Num}, specs.Arrays.{ArrayValue, item_of}}
-use Rattle.arrays_core.{specs.Shapes.{indices, is_index_of, places_before, size}, proofs.Shapes.{places_below}}
+use Rattle.std.{proofs.Common.{◌≡◌, ◌∙◌, ℕ, zero, suc, ◌+◌, ◌-◌, ◌*◌, ◌/◌, ◌<◌, ℤ, pos, true, false, List, [], ◌∷◌, length, get_or, map, remove, insert, refl, ap, sym, subst, arith, inl, inr, Result}, specs.List.{range_with_len}, proofs.lemmas.Bool.{and_from, and_parts, cases_Bool, cond-false, eqb-true, false≢true}}
+use Rattle.std.{proofs.lemmas.List.{length-map, ext_get_or, get_or_default}, proofs.lemmas.List.FromFn.{length-map-range_with_len, get_or-map-range_with_len}, proofs.Math.ListN.{get_or-map}, proofs.Math.Nat.{mul-div_cancel}}
+use Rattle.arrays_core.{specs.declared.item.Kind.{Kind}, specs.Items.{all_or_first_error, fill}, specs.declared.item.Item.{Item}, specs.declared.item.Item.TheVariants.{Num}, specs.Arrays.{ArrayValue, item_of}, specs.Shapes.{indices, is_index_of, places_before, size}, proofs.Shapes.{places_below}}
 use Rattle.change_core.{proofs.Collected.{along as items_along, collected, collected_is}, proofs.Walking.{box_size-whole, walk_is}}
 use Rattle.function_names.specs.declared.scalar.Scalar2.{Scalar2}
 use Rattle.item_fns.{specs.Folds.{strided, line_start}, proofs.RightFolds.{length-strided, get_or-strided}, specs.RightFold.{fold_right}}
-use Rattle.index_region.{specs.Axes.{places_along}, specs.Boxes.{Interval, box_offset, is_within, walk_at, whole_of}}
-use Rattle.index_region.{proofs.Walks.{offset_below, walk_of_offset, walk_within}, specs.Patches.{PatchValue, FitsPatch, patched}, proofs.Boxes.{fits_length}}
-use Rattle.index_region.proofs.Patched.{patched_at}
+use Rattle.index_region.{specs.Axes.{places_along}, specs.Boxes.{Interval, box_offset, is_within, walk_at, whole_of}, proofs.Walks.{offset_below, walk_of_offset, walk_within}, specs.Patches.{PatchValue, FitsPatch, patched}, proofs.Boxes.{fits_length}, proofs.Patched.{patched_at}}
 use Rattle.fold_trees.specs.ArrayLines.{TreesValue, line_count, numbers_of_line}
 use Rattle.reduce_fns.{specs.Laws.LineIndices.{inside}, proofs.Lines.{long_with_axis, stride}, proofs.Reduced.{lines_whole, start_is}, specs.Lines.{line}}
-use Rattle.sum_rules.{specs.LineSums.{StandFor, line_length, line_step}, specs.Totals.{box_of_lines, is_one_a_line}}
-use Rattle.sum_rules.{proofs.OneAxis.{size_with_one, walk_with_one}, proofs.Lines.{some_step}}
+use Rattle.sum_rules.{specs.LineSums.{StandFor, line_length, line_step}, specs.Totals.{box_of_lines, is_one_a_line}, proofs.OneAxis.{size_with_one, walk_with_one}, proofs.Lines.{some_step}}
 
 -- a place of a box is in it on the other axes
 within_rest : (axis : ℕ) (region : List Interval) (index : List ℕ) (j : ℕ) → axis < length region → length index + 1 ≡ length region → is_within region (insert index axis j) ≡ true → is_within (remove region axis) index ≡ true
@@ -34,10 +27,9 @@ within_one axis region index on one within =
     let rest = remove region axis in
     let before = box_offset rest index in
     let below = offset_below rest index within in
-    let many = size_with_one axis region on same in
     let at : walk_at region before ≡ insert index axis (get_or region axis (1, 0)).0 =
     walk_with_one axis region before on same below ∙ ap (λ (i : List ℕ). insert i axis (get_or region axis (1, 0)).0) (walk_of_offset rest index within) in
-    subst (λ (i : List ℕ). is_within region i ≡ true) at (walk_within region before (omega (arith, below, many)))
+    subst (λ (i : List ℕ). is_within region i ≡ true) at (walk_within region before (omega (arith, below, size_with_one axis region on same)))
 
 -- a line is one of those that have trees
 pub line_below : (axis : ℕ) (t : TreesValue) (a : ArrayValue) → StandFor t axis a → (index : List ℕ) → is_index_of (remove a.shape axis) index ≡ true → places_before (remove a.shape axis) index < line_count t
@@ -78,8 +70,7 @@ module _ (axis : ℕ) (t : TreesValue) (a : ArrayValue) (p : PatchValue) (stand 
 
   place_at : (k : ℕ) → places_before a.shape (insert index axis (k + 1)) ≡ first + k * step
   place_at k =
-      let less : k + 1 - 1 ≡ k = omega arith in
-      stride axis a.shape index (k + 1) stand.there long ∙ ap (λ m. first + m * step) less
+      stride axis a.shape index (k + 1) stand.there long ∙ ap (λ m. first + m * step) (omega arith)
 
   outside : (j : ℕ) → is_within p.region (insert index axis j) ≡ false
   outside j = elim (cases_Bool (is_within p.region (insert index axis j))) [
@@ -110,15 +101,13 @@ module _ (axis : ℕ) (t : TreesValue) (a : ArrayValue) (p : PatchValue) (stand 
 
   told : numbers_of_line t which ≡ strided (pos 0) t.numbers first step n
   told =
-      let start : first ≡ line_start step n which = start_is axis a.shape index stand.there on (some_step axis a.shape stand.some) in
       (λ i. strided (pos 0) t.numbers (line_start (stand.apart i) (stand.counted i) which) (stand.apart i) (stand.counted i))
-      ∙ ap (λ k. strided (pos 0) t.numbers k step n) (sym start)
+      ∙ ap (λ k. strided (pos 0) t.numbers k step n) (sym (start_is axis a.shape index stand.there on (some_step axis a.shape stand.some)))
 
   -- its total is what its tree tells
   pub kept_total : (f h : Scalar2) → h ≡ f → fold_right f (line (patched a p) axis index) ≡ fold_right h (map (λ (y : ℤ). Num y) (numbers_of_line t which))
   kept_total f h same =
-      let line_is = kept_line ∙ ap (map (λ (y : ℤ). Num y)) (sym told) in
-      λ i. fold_right (sym same i) (line_is i)
+      λ i. fold_right (sym same i) ((kept_line ∙ ap (map (λ (y : ℤ). Num y)) (sym told)) i)
 
 some_factor : (n m k : ℕ) → n * m ≡ k → 0 < k → 0 < n
 some_factor zero m k e h = absurd (omega (arith, e, h))

@@ -1,12 +1,9 @@
 -- The arrays of whose lines sums are kept.
-use Rattle.std.proofs.Common.{◌≡◌, ℕ, ◌<◌, true, List, length, refl, subst, inl, inr, arith, Some, None, sym, ◌∙◌}
-use Rattle.std.proofs.lemmas.Bool.{and_parts, cases_Bool, cond-true, cond-false, false≢true, ltb-true}
-use Rattle.arrays_core.{specs.Arrays.{ArrayValue}, specs.Shapes.{size}, specs.declared.item.ItemType.{ItemType}}
-use Rattle.arrays_core.specs.declared.item.ItemType.TheVariants.{Nums, Chars}
+use Rattle.std.{proofs.Common.{◌≡◌, ℕ, ◌<◌, true, List, length, refl, subst, inl, inr, arith, Some, None, sym, ◌∙◌}, proofs.lemmas.Bool.{and_parts, cases_Bool, cond-true, cond-false, false≢true, ltb-true}}
+use Rattle.arrays_core.{specs.Arrays.{ArrayValue}, specs.Shapes.{size}, specs.declared.item.ItemType.{ItemType}, specs.declared.item.ItemType.TheVariants.{Nums, Chars}}
 use Rattle.index_region.{specs.Arguments.{is_of_numbers}, specs.Patches.{PatchValue, FitsPatch, patched}}
 use Rattle.function_names.{specs.Axes.{is_axis, axis_at}, specs.declared.along.Along.{Along}}
-use Rattle.sum_rules.{proofs.Lines.{has_axis}, specs.LineSums.{SummedValue, StandFor, keeps_sums, length_along, line_length, most_without_tree, summed}}
-use Rattle.sum_rules.specs.Totals.{StoodFor}
+use Rattle.sum_rules.{proofs.Lines.{has_axis}, specs.LineSums.{SummedValue, StandFor, keeps_sums, length_along, line_length, most_without_tree, summed}, specs.Totals.{StoodFor}}
 use Rattle.reduce_fns.specs.declared.reduce.Reduce.{Reduce}
 use Rattle.fold_trees.specs.ArrayLines.{TreesValue}
 

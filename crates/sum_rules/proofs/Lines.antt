@@ -1,6 +1,5 @@
 -- Where the lines of an array along an axis lie.
-use Rattle.std.proofs.Common.{◌≡◌, ℕ, zero, suc, ◌+◌, ◌*◌, ◌/◌, ◌%◌, ◌<◌, List, [], ◌∷◌, length, sym, ap, ◌∙◌, arith}
-use Rattle.std.{proofs.lemmas.Nat.{div-add-mod', div-mul-add, mod-mul-add, mod_below, mul-add-lt}, proofs.Math.Nat.{mul-mod_left}}
+use Rattle.std.{proofs.Common.{◌≡◌, ℕ, zero, suc, ◌+◌, ◌*◌, ◌/◌, ◌%◌, ◌<◌, List, [], ◌∷◌, length, sym, ap, ◌∙◌, arith}, proofs.lemmas.Nat.{div-add-mod', div-mul-add, mod-mul-add, mod_below, mul-add-lt}, proofs.Math.Nat.{mul-mod_left}}
 use Rattle.arrays_core.specs.Shapes.{size}
 use Rattle.item_fns.specs.Folds.{line_start}
 use Rattle.fold_trees.specs.ArrayLines.{line_through}
@@ -31,13 +30,11 @@ line_through_place count step line j some below =
     let block = line / step in
     let first = line % step in
     let low : first < step = mod_below line step some in
-    let product = mul-add-lt j step first count below low in
-    let inside : j * step + first < count * step = omega (arith, product) in
+    let inside : j * step + first < count * step = omega (arith, mul-add-lt j step first count below low) in
     let by_block : block * (count * step) + first + j * step ≡ block * (count * step) + (j * step + first) = omega arith in
     let by_row : block * (count * step) + first + j * step ≡ (block * count + j) * step + first = grind arith in
     let blocks = ap (λ k. k / (count * step)) by_block ∙ div-mul-add block (count * step) (j * step + first) inside in
-    let rest = ap (λ k. k % step) by_row ∙ mod-mul-add (block * count + j) step first low in
-    (λ i. blocks i * step + rest i) ∙ div-add-mod' line step
+    (λ i. blocks i * step + (ap (λ k. k % step) by_row ∙ mod-mul-add (block * count + j) step first low) i) ∙ div-add-mod' line step
 
 -- what divides by a product divides by a factor
 pub factor_divides : (x a b : ℕ) → x % (a * b) ≡ 0 → x % a ≡ 0

@@ -1,23 +1,15 @@
 -- The totals of lines that got one more number each.
-use Rattle.std.proofs.Common.{◌≡◌, ◌∙◌, ℕ, zero, suc, ◌+◌, ◌-◌, ◌*◌, ◌/◌, ◌<◌, ◌≤◌, ℤ, pos, List, [], ◌∷◌, ◌++◌, length, drop, get_or, map, remove, refl, ap, sym, subst, arith, inl, inr, Result, Ok}
-use Rattle.std.{specs.List.{range_with_len}, proofs.lemmas.Bool.{cases_lt}}
-use Rattle.std.proofs.lemmas.List.{ext_get_or, length-append, length-map, map-append, get_or_append_left, get_or-append_right}
-use Rattle.std.{proofs.lemmas.List.FromFn.{length-map-range_with_len, get_or-map-range_with_len}, proofs.Math.ListN.{get_or-map}}
+use Rattle.std.{proofs.Common.{◌≡◌, ◌∙◌, ℕ, zero, suc, ◌+◌, ◌-◌, ◌*◌, ◌/◌, ◌<◌, ◌≤◌, ℤ, pos, List, [], ◌∷◌, ◌++◌, length, drop, get_or, map, remove, refl, ap, sym, subst, arith, inl, inr, Result, Ok}, specs.List.{range_with_len}, proofs.lemmas.Bool.{cases_lt}}
+use Rattle.std.{proofs.lemmas.List.{ext_get_or, length-append, length-map, map-append, get_or_append_left, get_or-append_right}, proofs.lemmas.List.FromFn.{length-map-range_with_len, get_or-map-range_with_len}, proofs.Math.ListN.{get_or-map}}
 use Rattle.std.{proofs.Math.Nat.{div-eq_of_lt, mod-eq_of_lt, mul-div_cancel, mul-le-mul_left}, proofs.lemmas.Nat.{mul-add-lt}}
-use Rattle.arrays_core.{specs.declared.item.Item.{Item}, specs.declared.item.Item.TheVariants.{Num}, specs.declared.item.ItemType.{ItemType}}
-use Rattle.arrays_core.{specs.declared.item.ItemType.TheVariants.{Nums}, specs.declared.item.Kind.{Kind}, specs.Arrays.{ArrayValue, with_items}}
-use Rattle.arrays_core.{specs.Growth.{one_longer}, specs.Items.{all_or_first_error}, specs.Shapes.{size, indices, places_before}}
-use Rattle.arrays_core.{proofs.Growing.{rank_longer, size_longer}, proofs.Order.{length-indices, get_or-indices, places_before-index_after}}
-use Rattle.arrays_core.proofs.Shapes.{places_below}
+use Rattle.arrays_core.{specs.declared.item.Item.{Item}, specs.declared.item.Item.TheVariants.{Num}, specs.declared.item.ItemType.{ItemType}, specs.declared.item.ItemType.TheVariants.{Nums}, specs.declared.item.Kind.{Kind}, specs.Arrays.{ArrayValue, with_items}, specs.Growth.{one_longer}}
+use Rattle.arrays_core.{specs.Items.{all_or_first_error}, specs.Shapes.{size, indices, places_before}, proofs.Growing.{rank_longer, size_longer}, proofs.Order.{length-indices, get_or-indices, places_before-index_after}, proofs.Shapes.{places_below}}
 use Rattle.function_names.{specs.declared.scalar.Scalar2.{Scalar2}, specs.Axes.{axis_at, is_axis}}
-use Rattle.item_fns.{specs.Folds.{strided, folded, line_start}, specs.Items.{number_item}, specs.Numbers.{dyadic_on_numbers}}
-use Rattle.item_fns.{proofs.RightFolds.{length-strided, get_or-strided}, specs.RightFold.{fold_right}, proofs.ItemFolds.{number_items_folded}}
+use Rattle.item_fns.{specs.Folds.{strided, folded, line_start}, specs.Items.{number_item}, specs.Numbers.{dyadic_on_numbers}, proofs.RightFolds.{length-strided, get_or-strided}, specs.RightFold.{fold_right}, proofs.ItemFolds.{number_items_folded}}
 use Rattle.index_region.{specs.Checks.{form_of}, specs.Tails.{TailValue}}
-use Rattle.reduce_fns.{specs.Reduce.{reduce_form, reduce_whole}, specs.declared.reduce.Reduce.{Reduce}, proofs.Placewise.{collected_same}}
-use Rattle.reduce_fns.{specs.Laws.ReducedShapes.{reduce_facts}, proofs.Reduced.{reduced_whole}}
+use Rattle.reduce_fns.{specs.Reduce.{reduce_form, reduce_whole}, specs.declared.reduce.Reduce.{Reduce}, proofs.Placewise.{collected_same}, specs.Laws.ReducedShapes.{reduce_facts}, proofs.Reduced.{reduced_whole}}
 use Rattle.fold_trees.specs.ArrayLines.{TreesValue, line_count, numbers_of_line}
-use Rattle.sum_rules.{specs.LineSums.{StandFor, length_along, line_length, line_step}, specs.Totals.{StoodBefore, AreJoinsWithin, longer_totals}}
-use Rattle.sum_rules.{proofs.KeptSums.{along_axis}, proofs.Lines.{some_in_line, some_step}, proofs.MorePlaces.{between, longer, same_step}}
+use Rattle.sum_rules.{specs.LineSums.{StandFor, length_along, line_length, line_step}, specs.Totals.{StoodBefore, AreJoinsWithin, longer_totals}, proofs.KeptSums.{along_axis}, proofs.Lines.{some_in_line, some_step}, proofs.MorePlaces.{between, longer, same_step}}
 
 -- the total of one of them
 abbrev pub longer_total : Scalar2 → TreesValue → List ℤ → ℕ → Result Item Kind
@@ -28,8 +20,7 @@ pub items_by_place : (shape : List ℕ) (f : ℕ → Result Item Kind) → map (
 items_by_place shape f =
     let rule = λ (index : List ℕ). f (places_before shape index) in
     let n = length-map (indices shape) rule ∙ length-indices shape in
-    let m = length-map-range_with_len f 0 (size shape) in
-    ext_get_or (rule []) (map rule (indices shape)) (map f (range_with_len 0 (size shape))) (n ∙ sym m) (λ i h.
+    ext_get_or (rule []) (map rule (indices shape)) (map f (range_with_len 0 (size shape))) (n ∙ sym (length-map-range_with_len f 0 (size shape))) (λ i h.
     let below : i < size shape = omega (arith, h, n) in
     get_or-map rule (indices shape) i []
     ∙ ap rule (get_or-indices shape i below)
@@ -39,9 +30,7 @@ items_by_place shape f =
 -- where all lines lie between one another, one begins at its own place
 first_of_line : (step count line : ℕ) → line < step → line_start step count line ≡ line
 first_of_line step count line below =
-    let block = div-eq_of_lt below in
-    let rest = mod-eq_of_lt below in
-    (λ i. block i * (count * step) + rest i) ∙ omega arith
+    (λ i. (div-eq_of_lt below) i * (count * step) + (mod-eq_of_lt below) i) ∙ omega arith
 
 -- its numbers with the one behind them
 line_longer : (t : TreesValue) (numbers : List ℤ) (line : ℕ) → 0 < t.step → length t.numbers ≡ t.count * t.step → line < t.step
@@ -72,8 +61,7 @@ line_longer t numbers line apart all below =
     at : (i : ℕ) → i < length (old ++ z ∷ []) → get_or (old ++ z ∷ []) i (pos 0) ≡ get_or new i (pos 0)
     at i h = elim (cases_lt i t.count) [
       | inl p ↦
-          let product = mul-add-lt i t.step line t.count p below in
-          let inside : line + i * t.step < length t.numbers = omega (arith, product, all) in
+          let inside : line + i * t.step < length t.numbers = omega (arith, mul-add-lt i t.step line t.count p below, all) in
           get_or_append_left old (z ∷ []) (pos 0) i (omega (arith, p, old_long))
           ∙ get_or-strided (pos 0) t.numbers (line_start t.step t.count line) t.step t.count i (pos 0) p
           ∙ ap (λ k. get_or t.numbers (k + i * t.step) (pos 0)) (first_of_line t.step t.count line below)

@@ -1,12 +1,8 @@
 -- Lines behind those of an array that grows.
-use Rattle.std.proofs.Common.{◌≡◌, ℕ, zero, suc, ◌+◌, ◌-◌, ◌*◌, ◌/◌, ◌%◌, ◌<◌, ℤ, List, [], ◌∷◌, ◌++◌, length, drop, refl, ap, sym, ◌∙◌, arith}
-use Rattle.std.{proofs.Math.Nat.{add-mul-div_right}, proofs.lemmas.List.{length-append, length-map}, proofs.lemmas.List.Elements.{All-map}}
-use Rattle.std.proofs.lemmas.Nat.{div-add-mod'}
-use Rattle.arrays_core.{specs.declared.item.Item.TheVariants.{Num}, specs.declared.item.ItemType.TheVariants.{Nums}, specs.Growth.{one_longer}}
-use Rattle.arrays_core.{specs.Items.{type_of}, specs.Shapes.{size}, proofs.Growing.{size_longer}}
+use Rattle.std.{proofs.Common.{◌≡◌, ℕ, zero, suc, ◌+◌, ◌-◌, ◌*◌, ◌/◌, ◌%◌, ◌<◌, ℤ, List, [], ◌∷◌, ◌++◌, length, drop, refl, ap, sym, ◌∙◌, arith}, proofs.Math.Nat.{add-mul-div_right}, proofs.lemmas.List.{length-append, length-map}, proofs.lemmas.List.Elements.{All-map}, proofs.lemmas.Nat.{div-add-mod'}}
+use Rattle.arrays_core.{specs.declared.item.Item.TheVariants.{Num}, specs.declared.item.ItemType.TheVariants.{Nums}, specs.Growth.{one_longer}, specs.Items.{type_of}, specs.Shapes.{size}, proofs.Growing.{size_longer}}
 use Rattle.fold_trees.{specs.ArrayLines.{with_lines}, specs.FoldTrees.{FoldsValue, NewFoldsValue}}
-use Rattle.sum_rules.{specs.LineSums.{line_length, line_step, array_of_shape, StandFor}, specs.NewLines.{lines_behind, AreNewLinesOf, FitsSums}}
-use Rattle.sum_rules.{specs.declared.new_lines.Growth.TheVariants.{Lines}, proofs.Lines.{factor_divides, some_in_line, whole_lines}}
+use Rattle.sum_rules.{specs.LineSums.{line_length, line_step, array_of_shape, StandFor}, specs.NewLines.{lines_behind, AreNewLinesOf, FitsSums}, specs.declared.new_lines.Growth.TheVariants.{Lines}, proofs.Lines.{factor_divides, some_in_line, whole_lines}}
 
 -- ---- the first axis alone grows
 
@@ -29,8 +25,7 @@ whole_below (suc axis) (n ∷ shape) h there = whole_lines axis shape (omega (ar
 pub lines_behind_others : (old more count : ℕ) → 0 < count → more % count ≡ 0 → (old + more) / count - more / count ≡ old / count
 lines_behind_others old more count some whole =
     let parts : more ≡ more / count * count = omega (arith, div-add-mod' more count, whole) in
-    let all = ap (λ m. (old + m) / count) parts ∙ add-mul-div_right old (more / count) some in
-    omega (arith, all)
+    omega (arith, ap (λ m. (old + m) / count) parts ∙ add-mul-div_right old (more / count) some)
 
 -- ---- an array of lines that grows by more of them
 
@@ -57,12 +52,11 @@ module _ (axis : ℕ) (old new : List ℕ) (t : FoldsValue) (more : NewFoldsValu
   -- the lines that come before the new ones are the old ones
   pub old_lines : more.lines.old_lines ≡ length t.lines.numbers / t.lines.count
   old_lines =
-      let some = some_in_line axis old stand.there stand.some in
       let below = whole_below axis old made.new.0 stand.there in
       let whole : length more.lines.numbers % line_length axis old ≡ 0 = ap (λ k. k % line_length axis old) more_places ∙ factor_divides (size (drop 1 old)) (line_length axis old) (line_step axis old) below in
       made.new.1.1.1
       ∙ (λ i. places i / length_stays i - length more.lines.numbers / length_stays i)
-      ∙ lines_behind_others (length t.lines.numbers) (length more.lines.numbers) (line_length axis old) some whole
+      ∙ lines_behind_others (length t.lines.numbers) (length more.lines.numbers) (line_length axis old) (some_in_line axis old stand.there stand.some) whole
       ∙ ap (λ k. length t.lines.numbers / k) (sym stand.counted)
 
   -- the trees stand for the lines of the array that grew

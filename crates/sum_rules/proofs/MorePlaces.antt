@@ -1,11 +1,8 @@
 -- One more place of each line of an array that grows, where the lines lie along the first axis.
-use Rattle.std.proofs.Common.{◌≡◌, ℕ, ◌+◌, ◌-◌, ◌*◌, ◌<◌, ◌≤◌, ℤ, max, List, [], ◌∷◌, ◌++◌, length, drop, refl, ap, sym, ◌∙◌, arith}
-use Rattle.std.{proofs.lemmas.List.{length-append, length-map}, proofs.lemmas.List.Elements.{All-map}, proofs.Math.Nat.{mul-le-mul_right}}
-use Rattle.arrays_core.{specs.declared.item.Item.TheVariants.{Num}, specs.declared.item.ItemType.TheVariants.{Nums}, specs.Growth.{one_longer}}
-use Rattle.arrays_core.{specs.Items.{type_of}, specs.Shapes.{size}, proofs.Growing.{size_longer}}
+use Rattle.std.{proofs.Common.{◌≡◌, ℕ, ◌+◌, ◌-◌, ◌*◌, ◌<◌, ◌≤◌, ℤ, max, List, [], ◌∷◌, ◌++◌, length, drop, refl, ap, sym, ◌∙◌, arith}, proofs.lemmas.List.{length-append, length-map}, proofs.lemmas.List.Elements.{All-map}, proofs.Math.Nat.{mul-le-mul_right}}
+use Rattle.arrays_core.{specs.declared.item.Item.TheVariants.{Num}, specs.declared.item.ItemType.TheVariants.{Nums}, specs.Growth.{one_longer}, specs.Items.{type_of}, specs.Shapes.{size}, proofs.Growing.{size_longer}}
 use Rattle.fold_trees.{specs.ArrayLines.{FitNext, with_places}, specs.FoldTrees.{FoldsValue, NextFoldsValue}}
-use Rattle.sum_rules.{specs.LineSums.{line_length, line_step, array_of_shape, StandFor}, specs.NewLines.{lines_behind, AreNewLinesOf, FitsSums}}
-use Rattle.sum_rules.{specs.declared.new_lines.Growth.TheVariants.{Places}, proofs.Lines.{some_in_line}}
+use Rattle.sum_rules.{specs.LineSums.{line_length, line_step, array_of_shape, StandFor}, specs.NewLines.{lines_behind, AreNewLinesOf, FitsSums}, specs.declared.new_lines.Growth.TheVariants.{Places}, proofs.Lines.{some_in_line}}
 
 pub longer : (shape : List ℕ) → 0 < length shape → line_length 0 (one_longer shape) ≡ line_length 0 shape + 1
 longer [] h = absurd (omega arith)
@@ -25,13 +22,12 @@ pub few_with_place : (shape : List ℕ) (old : ℕ) → 0 < length shape → 0 <
 few_with_place shape old there some few is =
     let n = line_length 0 shape in
     let s = size (drop 1 shape) in
-    let all = between shape there in
     let long = some_in_line 0 shape there some in
     let most : (old + 1) * s ≤ (n + 1) * s = mul-le-mul_right s (omega (arith, is, long)) in
     let one : 1 * s ≤ n * s = mul-le-mul_right s (omega (arith, long)) in
     let sum : (n + 1) * s ≡ n * s + s = grind arith in
     let each : 1 * s ≡ s = omega arith in
-    omega (arith, most, sum, all, few, one, each)
+    omega (arith, most, sum, between shape there, few, one, each)
 
 module _ (old new : List ℕ) (t : FoldsValue) (more : NextFoldsValue) (stand : StandFor t.lines 0 (array_of_shape old t.lines.numbers)) (made : AreNewLinesOf 0 new (Places more))
     (fits : FitsSums (record { function = t.function; axis = 0; array = array_of_shape old t.lines.numbers }) (lines_behind 0 new (Places more))) where

@@ -1,6 +1,5 @@
 -- One axis of boxes, shapes and index lists, and the others.
-use Rattle.std.proofs.Common.{◌≡◌, ℕ, zero, suc, ◌+◌, ◌*◌, ◌/◌, ◌%◌, ◌<◌, ◌≤◌, true, List, [], ◌∷◌, length, get_or, insert, remove, ap, ◌∙◌, arith}
-use Rattle.std.{proofs.Math.Nat.{div-eq_of_lt, mod-eq_of_lt}, proofs.lemmas.Bool.{and_parts, and_from, leb-true, false≢true}, proofs.lemmas.Nat.{mod_below}}
+use Rattle.std.{proofs.Common.{◌≡◌, ℕ, zero, suc, ◌+◌, ◌*◌, ◌/◌, ◌%◌, ◌<◌, ◌≤◌, true, List, [], ◌∷◌, length, get_or, insert, remove, ap, ◌∙◌, arith}, proofs.Math.Nat.{div-eq_of_lt, mod-eq_of_lt}, proofs.lemmas.Bool.{and_parts, and_from, leb-true, false≢true}, proofs.lemmas.Nat.{mod_below}}
 use Rattle.index_region.{specs.Boxes.{Interval, box_size, interval_length, is_within, walk_at, fits}, proofs.Walks.{rest_positive}}
 
 -- the interval of a box on an axis
@@ -11,8 +10,7 @@ on_axis region axis = get_or region axis (1, 0)
 pub size_with_one : (axis : ℕ) (region : List Interval) → axis < length region → (on_axis region axis).0 ≡ (on_axis region axis).1 → box_size region ≡ box_size (remove region axis)
 size_with_one axis [] h one = absurd (omega arith)
 size_with_one zero (s ∷ region) h one =
-    let here : interval_length s ≡ 1 = omega arith in
-    ap (λ k. k * box_size region) here ∙ (let all : 1 * box_size region ≡ box_size region = omega arith in all)
+    ap (λ k. k * box_size region) (omega arith) ∙ (let all : 1 * box_size region ≡ box_size region = omega arith in all)
 size_with_one (suc axis) (s ∷ region) h one = ap (λ k. interval_length s * k) (size_with_one axis region (omega arith) one)
 
 -- its walk is the walk without that axis
@@ -20,10 +18,8 @@ pub walk_with_one : (axis : ℕ) (region : List Interval) (before : ℕ) → axi
     → walk_at region before ≡ insert (walk_at (remove region axis) before) axis (on_axis region axis).0
 walk_with_one axis [] before h one below = absurd (omega arith)
 walk_with_one zero (s ∷ region) before h one below =
-    let none = div-eq_of_lt below in
-    let here : s.0 + before / box_size region ≡ s.0 = ap (λ k. s.0 + k) none ∙ (let e : s.0 + 0 ≡ s.0 = omega arith in e) in
-    let rest = mod-eq_of_lt below in
-    λ i. here i ∷ walk_at region (rest i)
+    let here : s.0 + before / box_size region ≡ s.0 = ap (λ k. s.0 + k) (div-eq_of_lt below) ∙ (let e : s.0 + 0 ≡ s.0 = omega arith in e) in
+    λ i. here i ∷ walk_at region ((mod-eq_of_lt below) i)
 walk_with_one (suc axis) (s ∷ region) before h one below =
     let same = size_with_one axis region (omega arith) one in
     let others = remove region axis in
@@ -55,6 +51,5 @@ fits_axis zero (s ∷ region) (n ∷ shape) h inside =
     let first = and_parts _ _ here.0 in
     record { rest = here.1; low = leb-true 1 s.0 (and_parts _ _ first.0).0; high = leb-true s.1 n first.1 }
 fits_axis (suc axis) (s ∷ region) (n ∷ shape) h inside =
-    let parts = and_parts _ _ inside in
     let later = fits_axis axis region shape (omega (arith, h)) (and_parts _ _ inside).1 in
-    record { rest = and_from _ _ parts.0 later.rest; low = later.low; high = later.high }
+    record { rest = and_from _ _ (and_parts _ _ inside).0 later.rest; low = later.low; high = later.high }

@@ -1,11 +1,8 @@
 -- How many lines of a box come before a line, where all lines are gone over in their order.
-use Rattle.std.proofs.Common.{◌≡◌, ◌∙◌, ℕ, zero, suc, ◌+◌, ◌*◌, ◌<◌, ◌≤◌, List, true, false, refl, ap, sym, arith, inl, inr}
-use Rattle.std.{proofs.Math.Nat.{mul-le-mul_right}, proofs.lemmas.Bool.{false≢true, cases_order}}
-use Rattle.arrays_core.specs.Shapes.{is_index_of, size, index_after, places_before}
-use Rattle.arrays_core.{proofs.Order.{index_after-places_before, index_after-within, places_before-index_after}, proofs.Shapes.{places_below}}
+use Rattle.std.{proofs.Common.{◌≡◌, ◌∙◌, ℕ, zero, suc, ◌+◌, ◌<◌, ◌≤◌, List, true, false, refl, ap, sym, arith, inl, inr}, proofs.Math.Nat.{mul-le-mul_right}, proofs.lemmas.Bool.{false≢true, cases_order}}
+use Rattle.arrays_core.{specs.Shapes.{is_index_of, size, index_after, places_before}, proofs.Order.{index_after-places_before, index_after-within, places_before-index_after}, proofs.Shapes.{places_below}}
 use Rattle.change_rules.proofs.PatchRight.{offset_order}
-use Rattle.index_region.{proofs.Patched.{fits_within}, proofs.Walks.{offset_below, offset_of_walk, walk_within}}
-use Rattle.index_region.specs.Boxes.{Interval, box_offset, box_size, fits, is_within, walk_at}
+use Rattle.index_region.{proofs.Patched.{fits_within}, proofs.Walks.{offset_below, offset_of_walk, walk_within}, specs.Boxes.{Interval, box_offset, box_size, fits, is_within, walk_at}}
 use Rattle.sum_rules.specs.Totals.{AreJoinsFrom, AreJoinsWithin}
 
 -- of the lines of a box so many come before a line, and for each of these parts of a line of this length were joined
@@ -121,21 +118,16 @@ module _ (lines : List Interval) (shape : List ℕ) (fit : fits lines shape ≡ 
   -- no more than the lines of the box
   pub most_passed : (long line old now : ℕ) → Passed lines shape long line old now → AreJoinsWithin (box_size lines) long old now
   most_passed long line old now passed = λ digits h.
-      let so_far = passed.most digits h in
-      let most : passed.done * digits ≤ box_size lines * digits = mul-le-mul_right digits passed.few in
-      omega (arith, so_far, most)
+      omega (arith, passed.most digits h, mul-le-mul_right digits passed.few)
 
   -- and where all lines are passed, all of these
   pub all_passed : (long line old now : ℕ) → size shape ≤ line → Passed lines shape long line old now → AreJoinsFrom (box_size lines) long old now
   all_passed long line old now ended passed = λ two.
-      let so_far = passed.least two in
-      let all = every (box_size lines) refl in
-      omega (arith, so_far, all)
+      omega (arith, passed.least two, every (box_size lines) refl)
     where
       every : (n : ℕ) → box_size lines ≡ n → n ≤ passed.done
       every zero e = omega arith
       every (suc k) e =
           let there : k < box_size lines = omega (arith, e) in
           let low = places_below shape (walk_at lines k) (fits_within lines shape (walk_at lines k) fit (walk_within lines k there)) in
-          let before = passed.behind k there (omega (arith, low, ended)) in
-          omega (arith, before)
+          omega (arith, passed.behind k there (omega (arith, low, ended)))

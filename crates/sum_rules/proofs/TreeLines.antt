@@ -1,8 +1,6 @@
 -- The numbers of lines that are all as long, one line after another.
-use Rattle.std.proofs.Common.{◌≡◌, ℕ, zero, suc, ◌+◌, ◌-◌, ◌*◌, ◌/◌, ◌%◌, ◌<◌, ℤ, pos, List, [], ◌∷◌, ◌++◌, length, get_or, set, ap, sym, ◌∙◌, arith}
-use Rattle.std.proofs.lemmas.List.{length-append, length-set, set-append_left, set-append_right, get_or_append_left, get_or-append_right, get_or-set_same, ext_get_or}
-use Rattle.std.{proofs.lemmas.List.Elements.{All-head, All-tail, All-get_or, All-set}, proofs.Math.Nat.{mul-div_cancel}, specs.List.{flat_map}}
-use Rattle.std.proofs.lemmas.Nat.{div-add-mod', mod_below, div_below}
+use Rattle.std.{proofs.Common.{◌≡◌, ℕ, zero, suc, ◌+◌, ◌-◌, ◌*◌, ◌/◌, ◌%◌, ◌<◌, ℤ, pos, List, [], ◌∷◌, ◌++◌, length, get_or, set, ap, sym, ◌∙◌, arith}, proofs.lemmas.List.{length-append, length-set, set-append_left, set-append_right, get_or_append_left, get_or-append_right, get_or-set_same, ext_get_or}}
+use Rattle.std.{proofs.lemmas.List.Elements.{All-head, All-tail, All-get_or, All-set}, proofs.Math.Nat.{mul-div_cancel}, specs.List.{flat_map}, proofs.lemmas.Nat.{div-add-mod', mod_below, div_below}}
 use Rattle.item_fns.{specs.Folds.{strided, line_start}, proofs.RightFolds.{length-strided, get_or-strided}}
 use Rattle.fold_trees.specs.ArrayLines.{line_through, numbers_of_line, numbers_through, with_number}
 use Rattle.sum_rules.specs.Totals.{AreAllAsLong, all_trees}
@@ -15,8 +13,7 @@ pub length-all_numbers : (count : ℕ) (lines : List (List ℤ)) → AreAllAsLon
 length-all_numbers count [] h = omega arith
 length-all_numbers count (line ∷ lines) h =
     let here : length line ≡ count = All-head (λ (l : List ℤ). length l ≡ count) line lines h in
-    let rest = length-all_numbers count lines (All-tail (λ (l : List ℤ). length l ≡ count) line lines h) in
-    omega (arith, length-append line (all_numbers lines), here, rest)
+    omega (arith, length-append line (all_numbers lines), here, length-all_numbers count lines (All-tail (λ (l : List ℤ). length l ≡ count) line lines h))
 
 further : (count which place : ℕ) → suc which * count + place ≡ count + (which * count + place)
 further count which place = omega arith
@@ -31,9 +28,8 @@ number_of_line count (line ∷ lines) zero place none d h there below =
     ap (λ k. get_or (line ++ all_numbers lines) k d) at ∙ get_or_append_left line (all_numbers lines) d place (omega arith)
 number_of_line count (line ∷ lines) (suc which) place none d h there below =
     let here : length line ≡ count = All-head (λ (l : List ℤ). length l ≡ count) line lines h in
-    let at = further count which place in
     let past : count + (which * count + place) - count ≡ which * count + place = omega arith in
-    ap (λ k. get_or (line ++ all_numbers lines) k d) at
+    ap (λ k. get_or (line ++ all_numbers lines) k d) (further count which place)
     ∙ get_or-append_right line (all_numbers lines) count (count + (which * count + place)) d here (omega arith)
     ∙ ap (λ k. get_or (all_numbers lines) k d) past
     ∙ number_of_line count lines which place none d (All-tail (λ (l : List ℤ). length l ≡ count) line lines h) (omega arith) below
@@ -48,10 +44,9 @@ set_at count (line ∷ lines) zero place none z h there below =
     sym (ap (λ k. set (line ++ all_numbers lines) k z) at ∙ set-append_left line (all_numbers lines) place z (omega arith))
 set_at count (line ∷ lines) (suc which) place none z h there below =
     let here : length line ≡ count = All-head (λ (l : List ℤ). length l ≡ count) line lines h in
-    let at = further count which place in
     let past : count + (which * count + place) - count ≡ which * count + place = omega arith in
     ap (λ (rest : List ℤ). line ++ rest) (set_at count lines which place none z (All-tail (λ (l : List ℤ). length l ≡ count) line lines h) (omega arith) below)
-    ∙ sym (ap (λ k. set (line ++ all_numbers lines) k z) at
+    ∙ sym (ap (λ k. set (line ++ all_numbers lines) k z) (further count which place)
     ∙ set-append_right line (all_numbers lines) count (count + (which * count + place)) z here (omega arith)
     ∙ ap (λ k. line ++ set (all_numbers lines) k z) past)
 

@@ -1,18 +1,13 @@
 -- The totals of all lines of an array, as the trees of the lines tell them.
-use Rattle.std.proofs.Common.{◌≡◌, ◌∙◌, ℕ, zero, suc, ◌*◌, ◌/◌, ◌%◌, ◌<◌, ◌≤◌, ℤ, pos, List, length, map, refl, ap, sym, subst, arith, Result, Ok, Some}
-use Rattle.std.{specs.List.{range_with_len}, proofs.lemmas.List.{length-map}, proofs.Math.Nat.{mul-div_cancel}}
-use Rattle.arrays_core.{specs.declared.item.Item.{Item}, specs.declared.item.Item.TheVariants.{Num}, specs.declared.item.ItemType.{ItemType}}
-use Rattle.arrays_core.{specs.declared.item.ItemType.TheVariants.{Nums}, specs.declared.item.Kind.{Kind}, specs.Arrays.{ArrayValue, with_items}}
-use Rattle.arrays_core.{specs.Items.{all_or_first_error}, specs.Shapes.{size, places_before}}
+use Rattle.std.{proofs.Common.{◌≡◌, ◌∙◌, ℕ, zero, suc, ◌*◌, ◌/◌, ◌%◌, ◌<◌, ◌≤◌, ℤ, pos, List, length, map, refl, ap, sym, subst, arith, Result, Ok, Some}, specs.List.{range_with_len}, proofs.lemmas.List.{length-map}, proofs.Math.Nat.{mul-div_cancel}}
+use Rattle.arrays_core.{specs.declared.item.Item.{Item}, specs.declared.item.Item.TheVariants.{Num}, specs.declared.item.ItemType.{ItemType}, specs.declared.item.ItemType.TheVariants.{Nums}, specs.declared.item.Kind.{Kind}, specs.Arrays.{ArrayValue, with_items}, specs.Items.{all_or_first_error}}
+use Rattle.arrays_core.specs.Shapes.{size, places_before}
 use Rattle.function_names.{specs.declared.scalar.Scalar2.{Scalar2}, specs.Axes.{axis_at}}
-use Rattle.item_fns.{specs.Folds.{strided, folded, line_start}, specs.Items.{number_item}, specs.Numbers.{dyadic_on_numbers}}
-use Rattle.item_fns.{proofs.RightFolds.{length-strided}, specs.RightFold.{fold_right}, proofs.ItemFolds.{number_items_folded}}
+use Rattle.item_fns.{specs.Folds.{strided, folded, line_start}, specs.Items.{number_item}, specs.Numbers.{dyadic_on_numbers}, proofs.RightFolds.{length-strided}, specs.RightFold.{fold_right}, proofs.ItemFolds.{number_items_folded}}
 use Rattle.index_region.specs.Checks.{form_of}
-use Rattle.reduce_fns.{specs.Reduce.{reduce_form, reduce_whole}, specs.declared.reduce.Reduce.{Reduce}, proofs.Placewise.{collected_same}}
-use Rattle.reduce_fns.{specs.Laws.ReducedShapes.{reduce_facts}, proofs.Reduced.{lines_whole, reduced_whole}}
+use Rattle.reduce_fns.{specs.Reduce.{reduce_form, reduce_whole}, specs.declared.reduce.Reduce.{Reduce}, proofs.Placewise.{collected_same}, specs.Laws.ReducedShapes.{reduce_facts}, proofs.Reduced.{lines_whole, reduced_whole}}
 use Rattle.fold_trees.specs.ArrayLines.{TreesValue, line_count, numbers_of_line}
-use Rattle.sum_rules.{specs.LineSums.{StandFor, SummedValue, summed}, specs.Totals.{all_totals}, proofs.KeptSums.{summed_is}}
-use Rattle.sum_rules.proofs.LongerTotals.{items_by_place}
+use Rattle.sum_rules.{specs.LineSums.{StandFor, SummedValue, summed}, specs.Totals.{all_totals}, proofs.KeptSums.{summed_is}, proofs.LongerTotals.{items_by_place}}
 
 -- the total of one of them
 abbrev pub total_of_line : Scalar2 → TreesValue → ℕ → Result Item Kind

@@ -1,7 +1,6 @@
 -- Arrays whose lines along an axis are kept as trees.
 use Rattle.std.specs.Prelude.{◌≡◌, ℕ, suc, ◌<◌, ℤ, nat_lt, List, Bool, ◌&&◌, Option, Some, None, if◌then◌else◌, length, map, get_or, drop}
-use Rattle.arrays_core.{specs.declared.item.Item.TheVariants.{Num}, specs.declared.item.ItemType.TheVariants.{Nums}, specs.declared.item.Item.{Item}}
-use Rattle.arrays_core.{specs.Arrays.{ArrayValue, IsArray}, specs.Growth.{grown_by}, specs.Shapes.{size}}
+use Rattle.arrays_core.{specs.declared.item.Item.TheVariants.{Num}, specs.declared.item.ItemType.TheVariants.{Nums}, specs.declared.item.Item.{Item}, specs.Arrays.{ArrayValue, IsArray}, specs.Growth.{grown_by}, specs.Shapes.{size}}
 use Rattle.function_names.{specs.declared.scalar.Scalar2.{Scalar2}, specs.Axes.{is_axis, axis_at}, specs.declared.along.Along.{Along}}
 use Rattle.index_region.{specs.Arguments.{is_of_numbers}, specs.Patches.{PatchValue, patched}}
 use Rattle.reduce_fns.specs.declared.reduce.Reduce.{Reduce}

@@ -4,8 +4,7 @@ use Rattle.arrays_core.{specs.declared.item.Item.TheVariants.{Num}, specs.declar
 use Rattle.function_names.specs.declared.scalar.Scalar2.{Scalar2}
 use Rattle.index_region.specs.Tails.{TailValue, FitsTail}
 use Rattle.fold_trees.{specs.ArrayLines.{with_lines, with_places}, specs.FoldTrees.{FoldsValue, AreFoldedBehind, AreFoldedNext}}
-use Rattle.sum_rules.{specs.LineSums.{SummedValue, line_length, line_step}, specs.declared.new_lines.Growth.{Growth}}
-use Rattle.sum_rules.specs.declared.new_lines.Growth.TheVariants.{Lines, Places}
+use Rattle.sum_rules.{specs.LineSums.{SummedValue, line_length, line_step}, specs.declared.new_lines.Growth.{Growth}, specs.declared.new_lines.Growth.TheVariants.{Lines, Places}}
 
 -- what an array of numbers grows by, with the function by which its lines are folded and the axis along which they lie
 pub record NewLinesValue : Type 0 where

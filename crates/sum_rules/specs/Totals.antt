@@ -1,12 +1,8 @@
 -- The totals of the lines of an array whose sums are kept by trees.
-use Rattle.std.specs.Prelude.{◌≡◌, ℕ, ◌+◌, ◌-◌, ◌*◌, ◌<◌, ◌≤◌, ◌^◌, ℤ, pos, nat_eq, Bool, true, false, List, [], ◌∷◌, ◌++◌, length, get_or, map, remove, All, Result}
-use Rattle.std.specs.List.{flat_map, range_with_len}
-use Rattle.function_names.{specs.declared.scalar.Scalar2.{Scalar2}, specs.declared.scalar.Scalar2.TheVariants.{Plus}, specs.Axes.{is_axis, axis_at}}
-use Rattle.function_names.{specs.declared.along.Along.{Along}, specs.declared.along.Along.TheVariants.{Last}}
-use Rattle.arrays_core.{specs.Arrays.{ArrayValue}, specs.Growth.{grown_by}, specs.declared.item.Item.{Item}, specs.declared.item.Item.TheVariants.{Num}}
-use Rattle.arrays_core.{specs.declared.item.Kind.{Kind}, specs.Outcomes.{Outcome}}
-use Rattle.index_region.{specs.declared.delta.Delta.{Delta}, specs.declared.delta.Delta.TheVariants.{Patch, Grown}, specs.Boxes.{Interval, box_size}}
-use Rattle.index_region.{specs.Patches.{PatchValue, FitsPatch, patched}, specs.Tails.{TailValue, FitsTail}}
+use Rattle.std.{specs.Prelude.{◌≡◌, ℕ, ◌+◌, ◌-◌, ◌*◌, ◌<◌, ◌≤◌, ◌^◌, ℤ, pos, nat_eq, Bool, true, false, List, [], ◌∷◌, ◌++◌, length, get_or, map, remove, All, Result}, specs.List.{flat_map, range_with_len}}
+use Rattle.function_names.{specs.declared.scalar.Scalar2.{Scalar2}, specs.declared.scalar.Scalar2.TheVariants.{Plus}, specs.Axes.{is_axis, axis_at}, specs.declared.along.Along.{Along}, specs.declared.along.Along.TheVariants.{Last}}
+use Rattle.arrays_core.{specs.Arrays.{ArrayValue}, specs.Growth.{grown_by}, specs.declared.item.Item.{Item}, specs.declared.item.Item.TheVariants.{Num}, specs.declared.item.Kind.{Kind}, specs.Outcomes.{Outcome}}
+use Rattle.index_region.{specs.declared.delta.Delta.{Delta}, specs.declared.delta.Delta.TheVariants.{Patch, Grown}, specs.Boxes.{Interval, box_size}, specs.Patches.{PatchValue, FitsPatch, patched}, specs.Tails.{TailValue, FitsTail}}
 use Rattle.change_core.{specs.RuleModels.{RuleModel}, specs.Meters.{ticked}}
 use Rattle.change_rules.specs.Nodes.{Argument, node_cost}
 use Rattle.reduce_fns.{specs.declared.reduce.Reduce.{Reduce}, specs.Reduce.{reduce_rule}}

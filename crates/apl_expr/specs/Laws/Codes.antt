@@ -1,11 +1,8 @@
 -- Trees as lists of numbers. A type that contracts see must be a set: two proofs that two of its values are equal are one. That
 -- is so of a type whose values can be written as numbers, and read again. A tree is written as its words in postfix order.
-use Rattle.std.specs.Prelude.{◌≡◌, ℕ, zero, suc, ℤ, pos, List, [], ◌∷◌, ◌++◌, get_or, ◌⊎◌, refl}
-use Rattle.std.{proofs.Common.{sym, ◌∙◌, ap, inl, inr, append_assoc, append-nil}, specs.Coded.{Coded, code_by, coded×, coded⊎, coded_list, coded_ℕ, coded_ℤ}}
-use Rattle.apl_expr.specs.Trees.{Tree, Const, Name, Monad, Dyad, Index, Reduce, Scan, Outer, Inner, before_argument, between_arguments, Positions, NoPositions, Empty, Filled, Numbers, Text}
-use Rattle.apl_expr.{specs.declared.functions.Function1.{Function1}, specs.declared.functions.Function2.{Function2}}
-use Rattle.function_names.{specs.declared.scalar.Scalar1.{Scalar1}, specs.declared.scalar.Scalar2.{Scalar2}, specs.declared.along.Along.{Along}}
-use Rattle.function_names.specs.declared.along.Along.TheVariants.{First, Last, Axis}
+use Rattle.std.{specs.Prelude.{◌≡◌, ℕ, zero, suc, ℤ, pos, List, [], ◌∷◌, ◌++◌, get_or, ◌⊎◌, refl}, proofs.Common.{sym, ◌∙◌, ap, inl, inr, append_assoc, append-nil}, specs.Coded.{Coded, code_by, coded×, coded⊎, coded_list, coded_ℕ, coded_ℤ}}
+use Rattle.apl_expr.{specs.Trees.{Tree, Const, Name, Monad, Dyad, Index, Reduce, Scan, Outer, Inner, before_argument, between_arguments, Positions, NoPositions, Empty, Filled, Numbers, Text}, specs.declared.functions.Function1.{Function1}, specs.declared.functions.Function2.{Function2}}
+use Rattle.function_names.{specs.declared.scalar.Scalar1.{Scalar1}, specs.declared.scalar.Scalar2.{Scalar2}, specs.declared.along.Along.{Along}, specs.declared.along.Along.TheVariants.{First, Last, Axis}}
 use Rattle.function_names.specs.declared.scalar.Scalar1.TheVariants as one
 use Rattle.function_names.specs.declared.scalar.Scalar2.TheVariants as two
 use Rattle.apl_expr.specs.declared.expr.Monadic.TheVariants as monadic

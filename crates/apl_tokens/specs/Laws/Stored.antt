@@ -1,6 +1,5 @@
 -- A name is the bytes of its text.
-use Rattle.std.{specs.Prelude.{◌≡◌, ℕ, ◌-◌, ◌≤◌, true, List, [], ◌++◌, length, take, drop, replicate}, specs.Str.{is_utf8}, proofs.Common.{sym, ◌∙◌, ap, arith}}
-use Rattle.std.proofs.lemmas.List.{length-take-le, take-append-drop}
+use Rattle.std.{specs.Prelude.{◌≡◌, ℕ, ◌-◌, ◌≤◌, true, List, [], ◌++◌, length, take, drop, replicate}, specs.Str.{is_utf8}, proofs.Common.{sym, ◌∙◌, ap, arith}, proofs.lemmas.List.{length-take-le, take-append-drop}}
 use Rattle.apl_tokens.{specs.Limits.{longest_name}, specs.declared.name.Name.TheInside.{Inside}}
 
 -- a name as it is stored: its bytes, and then zeros

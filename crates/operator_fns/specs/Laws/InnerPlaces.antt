@@ -1,12 +1,9 @@
 -- What the checks of the inner product have shown, and the places of its rows and columns.
-use Rattle.std.proofs.Common.{◌≡◌, ◌≢◌, ℕ, ◌+◌, ◌-◌, ◌*◌, ◌<◌, Bool, true, false, cond, eqb, ◌||◌, List, [], ◌∷◌, ◌++◌, length, get_or, take, drop, refl, ap, sym, subst, ◌∙◌, arith}
-use Rattle.std.{proofs.lemmas.Bool.{eq-eqb, ne_eqb, and_from, le-leb, eqb-true}, proofs.lemmas.List.{take_all, take_more, length-take-le}}
-use Rattle.arrays_core.{specs.declared.item.ItemType.TheVariants.{Nums}, specs.Items.{fill}, specs.Shapes.{size, is_index_of, places_before}}
-use Rattle.arrays_core.{specs.Arrays.{ArrayValue, item_of}, proofs.Shapes.{places_below, as_long}}
+use Rattle.std.{proofs.Common.{◌≡◌, ◌≢◌, ℕ, ◌+◌, ◌-◌, ◌*◌, ◌<◌, Bool, true, false, cond, eqb, ◌||◌, List, [], ◌∷◌, ◌++◌, length, get_or, take, drop, refl, ap, sym, subst, ◌∙◌, arith}, proofs.lemmas.Bool.{eq-eqb, ne_eqb, and_from, le-leb, eqb-true}, proofs.lemmas.List.{take_all, take_more, length-take-le}}
+use Rattle.arrays_core.{specs.declared.item.ItemType.TheVariants.{Nums}, specs.Items.{fill}, specs.Shapes.{size, is_index_of, places_before}, specs.Arrays.{ArrayValue, item_of}, proofs.Shapes.{places_below, as_long}}
 use Rattle.scalar_fns.specs.ScalarExtension.{extended}
 use Rattle.index_region.{specs.Arguments.{has_one_item}, specs.Answers.{IsPlaceOf}, proofs.Passing.{passed, place_inside}}
-use Rattle.operator_fns.specs.InnerProduct.{row_rank, row_length, column_length, inner_length, inner_form}
-use Rattle.operator_fns.specs.Laws.JoinedIndices.{places-append, joined_inside, parts}
+use Rattle.operator_fns.{specs.InnerProduct.{row_rank, row_length, column_length, inner_length, inner_form}, specs.Laws.JoinedIndices.{places-append, joined_inside, parts}}
 
 -- ---- arrays of one item, and others
 pub extended_one : (a : ArrayValue) (index : List ℕ) → size a.shape ≡ 1 → extended a index ≡ get_or a.items 0 (fill a.item_type)

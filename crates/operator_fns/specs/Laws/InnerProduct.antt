@@ -2,8 +2,7 @@
 use Rattle.std.proofs.Common.{false, refl}
 use Rattle.function_names.specs.declared.scalar.Scalar2.{Scalar2}
 use Rattle.change_core.{specs.Tightness.{IsTight}, proofs.Sourced.{two_arrays_tight}}
-use Rattle.operator_fns.specs.InnerProduct.{inner_form, inner_item, column_use, inner_rule, row_use}
-use Rattle.operator_fns.specs.Laws.InnerProductReads.{column_covered, inner_same, row_covered}
+use Rattle.operator_fns.{specs.InnerProduct.{inner_form, inner_item, column_use, inner_rule, row_use}, specs.Laws.InnerProductReads.{column_covered, inner_same, row_covered}}
 
 pub inner_tight : (f g : Scalar2) → IsTight (inner_rule f g)
 inner_tight f g = two_arrays_tight false inner_form (inner_item f g) row_use column_use (record {

@@ -1,18 +1,13 @@
 -- What settles an item of an inner product, and what a changed box reaches.
-use Rattle.std.proofs.Common.{◌≡◌, ◌≢◌, ℕ, ◌+◌, ◌-◌, ◌*◌, ◌<◌, ◌≤◌, zero, suc, true, nat_eq, nat_le, ◌&&◌, List, [], ◌∷◌, ◌++◌, length, get_or, map, take, drop, Option, Result, Ok, if◌then◌else◌, refl, sym, ap, subst, ◌∙◌, arith, inl, inr}
-use Rattle.std.{specs.Prelude.{◌==◌}, specs.List.{range_with_len}}
-use Rattle.std.proofs.lemmas.Bool.{and_from, and_parts, cases_Bool, cond-false, cond-true, eqb-false, eqb-true, false≢true, leb-true}
-use Rattle.std.proofs.lemmas.List.{take-append-le, take_all}
-use Rattle.arrays_core.{specs.declared.item.Item.{Item}, specs.declared.item.Kind.{Kind}, specs.Arrays.{ArrayValue, IsArray, item_if_there}}
-use Rattle.arrays_core.{specs.Items.{fill, and_then}, specs.Shapes.{is_index_of, size}, proofs.Shapes.{as_long}}
+use Rattle.std.{proofs.Common.{◌≡◌, ◌≢◌, ℕ, ◌+◌, ◌-◌, ◌*◌, ◌<◌, ◌≤◌, zero, suc, true, nat_eq, nat_le, ◌&&◌, List, [], ◌∷◌, ◌++◌, length, get_or, map, take, drop, Option, Result, Ok, if◌then◌else◌, refl, sym, ap, subst, ◌∙◌, arith, inl, inr}, specs.Prelude.{◌==◌}, specs.List.{range_with_len}}
+use Rattle.std.{proofs.lemmas.Bool.{and_from, and_parts, cases_Bool, cond-false, cond-true, eqb-false, eqb-true, false≢true, leb-true}, proofs.lemmas.List.{take-append-le, take_all}}
+use Rattle.arrays_core.{specs.declared.item.Item.{Item}, specs.declared.item.Kind.{Kind}, specs.Arrays.{ArrayValue, IsArray, item_if_there}, specs.Items.{fill, and_then}, specs.Shapes.{is_index_of, size}, proofs.Shapes.{as_long}}
 use Rattle.function_names.specs.declared.scalar.Scalar2.{Scalar2}
 use Rattle.scalar_fns.{specs.ScalarExtension.{extended}, specs.Laws.OneItem.{ones_inside, ones_first, only_index}}
 use Rattle.item_fns.{specs.Items.{dyadic_on_items}, specs.RightFold.{fold_right}}
 use Rattle.index_region.{specs.Answers.{IsPlaceOf}, specs.Boxes.{Interval, is_within, whole_of}, specs.Checks.{Form}}
-use Rattle.change_core.{specs.Tightness.{Covered, Each}, specs.Sourced.{other}, proofs.UsedWays.{back-onto, each_all, each_map, front-onto}}
-use Rattle.change_core.proofs.ReadAlike.{item_same}
-use Rattle.operator_fns.specs.InnerProduct.{all_or_last_error, column_length, inner_form, inner_item, inner_length, row_length, row_rank, column_use, extended_line, row_use}
-use Rattle.operator_fns.specs.Laws.InnerPlaces.{PassedInner, column_place, extended_many, extended_one, passed_inner, row_place}
+use Rattle.change_core.{specs.Tightness.{Covered, Each}, specs.Sourced.{other}, proofs.UsedWays.{back-onto, each_all, each_map, front-onto}, proofs.ReadAlike.{item_same}}
+use Rattle.operator_fns.{specs.InnerProduct.{all_or_last_error, column_length, inner_form, inner_item, inner_length, row_length, row_rank, column_use, extended_line, row_use}, specs.Laws.InnerPlaces.{PassedInner, column_place, extended_many, extended_one, passed_inner, row_place}}
 
 -- ---- the place of an array of one item
 

@@ -1,6 +1,5 @@
 -- Index lists of two arrays put after one another.
-use Rattle.std.proofs.Common.{◌≡◌, ℕ, ◌+◌, ◌-◌, ◌*◌, ◌/◌, ◌%◌, true, List, [], ◌∷◌, ◌++◌, length, take, drop, refl, ap, sym, ◌∙◌, arith}
-use Rattle.std.{proofs.lemmas.Bool.{and_from, le-leb}, proofs.lemmas.List.{take-append-drop}, proofs.lemmas.Nat.{div-mul-add, mod-mul-add}}
+use Rattle.std.{proofs.Common.{◌≡◌, ℕ, ◌+◌, ◌-◌, ◌*◌, ◌/◌, ◌%◌, true, List, [], ◌∷◌, ◌++◌, length, take, drop, refl, ap, sym, ◌∙◌, arith}, proofs.lemmas.Bool.{and_from, le-leb}, proofs.lemmas.List.{take-append-drop}, proofs.lemmas.Nat.{div-mul-add, mod-mul-add}}
 use Rattle.arrays_core.{specs.Shapes.{size, is_index_of, places_before}, proofs.Shapes.{head_of, as_long, places_below}}
 
 pub size-append : (s t : List ℕ) → size (s ++ t) ≡ size s * size t

@@ -1,12 +1,10 @@
 -- The law of outer product.
 use Rattle.std.proofs.Common.{◌≡◌, ℕ, true, false, List, ◌∷◌, ◌++◌, length, map, take, drop, [], Ok, refl, sym, ap, subst}
-use Rattle.arrays_core.{specs.declared.item.Item.{Item}, specs.declared.item.ItemType.TheVariants.{Nums}, specs.Arrays.{ArrayValue, item_of, item_if_there}}
-use Rattle.arrays_core.specs.Shapes.{is_index_of}
+use Rattle.arrays_core.{specs.declared.item.Item.{Item}, specs.declared.item.ItemType.TheVariants.{Nums}, specs.Arrays.{ArrayValue, item_of, item_if_there}, specs.Shapes.{is_index_of}}
 use Rattle.function_names.specs.declared.scalar.Scalar2.{Scalar2}
 use Rattle.item_fns.specs.Items.{dyadic_on_items}
 use Rattle.index_region.{specs.Checks.{Form}, proofs.Passing.{limited_gives}}
-use Rattle.change_core.{specs.Tightness.{IsTight, Covered}, specs.Sourced.{other}, specs.Ways.{front, back}, proofs.Growing.{tight_growing}}
-use Rattle.change_core.{proofs.Sourced.{two_tight}, proofs.UsedWays.{front-onto, back-onto, onto_covered, index-take, index-drop}, proofs.ReadAlike.{item_same}}
+use Rattle.change_core.{specs.Tightness.{IsTight, Covered}, specs.Sourced.{other}, specs.Ways.{front, back}, proofs.Growing.{tight_growing}, proofs.Sourced.{two_tight}, proofs.UsedWays.{front-onto, back-onto, onto_covered, index-take, index-drop}, proofs.ReadAlike.{item_same}}
 use Rattle.operator_fns.specs.OuterProduct.{outer_form, outer_item, outer_rule, front_use, back_use}
 
 -- the axes of the left argument, and then those of the right one

@@ -4,8 +4,7 @@ use Rattle.arrays_core.{specs.declared.item.Item.{Item}, specs.declared.item.Ite
 use Rattle.function_names.specs.declared.scalar.Scalar2.{Scalar2}
 use Rattle.item_fns.specs.Items.{dyadic_on_items}
 use Rattle.index_region.{specs.Checks.{form_of}, proofs.Passing.{limited_gives}}
-use Rattle.change_core.{specs.Growth.{IsGrowing}, proofs.Growing.{item_kept, length-longer, longer_form, shape_grown, two_growing, growing_growing}}
-use Rattle.change_core.proofs.UsedWays.{index-take}
+use Rattle.change_core.{specs.Growth.{IsGrowing}, proofs.Growing.{item_kept, length-longer, longer_form, shape_grown, two_growing, growing_growing}, proofs.UsedWays.{index-take}}
 use Rattle.operator_fns.specs.OuterProduct.{outer_form, outer_item, outer_rule, front_use, back_use, outer_grows}
 
 joined_longer : (s t : List ℕ) → 0 < length s → one_longer s ++ t ≡ one_longer (s ++ t)

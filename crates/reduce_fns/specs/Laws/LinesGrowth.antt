@@ -1,14 +1,10 @@
 -- The growth of reductions and scans along an axis that is not the first.
-use Rattle.std.proofs.Common.{◌≡◌, ℕ, ◌<◌, zero, suc, ap, sym, ◌∙◌, arith, true, Bool, not, List, length, insert, remove, map, nat_eq, if◌then◌else◌}
-use Rattle.std.{specs.Prelude.{◌==◌}, specs.List.{range_with_len}, proofs.lemmas.Bool.{and_parts}, proofs.lemmas.List.{get_or_default}}
-use Rattle.arrays_core.{specs.declared.item.ItemType.{ItemType}, specs.declared.item.ItemType.TheVariants.{Nums}, specs.Arrays.{ArrayValue, IsArray, item_of}}
-use Rattle.arrays_core.{specs.Shapes.{is_index_of}, specs.Growth.{one_longer}}
+use Rattle.std.{proofs.Common.{◌≡◌, ℕ, ◌<◌, zero, suc, ap, sym, ◌∙◌, arith, true, Bool, not, List, length, insert, remove, map, nat_eq, if◌then◌else◌}, specs.Prelude.{◌==◌}, specs.List.{range_with_len}, proofs.lemmas.Bool.{and_parts}, proofs.lemmas.List.{get_or_default}}
+use Rattle.arrays_core.{specs.declared.item.ItemType.{ItemType}, specs.declared.item.ItemType.TheVariants.{Nums}, specs.Arrays.{ArrayValue, IsArray, item_of}, specs.Shapes.{is_index_of}, specs.Growth.{one_longer}}
 use Rattle.function_names.{specs.declared.scalar.Scalar2.{Scalar2}, specs.declared.along.Along.{Along}, specs.Axes.{axis_at}}
 use Rattle.index_region.{specs.Axes.{places_along}, specs.Checks.{Form, form_of}, proofs.RowIndices.{axis_below}}
-use Rattle.change_core.specs.Growth.{IsGrown, IsGrowing}
-use Rattle.change_core.proofs.Growing.{along_longer, item_kept, growing_growing, length-longer, longer_form, one_growing, range_same, remove_longer, shape_grown, some_left, type_grown}
-use Rattle.reduce_fns.{specs.Reduce.{reduce_form, reduce_item, reduce_type, reduce_rule, reduce_use}, specs.Lines.{line}, specs.Laws.LineIndices.{inside}}
-use Rattle.reduce_fns.{specs.Laws.ReducedShapes.{reduce_facts}, specs.Growth.{lines_grow}}
+use Rattle.change_core.{specs.Growth.{IsGrown, IsGrowing}, proofs.Growing.{along_longer, item_kept, growing_growing, length-longer, longer_form, one_growing, range_same, remove_longer, shape_grown, some_left, type_grown}}
+use Rattle.reduce_fns.{specs.Reduce.{reduce_form, reduce_item, reduce_type, reduce_rule, reduce_use}, specs.Lines.{line}, specs.Laws.LineIndices.{inside}, specs.Laws.ReducedShapes.{reduce_facts}, specs.Growth.{lines_grow}}
 use Rattle.item_fns.specs.RightFold.{fold_right}
 
 -- what is the same of the old array and the one that grew, along an axis that is not the first

@@ -1,6 +1,5 @@
 -- Lines of arrays that are read alike.
-use Rattle.std.{proofs.Common.{◌≡◌, ℕ, ◌+◌, ◌<◌, ◌≤◌, zero, suc, true, List, [], ◌∷◌, length, map, remove, refl, arith}, specs.List.{range_with_len}}
-use Rattle.std.proofs.lemmas.Bool.{false≢true}
+use Rattle.std.{proofs.Common.{◌≡◌, ℕ, ◌+◌, ◌<◌, ◌≤◌, zero, suc, true, List, [], ◌∷◌, length, map, remove, refl, arith}, specs.List.{range_with_len}, proofs.lemmas.Bool.{false≢true}}
 use Rattle.arrays_core.{specs.Arrays.{ArrayValue, item_of, item_if_there}, specs.Shapes.{is_index_of}}
 use Rattle.change_core.proofs.ReadAlike.{item_same}
 use Rattle.reduce_fns.specs.Lines.{line}

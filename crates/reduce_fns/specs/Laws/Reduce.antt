@@ -1,14 +1,11 @@
 -- The law of reduction.
-use Rattle.std.proofs.Common.{◌≡◌, ℕ, ◌<◌, ◌≤◌, zero, suc, true, nat_eq, List, [], ◌∷◌, length, map, insert, remove, refl, sym, ap, ◌∙◌, subst, arith, inl, inr}
-use Rattle.std.{proofs.lemmas.Bool.{cases_Bool, cond-true, cond-false, eqb-true, eqb-false, false≢true}, proofs.lemmas.List.{get_or_default}}
+use Rattle.std.{proofs.Common.{◌≡◌, ℕ, ◌<◌, ◌≤◌, zero, suc, true, nat_eq, List, [], ◌∷◌, length, map, insert, remove, refl, sym, ap, ◌∙◌, subst, arith, inl, inr}, proofs.lemmas.Bool.{cases_Bool, cond-true, cond-false, eqb-true, eqb-false, false≢true}, proofs.lemmas.List.{get_or_default}}
 use Rattle.std.proofs.lemmas.List.Edits.{length-remove}
 use Rattle.arrays_core.{specs.declared.item.Item.{Item}, specs.Arrays.{ArrayValue, item_if_there}, specs.Shapes.{is_index_of}}
 use Rattle.function_names.{specs.declared.scalar.Scalar2.{Scalar2}, specs.declared.along.Along.{Along}, specs.Axes.{axis_at}}
 use Rattle.index_region.{specs.Axes.{places_along}, specs.Boxes.{Interval, fits, is_within}, proofs.RowIndices.{axis_below}}
-use Rattle.change_core.{specs.Tightness.{IsTight, Covered, Each}, specs.Sourced.{other}, proofs.Growing.{tight_growing}, proofs.Sourced.{one_tight}}
-use Rattle.change_core.{proofs.UsedWays.{lines-covered}, proofs.ReadAlike.{item_same}}
-use Rattle.reduce_fns.{specs.Reduce.{reduce_form, reduce_item, line_use, reduce_rule, reduce_use}, specs.Lines.{line}, specs.Laws.LineIndices.{inside}}
-use Rattle.reduce_fns.{specs.Laws.ReducedShapes.{reduce_facts}, specs.Laws.ReadLines.{items_same, no_axes, scalar_line}}
+use Rattle.change_core.{specs.Tightness.{IsTight, Covered, Each}, specs.Sourced.{other}, proofs.Growing.{tight_growing}, proofs.Sourced.{one_tight}, proofs.UsedWays.{lines-covered}, proofs.ReadAlike.{item_same}}
+use Rattle.reduce_fns.{specs.Reduce.{reduce_form, reduce_item, line_use, reduce_rule, reduce_use}, specs.Lines.{line}, specs.Laws.LineIndices.{inside}, specs.Laws.ReducedShapes.{reduce_facts}, specs.Laws.ReadLines.{items_same, no_axes, scalar_line}}
 use Rattle.item_fns.specs.RightFold.{fold_right}
 
 -- a line is the same where it is read alike

@@ -1,11 +1,8 @@
 -- All that changes of a scalar function of two arrays lies in its box.
-use Rattle.std.proofs.Common.{◌≡◌, ℕ, true, false, eqb, List, map, refl, ap, sym, subst, ◌∙◌, inl, inr, Result, Ok, Err, bytes_eq, if◌then◌else◌}
-use Rattle.std.{proofs.lemmas.Bool.{eqb-true, cases_Bool, cond-true, cond-false}, proofs.lemmas.Slice.Eq.{bytes_eq-Decides}}
-use Rattle.arrays_core.{specs.declared.item.Kind.{Kind}, specs.declared.item.ItemType.TheVariants.{Nums}, specs.Shapes.{size, is_index_of}}
-use Rattle.arrays_core.specs.Arrays.{ArrayValue}
+use Rattle.std.{proofs.Common.{◌≡◌, ℕ, true, false, eqb, List, map, refl, ap, sym, subst, ◌∙◌, inl, inr, Result, Ok, Err, bytes_eq, if◌then◌else◌}, proofs.lemmas.Bool.{eqb-true, cases_Bool, cond-true, cond-false}, proofs.lemmas.Slice.Eq.{bytes_eq-Decides}}
+use Rattle.arrays_core.{specs.declared.item.Kind.{Kind}, specs.declared.item.ItemType.TheVariants.{Nums}, specs.Shapes.{size, is_index_of}, specs.Arrays.{ArrayValue}}
 use Rattle.function_names.specs.declared.scalar.Scalar2.{Scalar2}
-use Rattle.scalar_fns.{specs.ScalarExtension.{common, for_shape}, specs.Laws.Extension.{ExtendsTo, common_extends}}
-use Rattle.scalar_fns.{specs.EachDyadic.{each_dyadic_form, each_dyadic_item, each_dyadic_rule, extended_use}, specs.Laws.OneItem.{extended_same, only_index}}
+use Rattle.scalar_fns.{specs.ScalarExtension.{common, for_shape}, specs.Laws.Extension.{ExtendsTo, common_extends}, specs.EachDyadic.{each_dyadic_form, each_dyadic_item, each_dyadic_rule, extended_use}, specs.Laws.OneItem.{extended_same, only_index}}
 use Rattle.item_fns.specs.Items.{dyadic_on_items}
 use Rattle.index_region.{specs.Boxes.{Interval, is_within, whole_of}, specs.Checks.{Form, form_of}}
 use Rattle.change_core.{specs.Tightness.{Covered, IsTight}, proofs.Growing.{tight_growing}, proofs.Sourced.{two_tight}, proofs.UsedWays.{within-whole}}

@@ -1,17 +1,13 @@
 -- The growth of a scalar function of two arrays.
-use Rattle.std.proofs.Common.{◌≡◌, ℕ, zero, suc, ◌+◌, ◌<◌, ◌≤◌, ap, sym, ◌∙◌, refl, arith, true, false, List, [], ◌∷◌, length, get_or, nat_lt, Result, Ok, Err, inl, inr, bytes_eq}
-use Rattle.std.{specs.Prelude.{◌==◌}, proofs.lemmas.Bool.{and_parts, cases_Bool, cond-true, cond-false, eq-eqb, eqb-true, leb-true, ltb-true, ltb-false}}
+use Rattle.std.{proofs.Common.{◌≡◌, ℕ, zero, suc, ◌+◌, ◌<◌, ◌≤◌, ap, sym, ◌∙◌, refl, arith, true, false, List, [], ◌∷◌, length, get_or, nat_lt, Result, Ok, Err, inl, inr, bytes_eq}, specs.Prelude.{◌==◌}, proofs.lemmas.Bool.{and_parts, cases_Bool, cond-true, cond-false, eq-eqb, eqb-true, leb-true, ltb-true, ltb-false}}
 use Rattle.std.proofs.lemmas.Slice.Eq.{bytes_eq-Decides}
-use Rattle.arrays_core.{specs.declared.item.Item.{Item}, specs.declared.item.Kind.{Kind}, specs.declared.item.Kind.TheVariants.{Rank, Length}}
-use Rattle.arrays_core.{specs.declared.item.ItemType.TheVariants.{Nums}, specs.Arrays.{ArrayValue, IsArray, item_of}, specs.Items.{fill}}
-use Rattle.arrays_core.{specs.Shapes.{size, is_index_of, places_before}, proofs.Shapes.{factor_le, places_below}, specs.Growth.{one_longer}}
+use Rattle.arrays_core.{specs.declared.item.Item.{Item}, specs.declared.item.Kind.{Kind}, specs.declared.item.Kind.TheVariants.{Rank, Length}, specs.declared.item.ItemType.TheVariants.{Nums}, specs.Arrays.{ArrayValue, IsArray, item_of}, specs.Items.{fill}, specs.Shapes.{size, is_index_of, places_before}}
+use Rattle.arrays_core.{proofs.Shapes.{factor_le, places_below}, specs.Growth.{one_longer}}
 use Rattle.function_names.specs.declared.scalar.Scalar2.{Scalar2}
-use Rattle.scalar_fns.{specs.ScalarExtension.{common, extended, for_shape}, specs.EachDyadic.{each_dyadic_form, each_dyadic_item, each_dyadic_rule}}
-use Rattle.scalar_fns.specs.Growth.{each_dyadic_grows, is_extended_to}
+use Rattle.scalar_fns.{specs.ScalarExtension.{common, extended, for_shape}, specs.EachDyadic.{each_dyadic_form, each_dyadic_item, each_dyadic_rule}, specs.Growth.{each_dyadic_grows, is_extended_to}}
 use Rattle.item_fns.specs.Items.{dyadic_on_items}
 use Rattle.index_region.specs.Checks.{Form, form_of}
-use Rattle.change_core.specs.Growth.{IsGrown, IsGrowing}
-use Rattle.change_core.proofs.Growing.{item_kept, length-longer, longer_form, shape_grown, still_inside, two_growing, growing_growing}
+use Rattle.change_core.{specs.Growth.{IsGrown, IsGrowing}, proofs.Growing.{item_kept, length-longer, longer_form, shape_grown, still_inside, two_growing, growing_growing}}
 
 -- ---- common shapes
 

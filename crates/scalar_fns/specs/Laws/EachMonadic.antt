@@ -5,8 +5,7 @@ use Rattle.function_names.specs.declared.scalar.Scalar1.{Scalar1}
 use Rattle.scalar_fns.specs.EachMonadic.{each_monadic_form, each_monadic_item, each_monadic_rule}
 use Rattle.item_fns.specs.Items.{monadic_on_item}
 use Rattle.index_region.specs.Checks.{Form, form_of}
-use Rattle.change_core.{specs.Tightness.{IsTight}, specs.Sourced.{other}, proofs.Growing.{tight_growing}, proofs.Sourced.{one_tight}}
-use Rattle.change_core.{proofs.ReadAlike.{one_same}, proofs.UsedWays.{alike-covered}}
+use Rattle.change_core.{specs.Tightness.{IsTight}, specs.Sourced.{other}, proofs.Growing.{tight_growing}, proofs.Sourced.{one_tight}, proofs.ReadAlike.{one_same}, proofs.UsedWays.{alike-covered}}
 
 pub each_monadic_tight : (f : Scalar1) → IsTight (each_monadic_rule f)
 each_monadic_tight f = tight_growing _ _ (one_tight each_monadic_form (each_monadic_item f) _ (record {

@@ -1,6 +1,5 @@
 -- How the items of two arrays of one item, or of one shape, extend to their common shape.
-use Rattle.std.{proofs.Common.{◌≡◌, ℕ, Bool, true, false, cond, eqb, List, refl, ◌⊎◌, inl, inr, Ok, Err, bytes_eq}, proofs.lemmas.Bool.{eqb-true}}
-use Rattle.std.proofs.lemmas.Slice.Eq.{bytes_eq-Decides}
+use Rattle.std.{proofs.Common.{◌≡◌, ℕ, Bool, true, false, cond, eqb, List, refl, ◌⊎◌, inl, inr, Ok, Err, bytes_eq}, proofs.lemmas.Bool.{eqb-true}, proofs.lemmas.Slice.Eq.{bytes_eq-Decides}}
 use Rattle.arrays_core.{specs.declared.item.Kind.{Kind}, specs.Shapes.{size}}
 use Rattle.scalar_fns.specs.ScalarExtension.{common}
 

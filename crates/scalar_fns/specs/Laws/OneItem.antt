@@ -1,8 +1,6 @@
 -- An array of one item gives it everywhere, any other one the item at an index list.
-use Rattle.std.proofs.Common.{◌≡◌, ℕ, zero, suc, ◌≤◌, true, eqb, List, [], ◌∷◌, map, refl, arith, inl, inr, if◌then◌else◌}
-use Rattle.std.proofs.lemmas.Bool.{eqb-true, eqb-false, cases_Bool, cond-true, cond-false, and_parts, leb-true, false≢true}
-use Rattle.arrays_core.{specs.declared.item.Item.{Item}, specs.Shapes.{size, is_index_of, places_before}, specs.Arrays.{ArrayValue, item_of, item_if_there}}
-use Rattle.arrays_core.proofs.Shapes.{factor_le}
+use Rattle.std.{proofs.Common.{◌≡◌, ℕ, zero, suc, ◌≤◌, true, eqb, List, [], ◌∷◌, map, refl, arith, inl, inr, if◌then◌else◌}, proofs.lemmas.Bool.{eqb-true, eqb-false, cases_Bool, cond-true, cond-false, and_parts, leb-true, false≢true}}
+use Rattle.arrays_core.{specs.declared.item.Item.{Item}, specs.Shapes.{size, is_index_of, places_before}, specs.Arrays.{ArrayValue, item_of, item_if_there}, proofs.Shapes.{factor_le}}
 use Rattle.scalar_fns.specs.ScalarExtension.{extended}
 use Rattle.change_core.{specs.Sourced.{other}, proofs.ReadAlike.{one_same}}
 

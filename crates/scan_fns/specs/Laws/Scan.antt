@@ -1,12 +1,10 @@
 -- The law of scan.
-use Rattle.std.proofs.Common.{◌≡◌, ℕ, ◌<◌, ◌≤◌, zero, suc, true, nat_eq, List, [], ◌∷◌, length, get_or, map, take, insert, remove, set, refl, sym, ap, ◌∙◌, arith, inl, inr}
-use Rattle.std.{specs.List.{range_with_len}, proofs.lemmas.Bool.{and_from, and_parts, cases_Bool, eqb-true, eqb-false, false≢true, le-leb, leb-true}}
+use Rattle.std.{proofs.Common.{◌≡◌, ℕ, ◌<◌, ◌≤◌, zero, suc, true, nat_eq, List, [], ◌∷◌, length, get_or, map, take, insert, remove, set, refl, sym, ap, ◌∙◌, arith, inl, inr}, specs.List.{range_with_len}, proofs.lemmas.Bool.{and_from, and_parts, cases_Bool, eqb-true, eqb-false, false≢true, le-leb, leb-true}}
 use Rattle.std.{proofs.lemmas.List.{get_or_default}, proofs.lemmas.List.FromFn.{take-map-range_with_len}}
 use Rattle.arrays_core.{specs.declared.item.Item.{Item}, specs.Arrays.{ArrayValue, item_of, item_if_there}, specs.Shapes.{is_index_of}, proofs.Shapes.{as_long}}
 use Rattle.function_names.{specs.declared.scalar.Scalar2.{Scalar2}, specs.declared.along.Along.{Along}, specs.Axes.{axis_at}}
 use Rattle.index_region.{specs.Axes.{places_along}, proofs.RowIndices.{axis_below}}
-use Rattle.change_core.{specs.Tightness.{IsTight, Covered}, specs.Sourced.{other}, proofs.Growing.{tight_growing}, proofs.Sourced.{one_tight}}
-use Rattle.change_core.{proofs.UsedWays.{Follows, along-covered, each_range}, proofs.ReadAlike.{item_same}}
+use Rattle.change_core.{specs.Tightness.{IsTight, Covered}, specs.Sourced.{other}, proofs.Growing.{tight_growing}, proofs.Sourced.{one_tight}, proofs.UsedWays.{Follows, along-covered, each_range}, proofs.ReadAlike.{item_same}}
 use Rattle.scan_fns.{specs.Scan.{scan_form, scan_item, run_use, scan_rule, scan_use}, specs.Laws.ScannedPlaces.{at_axis, scan_facts}}
 use Rattle.item_fns.specs.RightFold.{fold_right}
 use Rattle.reduce_fns.{specs.Lines.{line}, specs.Laws.ReadLines.{items_same, no_axes, scalar_line}}

@@ -1,10 +1,8 @@
 -- What the checks of scan have shown, and its index lists.
-use Rattle.std.proofs.Common.{◌≡◌, ℕ, zero, suc, ◌<◌, ◌≤◌, true, ◌||◌, nat_lt, nat_le, ◌&&◌, List, [], ◌∷◌, length, get_or, ap, arith, remove, Ok}
-use Rattle.std.proofs.lemmas.Bool.{and_parts, and_from}
+use Rattle.std.{proofs.Common.{◌≡◌, ℕ, zero, suc, ◌<◌, ◌≤◌, true, ◌||◌, nat_lt, nat_le, ◌&&◌, List, [], ◌∷◌, length, get_or, ap, arith, remove, Ok}, proofs.lemmas.Bool.{and_parts, and_from}}
 use Rattle.arrays_core.{specs.declared.item.ItemType.{ItemType}, specs.Shapes.{is_index_of}, specs.Arrays.{ArrayValue}, proofs.Shapes.{head_of}}
 use Rattle.function_names.{specs.declared.along.Along.{Along}, specs.Axes.{is_axis, axis_at}}
-use Rattle.index_region.{specs.Checks.{form_of, Form, limited}, specs.Arguments.{counts_as_numbers}, specs.Axes.{places_along}}
-use Rattle.index_region.proofs.Passing.{gives, limited_gives}
+use Rattle.index_region.{specs.Checks.{form_of, Form, limited}, specs.Arguments.{counts_as_numbers}, specs.Axes.{places_along}, proofs.Passing.{gives, limited_gives}}
 use Rattle.scan_fns.specs.Scan.{scan_type, scan_form}
 
 -- the index along an axis, and those along the others

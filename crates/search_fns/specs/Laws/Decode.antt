@@ -1,18 +1,11 @@
 -- The law of decode.
-use Rattle.std.proofs.Common.{◌≡◌, ◌≢◌, ℕ, zero, suc, ◌+◌, ◌-◌, ◌≤◌, ◌<◌, ℤ, List, [], ◌∷◌, length, get_or, drop, map, refl, ap, ◌∙◌, sym, subst, arith, true, false, ◌&&◌, ◌||◌, nat_eq, if◌then◌else◌, Option, None, Ok, inl, inr}
-use Rattle.std.specs.List.{range_with_len}
-use Rattle.std.proofs.lemmas.Bool.{and_from, and_parts, cases_Bool, cond-true, cond-false, eqb-true, eqb-false, false≢true, le-leb}
-use Rattle.std.{proofs.lemmas.Bool.Decides.{nat_tests}, proofs.lemmas.List.{get_or-map, length-map}}
-use Rattle.std.proofs.lemmas.List.FromFn.{get_or-map-range_with_len, length-range_with_len}
-use Rattle.arrays_core.{specs.declared.item.Item.{Item}, specs.declared.item.ItemType.{ItemType}, specs.declared.item.ItemType.TheVariants.{Nums}}
-use Rattle.arrays_core.{specs.Arrays.{ArrayValue, item_if_there, item_of}, specs.Shapes.{indices, is_index_of}}
+use Rattle.std.{proofs.Common.{◌≡◌, ◌≢◌, ℕ, zero, suc, ◌+◌, ◌-◌, ◌≤◌, ◌<◌, ℤ, List, [], ◌∷◌, length, get_or, drop, map, refl, ap, ◌∙◌, sym, subst, arith, true, false, ◌&&◌, ◌||◌, nat_eq, if◌then◌else◌, Option, None, Ok, inl, inr}, specs.List.{range_with_len}}
+use Rattle.std.{proofs.lemmas.Bool.{and_from, and_parts, cases_Bool, cond-true, cond-false, eqb-true, eqb-false, false≢true, le-leb}, proofs.lemmas.Bool.Decides.{nat_tests}, proofs.lemmas.List.{get_or-map, length-map}, proofs.lemmas.List.FromFn.{get_or-map-range_with_len, length-range_with_len}}
+use Rattle.arrays_core.{specs.declared.item.Item.{Item}, specs.declared.item.ItemType.{ItemType}, specs.declared.item.ItemType.TheVariants.{Nums}, specs.Arrays.{ArrayValue, item_if_there, item_of}, specs.Shapes.{indices, is_index_of}}
 use Rattle.item_fns.specs.Items.{number_item}
-use Rattle.index_region.{specs.Arguments.{counts_as_numbers, has_one_item, is_list, number_of}, specs.Axes.{places_along}, specs.Boxes.{is_within}}
-use Rattle.index_region.{specs.Checks.{Form}, proofs.Passing.{gives, limited_gives}}
-use Rattle.change_core.{specs.Tightness.{Covered, Each, IsTight}, specs.Sourced.{other}, specs.Ways.{everywhere}, proofs.Sourced.{two_arrays_tight}}
-use Rattle.change_core.{proofs.UsedWays.{each_all, each_map, everywhere-covered}, proofs.ReadAlike.{item_same}}
-use Rattle.search_fns.specs.Decode.{decode_form, decode_item, decoded, digit_at, digit_count, radix_at, decode_rule, digits_use}
-use Rattle.search_fns.specs.Laws.Reads.{all_read_alike, one_read, with_axes}
+use Rattle.index_region.{specs.Arguments.{counts_as_numbers, has_one_item, is_list, number_of}, specs.Axes.{places_along}, specs.Boxes.{is_within}, specs.Checks.{Form}, proofs.Passing.{gives, limited_gives}}
+use Rattle.change_core.{specs.Tightness.{Covered, Each, IsTight}, specs.Sourced.{other}, specs.Ways.{everywhere}, proofs.Sourced.{two_arrays_tight}, proofs.UsedWays.{each_all, each_map, everywhere-covered}, proofs.ReadAlike.{item_same}}
+use Rattle.search_fns.{specs.Decode.{decode_form, decode_item, decoded, digit_at, digit_count, radix_at, decode_rule, digits_use}, specs.Laws.Reads.{all_read_alike, one_read, with_axes}}
 
 -- what the checks have shown
 record DecodeFacts (a b : ArrayValue) (f : Form) : Type 0 where

@@ -1,15 +1,11 @@
 -- The law of encode.
-use Rattle.std.proofs.Common.{◌≡◌, ℕ, ◌+◌, ◌-◌, ◌<◌, ◌≤◌, ℤ, pos, List, [], ◌∷◌, ◌++◌, length, get_or, drop, map, refl, ap, ◌∙◌, sym, subst, arith, true, false, ◌&&◌, Ok, length-drop, get_or-drop}
-use Rattle.std.{specs.List.{range_with_len}, proofs.lemmas.Bool.{and_parts, and_from, false≢true, le-leb, leb-true}}
+use Rattle.std.{proofs.Common.{◌≡◌, ℕ, ◌+◌, ◌-◌, ◌<◌, ◌≤◌, ℤ, pos, List, [], ◌∷◌, ◌++◌, length, get_or, drop, map, refl, ap, ◌∙◌, sym, subst, arith, true, false, ◌&&◌, Ok, length-drop, get_or-drop}, specs.List.{range_with_len}, proofs.lemmas.Bool.{and_parts, and_from, false≢true, le-leb, leb-true}}
 use Rattle.std.proofs.lemmas.List.{ext_get_or, get_or-map, length-map}
-use Rattle.arrays_core.{specs.declared.item.Item.{Item}, specs.declared.item.ItemType.{ItemType}, specs.declared.item.ItemType.TheVariants.{Nums}}
-use Rattle.arrays_core.{specs.Arrays.{ArrayValue, item_if_there, item_of}, specs.Items.{fill, and_then}, specs.Shapes.{is_index_of, size}}
+use Rattle.arrays_core.{specs.declared.item.Item.{Item}, specs.declared.item.ItemType.{ItemType}, specs.declared.item.ItemType.TheVariants.{Nums}, specs.Arrays.{ArrayValue, item_if_there, item_of}, specs.Items.{fill, and_then}, specs.Shapes.{is_index_of, size}}
 use Rattle.item_fns.{specs.Items.{number_item}, specs.Numbers.{residue}}
 use Rattle.index_region.{specs.Arguments.{counts_as_numbers, is_list, number_of, numbers}, specs.Checks.{Form}, proofs.Passing.{gives, limited_gives}}
-use Rattle.change_core.{specs.Tightness.{Covered, IsTight}, specs.Sourced.{other}, specs.Ways.{back}, proofs.Sourced.{two_arrays_tight}}
-use Rattle.change_core.{proofs.UsedWays.{back-onto, each_map, each_range, index-drop, onto_covered, within-whole}, proofs.ReadAlike.{item_same}}
-use Rattle.search_fns.specs.Encode.{carried_through, digit, encode_form, encode_item, radix_place, encode_rule, radices_box, radices_read}
-use Rattle.search_fns.specs.Laws.Reads.{all_read_alike, one_read, place_read, with_axes}
+use Rattle.change_core.{specs.Tightness.{Covered, IsTight}, specs.Sourced.{other}, specs.Ways.{back}, proofs.Sourced.{two_arrays_tight}, proofs.UsedWays.{back-onto, each_map, each_range, index-drop, onto_covered, within-whole}, proofs.ReadAlike.{item_same}}
+use Rattle.search_fns.{specs.Encode.{carried_through, digit, encode_form, encode_item, radix_place, encode_rule, radices_box, radices_read}, specs.Laws.Reads.{all_read_alike, one_read, place_read, with_axes}}
 
 -- what the checks have shown
 pub record EncodeFacts (a b : ArrayValue) (f : Form) : Type 0 where

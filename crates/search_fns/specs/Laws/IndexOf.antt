@@ -1,10 +1,8 @@
 -- The law of index of.
 use Rattle.std.{proofs.Common.{◌≡◌, ℕ, List, length, refl, ap, subst, pos, suc, true, false, nat_eq, Ok}, specs.List.{position_or_len}}
-use Rattle.arrays_core.{specs.declared.item.Item.TheVariants.{Num}, specs.declared.item.ItemType.TheVariants.{Nums}, specs.Arrays.{ArrayValue, item_of}}
-use Rattle.arrays_core.specs.Shapes.{indices, is_index_of}
+use Rattle.arrays_core.{specs.declared.item.Item.TheVariants.{Num}, specs.declared.item.ItemType.TheVariants.{Nums}, specs.Arrays.{ArrayValue, item_of}, specs.Shapes.{indices, is_index_of}}
 use Rattle.index_region.{specs.Checks.{Form}, proofs.Passing.{gives, limited_gives}}
-use Rattle.change_core.{specs.Tightness.{IsTight}, specs.Sourced.{other}, specs.Ways.{alike, everywhere}, proofs.Sourced.{two_arrays_tight}}
-use Rattle.change_core.{proofs.UsedWays.{alike-covered, everywhere-covered}, proofs.ReadAlike.{item_same}}
+use Rattle.change_core.{specs.Tightness.{IsTight}, specs.Sourced.{other}, specs.Ways.{alike, everywhere}, proofs.Sourced.{two_arrays_tight}, proofs.UsedWays.{alike-covered, everywhere-covered}, proofs.ReadAlike.{item_same}}
 use Rattle.search_fns.{specs.IndexOf.{index_of_form, index_of_item, index_of_rule}, specs.SameItem.{same_item}, specs.Laws.Reads.{all_read_alike, one_read}}
 
 -- the result has the shape of the right argument

@@ -1,11 +1,9 @@
 -- The law of membership.
 use Rattle.std.{proofs.Common.{◌≡◌, ℕ, List, refl, ap, subst, true, false, Ok}, specs.List.{list_any}}
-use Rattle.arrays_core.{specs.declared.item.Item.TheVariants.{Num}, specs.declared.item.ItemType.TheVariants.{Nums}, specs.Arrays.{item_of}}
-use Rattle.arrays_core.specs.Shapes.{indices, is_index_of}
+use Rattle.arrays_core.{specs.declared.item.Item.TheVariants.{Num}, specs.declared.item.ItemType.TheVariants.{Nums}, specs.Arrays.{item_of}, specs.Shapes.{indices, is_index_of}}
 use Rattle.item_fns.specs.Numbers.{truth}
 use Rattle.index_region.{specs.Checks.{Form}, proofs.Passing.{limited_gives}}
-use Rattle.change_core.{specs.Tightness.{IsTight}, specs.Sourced.{other}, specs.Ways.{alike, everywhere}, proofs.Sourced.{two_arrays_tight}}
-use Rattle.change_core.{proofs.UsedWays.{alike-covered, everywhere-covered}, proofs.ReadAlike.{item_same}}
+use Rattle.change_core.{specs.Tightness.{IsTight}, specs.Sourced.{other}, specs.Ways.{alike, everywhere}, proofs.Sourced.{two_arrays_tight}, proofs.UsedWays.{alike-covered, everywhere-covered}, proofs.ReadAlike.{item_same}}
 use Rattle.search_fns.{specs.Member.{member_form, member_item, member_rule}, specs.SameItem.{same_item}, specs.Laws.Reads.{all_read_alike, one_read}}
 
 pub member_tight : IsTight member_rule

@@ -1,9 +1,7 @@
 -- Items that are read alike are the same.
-use Rattle.std.proofs.Common.{◌≡◌, ℕ, ◌+◌, ◌-◌, ◌*◌, ◌<◌, ◌≤◌, nat_le, ◌&&◌, List, [], ◌∷◌, length, get_or, map, refl, ap, ◌∙◌, sym, arith, true, Option, Some, None}
-use Rattle.std.{specs.List.{range_with_len}, proofs.lemmas.Bool.{and_from, cond-true, le-leb}, proofs.lemmas.List.{ext_get_or, get_or-map, length-map}}
+use Rattle.std.{proofs.Common.{◌≡◌, ℕ, ◌+◌, ◌-◌, ◌*◌, ◌<◌, ◌≤◌, nat_le, ◌&&◌, List, [], ◌∷◌, length, get_or, map, refl, ap, ◌∙◌, sym, arith, true, Option, Some, None}, specs.List.{range_with_len}, proofs.lemmas.Bool.{and_from, cond-true, le-leb}, proofs.lemmas.List.{ext_get_or, get_or-map, length-map}}
 use Rattle.std.proofs.lemmas.List.FromFn.{get_or-map-range_with_len, length-range_with_len}
-use Rattle.arrays_core.{specs.declared.item.Item.{Item}, specs.declared.item.ItemType.{ItemType}, specs.Arrays.{ArrayValue, item_if_there}, specs.Items.{fill}}
-use Rattle.arrays_core.{specs.Shapes.{indices, size}, proofs.Order.{get_or-indices, index_after-within, length-indices, places_before-index_after}}
+use Rattle.arrays_core.{specs.declared.item.Item.{Item}, specs.declared.item.ItemType.{ItemType}, specs.Arrays.{ArrayValue, item_if_there}, specs.Items.{fill}, specs.Shapes.{indices, size}, proofs.Order.{get_or-indices, index_after-within, length-indices, places_before-index_after}}
 use Rattle.change_core.specs.Sourced.{other}
 
 -- an array by its parts

@@ -1,11 +1,8 @@
 -- What the checks of replicate have shown, and where its copies stand.
-use Rattle.std.proofs.Common.{◌≡◌, ℕ, zero, suc, ◌<◌, ◌≤◌, true, ◌&&◌, ◌||◌, nat_eq, Ok, List, [], ◌∷◌, length, get_or, set, insert, remove, refl, ap, arith}
-use Rattle.std.specs.Prelude.{max}
+use Rattle.std.{proofs.Common.{◌≡◌, ℕ, zero, suc, ◌<◌, ◌≤◌, true, ◌&&◌, ◌||◌, nat_eq, Ok, List, [], ◌∷◌, length, get_or, set, insert, remove, refl, ap, arith}, specs.Prelude.{max}}
 use Rattle.arrays_core.{specs.declared.item.ItemType.{ItemType}, specs.Arrays.{ArrayValue}, specs.Shapes.{is_index_of}, proofs.Shapes.{as_long, head_of}}
 use Rattle.function_names.{specs.declared.along.Along.{Along}, specs.Axes.{is_axis, axis_at}}
-use Rattle.index_region.{specs.Checks.{form_of, Form}, specs.Axes.{places_along}}
-use Rattle.index_region.{specs.Arguments.{is_list, has_one_item, counts_as_numbers, none_negative, numbers}, proofs.Passing.{gives, limited_gives}}
-use Rattle.index_region.proofs.RowIndices.{axis_below}
+use Rattle.index_region.{specs.Checks.{form_of, Form}, specs.Axes.{places_along}, specs.Arguments.{is_list, has_one_item, counts_as_numbers, none_negative, numbers}, proofs.Passing.{gives, limited_gives}, proofs.RowIndices.{axis_below}}
 use Rattle.selection_fns.specs.Replicate.{replicated_shape, replicate_form}
 
 -- an index list of a shape with one axis exchanged

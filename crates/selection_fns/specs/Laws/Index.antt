@@ -1,12 +1,8 @@
 -- The law of indexed reference.
-use Rattle.std.proofs.Common.{◌≡◌, ℕ, zero, suc, ◌+◌, List, [], ◌∷◌, ◌++◌, length, take, drop, refl, ap, ◌∙◌, sym, arith, true, false, Bool, not, ◌&&◌, nat_eq, Some, None, Result, Ok, IsOk}
-use Rattle.std.{specs.List.{list_all}, proofs.lemmas.Bool.{and_parts, and_from, false≢true, eqb-true}, proofs.lemmas.List.{drop-drop}}
-use Rattle.arrays_core.{specs.declared.item.Kind.{Kind}, specs.declared.item.Kind.TheVariants.{Rank, Domain, Index}}
-use Rattle.arrays_core.{specs.Arrays.{ArrayValue, item_of, item_if_there}, specs.Shapes.{size, is_index_of}}
-use Rattle.index_region.{specs.Arguments.{is_scalar}, specs.Boxes.{Interval, is_within, whole_of}, specs.Checks.{Form, check, form_of, limited}}
-use Rattle.index_region.{specs.Sources.{Place, item_from}, proofs.Passing.{gives, limited_gives}}
-use Rattle.change_core.{specs.Tightness.{AllCovered, IsTight, blank, frames, items_read}, specs.Places.{lies_in}, specs.Reaches.{is_moved}}
-use Rattle.change_core.{proofs.Sourced.{item_from_same_one}, proofs.UsedWays.{index-take, index-drop, within-whole}, proofs.ReadAlike.{item_same}}
+use Rattle.std.{proofs.Common.{◌≡◌, ℕ, zero, suc, ◌+◌, List, [], ◌∷◌, ◌++◌, length, take, drop, refl, ap, ◌∙◌, sym, arith, true, false, Bool, not, ◌&&◌, nat_eq, Some, None, Result, Ok, IsOk}, specs.List.{list_all}, proofs.lemmas.Bool.{and_parts, and_from, false≢true, eqb-true}, proofs.lemmas.List.{drop-drop}}
+use Rattle.arrays_core.{specs.declared.item.Kind.{Kind}, specs.declared.item.Kind.TheVariants.{Rank, Domain, Index}, specs.Arrays.{ArrayValue, item_of, item_if_there}, specs.Shapes.{size, is_index_of}}
+use Rattle.index_region.{specs.Arguments.{is_scalar}, specs.Boxes.{Interval, is_within, whole_of}, specs.Checks.{Form, check, form_of, limited}, specs.Sources.{Place, item_from}, proofs.Passing.{gives, limited_gives}}
+use Rattle.change_core.{specs.Tightness.{AllCovered, IsTight, blank, frames, items_read}, specs.Places.{lies_in}, specs.Reaches.{is_moved}, proofs.Sourced.{item_from_same_one}, proofs.UsedWays.{index-take, index-drop, within-whole}, proofs.ReadAlike.{item_same}}
 use Rattle.selection_fns.specs.Index.{Position, are_numbers, are_on, count_written, indexed_shape, index_form, index_item, of_array_and_positions, source_index, written_positions, indexed_box, index_rule, index_uses, place_named, position_box, position_uses, unselected}
 use Rattle.selection_fns.specs.Laws.LeastBoxes.{beside-within, least_rank, least_within}
 

@@ -1,8 +1,7 @@
 -- The law of the index generator.
 use Rattle.std.proofs.Common.{◌≡◌, ℕ, List, [], ◌∷◌, length, true, ap, arith, Ok, IsOk}
 use Rattle.arrays_core.{specs.Arrays.{ArrayValue, IsArray}, specs.Shapes.{is_index_of}}
-use Rattle.change_core.{specs.Tightness.{AllCovered, Each, IsTight, frames, items_read}, specs.Sourced.{uses_of_one}, specs.Ways.{unread}}
-use Rattle.change_core.proofs.UsedWays.{unread-covered}
+use Rattle.change_core.{specs.Tightness.{AllCovered, Each, IsTight, frames, items_read}, specs.Sourced.{uses_of_one}, specs.Ways.{unread}, proofs.UsedWays.{unread-covered}}
 use Rattle.index_region.{specs.ArgumentLists.{of_one_argument}, specs.Checks.{Form}}
 use Rattle.selection_fns.specs.IndexGenerator.{generator_form, generator_item, generator_rule}
 

@@ -1,12 +1,10 @@
 -- The growth of indexed reference.
-use Rattle.std.proofs.Common.{◌≡◌, ℕ, ◌+◌, ◌<◌, ◌≤◌, ap, sym, ◌∙◌, refl, arith, true, false, Bool, not, ◌&&◌, nat_le, nat_eq, List, [], ◌∷◌, length, get_or, drop, Some, None, Ok, unwrap_or, inl, inr}
-use Rattle.std.{specs.List.{list_all}, proofs.lemmas.Bool.{and_parts, and_from, cases_Bool, cond-true, cond-false, eqb-true, false≢true, leb-true, le-leb}}
-use Rattle.arrays_core.{specs.declared.item.Item.{Item}, specs.Arrays.{ArrayValue, IsArray, item_if_there}, specs.Items.{fill}, specs.Shapes.{is_index_of}}
-use Rattle.arrays_core.specs.Growth.{one_longer}
+use Rattle.std.{proofs.Common.{◌≡◌, ℕ, ◌+◌, ◌<◌, ◌≤◌, ap, sym, ◌∙◌, refl, arith, true, false, Bool, not, ◌&&◌, nat_le, nat_eq, List, [], ◌∷◌, length, get_or, drop, Some, None, Ok, unwrap_or, inl, inr}, specs.List.{list_all}}
+use Rattle.std.proofs.lemmas.Bool.{and_parts, and_from, cases_Bool, cond-true, cond-false, eqb-true, false≢true, leb-true, le-leb}
+use Rattle.arrays_core.{specs.declared.item.Item.{Item}, specs.Arrays.{ArrayValue, IsArray, item_if_there}, specs.Items.{fill}, specs.Shapes.{is_index_of}, specs.Growth.{one_longer}}
 use Rattle.index_region.{specs.Arguments.{is_scalar}, specs.Checks.{Form, form_of}, proofs.Passing.{gives, limited_gives}}
 use Rattle.change_core.{specs.Growth.{AllGrew, IsGrown, IsGrowing}, proofs.Growing.{item_kept, longer_form, shape_grown, type_grown}}
-use Rattle.selection_fns.specs.Index.{Position, are_numbers, are_on, indexed_shape, index_form, index_item, source_index, written_positions, index_rule}
-use Rattle.selection_fns.specs.Growth.{index_grows}
+use Rattle.selection_fns.{specs.Index.{Position, are_numbers, are_on, indexed_shape, index_form, index_item, source_index, written_positions, index_rule}, specs.Growth.{index_grows}}
 
 -- where no position grew, all are the same
 positions_same : (marks : List Bool) (olds news : List ArrayValue) → AllGrew marks olds news → list_all (λ m. not m) marks ≡ true → olds ≡ news

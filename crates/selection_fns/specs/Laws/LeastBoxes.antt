@@ -1,6 +1,5 @@
 -- The least box of the places that pass a test has each of them.
-use Rattle.std.proofs.Common.{◌≡◌, ℕ, zero, suc, ◌<◌, List, [], ◌∷◌, ◌++◌, length, take, drop, refl, ap, ◌∙◌, sym, subst, arith, true, Bool, Option, Some, None, inl, inr}
-use Rattle.std.proofs.lemmas.Bool.{and_parts, and_from, le-leb, false≢true, cases_Bool, cond-true, cond-false, cases_order}
+use Rattle.std.{proofs.Common.{◌≡◌, ℕ, zero, suc, ◌<◌, List, [], ◌∷◌, ◌++◌, length, take, drop, refl, ap, ◌∙◌, sym, subst, arith, true, Bool, Option, Some, None, inl, inr}, proofs.lemmas.Bool.{and_parts, and_from, le-leb, false≢true, cases_Bool, cond-true, cond-false, cases_order}}
 use Rattle.arrays_core.{specs.Shapes.{size, is_index_of, index_after, places_before}, proofs.Shapes.{places_below}, proofs.Order.{index_after-places_before}}
 use Rattle.index_region.{specs.Boxes.{Interval, is_within, join_boxes}, proofs.Boxes.{length-hull, length-index_after, within-hull_left, within-hull_right}}
 use Rattle.change_core.specs.Reaches.{is_moved}

@@ -1,8 +1,6 @@
 -- The places that replicate copies, one after another.
-use Rattle.std.proofs.Common.{◌≡◌, ℕ, suc, ◌+◌, ◌-◌, ◌<◌, ◌≤◌, Bool, true, false, nat_le, if◌then◌else◌, List, [], ◌∷◌, ◌++◌, get_or, replicate, refl, ap, sym, ◌∙◌, arith}
-use Rattle.std.{specs.Prelude.{sum}, proofs.lemmas.Bool.Decides.{nat_tests}}
-use Rattle.std.proofs.lemmas.List.{map-id, length-replicate, get_or-replicate, get_or_append_left, get_or-append_right}
-use Rattle.std.proofs.lemmas.List.Sums.{sum-map, sum_by-cons}
+use Rattle.std.{proofs.Common.{◌≡◌, ℕ, suc, ◌+◌, ◌-◌, ◌<◌, ◌≤◌, Bool, true, false, nat_le, if◌then◌else◌, List, [], ◌∷◌, ◌++◌, get_or, replicate, refl, ap, sym, ◌∙◌, arith}, specs.Prelude.{sum}, proofs.lemmas.Bool.Decides.{nat_tests}}
+use Rattle.std.{proofs.lemmas.List.{map-id, length-replicate, get_or-replicate, get_or_append_left, get_or-append_right}, proofs.lemmas.List.Sums.{sum-map, sum_by-cons}}
 use Rattle.selection_fns.specs.Replicate.{places_repeated, maker}
 
 pub sum_front : (x : ℕ) (xs : List ℕ) → sum (x ∷ xs) ≡ x + sum xs

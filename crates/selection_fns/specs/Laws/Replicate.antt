@@ -1,15 +1,11 @@
 -- The law of replicate.
-use Rattle.std.proofs.Common.{◌≡◌, ℕ, zero, suc, ◌-◌, ◌<◌, ◌≤◌, true, false, nat_eq, nat_le, List, [], ◌∷◌, length, take, get_or, insert, remove, set, refl, sym, ap, ◌∙◌, subst, arith, Option, Ok, if◌then◌else◌, inl, inr}
-use Rattle.std.{specs.Prelude.{max, sum}, proofs.lemmas.Bool.{cases_Bool, cond-true, cond-false, eqb-false, leb-true}, proofs.lemmas.Bool.Decides.{nat_tests}}
-use Rattle.std.proofs.lemmas.List.{get_or_default}
+use Rattle.std.{proofs.Common.{◌≡◌, ℕ, zero, suc, ◌-◌, ◌<◌, ◌≤◌, true, false, nat_eq, nat_le, List, [], ◌∷◌, length, take, get_or, insert, remove, set, refl, sym, ap, ◌∙◌, subst, arith, Option, Ok, if◌then◌else◌, inl, inr}, specs.Prelude.{max, sum}}
+use Rattle.std.{proofs.lemmas.Bool.{cases_Bool, cond-true, cond-false, eqb-false, leb-true}, proofs.lemmas.Bool.Decides.{nat_tests}, proofs.lemmas.List.{get_or_default}}
 use Rattle.arrays_core.{specs.Arrays.{ArrayValue}, specs.Shapes.{is_index_of}}
 use Rattle.function_names.{specs.declared.along.Along.{Along}, specs.Axes.{axis_at}}
-use Rattle.index_region.{specs.Arguments.{is_scalar}, specs.Axes.{places_along}, specs.Boxes.{Interval, is_within}, specs.Checks.{Form}}
-use Rattle.index_region.proofs.RowIndices.{axis_below}
-use Rattle.change_core.{specs.Tightness.{Covered, IsTight}, specs.Reaches.{is_moved}, specs.Sourced.{right_used}, proofs.Sourced.{selected_sourced-tight}}
-use Rattle.change_core.proofs.UsedWays.{Follows, within-set, within-whole}
-use Rattle.selection_fns.specs.Replicate.{times, copied_place, replicate_form, replicate_source, copied_interval, replicate_box, replicate_rule}
-use Rattle.selection_fns.{specs.Laws.CopiedPlaces.{exchanged_there, is_copied, replicate_gives}, specs.Laws.RepeatedPlaces.{maker_is_walk, sum_front, walk}}
+use Rattle.index_region.{specs.Arguments.{is_scalar}, specs.Axes.{places_along}, specs.Boxes.{Interval, is_within}, specs.Checks.{Form}, proofs.RowIndices.{axis_below}}
+use Rattle.change_core.{specs.Tightness.{Covered, IsTight}, specs.Reaches.{is_moved}, specs.Sourced.{right_used}, proofs.Sourced.{selected_sourced-tight}, proofs.UsedWays.{Follows, within-set, within-whole}}
+use Rattle.selection_fns.{specs.Replicate.{times, copied_place, replicate_form, replicate_source, copied_interval, replicate_box, replicate_rule}, specs.Laws.CopiedPlaces.{exchanged_there, is_copied, replicate_gives}, specs.Laws.RepeatedPlaces.{maker_is_walk, sum_front, walk}}
 
 past : (i count : ℕ) → nat_le i count ≡ false → count < i
 past i count f = grind (arith, nat_tests)

@@ -1,15 +1,11 @@
 -- All that changes of a catenation lies in the boxes of its rule.
 use Rattle.std.proofs.Common.{◌≡◌, ◌≤◌, ◌<◌, ◌+◌, ◌-◌, ℕ, zero, suc, Bool, true, false, ◌&&◌, nat_eq, nat_le, if◌then◌else◌, List, [], ◌∷◌, length, get_or, set, insert, remove, refl, sym, ap, ◌∙◌, subst, arith, Some}
 use Rattle.std.proofs.lemmas.Bool.{and_parts, and_from, leb-true, leb-false, le-leb, false≢true, cond-true, cond-false, false_from_ne_true, eqb-true}
-use Rattle.arrays_core.{specs.declared.item.Item.{Item}, specs.declared.item.Kind.TheVariants.{Axis, Rank, Length, Domain}, specs.Arrays.{ArrayValue}}
-use Rattle.arrays_core.{specs.Shapes.{is_index_of}, proofs.Shapes.{as_long, head_at}, proofs.NextIndex.{drop_inside}}
+use Rattle.arrays_core.{specs.declared.item.Item.{Item}, specs.declared.item.Kind.TheVariants.{Axis, Rank, Length, Domain}, specs.Arrays.{ArrayValue}, specs.Shapes.{is_index_of}, proofs.Shapes.{as_long, head_at}, proofs.NextIndex.{drop_inside}}
 use Rattle.function_names.{specs.declared.along.Along.{Along}, specs.Axes.{is_axis, axis_at}}
-use Rattle.index_region.{specs.Arguments.{is_scalar}, specs.Boxes.{Interval, is_within, fits, whole_of}, specs.Checks.{check, limited}}
-use Rattle.index_region.specs.Sources.{Source, Place}
-use Rattle.change_core.{specs.Tightness.{IsTight, Covered, Each}, specs.Reaches.{is_moved}, specs.Sourced.{left_of, right_of, left_used, right_used, other}}
-use Rattle.change_core.{proofs.Sourced.{two_sourced-tight}, proofs.UsedWays.{within-whole, within-set, across-covered}}
-use Rattle.structural_fns.specs.Catenate.{joined_rank, joined_places, other_axes, ranks_join, axes_agree, types_join, joined_type, joined_shape, in_side, catenate_form, catenate_source, one_place, side_box, catenate_left_box, catenate_right_box, catenate_rule}
-use Rattle.structural_fns.specs.Laws.JoinedAxes.{JoinedFacts, joined_facts}
+use Rattle.index_region.{specs.Arguments.{is_scalar}, specs.Boxes.{Interval, is_within, fits, whole_of}, specs.Checks.{check, limited}, specs.Sources.{Source, Place}}
+use Rattle.change_core.{specs.Tightness.{IsTight, Covered, Each}, specs.Reaches.{is_moved}, specs.Sourced.{left_of, right_of, left_used, right_used, other}, proofs.Sourced.{two_sourced-tight}, proofs.UsedWays.{within-whole, within-set, across-covered}}
+use Rattle.structural_fns.{specs.Catenate.{joined_rank, joined_places, other_axes, ranks_join, axes_agree, types_join, joined_type, joined_shape, in_side, catenate_form, catenate_source, one_place, side_box, catenate_left_box, catenate_right_box, catenate_rule}, specs.Laws.JoinedAxes.{JoinedFacts, joined_facts}}
 
 -- ---- neither checks nor types see more of the items than how many there are
 

@@ -1,10 +1,8 @@
 -- What the checks of take and drop have shown, and the axes that the counts are for.
-use Rattle.std.proofs.Common.{◌≡◌, ◌≤◌, ℕ, zero, suc, Bool, true, false, if◌then◌else◌, nat_eq, List, [], length, replicate, refl, ap, ◌∙◌, Ok}
-use Rattle.std.{proofs.lemmas.Bool.{and_parts, eqb-true, leb-true}, proofs.lemmas.List.{length-map}}
+use Rattle.std.{proofs.Common.{◌≡◌, ◌≤◌, ℕ, zero, suc, Bool, true, false, if◌then◌else◌, nat_eq, List, [], length, replicate, refl, ap, ◌∙◌, Ok}, proofs.lemmas.Bool.{and_parts, eqb-true, leb-true}, proofs.lemmas.List.{length-map}}
 use Rattle.arrays_core.{specs.Arrays.{ArrayValue}, specs.Limits.{most_axes}, specs.Shapes.{is_index_of}}
 use Rattle.change_core.proofs.UsedWays.{within-whole}
-use Rattle.index_region.{specs.Arguments.{is_scalar, is_list, counts_as_numbers, number_of, numbers}, specs.Boxes.{Interval, fits, is_within, whole_of}}
-use Rattle.index_region.{specs.Checks.{Form, is_within_limits}, proofs.Passing.{gives, limited_gives}}
+use Rattle.index_region.{specs.Arguments.{is_scalar, is_list, counts_as_numbers, number_of, numbers}, specs.Boxes.{Interval, fits, is_within, whole_of}, specs.Checks.{Form, is_within_limits}, proofs.Passing.{gives, limited_gives}}
 use Rattle.structural_fns.specs.AxisCounts.{counted_shape, counted_form, uncounted, counted_box}
 
 -- what the checks have shown

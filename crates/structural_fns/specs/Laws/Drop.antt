@@ -1,13 +1,9 @@
 -- All that changes of a drop lies in the box of its rule.
-use Rattle.std.proofs.Common.{◌≡◌, ◌≤◌, ◌-◌, ℕ, ℤ, pos, negsuc, unsigned_abs, true, List, [], ◌∷◌, length, refl, ap, ◌∙◌, arith, Ok}
-use Rattle.std.proofs.lemmas.Bool.{and_parts, and_from, leb-true, le-leb, false≢true}
+use Rattle.std.{proofs.Common.{◌≡◌, ◌≤◌, ◌-◌, ℕ, ℤ, pos, negsuc, unsigned_abs, true, List, [], ◌∷◌, length, refl, ap, ◌∙◌, arith, Ok}, proofs.lemmas.Bool.{and_parts, and_from, leb-true, le-leb, false≢true}}
 use Rattle.arrays_core.{specs.Arrays.{ArrayValue}, specs.Shapes.{is_index_of}}
 use Rattle.index_region.{specs.Arguments.{numbers}, specs.Boxes.{is_within}, specs.Checks.{Form}}
-use Rattle.change_core.{specs.Tightness.{IsTight, Covered, Each}, specs.Sourced.{right_used}, specs.Ways.{IsSoundAxis, lengths, sources}}
-use Rattle.change_core.{proofs.Sourced.{selected_sourced-tight}, proofs.UsedWays.{images-within}}
-use Rattle.structural_fns.specs.AxisCounts.{counted_shape, counted_box}
-use Rattle.structural_fns.specs.Drop.{kept_place, kept_places, drop_form, drop_source, dropped_shape, kept, kept_axes, drop_box, drop_rule}
-use Rattle.structural_fns.specs.Laws.CountedAxes.{counted_facts, counted_fits, counted_within}
+use Rattle.change_core.{specs.Tightness.{IsTight, Covered, Each}, specs.Sourced.{right_used}, specs.Ways.{IsSoundAxis, lengths, sources}, proofs.Sourced.{selected_sourced-tight}, proofs.UsedWays.{images-within}}
+use Rattle.structural_fns.{specs.AxisCounts.{counted_shape, counted_box}, specs.Drop.{kept_place, kept_places, drop_form, drop_source, dropped_shape, kept, kept_axes, drop_box, drop_rule}, specs.Laws.CountedAxes.{counted_facts, counted_fits, counted_within}}
 
 kept_sound : (n : ℕ) (count : ℤ) → IsSoundAxis (kept n count)
 kept_sound n (pos count) = record { low = λ s i l u f h k. omega arith; high = λ s i l u f h k. omega arith }

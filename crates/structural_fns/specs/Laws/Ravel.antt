@@ -1,10 +1,8 @@
 -- All that changes of a ravel lies in the box of its rule.
-use Rattle.std.proofs.Common.{◌≡◌, ◌≤◌, ◌+◌, ◌-◌, ℕ, List, [], ◌∷◌, get_or, refl, ap, subst, arith, true, ◌&&◌, nat_le, Ok}
-use Rattle.std.proofs.lemmas.Bool.{and_parts, and_from, leb-true, le-leb, false≢true}
+use Rattle.std.{proofs.Common.{◌≡◌, ◌≤◌, ◌+◌, ◌-◌, ℕ, List, [], ◌∷◌, get_or, refl, ap, subst, arith, true, ◌&&◌, nat_le, Ok}, proofs.lemmas.Bool.{and_parts, and_from, leb-true, le-leb, false≢true}}
 use Rattle.arrays_core.{specs.Arrays.{ArrayValue}, specs.Shapes.{size, places_before, index_after, is_index_of}, proofs.Order.{places_before-index_after}}
 use Rattle.index_region.{specs.Boxes.{Interval, is_within}, specs.Checks.{Form}, proofs.Passing.{limited_gives}}
-use Rattle.change_core.{specs.Tightness.{IsTight, Covered}, specs.Places.{first_of_box, last_of_box}, specs.Sourced.{left_used}}
-use Rattle.change_core.{proofs.Sourced.{one_sourced-tight}, proofs.UsedPlaces.{offset_between}}
+use Rattle.change_core.{specs.Tightness.{IsTight, Covered}, specs.Places.{first_of_box, last_of_box}, specs.Sourced.{left_used}, proofs.Sourced.{one_sourced-tight}, proofs.UsedPlaces.{offset_between}}
 use Rattle.structural_fns.specs.Ravel.{ravel_form, ravel_source, ravel_box, ravel_rule}
 
 abbrev ravelled : ArrayValue → List Interval → List Interval

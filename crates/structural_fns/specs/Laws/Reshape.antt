@@ -1,12 +1,9 @@
 -- All that changes of a reshape lies in the box of its rule.
 use Rattle.std.proofs.Common.{◌≡◌, ◌%◌, List, ℕ, refl, ap, subst, true, ◌&&◌, Ok}
 use Rattle.arrays_core.{specs.Arrays.{ArrayValue}, specs.Shapes.{size, places_before, index_after}}
-use Rattle.index_region.{specs.Arguments.{is_list, has_items, counts_as_numbers, numbers, none_negative}, specs.Boxes.{is_within}, specs.Checks.{Form}}
-use Rattle.index_region.proofs.Passing.{gives, limited_gives}
-use Rattle.change_core.{specs.Tightness.{IsTight, Covered}, specs.Reaches.{is_moved}, specs.Sourced.{right_used}, proofs.Sourced.{selected_sourced-tight}}
-use Rattle.change_core.proofs.UsedPlaces.{by_place-covered}
-use Rattle.structural_fns.specs.Reshape.{magnitudes, reshape_form, reshape_source, reshape_box, reshape_rule}
-use Rattle.structural_fns.specs.Laws.PlacesOrFill.{none_left, where_there}
+use Rattle.index_region.{specs.Arguments.{is_list, has_items, counts_as_numbers, numbers, none_negative}, specs.Boxes.{is_within}, specs.Checks.{Form}, proofs.Passing.{gives, limited_gives}}
+use Rattle.change_core.{specs.Tightness.{IsTight, Covered}, specs.Reaches.{is_moved}, specs.Sourced.{right_used}, proofs.Sourced.{selected_sourced-tight}, proofs.UsedPlaces.{by_place-covered}}
+use Rattle.structural_fns.{specs.Reshape.{magnitudes, reshape_form, reshape_source, reshape_box, reshape_rule}, specs.Laws.PlacesOrFill.{none_left, where_there}}
 
 reshape_shaped : (a b : ArrayValue) (f : Form) → reshape_form a b ≡ Ok f → f.shape ≡ magnitudes a
 reshape_shaped a b f e =

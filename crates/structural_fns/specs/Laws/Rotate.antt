@@ -1,16 +1,12 @@
 -- All that changes of A⌽B lies in its boxes.
 use Rattle.std.proofs.Common.{◌≡◌, ℕ, zero, suc, ◌≤◌, ◌<◌, true, false, eqb, ◌&&◌, nat_le, List, [], ◌∷◌, length, get_or, set, insert, remove, map, refl, sym, subst, ◌∙◌, arith, inl, inr, Ok, Result, if◌then◌else◌}
 use Rattle.std.proofs.lemmas.Bool.{and_parts, and_from, leb-true, le-leb, eqb-true, eqb-false, cases_Bool, cond-true, cond-false, false≢true}
-use Rattle.arrays_core.{specs.declared.item.Item.{Item}, specs.declared.item.Kind.{Kind}, specs.Shapes.{size, is_index_of}}
-use Rattle.arrays_core.{specs.Arrays.{ArrayValue, item_if_there}, proofs.Shapes.{as_long}}
+use Rattle.arrays_core.{specs.declared.item.Item.{Item}, specs.declared.item.Kind.{Kind}, specs.Shapes.{size, is_index_of}, specs.Arrays.{ArrayValue, item_if_there}, proofs.Shapes.{as_long}}
 use Rattle.scalar_fns.{specs.ScalarExtension.{extended}, specs.Laws.OneItem.{extended_same, only_index}}
 use Rattle.function_names.{specs.declared.along.Along.{Along}, specs.Axes.{is_axis, axis_at}}
-use Rattle.index_region.{specs.Answers.{IsPlaceOf}, specs.Arguments.{has_one_item, number_of}, specs.Axes.{places_along}, specs.Boxes.{Interval, is_within}}
-use Rattle.index_region.{specs.Checks.{Form}, specs.Sources.{Place, item_from}, proofs.Passing.{passed}, proofs.RowIndices.{axis_below}}
-use Rattle.change_core.{specs.Tightness.{Covered, Each, IsTight}, specs.Reaches.{is_moved}, specs.Sourced.{other, right_used}}
-use Rattle.change_core.{proofs.Sourced.{item_from_same, two_arrays_tight}, proofs.UsedWays.{across-covered, within-set, within-whole}}
-use Rattle.structural_fns.specs.Rotate.{rotate_form, rotate_item, rotate_source, rotated_place, amounts_box, amounts_use, rotate_box, rotate_rule}
-use Rattle.structural_fns.specs.Laws.RotatedLines.{rotation_facts, removed_inside}
+use Rattle.index_region.{specs.Answers.{IsPlaceOf}, specs.Arguments.{has_one_item, number_of}, specs.Axes.{places_along}, specs.Boxes.{Interval, is_within}, specs.Checks.{Form}, specs.Sources.{Place, item_from}, proofs.Passing.{passed}, proofs.RowIndices.{axis_below}}
+use Rattle.change_core.{specs.Tightness.{Covered, Each, IsTight}, specs.Reaches.{is_moved}, specs.Sourced.{other, right_used}, proofs.Sourced.{item_from_same, two_arrays_tight}, proofs.UsedWays.{across-covered, within-set, within-whole}}
+use Rattle.structural_fns.{specs.Rotate.{rotate_form, rotate_item, rotate_source, rotated_place, amounts_box, amounts_use, rotate_box, rotate_rule}, specs.Laws.RotatedLines.{rotation_facts, removed_inside}}
 
 -- an index of an index list lies on its axis
 pub record IsOnAxis (shape index : List ℕ) (axis d e : ℕ) : Type 0 where

@@ -1,6 +1,5 @@
 -- What the checks of rotate have shown of the lines.
-use Rattle.std.proofs.Common.{◌≡◌, ℕ, zero, suc, ◌<◌, Bool, true, ◌&&◌, ◌||◌, nat_eq, nat_le, List, [], ◌∷◌, length, remove, bytes_eq, inl, inr, arith}
-use Rattle.std.{proofs.lemmas.Bool.{and_parts, and_from, or_cases, eqb-true}, proofs.lemmas.Slice.Eq.{bytes_eq-Decides}}
+use Rattle.std.{proofs.Common.{◌≡◌, ℕ, zero, suc, ◌<◌, Bool, true, ◌&&◌, ◌||◌, nat_eq, nat_le, List, [], ◌∷◌, length, remove, bytes_eq, inl, inr, arith}, proofs.lemmas.Bool.{and_parts, and_from, or_cases, eqb-true}, proofs.lemmas.Slice.Eq.{bytes_eq-Decides}}
 use Rattle.arrays_core.{specs.Arrays.{ArrayValue}, specs.Shapes.{is_index_of}, proofs.Shapes.{head_of}}
 use Rattle.function_names.{specs.declared.along.Along.{Along}, specs.Axes.{is_axis, axis_at}}
 use Rattle.index_region.{specs.Arguments.{has_one_item, counts_as_numbers}, specs.Answers.{IsPlaceOf}, proofs.Passing.{passed, place_inside}}

@@ -1,6 +1,5 @@
 -- The axes that the sides of catenate share.
-use Rattle.std.proofs.Common.{◌≡◌, ℕ, suc, ◌+◌, ◌<◌, ◌≤◌, Bool, true, false, ◌&&◌, ◌||◌, if◌then◌else◌, nat_eq, nat_le, List, length, remove, refl, sym, ◌∙◌, inl, inr, arith}
-use Rattle.std.{proofs.lemmas.Bool.{and_parts, or_cases, eqb-true, eqb-false, leb-true, true≢false}, proofs.lemmas.List.Edits.{length-remove}}
+use Rattle.std.{proofs.Common.{◌≡◌, ℕ, suc, ◌+◌, ◌<◌, ◌≤◌, Bool, true, false, ◌&&◌, ◌||◌, if◌then◌else◌, nat_eq, nat_le, List, length, remove, refl, sym, ◌∙◌, inl, inr, arith}, proofs.lemmas.Bool.{and_parts, or_cases, eqb-true, eqb-false, leb-true, true≢false}, proofs.lemmas.List.Edits.{length-remove}}
 use Rattle.arrays_core.specs.Arrays.{ArrayValue}
 use Rattle.index_region.specs.Arguments.{is_scalar}
 use Rattle.structural_fns.specs.Catenate.{joined_rank, other_axes, ranks_join}

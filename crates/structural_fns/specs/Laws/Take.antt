@@ -2,11 +2,9 @@
 use Rattle.std.proofs.Common.{◌≡◌, ℕ, ℤ, pos, negsuc, unsigned_abs, true, List, [], ◌∷◌, length, map, refl, ap, ◌∙◌, arith, Ok}
 use Rattle.arrays_core.{specs.Arrays.{ArrayValue}, specs.Shapes.{is_index_of}}
 use Rattle.index_region.{specs.Arguments.{numbers}, specs.Boxes.{is_within}, specs.Checks.{Form}}
-use Rattle.change_core.{specs.Tightness.{IsTight, Covered, Each}, specs.Sourced.{right_used}, specs.Ways.{IsSoundAxis, lengths, sources, images}}
-use Rattle.change_core.{proofs.Sourced.{selected_sourced-tight}, proofs.UsedWays.{images-within}}
-use Rattle.structural_fns.{specs.Reshape.{magnitudes}, specs.AxisCounts.{counted_shape, uncounted, counted_box}}
-use Rattle.structural_fns.specs.Take.{taken_place, taken_places, take_form, take_source, taken, taken_axes, take_box, take_rule}
-use Rattle.structural_fns.{specs.Laws.CountedAxes.{counted_facts, counted_fits, counted_within}, specs.Laws.PlacesOrFill.{none_left, where_there}}
+use Rattle.change_core.{specs.Tightness.{IsTight, Covered, Each}, specs.Sourced.{right_used}, specs.Ways.{IsSoundAxis, lengths, sources, images}, proofs.Sourced.{selected_sourced-tight}, proofs.UsedWays.{images-within}}
+use Rattle.structural_fns.{specs.Reshape.{magnitudes}, specs.AxisCounts.{counted_shape, uncounted, counted_box}, specs.Take.{taken_place, taken_places, take_form, take_source, taken, taken_axes, take_box, take_rule}, specs.Laws.CountedAxes.{counted_facts, counted_fits, counted_within}}
+use Rattle.structural_fns.specs.Laws.PlacesOrFill.{none_left, where_there}
 
 taken_sound : (n : ℕ) (count : ℤ) → IsSoundAxis (taken n count)
 taken_sound n (pos count) = record { low = λ s i l u f h k. h; high = λ s i l u f h k. k }

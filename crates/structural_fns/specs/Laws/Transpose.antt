@@ -1,6 +1,5 @@
 -- All that changes of ⍉B lies in its box.
-use Rattle.std.{proofs.Common.{◌≡◌, ℕ, List, [], ◌∷◌, reverse, refl, ap, sym, ◌∙◌, true}, proofs.lemmas.Bool.{and_parts, and_from, false≢true}}
-use Rattle.std.proofs.lemmas.List.{reverse-reverse}
+use Rattle.std.{proofs.Common.{◌≡◌, ℕ, List, [], ◌∷◌, reverse, refl, ap, sym, ◌∙◌, true}, proofs.lemmas.Bool.{and_parts, and_from, false≢true}, proofs.lemmas.List.{reverse-reverse}}
 use Rattle.index_region.specs.Boxes.{Interval, is_within}
 use Rattle.change_core.{specs.Tightness.{IsTight}, proofs.Sourced.{one_sourced-tight}}
 use Rattle.structural_fns.specs.Transpose.{transpose_form, transpose_source, transpose_box, transpose_rule}

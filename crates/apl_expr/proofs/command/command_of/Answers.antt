@@ -1,19 +1,16 @@
-use Rattle.std.{proofs.Common.{◌≡◌, [], Ok, Err, subst, sym, refl, arith}, proofs.lemmas.List.{length-map, nil_from_length}, proofs.lemmas.Grind.{common_steps}}
+use Rattle.std.{proofs.Common.{Ok, Err, subst, sym, refl, arith}, proofs.lemmas.List.{length-map, nil_from_length}, proofs.lemmas.Grind.{common_steps}}
 use Rattle.apl_tokens.specs.Lexemes.{lexemes}
-use Rattle.apl_expr.{specs.declared.command.Command.{Command}, specs.declared.fault.ParseFault.{ParseFault}, specs.Lines.{IsCommand, IsLine, nothing, Nothing}}
-use Rattle.apl_expr.{specs.Changes.{IsChangeOf}, proofs.Commands.{change_ok, change_too_large}}
+use Rattle.apl_expr.{specs.declared.command.Command.{Command}, specs.declared.fault.ParseFault.{ParseFault}, specs.Lines.{IsCommand, IsLine, nothing, Nothing}, specs.Changes.{IsChangeOf}, proofs.Commands.{change_ok, change_too_large}}
 use Rattle.apl_expr.proofs.command.command_of.Goals as goal
 
 pub returns-then-is_empty : goal.returns-then-is_empty
 returns-then-is_empty c =
-    let is_nil : c.args.tokens.now ≡ [] = nil_from_length _ (grind (arith, common_steps)) in
-    (simp length-map (omega arith), subst (λ ts. IsLine (lexemes ts) Nothing) (sym is_nil) nothing, λ x. x, refl)
+    (simp length-map (omega arith), subst (λ ts. IsLine (lexemes ts) Nothing) (sym (nil_from_length _ (grind (arith, common_steps)))) nothing, λ x. x, refl)
 
 pub returns-in-Ok : goal.returns-in-Ok
 returns-in-Ok c =
     let ts = lexemes c.args.tokens.now in
-    let found = c.in-Ok.ensures in
-    subst (λ (k : Command). IsCommand ts (Ok k)) (sym found.1) (change_ok ts (simp length-map (omega arith)) found.0 found.2)
+    subst (λ (k : Command). IsCommand ts (Ok k)) (sym c.in-Ok.ensures.1) (change_ok ts (simp length-map (omega arith)) c.in-Ok.ensures.0 c.in-Ok.ensures.2)
 
 pub returns-in-Err-Limit : goal.returns-in-Err-Limit
 returns-in-Err-Limit c =

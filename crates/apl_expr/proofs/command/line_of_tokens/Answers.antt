@@ -1,6 +1,5 @@
 use Rattle.std.{proofs.Common.{Ok, Err, inr, subst}, specs.Str.{chars}}
-use Rattle.apl_expr.{specs.declared.fault.ParseFault.TheVariants.{Syntax, Limit}, specs.declared.fault.ParseFault.{ParseFault}, specs.Lines.{IsCommand}}
-use Rattle.apl_expr.proofs.Lined.{tokens_answer}
+use Rattle.apl_expr.{specs.declared.fault.ParseFault.TheVariants.{Syntax, Limit}, specs.declared.fault.ParseFault.{ParseFault}, specs.Lines.{IsCommand}, proofs.Lined.{tokens_answer}}
 use Rattle.apl_tokens.specs.Lexemes.{lexemes}
 use Rattle.apl_expr.proofs.command.line_of_tokens.Goals as goal
 

@@ -1,5 +1,4 @@
-use Rattle.std.{proofs.Common.{Ok, ◌∷◌, rules, w64, SFits}, proofs.lemmas.Int.{to_z-of_z}, proofs.lemmas.List.{length-map}}
-use Rattle.std.proofs.lemmas.Result.{err_from_is_err_and}
+use Rattle.std.{proofs.Common.{Ok, ◌∷◌, rules, w64, SFits}, proofs.lemmas.Int.{to_z-of_z}, proofs.lemmas.List.{length-map}, proofs.lemmas.Result.{err_from_is_err_and}}
 use Rattle.apl_tokens.specs.Lexemes.{lexemes, Named, Sign}
 use Rattle.apl_expr.{specs.Lines.{open_word, IsCommand}, specs.Changes.{IsChangeOf}, proofs.Changes.{exits}, proofs.Commands.{open_none, open_ok, open_err}}
 use Rattle.apl_expr.proofs.command.open.Goals as goal
@@ -16,6 +15,5 @@ returns-in_err-change c =
 pub returns : goal.returns
 returns c =
     let fits : SFits w64 c.in-Some.slot = search rules in
-    let boxed = c.in_ok-change-2.ensures.ok in
-    let change : IsChangeOf (lexemes c.in-Some.tokens.now) (Ok c.in_ok-change-2.change.value) = rw boxed c.in_ok-change.ensures in
+    let change : IsChangeOf (lexemes c.in-Some.tokens.now) (Ok c.in_ok-change-2.change.value) = rw c.in_ok-change-2.ensures.ok c.in_ok-change.ensures in
     rw (to_z-of_z w64 c.in-Some.slot fits) (open_ok (lexemes c.args.rest.now) (simp length-map c.requires) _ _ c.in-Some.ensures c.in_ok-change-2.change change)

@@ -1,7 +1,6 @@
 use Rattle.std.{proofs.Common.{Some, Result, Err, sym, ap, ◌∙◌, subst, arith}, specs.Prelude.{ℤ}, proofs.lemmas.Result.{err_from_is_err_and}}
 use Rattle.smallvec.specs.SmallVec.{SmallVec}
-use Rattle.apl_expr.{specs.declared.expr.Literal.{Literal}, specs.declared.fault.ParseFault.{ParseFault}, specs.Edits.{edit_of, edits, EditGives}}
-use Rattle.apl_expr.proofs.Editing.{kept, failed, finished}
+use Rattle.apl_expr.{specs.declared.expr.Literal.{Literal}, specs.declared.fault.ParseFault.{ParseFault}, specs.Edits.{edit_of, edits, EditGives}, proofs.Editing.{kept, failed, finished}}
 use Rattle.apl_tokens.specs.Lexemes.{lexemes}
 use Rattle.apl_expr.proofs.edit.read_on.Goals as goal
 

@@ -1,7 +1,6 @@
 use Rattle.std.{proofs.Common.{◌<◌, ◌≤◌, inl, inr, arith}, proofs.lemmas.List.{length-map}, proofs.lemmas.Result.{err_from_is_err_and}}
 use Rattle.apl_tokens.specs.Lexemes.{lexemes}
-use Rattle.apl_expr.{specs.Limits.{most_height, most_nodes}, specs.Trees.{tree_of, height, nodes}, proofs.Sizes.{above_limit}, proofs.FewTokens.{few_tokens}}
-use Rattle.apl_expr.proofs.Parsed.{refused, too_large, read_tree}
+use Rattle.apl_expr.{specs.Limits.{most_height, most_nodes}, specs.Trees.{tree_of, height, nodes}, proofs.Sizes.{above_limit}, proofs.FewTokens.{few_tokens}, proofs.Parsed.{refused, too_large, read_tree}}
 use Rattle.apl_expr.proofs.parser.parse_any.Goals as goal
 
 pub returns-in_err-plain : goal.returns-in_err-plain
@@ -29,8 +28,6 @@ returns-then-not-is_within_nodes c =
 
 pub returns : goal.returns
 returns c =
-    let within_height = c.is_within_height.ensures.0 c.if-not-is_within_height.false in
-    let within_nodes = c.is_within_nodes.ensures.0 c.if-not-is_within_nodes.false in
     let low : height (tree_of c.in_ok-plain.plain.expr) ≤ most_height = omega arith in
     let few : nodes (tree_of c.in_ok-plain.plain.expr) ≤ most_nodes = omega arith in
     (simp length-map (omega arith), read_tree (lexemes c.args.tokens.now) (tree_of c.in_ok-plain.plain.expr) c.in_ok-plain.ensures, low, few, c.in_ok-plain.plain.plain)

@@ -1,8 +1,6 @@
-use Rattle.std.{proofs.Common.{Some, Result, Err, [], sym, ap, ◌∙◌, subst, arith}, proofs.lemmas.List.{length-take, length-drop}}
-use Rattle.std.proofs.lemmas.Result.{err_from_is_err_and}
+use Rattle.std.{proofs.Common.{Some, Result, Err, [], sym, ap, ◌∙◌, subst, arith}, proofs.lemmas.List.{length-take, length-drop}, proofs.lemmas.Result.{err_from_is_err_and}}
 use Rattle.apl_tokens.specs.Lexemes.{lexemes}
-use Rattle.apl_expr.{specs.Machine.{run, state, Nothing}, specs.Parsing.{stack, reading_of, Gives}, specs.declared.plain.Plain.{Plain}}
-use Rattle.apl_expr.{specs.declared.fault.ParseFault.{ParseFault}, proofs.Steps.{kept, failed, finished}}
+use Rattle.apl_expr.{specs.Machine.{run, state, Nothing}, specs.Parsing.{stack, reading_of, Gives}, specs.declared.plain.Plain.{Plain}, specs.declared.fault.ParseFault.{ParseFault}, proofs.Steps.{kept, failed, finished}}
 use Rattle.apl_expr.proofs.parser.tree.Goals as goal
 
 pub loop-first-init : goal.loop-first-init

@@ -1,5 +1,4 @@
-use Rattle.std.{proofs.Common.{◌≡◌, ℕ, ◌+◌, List, [], ◌∷◌, ◌++◌, length, length-append, ap, ◌∙◌, rules, w64, SFits}, specs.Prelude.{ℤ}}
-use Rattle.std.proofs.lemmas.Int.{to_z-of_z}
+use Rattle.std.{proofs.Common.{◌≡◌, ℕ, ◌+◌, List, [], ◌∷◌, ◌++◌, length, length-append, ap, ◌∙◌, rules, w64, SFits}, specs.Prelude.{ℤ}, proofs.lemmas.Int.{to_z-of_z}}
 use Rattle.apl_tokens.proofs.EditBytes.{no_positions, position_more, position_last}
 use Rattle.apl_tokens.proofs.cell_edit.positions_front.Goals as goal
 

@@ -1,5 +1,4 @@
-use Rattle.std.{proofs.Common.{◌≡◌, ℕ, ◌++◌, List, Bool, true, rules, tests, sym, ap, ◌∙◌, refl}, specs.Prelude.{encode_utf8, ◌&&◌}, specs.Str.{chars, IsUtf8}}
-use Rattle.std.{specs.List.{list_all}, proofs.lemmas.Str.{chars_past_char, IsUtf8-past_char}, proofs.lemmas.Iterator.{YieldsList-from_chars}}
+use Rattle.std.{proofs.Common.{◌≡◌, ℕ, ◌++◌, List, Bool, true, rules, tests, sym, ap, ◌∙◌, refl}, specs.Prelude.{encode_utf8, ◌&&◌}, specs.Str.{chars, IsUtf8}, specs.List.{list_all}, proofs.lemmas.Str.{chars_past_char, IsUtf8-past_char}, proofs.lemmas.Iterator.{YieldsList-from_chars}}
 use Rattle.std.proofs.lemmas.Iterator.Search.{all_from_yields_List}
 use Rattle.apl_tokens.specs.Characters.{is_letter, is_name_part, spells_name}
 use Rattle.apl_tokens.proofs.characters.spells_name.Goals as goal
@@ -10,7 +9,6 @@ spells bs rest c r utf8 is letter given = given ∙ sym (ap (λ (b : Bool). b &&
 pub returns-then-is_letter : goal.returns-then-is_letter
 returns-then-is_letter c =
     let whole : c.args.text.now ≡ encode_utf8 c.in-Some.first ++ c.next.new.self.rest.now = search rules in
-    let letter : is_letter c.in-Some.first ≡ true = search rules in
     let rest : IsUtf8 c.next.new.self.rest.now = IsUtf8-past_char c.args.text.now c.next.new.self.rest.now c.in-Some.first c.utf8.text whole in
-    spells c.args.text.now c.next.new.self.rest.now c.in-Some.first c.all.result c.utf8.text whole letter
+    spells c.args.text.now c.next.new.self.rest.now c.in-Some.first c.all.result c.utf8.text whole (search rules)
     (all_from_yields_List is_name_part _ _ c.all.result c.all.ensures.ran (YieldsList-from_chars c.next.new.self.rest.now rest refl) (λ x b q k. search (rules, tests)))

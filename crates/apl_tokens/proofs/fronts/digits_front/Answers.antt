@@ -1,5 +1,4 @@
-use Rattle.std.{proofs.Common.{List, ℕ, ◌≡◌, true, sym, ap, subst, ◌∙◌, rules, w64, SFits}, specs.Char.{is_ascii_digit}, specs.List.{list_all}}
-use Rattle.std.{specs.Str.{IsAscii}, proofs.lemmas.Int.{to_z-of_z}}
+use Rattle.std.{proofs.Common.{List, ℕ, ◌≡◌, true, sym, ap, subst, ◌∙◌, rules, w64, SFits}, specs.Char.{is_ascii_digit}, specs.List.{list_all}, specs.Str.{IsAscii}, proofs.lemmas.Int.{to_z-of_z}}
 use Rattle.apl_tokens.{specs.Characters.{decimal_from, fits_number, signed}, proofs.EditBytes.{digits_read}}
 use Rattle.apl_tokens.proofs.fronts.digits_front.Goals as goal
 

@@ -1,5 +1,4 @@
-use Rattle.std.{proofs.Common.{◌≡◌, ◌+◌, List, [], ◌∷◌, ◌++◌, length, length-append, ap, ◌∙◌, arith, rules, w64, SFits}, specs.Prelude.{ℤ}}
-use Rattle.std.proofs.lemmas.Int.{to_z-of_z}
+use Rattle.std.{proofs.Common.{◌≡◌, ◌+◌, List, [], ◌∷◌, ◌++◌, length, length-append, ap, ◌∙◌, arith, rules, w64, SFits}, specs.Prelude.{ℤ}, proofs.lemmas.Int.{to_z-of_z}}
 use Rattle.apl_tokens.proofs.EditBytes.{one_more_number}
 use Rattle.apl_tokens.proofs.row_edit.more_numbers.Goals as goal
 

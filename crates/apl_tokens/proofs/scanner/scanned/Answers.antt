@@ -1,7 +1,5 @@
-use Rattle.std.{proofs.Common.{◌≡◌, ◌+◌, [], length, arith, sym, ap, ◌∙◌, subst}, specs.Str.{chars, IsUtf8}, specs.declared.str.Chars.{Chars}}
-use Rattle.std.{proofs.lemmas.Result.{err_from_is_err_and}, proofs.lemmas.Str.{chars_past_char, IsUtf8-past_char}}
-use Rattle.apl_tokens.{specs.Scanner.{scan, turn, Between, Goes}, specs.Scans.{with_front}, specs.Scanning.{all_spanned, prepended, scan_of, Finds, IsReading}}
-use Rattle.apl_tokens.proofs.Walk.{bytes_of_next, stands, drop_next, front_of_none, no_characters, goes, fails, at_end}
+use Rattle.std.{proofs.Common.{◌≡◌, ◌+◌, [], length, arith, sym, ap, ◌∙◌, subst}, specs.Str.{chars, IsUtf8}, specs.declared.str.Chars.{Chars}, proofs.lemmas.Result.{err_from_is_err_and}, proofs.lemmas.Str.{chars_past_char, IsUtf8-past_char}}
+use Rattle.apl_tokens.{specs.Scanner.{scan, turn, Between, Goes}, specs.Scans.{with_front}, specs.Scanning.{all_spanned, prepended, scan_of, Finds, IsReading}, proofs.Walk.{bytes_of_next, stands, drop_next, front_of_none, no_characters, goes, fails, at_end}}
 use Rattle.apl_tokens.proofs.scanner.scanned.Goals as goal
 
 pub loop-c-init : goal.loop-c-init
@@ -17,12 +15,11 @@ loop-c-init c =
 
 pub turn-requires : goal.turn-requires
 turn-requires c =
-    let bytes = c.as_bytes-bytes.result.now in
     let next = bytes_of_next c.loop-c.c-iterator.rest.now c.next.new.self.rest.now c.in-Some.c c.in-Some.ensures.steps.0 in
     record {
       short = omega (arith, next, c.loop-c.invariant.byte, c.requires);
       within = omega (arith, next, c.loop-c.invariant.byte, ap length c.as_bytes-bytes.ensures.value);
-      stands = stands bytes _ _ c.loop-c.at c.in-Some.c c.loop-c.invariant.left c.in-Some.ensures.steps.0;
+      stands = stands c.as_bytes-bytes.result.now _ _ c.loop-c.at c.in-Some.c c.loop-c.invariant.left c.in-Some.ensures.steps.0;
       reading = c.loop-c.invariant.reading;
     }
 

@@ -1,7 +1,5 @@
-use Rattle.std.{proofs.Common.{rules, ◌≡◌, ℕ, ◌+◌, ◌++◌, List, ◌∷◌, [], ◌∙◌, ap, sym, subst, arith}, specs.Prelude.{slice_range}, specs.Char.{len_utf8}}
-use Rattle.std.{specs.Str.{IsUtf8}, proofs.lemmas.Str.{IsUtf8-append, IsUtf8-encode}}
-use Rattle.apl_tokens.{specs.Scanner.{turn, Goes, Digits, Letters}, specs.Scanning.{all_spanned, prepended, scan_of, IsReading}}
-use Rattle.apl_tokens.proofs.Walk.{goes_on, digit_is_byte}
+use Rattle.std.{proofs.Common.{rules, ◌≡◌, ℕ, ◌+◌, ◌++◌, List, ◌∷◌, [], ◌∙◌, ap, sym, subst, arith}, specs.Prelude.{slice_range}, specs.Char.{len_utf8}, specs.Str.{IsUtf8}, proofs.lemmas.Str.{IsUtf8-append, IsUtf8-encode}}
+use Rattle.apl_tokens.{specs.Scanner.{turn, Goes, Digits, Letters}, specs.Scanning.{all_spanned, prepended, scan_of, IsReading}, proofs.Walk.{goes_on, digit_is_byte}}
 use Rattle.apl_tokens.proofs.scanner.turn.Goals as goal
 
 pub returns-in-Digits-clause-turns : goal.returns-in-Digits-clause-turns

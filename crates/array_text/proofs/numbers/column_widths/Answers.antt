@@ -1,4 +1,4 @@
-use Rattle.std.{proofs.Common.{◌≡◌, ◌∙◌, ap, refl, ℕ, map, arith}, specs.List.{range_with_len}, proofs.lemmas.List.FromFn.{map-range_with_len_more}}
+use Rattle.std.{proofs.Common.{◌∙◌, ap, refl, ℕ, map, arith}, specs.List.{range_with_len}, proofs.lemmas.List.FromFn.{map-range_with_len_more}}
 use Rattle.array_text.specs.Text.{column_width, column_widths}
 use Rattle.array_text.proofs.numbers.column_widths.Goals as goal
 
@@ -11,5 +11,4 @@ loop-column-preserved c =
 pub returns : goal.returns
 unfolding column_widths
 returns c =
-    let end : c.loop-column.column ≡ c.args.columns = omega arith in
-    c.loop-column.invariant ∙ ap (λ (n : ℕ). map (column_width c.args.rows c.args.columns c.args.numbers.now) (range_with_len 0 n)) end
+    c.loop-column.invariant ∙ ap (λ (n : ℕ). map (column_width c.args.rows c.args.columns c.args.numbers.now) (range_with_len 0 n)) (omega arith)

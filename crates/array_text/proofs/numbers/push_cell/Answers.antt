@@ -1,5 +1,4 @@
-use Rattle.std.{proofs.Common.{◌≡◌, ◌-◌, ◌++◌, ◌∙◌, ap, List, ℕ, append_assoc, w64}, specs.Prelude.{string_bytes, replicate}}
-use Rattle.std.{proofs.lemmas.Result.{on_ok_weaker}, proofs.lemmas.Int.{to_z-of_z}}
+use Rattle.std.{proofs.Common.{◌≡◌, ◌-◌, ◌++◌, ◌∙◌, ap, List, ℕ, append_assoc, w64}, specs.Prelude.{string_bytes, replicate}, proofs.lemmas.Result.{on_ok_weaker}, proofs.lemmas.Int.{to_z-of_z}}
 use Rattle.array_text.specs.Text.{right_justified, number_text, number_width}
 use Rattle.array_text.proofs.numbers.push_cell.Goals as goal
 

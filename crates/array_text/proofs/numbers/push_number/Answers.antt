@@ -1,6 +1,5 @@
 use Rattle.std.{proofs.Common.{◌≡◌, ◌++◌, ◌∙◌, ap, sym, List, ℕ, append_assoc}, specs.Prelude.{string_bytes, encode_utf8}}
-use Rattle.array_text.{specs.Text.{number_text}, proofs.Writing.{pushed}, proofs.Numerals.{number_text-minus, number_text-plus}}
-use Rattle.array_text.proofs.numbers.push_number.Goals.{then-number-lt0+in_ok-push, else-number-lt0}
+use Rattle.array_text.{specs.Text.{number_text}, proofs.Writing.{pushed}, proofs.Numerals.{number_text-minus, number_text-plus}, proofs.numbers.push_number.Goals.{then-number-lt0+in_ok-push, else-number-lt0}}
 use Rattle.array_text.proofs.numbers.push_number.Goals as goal
 
 pub returns : goal.returns

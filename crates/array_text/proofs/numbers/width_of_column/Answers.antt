@@ -1,6 +1,5 @@
 use Rattle.std.{proofs.Common.{◌≡◌, ◌+◌, ◌*◌, ◌∙◌, ap, sym, get_or, pos, rules, w64, arith}, proofs.lemmas.Int.{to_z-of_z}}
-use Rattle.array_text.{specs.Text.{number_width}, proofs.Numerals.{column_width-none, column_width-more}}
-use Rattle.array_text.proofs.numbers.width_of_column.Goals.{then-width-widest, else-width-widest}
+use Rattle.array_text.{specs.Text.{number_width}, proofs.Numerals.{column_width-none, column_width-more}, proofs.numbers.width_of_column.Goals.{then-width-widest, else-width-widest}}
 use mir.Val.{SFits}
 use Rattle.array_text.proofs.numbers.width_of_column.Goals as goal
 
@@ -10,8 +9,6 @@ loop-row-init c = sym (column_width-none c.args.columns c.args.numbers.now c.arg
 pub loop-row-preserved : goal.loop-row-preserved
 loop-row-preserved c =
     let number = get_or c.args.numbers.now (c.loop-row.row * c.args.columns + c.args.column) (pos 0) in
-    let fits : SFits w64 number = search rules in
-    let width : c.width_of-width.result ≡ number_width number = c.width_of-width.ensures.value ∙ ap number_width (to_z-of_z w64 number fits) in
-    let inv = c.loop-row.invariant in
-    rw (column_width-more c.args.columns c.args.numbers.now c.args.column c.loop-row.row, ← width, ← inv)
+    let width : c.width_of-width.result ≡ number_width number = c.width_of-width.ensures.value ∙ ap number_width (to_z-of_z w64 number (search rules)) in
+    rw (column_width-more c.args.columns c.args.numbers.now c.args.column c.loop-row.row, ← width, ← c.loop-row.invariant)
     (elim c.if-width-widest.branch [ then-width-widest w ↦ omega arith | else-width-widest w ↦ omega arith ])

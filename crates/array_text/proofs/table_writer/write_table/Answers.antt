@@ -1,8 +1,5 @@
-use Rattle.std.{proofs.Common.{◌≡◌, ◌∙◌, ◌++◌, ◌<◌, ap, refl, sym, List, ℕ, length, map, get_or, arith}, specs.Prelude.{string_bytes}}
-use Rattle.std.proofs.lemmas.Bool.{eqb-true}
-use Rattle.array_text.{specs.Text.{item_number}, specs.Tables.{record_text, records_text}}
-use Rattle.array_text.proofs.Written.{table_none, numbers_in, one_record, many_records, no_items}
-use Rattle.array_text.proofs.table_writer.write_table.Goals.{then-axes-lt2+in_ok-push_record, else-axes-lt2+in_ok-push_records}
+use Rattle.std.{proofs.Common.{◌≡◌, ◌∙◌, ◌++◌, ◌<◌, ap, refl, sym, List, ℕ, length, map, get_or, arith}, specs.Prelude.{string_bytes}, proofs.lemmas.Bool.{eqb-true}}
+use Rattle.array_text.{specs.Text.{item_number}, specs.Tables.{record_text, records_text}, proofs.Written.{table_none, numbers_in, one_record, many_records, no_items}, proofs.table_writer.write_table.Goals.{then-axes-lt2+in_ok-push_record, else-axes-lt2+in_ok-push_records}}
 use Rattle.array_text.proofs.table_writer.write_table.Goals as goal
 
 pub returns-in_default : goal.returns-in_default

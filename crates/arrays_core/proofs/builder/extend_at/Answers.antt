@@ -1,5 +1,4 @@
-use Rattle.std.{proofs.Common.{◌≡◌, ◌∙◌, ◌+◌, ◌-◌, ◌<◌, ◌≤◌, ◌++◌, ap, get_or, length, pos, unsigned_abs, arith, w64, to_z, of_z}, proofs.lemmas.Int.{ints}}
-use Rattle.std.proofs.lemmas.List.{get_or_default}
+use Rattle.std.{proofs.Common.{◌≡◌, ◌∙◌, ◌+◌, ◌-◌, ◌<◌, ◌≤◌, ◌++◌, ap, get_or, length, pos, unsigned_abs, arith, w64, to_z, of_z}, proofs.lemmas.Int.{ints}, proofs.lemmas.List.{get_or_default}}
 use Rattle.arrays_core.{specs.Building.{listed}, proofs.Building.{listed_more}}
 use Rattle.arrays_core.proofs.builder.extend_at.Goals as goal
 
@@ -11,8 +10,7 @@ loop-k-preserved g c =
     let below : k < length indices = c.loop-k-test.true in
     let low : 1 ≤ unsigned_abs (get_or indices k (pos 0)) = c.requires.low k below in
     let high : c.args.before + unsigned_abs (get_or indices k (pos 0)) ≤ length from = c.requires.high k below in
-    let z = to_z w64 (of_z w64 (get_or indices k (pos 0))) in
-    let same : z ≡ get_or indices k (pos 0) = omega (arith, ints) in
+    let same : (to_z w64 (of_z w64 (get_or indices k (pos 0)))) ≡ get_or indices k (pos 0) = omega (arith, ints) in
     let value : c.unsigned_abs.result ≡ unsigned_abs (get_or indices k (pos 0)) = c.unsigned_abs.ensures.value ∙ ap unsigned_abs same in
     record {
       room = omega arith;

@@ -1,4 +1,4 @@
-use Rattle.std.{proofs.Common.{◌≡◌, ◌∙◌, ◌+◌, ◌<◌, ◌++◌, ap, get_or, length, arith}, proofs.lemmas.List.{get_or_default}}
+use Rattle.std.{proofs.Common.{◌≡◌, ◌∙◌, ◌+◌, ◌++◌, ap, get_or, length, arith}, proofs.lemmas.List.{get_or_default}}
 use Rattle.arrays_core.{specs.Building.{listed}, proofs.Building.{listed_more}}
 use Rattle.arrays_core.proofs.builder.extend_places.Goals as goal
 
@@ -7,13 +7,11 @@ loop-k-preserved g c =
     let from = c.args.from.now in
     let k = c.loop-k.k in
     let places = c.args.places.now in
-    let below : k < length places = c.loop-k-test.true in
-    let there : c.args.first + get_or places k 0 < length from = c.requires k below in
     record {
       room = omega arith;
       made = λ d. listed_more (λ j. get_or from (c.args.first + get_or places j 0) d) c.args.items.now.items c.loop-k.list.items c.push_reserved.new.self.items k c.index-from-first.result
           (c.loop-k.invariant.made d) c.push_reserved.ensures.items
-          (c.index-from-first.is ∙ get_or_default from (c.args.first + get_or places k 0) _ d there);
+          (c.index-from-first.is ∙ get_or_default from (c.args.first + get_or places k 0) _ d (c.requires k c.loop-k-test.true));
     }
 
 pub returns : goal.returns

@@ -1,5 +1,4 @@
-use Rattle.std.{proofs.Common.{◌≡◌, ◌∙◌, ap, ◌+◌, ◌-◌, ◌++◌, ◌≤◌, ℕ, get_or, take, drop, length, arith, Ok, Err, Result, List}, specs.Result.{is_ok}}
-use Rattle.std.specs.Prelude.{OnOk, if◌then◌else◌}
+use Rattle.std.{proofs.Common.{◌≡◌, ◌∙◌, ap, ◌+◌, ◌-◌, ◌++◌, ◌≤◌, ℕ, get_or, take, drop, length, arith, Ok, Err, Result, List}, specs.Result.{is_ok}, specs.Prelude.{OnOk, if◌then◌else◌}}
 use Rattle.arrays_core.{specs.Building.{listed}, proofs.Building.{run_listed}}
 use Rattle.arrays_core.proofs.builder.extend_run.Goals as goal
 

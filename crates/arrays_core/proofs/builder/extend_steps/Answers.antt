@@ -1,4 +1,4 @@
-use Rattle.std.{proofs.Common.{◌≡◌, ◌∙◌, ◌+◌, ◌*◌, ◌<◌, ◌++◌, ap, get_or, arith}, proofs.lemmas.List.{get_or_default}}
+use Rattle.std.{proofs.Common.{◌∙◌, ◌+◌, ◌*◌, ◌++◌, ap, get_or, arith}, proofs.lemmas.List.{get_or_default}}
 use Rattle.arrays_core.{specs.Building.{listed}, proofs.Building.{listed_more}}
 use Rattle.arrays_core.proofs.builder.extend_steps.Goals as goal
 
@@ -6,8 +6,7 @@ pub loop-k-preserved : goal.loop-k-preserved
 loop-k-preserved g c =
     let from = c.args.from.now in
     let k = c.loop-k.k in
-    let below : k < c.args.count = c.loop-k-test.true in
-    let inside = c.requires k below in
+    let inside = c.requires k c.loop-k-test.true in
     record {
       room = omega arith;
       made = λ d. listed_more (λ j. get_or from (c.args.first + j * c.args.step) d) c.args.items.now.items c.loop-k.list.items c.push_reserved.new.self.items k c.index-from-first.result
@@ -16,5 +15,4 @@ loop-k-preserved g c =
 
 pub returns : goal.returns
 returns g c =
-    let e : c.loop-k.k ≡ c.args.count = omega arith in
-    λ d. c.loop-k.invariant.made d ∙ ap (λ n. c.args.items.now.items ++ listed n (λ j. get_or c.args.from.now (c.args.first + j * c.args.step) d)) e
+    λ d. c.loop-k.invariant.made d ∙ ap (λ n. c.args.items.now.items ++ listed n (λ j. get_or c.args.from.now (c.args.first + j * c.args.step) d)) (omega arith)

@@ -1,5 +1,4 @@
-use Rattle.std.{proofs.Common.{◌≡◌, ◌≤◌, ◌<◌, ◌+◌, ◌-◌, ◌%◌, ◌++◌, ◌∙◌, ap, get_or, length, take, drop, refl, arith}, proofs.Math.Nat.{mod_self}}
-use Rattle.std.proofs.lemmas.List.{length-append, length-take-le}
+use Rattle.std.{proofs.Common.{◌≡◌, ◌≤◌, ◌+◌, ◌-◌, ◌%◌, ◌++◌, ◌∙◌, ap, get_or, length, take, drop, refl, arith}, proofs.Math.Nat.{mod_self}, proofs.lemmas.List.{length-append, length-take-le}}
 use Rattle.arrays_core.{specs.Building.{listed}, proofs.Building.{again_listed, first_round, two_rounds}}
 use Rattle.arrays_core.proofs.builder.repeat_to.Goals as goal
 
@@ -15,22 +14,18 @@ loop-items-preserved g c =
     let new = c.extend_from_within.new.self.items in
     let m = c.min-more.result - 0 in
     let put : new ≡ xs ++ take m (drop 0 xs) = c.in_ok-extend_from_within.ensures.items in
-    let some : length xs < c.args.places = omega (arith, c.loop-items-test.true, c.len.ensures) in
     let few : m ≤ length xs = omega (arith, c.min-more.ensures, c.len-in-loop-items.ensures) in
     let long : length new ≡ length xs + m = ap length put ∙ length-append xs (take m (drop 0 xs)) ∙ ap (λ k. length xs + k) (length-take-le m xs few) in
-    let round : length xs % length old ≡ 0 = c.loop-items.invariant.whole some in
-    let least = c.min-more.ensures in
+    let round : length xs % length old ≡ 0 = c.loop-items.invariant.whole (omega (arith, c.loop-items-test.true, c.len.ensures)) in
     let now = c.len-in-loop-items.ensures in
     let then = c.len-in-loop-items-2.ensures in
-    let before = c.loop-items.invariant in
     record {
-      low = omega (arith, long, before.low);
-      high = omega (arith, long, least, now, then, before.high);
+      low = omega (arith, long, c.loop-items.invariant.low);
+      high = omega (arith, long, c.min-more.ensures, now, then, c.loop-items.invariant.high);
       whole = λ h.
-          let all : m ≡ length xs = omega (arith, long, least, now, then, h) in
-          let twice : length new ≡ length xs + length xs = omega (arith, long, all) in
-          ap (λ j. j % length old) twice ∙ two_rounds (length xs) (length old) round;
-      made = λ d. put ∙ again_listed xs old d (length old) m (length xs) (length new) refl long few round (before.made d);
+          let all : m ≡ length xs = omega (arith, long, c.min-more.ensures, now, then, h) in
+          ap (λ j. j % length old) (omega (arith, long, all)) ∙ two_rounds (length xs) (length old) round;
+      made = λ d. put ∙ again_listed xs old d (length old) m (length xs) (length new) refl long few round (c.loop-items.invariant.made d);
     }
 
 pub returns : goal.returns

@@ -5,20 +5,18 @@ use Rattle.arrays_core.proofs.item_function.collect_rows.Goals as goal
 pub extend_rows-requires-clause-within : goal.extend_rows-requires-clause-within
 extend_rows-requires-clause-within g c =
     let shape = c.args.shape.now.items in
-    let others = c.in-Some.others.now in
-    let split : shape ≡ others ++ c.in-Some.count.now ∷ [] = sym c.as_slice-axes.ensures ∙ c.in-Some.ensures.cases.0 in
+    let split : shape ≡ c.in-Some.others.now ++ c.in-Some.count.now ∷ [] = sym c.as_slice-axes.ensures ∙ c.in-Some.ensures.cases.0 in
     let e : size_of shape ≡ c.size-places.result = ap size_of (sym c.as_slice-axes.ensures) ∙ sym c.size-places.ensures in
     let positive : 0 < size_of shape = let no = c.if-places-eq0.false in omega arith in
-    rw c.shape_of.ensures.items (rows_within others c.in-Some.count.now (rw split at c.requires.within) (rw split at positive))
+    rw c.shape_of.ensures.items (rows_within c.in-Some.others.now c.in-Some.count.now (rw split at c.requires.within) (rw split at positive))
 
 pub extend_rows-requires-clause-some : goal.extend_rows-requires-clause-some
 extend_rows-requires-clause-some g c =
     let shape = c.args.shape.now.items in
-    let others = c.in-Some.others.now in
-    let split : shape ≡ others ++ c.in-Some.count.now ∷ [] = sym c.as_slice-axes.ensures ∙ c.in-Some.ensures.cases.0 in
+    let split : shape ≡ c.in-Some.others.now ++ c.in-Some.count.now ∷ [] = sym c.as_slice-axes.ensures ∙ c.in-Some.ensures.cases.0 in
     let e : size_of shape ≡ c.size-places.result = ap size_of (sym c.as_slice-axes.ensures) ∙ sym c.size-places.ensures in
     let positive : 0 < size_of shape = let no = c.if-places-eq0.false in omega arith in
-    rw c.shape_of.ensures.items (some_rows others c.in-Some.count.now (rw split at positive))
+    rw c.shape_of.ensures.items (some_rows c.in-Some.others.now c.in-Some.count.now (rw split at positive))
 
 pub into_array-requires-clause-one_item_a_place : goal.into_array-requires-clause-one_item_a_place
 into_array-requires-clause-one_item_a_place g c =

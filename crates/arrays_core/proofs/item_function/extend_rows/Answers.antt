@@ -1,8 +1,5 @@
-use Rattle.std.proofs.Common.{◌≡◌, ◌∙◌, ◌+◌, ◌*◌, ◌<◌, ◌++◌, ◌∷◌, [], List, ℕ, sym, refl, ap, length, true, arith, take, drop, Ok}
-use Rattle.std.proofs.lemmas.List.{take_at}
-use Rattle.arrays_core.{specs.Building.{with_row}, specs.Shapes.{is_index_of, places_before, size as size_of}, proofs.Shapes.{as_long}}
-use Rattle.arrays_core.proofs.Order.{CollectedTo, none_collected, all_collected, index_after-within, places_before-index_after}
-use Rattle.arrays_core.proofs.Rows.{row_of, row_collected, size_row}
+use Rattle.std.{proofs.Common.{◌≡◌, ◌∙◌, ◌+◌, ◌*◌, ◌<◌, ◌++◌, ◌∷◌, [], List, ℕ, sym, refl, ap, length, true, arith, take, drop, Ok}, proofs.lemmas.List.{take_at}}
+use Rattle.arrays_core.{specs.Building.{with_row}, specs.Shapes.{is_index_of, places_before, size as size_of}, proofs.Shapes.{as_long}, proofs.Order.{CollectedTo, none_collected, all_collected, index_after-within, places_before-index_after}, proofs.Rows.{row_of, row_collected, size_row}}
 use Rattle.arrays_core.proofs.item_function.extend_rows.Goals as goal
 
 refill_all : (xs ws : List ℕ) → length ws ≡ length xs → take (length xs) (ws ++ drop (length ws) xs) ≡ ws
@@ -10,16 +7,14 @@ refill_all xs ws e = take_at ws (drop (length ws) xs) (length xs) e
 
 pub loop-before-init : goal.loop-before-init
 loop-before-init g c =
-    let rows = c.args.rows.now.items in
-    let shape = g.F.ItemFunction.result_shape c.args.function.now in
     let function = g.F.ItemFunction.item c.args.function.now in
     let first = c.index_of_position-row.ensures.is in
     let none : 0 * c.args.count ≡ 0 = omega arith in
     record {
-      collected = rw (none, c.requires.none_yet) (none_collected shape function);
+      collected = rw (none, c.requires.none_yet) (none_collected (g.F.ItemFunction.result_shape c.args.function.now) function);
       typed = refl;
-      here = rw first (index_after-within rows 0 c.requires.some);
-      at = λ h. rw first (places_before-index_after rows 0 c.requires.some);
+      here = rw first (index_after-within c.args.rows.now.items 0 c.requires.some);
+      at = λ h. rw first (places_before-index_after c.args.rows.now.items 0 c.requires.some);
     }
 
 pub extend_row-requires-clause-row : goal.extend_row-requires-clause-row
@@ -54,8 +49,7 @@ returns-clause-items g c =
     let rows = c.args.rows.now.items in
     let shape = g.F.ItemFunction.result_shape c.args.function.now in
     let function = g.F.ItemFunction.item c.args.function.now in
-    let inv = c.loop-before.invariant in
     let e : size_of rows ≡ c.size-places.result = ap size_of (sym c.as_slice.ensures) ∙ sym c.size-places.ensures in
     let every : c.loop-before.before ≡ size_of rows = omega arith in
     let sized : size_of shape ≡ c.loop-before.before * c.args.count = ap size_of c.requires.shaped ∙ size_row rows c.args.count ∙ ap (λ n. n * c.args.count) (sym every) in
-    all_collected shape function (c.loop-before.before * c.args.count) c.loop-before.items.items (omega arith) inv.collected
+    all_collected shape function (c.loop-before.before * c.args.count) c.loop-before.items.items (omega arith) c.loop-before.invariant.collected

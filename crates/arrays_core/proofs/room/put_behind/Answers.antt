@@ -1,7 +1,5 @@
-use Rattle.std.{proofs.Common.{◌≡◌, ◌∙◌, ◌+◌, ◌<◌, ◌≤◌, ◌^◌, ℕ, length, vec_capacity, ap, sym, subst, arith, rules}, specs.Int.{IsNextPowerOfTwo}}
-use Rattle.std.proofs.lemmas.List.{length-append}
-use Rattle.arrays_core.{specs.Growth.{IsRoomy}, proofs.Rooms.{brought, larger, roomy_of}}
-use Rattle.arrays_core.proofs.room.put_behind.Goals.{then-capacity-room_of, else-capacity-room_of}
+use Rattle.std.{proofs.Common.{◌≡◌, ◌∙◌, ◌+◌, ◌<◌, ◌≤◌, ◌^◌, ℕ, length, vec_capacity, ap, sym, subst, arith, rules}, specs.Int.{IsNextPowerOfTwo}, proofs.lemmas.List.{length-append}}
+use Rattle.arrays_core.{specs.Growth.{IsRoomy}, proofs.Rooms.{brought, larger, roomy_of}, proofs.room.put_behind.Goals.{then-capacity-room_of, else-capacity-room_of}}
 use Rattle.arrays_core.proofs.room.put_behind.Goals as goal
 
 pub returns-clause-room : goal.returns-clause-room

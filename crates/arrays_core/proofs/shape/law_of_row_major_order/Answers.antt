@@ -1,6 +1,5 @@
 use Rattle.std.proofs.Common.{List, ℕ}
-use Rattle.arrays_core.proofs.Shapes.{places_below}
-use Rattle.arrays_core.proofs.Order.{length-indices, get_or-indices, index_after-within, places_before-index_after, index_after-places_before}
+use Rattle.arrays_core.{proofs.Shapes.{places_below}, proofs.Order.{length-indices, get_or-indices, index_after-within, places_before-index_after, index_after-places_before}}
 use Rattle.arrays_core.proofs.shape.law_of_row_major_order.Goals as goal
 
 pub returns : goal.returns

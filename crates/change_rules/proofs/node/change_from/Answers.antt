@@ -1,8 +1,5 @@
-use Rattle.std.{proofs.Common.{◌≡◌, ◌≤◌, ◌∙◌, sym, false, ◌+◌, ℕ, subst}, proofs.lemmas.Bool.{false≢true, or_parts, not-false}}
-use Rattle.std.proofs.lemmas.Result.{IfOk-weaker}
-use Rattle.change_rules.{specs.Nodes.{all_patched_at_most}, proofs.Nodes.{delta_reached, cost_reached, delta_grown, cost_grown}}
-use Rattle.change_rules.proofs.node.change_from.Goals.{else-is_ok-via-then-is_ok+else-patched_at_most, else-is_ok-via-else-is_ok}
-use Rattle.change_rules.proofs.node.change_from.Given.{Over}
+use Rattle.std.{proofs.Common.{◌≡◌, ◌≤◌, ◌∙◌, sym, false, ◌+◌, ℕ, subst}, proofs.lemmas.Bool.{false≢true, or_parts, not-false}, proofs.lemmas.Result.{IfOk-weaker}}
+use Rattle.change_rules.{specs.Nodes.{all_patched_at_most}, proofs.Nodes.{delta_reached, cost_reached, delta_grown, cost_grown}, proofs.node.change_from.Goals.{else-is_ok-via-then-is_ok+else-patched_at_most, else-is_ok-via-else-is_ok}, proofs.node.change_from.Given.{Over}}
 use Rattle.change_rules.proofs.node.change_from.Goals as goal
 
 pub returns-then-patched_at_most-clause-delta : goal.returns-then-patched_at_most-clause-delta
@@ -25,8 +22,7 @@ otherwise : (g : Over) (c : goal.After-change_grown g) → all_patched_at_most c
 otherwise g c = elim c.else-is_ok.branch [
   | else-is_ok-via-then-is_ok+else-patched_at_most w ↦ sym w.patched_at_most.ensures ∙ w.if-patched_at_most.false
   | else-is_ok-via-else-is_ok w ↦
-      let parts = or_parts _ _ (sym c.starts_anew.ensures ∙ c.if-starts_anew.false) in
-      absurd (false≢true (sym w.if-is_ok.false ∙ c.is_ok.ensures.value ∙ not-false _ parts.1))
+      absurd (false≢true (sym w.if-is_ok.false ∙ c.is_ok.ensures.value ∙ not-false _ (or_parts _ _ (sym c.starts_anew.ensures ∙ c.if-starts_anew.false)).1))
 ]
 
 pub returns-clause-delta : goal.returns-clause-delta

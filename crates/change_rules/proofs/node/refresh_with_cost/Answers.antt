@@ -1,6 +1,5 @@
 use Rattle.change_core.proofs.Covers.{covers, reaches_inside}
-use Rattle.change_rules.{specs.Currency.{BringsUpToDate, IsRight}, specs.Nodes.{views, moved}, proofs.NodeRight.{brings_up_to_date}}
-use Rattle.change_rules.proofs.Right.{answered, node_is_right}
+use Rattle.change_rules.{specs.Currency.{BringsUpToDate, IsRight}, specs.Nodes.{views, moved}, proofs.NodeRight.{brings_up_to_date}, proofs.Right.{answered, node_is_right}}
 use Rattle.change_rules.proofs.node.refresh_with_cost.Goals as goal
 
 pub returns-clause-right : goal.returns-clause-right

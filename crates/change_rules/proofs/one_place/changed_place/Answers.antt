@@ -1,4 +1,4 @@
-use Rattle.std.{proofs.Common.{◌≡◌, ◌∙◌, sym, arith, true}, specs.Prelude.{is_ok}}
+use Rattle.std.proofs.Common.{◌∙◌, sym, arith}
 use Rattle.change_rules.proofs.KeptPlace.{held_array, few_changed, place_checked, kept_delta, kept_cost}
 use Rattle.change_rules.proofs.one_place.changed_place.Goals as goal
 
@@ -17,14 +17,12 @@ pub returns-clause-cost : goal.returns-clause-cost
 returns-clause-cost g c =
     let h = c.in-Some.ensures in
     let keeps = c.keeps_places.ensures c.if-not-keeps_places.false in
-    let ok : is_ok c.args.old.now ≡ true = held_array c.args.old.now (sym c.if-is_err.false ∙ c.is_err.ensures.value) in
     kept_cost c.args.args.now c.in-Some.which c.in-Some.region.now h.below h.only c.requires.fit (g.R.Rule.model c.args.rule.now) c.args.seen.now c.requires.seen keeps
-    c.args.old.now h.some ok h.patched (sym c.size.ensures ∙ c.if-size-ne1.false)
+    c.args.old.now h.some (held_array c.args.old.now (sym c.if-is_err.false ∙ c.is_err.ensures.value)) h.patched (sym c.size.ensures ∙ c.if-size-ne1.false)
 
 pub returns-clause-delta : goal.returns-clause-delta
 returns-clause-delta g c =
     let h = c.in-Some.ensures in
     let keeps = c.keeps_places.ensures c.if-not-keeps_places.false in
-    let ok : is_ok c.args.old.now ≡ true = held_array c.args.old.now (sym c.if-is_err.false ∙ c.is_err.ensures.value) in
     kept_delta c.args.args.now c.in-Some.which c.in-Some.region.now h.below h.only c.requires.fit (g.R.Rule.model c.args.rule.now) c.args.seen.now c.requires.seen keeps
-    c.args.old.now h.some ok h.patched _ (rw c.copy.ensures at c.of.ensures.delta)
+    c.args.old.now h.some (held_array c.args.old.now (sym c.if-is_err.false ∙ c.is_err.ensures.value)) h.patched _ (rw c.copy.ensures at c.of.ensures.delta)

@@ -1,19 +1,15 @@
-use Rattle.std.{proofs.Common.{◌≡◌, ℕ, ◌<◌, slice_index, true, List, Bool, length, set, subst, arith, sym, ap, nat_eq, ◌∙◌}, specs.List.{Contains, IsDistinct}}
-use Rattle.std.proofs.lemmas.List.{length-set}
-use Rattle.dep_order.{specs.TopologicalOrder.{Points, IsPlaced, IsUnplaced, IsHit}, proofs.Chains.{back_along}}
-use Rattle.dep_order.proofs.Marks.{of_each, none_marked, now_listed, now_marked, still_once, IsDistinct-none, now_reach, points_from}
+use Rattle.std.{proofs.Common.{◌≡◌, ℕ, ◌<◌, slice_index, true, List, Bool, length, set, subst, arith, sym, nat_eq, ◌∙◌}, specs.List.{Contains, IsDistinct}, proofs.lemmas.List.{length-set}}
+use Rattle.dep_order.{specs.TopologicalOrder.{Points, IsPlaced, IsUnplaced, IsHit}, proofs.Chains.{back_along}, proofs.Marks.{of_each, none_marked, now_listed, now_marked, still_once, IsDistinct-none, now_reach, points_from}}
 use Rattle.dep_order.proofs.reachability.dependents.Goals as goal
 
 pub loop-next-init : goal.loop-next-init
 loop-next-init c =
     let marks = c.in_ok-marks.ensures.items_if_clones_equal (λ y e. e) in
-    let none = c.new-found.ensures.items in
-    let empty : length c.new-found.result.items ≡ 0 = ap length none in
     record {
       size = omega (arith, c.in_ok-marks.ensures.len);
       placed = λ a p. absurd (none_marked _ a (subst (λ ms. IsPlaced ms a) marks p));
       listed = λ i h. absurd (omega arith);
-      once = subst (IsDistinct nat_eq) (sym none) IsDistinct-none;
+      once = subst (IsDistinct nat_eq) (sym c.new-found.ensures.items) IsDistinct-none;
       reach = λ a p. absurd (none_marked _ a (subst (λ ms. IsPlaced ms a) marks p));
     }
 

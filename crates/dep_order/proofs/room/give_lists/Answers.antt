@@ -1,12 +1,10 @@
-use Rattle.std.{proofs.Common.{List, [], ◌∷◌, arith, length, sym, ap, subst}, specs.List.{Contains}, proofs.lemmas.Bool.{false≢true}}
-use Rattle.std.proofs.lemmas.List.{length-append}
+use Rattle.std.{proofs.Common.{List, [], ◌∷◌, arith, length, sym, ap, subst}, specs.List.{Contains}, proofs.lemmas.Bool.{false≢true}, proofs.lemmas.List.{length-append}}
 use Rattle.dep_order.proofs.Roomed.{was_last, lists_left, asked_last, none_left, nothing_in}
 use Rattle.dep_order.proofs.room.give_lists.Goals as goal
 
 pub give_list-requires-clause-larger : goal.give_list-requires-clause-larger
 give_list-requires-clause-larger g c =
-    let w = c.requires.lists in
-    (c.loop-given.invariant.lists w.0 w.1).larger c.in-Some.given.0 c.in-Some.given.1
+    (c.loop-given.invariant.lists c.requires.lists.0 c.requires.lists.1).larger c.in-Some.given.0 c.in-Some.given.1
     (was_last g.N.PartialEq.eq g.met.N.Eq.laws c.requires.exact c.loop-given.lists.entries c.pop.new.self.entries c.in-Some.given.0 c.in-Some.given.1 c.in-Some.ensures.entries c.in-Some.ensures.updates.0)
 
 pub loop-given-preserved : goal.loop-given-preserved

@@ -1,7 +1,5 @@
-use Rattle.std.{proofs.Common.{◌≡◌, ℕ, true, List, length, get_or, subst, arith, sym, ap, drop, ◌<◌, ◌∙◌}, specs.List.{Contains}}
-use Rattle.std.{proofs.lemmas.List.{length-set, get_or_default, take_rest}, proofs.lemmas.Result.{IfOk-weaker}}
-use Rattle.dep_order.{specs.TopologicalOrder.{Points, IsUnplaced}, specs.Reachability.{IsCycle}, proofs.Marks.{IsSome-from_none, apart, now_listed}}
-use Rattle.dep_order.proofs.Chains.{IsChainTo, IsChainTo-push, cycle_from}
+use Rattle.std.{proofs.Common.{◌≡◌, ℕ, true, List, length, get_or, subst, arith, sym, ap, drop, ◌<◌, ◌∙◌}, specs.List.{Contains}, proofs.lemmas.List.{length-set, get_or_default, take_rest}, proofs.lemmas.Result.{IfOk-weaker}}
+use Rattle.dep_order.{specs.TopologicalOrder.{Points, IsUnplaced}, specs.Reachability.{IsCycle}, proofs.Marks.{IsSome-from_none, apart, now_listed}, proofs.Chains.{IsChainTo, IsChainTo-push, cycle_from}}
 use Rattle.dep_order.proofs.topological_order.cycle.Goals as goal
 
 pub unwrap-node-requires : goal.unwrap-node-requires
@@ -26,11 +24,10 @@ loop-seen-preserved c =
 pub returns : goal.returns
 returns c =
     let R = Points c.args.graph.now in
-    let path = c.loop-seen.path.items in
     let start = c.first_at-start.result in
     let within = subst (λ (xs : List ℕ). start < length xs) c.deref.ensures.value c.first_at-start.ensures.within in
     let found = subst (λ (xs : List ℕ). get_or xs start 0 ≡ c.loop-seen.node) c.deref.ensures.value c.first_at-start.ensures.found in
-    let real = cycle_from R path start c.loop-seen.node c.loop-seen.invariant.leads within found in
+    let real = cycle_from R c.loop-seen.path.items start c.loop-seen.node c.loop-seen.invariant.leads within found in
     IfOk-weaker c.to_vec.result _ _
     (λ v h. subst (IsCycle R) (sym (h (λ x y e. e) ∙ (take_rest c.deref-2.result.now start ∙ ap (λ xs. drop start xs) c.deref-2.ensures.value))) real)
     c.to_vec.ensures.items_if_clones_equal

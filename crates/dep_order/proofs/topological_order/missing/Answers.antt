@@ -1,5 +1,4 @@
-use Rattle.std.{proofs.Common.{◌<◌, true, false, length, get_or, subst, arith, sym, ◌∙◌}, specs.List.{Contains}, proofs.lemmas.List.{get_or_default}}
-use Rattle.std.proofs.lemmas.List.Elements.{Contains-get_or}
+use Rattle.std.{proofs.Common.{◌<◌, true, false, length, get_or, subst, arith, sym, ◌∙◌}, specs.List.{Contains}, proofs.lemmas.List.{get_or_default}, proofs.lemmas.List.Elements.{Contains-get_or}}
 use Rattle.dep_order.{specs.TopologicalOrder.{Points, IsPlaced}, proofs.Marks.{of_each}}
 use Rattle.dep_order.proofs.topological_order.missing.Goals as goal
 

@@ -1,6 +1,5 @@
 use Rattle.std.{proofs.Common.{◌≡◌, ◌∙◌, ℕ, List, Bool, true, ap, Option, Some, None}, specs.Prelude.{IfSome, is_some, not}}
-use Rattle.dep_order.{specs.TopologicalOrder.{IsUnplaced, Points}, proofs.Marks.{apart}}
-use Rattle.dep_order.proofs.topological_order.next_ready.Goals.{else-not-placed-node-via-then-not-placed-node+else-is_none, else-not-placed-node-via-else-not-placed-node}
+use Rattle.dep_order.{specs.TopologicalOrder.{IsUnplaced, Points}, proofs.Marks.{apart}, proofs.topological_order.next_ready.Goals.{else-not-placed-node-via-then-not-placed-node+else-is_none, else-not-placed-node-via-else-not-placed-node}}
 use Rattle.dep_order.proofs.topological_order.next_ready.Goals as goal
 use borrow.Author.Count.{below_more}
 

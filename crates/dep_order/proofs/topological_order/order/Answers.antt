@@ -1,19 +1,14 @@
-use Rattle.std.proofs.Common.{◌≡◌, ℕ, ◌<◌, slice_index, true, List, length, set, subst, arith, sym, ap, take, nat_eq, Bool, ◌∙◌}
-use Rattle.std.{specs.List.{Contains, IsDistinct}, proofs.lemmas.List.{length-set}}
-use Rattle.dep_order.specs.TopologicalOrder.{Points, IsPlaced, IsUnplaced, IsStuck}
-use Rattle.dep_order.proofs.Marks.{none_marked, now_listed, now_marked, still_once, still_after, IsDistinct-none}
+use Rattle.std.{proofs.Common.{◌≡◌, ℕ, ◌<◌, slice_index, true, List, length, set, subst, arith, sym, take, nat_eq, Bool, ◌∙◌}, specs.List.{Contains, IsDistinct}, proofs.lemmas.List.{length-set}}
+use Rattle.dep_order.{specs.TopologicalOrder.{Points, IsPlaced, IsUnplaced, IsStuck}, proofs.Marks.{none_marked, now_listed, now_marked, still_once, still_after, IsDistinct-none}}
 use Rattle.dep_order.proofs.topological_order.order.Goals as goal
 
 pub loop-first-init : goal.loop-first-init
 loop-first-init c =
-    let marks = c.in_ok-placed.ensures.items_if_clones_equal (λ y e. e) in
-    let none = c.new-order.ensures.items in
-    let empty : length c.new-order.result.items ≡ 0 = ap length none in
     record {
       size = omega (arith, c.in_ok-placed.ensures.len);
-      placed = λ a p. absurd (none_marked _ a (subst (λ ms. IsPlaced ms a) marks p));
+      placed = λ a p. absurd (none_marked _ a (subst (λ ms. IsPlaced ms a) (c.in_ok-placed.ensures.items_if_clones_equal (λ y e. e)) p));
       ordered = λ i h. absurd (omega arith);
-      once = subst (IsDistinct nat_eq) (sym none) IsDistinct-none;
+      once = subst (IsDistinct nat_eq) (sym c.new-order.ensures.items) IsDistinct-none;
       after = λ i b h p. absurd (omega arith);
     }
 

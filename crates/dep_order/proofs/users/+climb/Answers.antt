@@ -1,7 +1,5 @@
-use Rattle.std.{proofs.Common.{◌≡◌, ◌∙◌, inl, inr, List, None, get_or, sym, ap, subst, arith, below_more, ⊎_elim}, specs.List.{Contains}, specs.Map.{keys_of}}
-use Rattle.std.proofs.lemmas.List.{get_or_default}
-use Rattle.dep_order.{specs.Users.{Uses, EachFollowsUsers}, proofs.Climbing.{within_first, within_user, reaches_on}}
-use Rattle.dep_order.proofs.Found.{found_closed, found_has, found_kept, found_only, keys_inserted, nothing_more}
+use Rattle.std.{proofs.Common.{◌≡◌, ◌∙◌, inl, inr, List, None, get_or, sym, ap, subst, arith, below_more, ⊎_elim}, specs.List.{Contains}, specs.Map.{keys_of}, proofs.lemmas.List.{get_or_default}}
+use Rattle.dep_order.{specs.Users.{Uses, EachFollowsUsers}, proofs.Climbing.{within_first, within_user, reaches_on}, proofs.Found.{found_closed, found_has, found_kept, found_only, keys_inserted, nothing_more}}
 use Rattle.dep_order.proofs.users.+climb.Goals as goal
 
 pub overflow_sub-height : goal.overflow_sub-height
@@ -52,13 +50,12 @@ returns-clause-closed g t c =
     let eq = g.N.PartialEq.eq in
     let table = c.args.users.now.entries in
     let found = keys_of c.loop-user.found.entries in
-    let items = c.users_of-user-items.result.now in
     subst (λ (ks : List _). EachFollowsUsers eq table ks) (sym (ap keys_of c.in_ok-insert.ensures.entries ∙ keys_inserted g.N.PartialEq.eq c.loop-user.found.entries c.args.node.now None))
     (found_closed eq c.requires.exact found c.args.node.now (λ a b. Uses eq table b a) c.loop-user.invariant.closed
     (λ b u.
     let at = subst (λ (us : List _). Contains us b) (sym c.users_of-user-items.ensures) u in
     let there = c.loop-user.invariant.here at.0 (omega (arith, at.1, c.loop-user-test.false)) in
-    subst (λ (y : _). Contains found y) (get_or_default items at.0 c.args.node.now b at.1 ∙ at.2) there))
+    subst (λ (y : _). Contains found y) (get_or_default c.users_of-user-items.result.now at.0 c.args.node.now b at.1 ∙ at.2) there))
 
 pub returns-clause-named : goal.returns-clause-named
 returns-clause-named g t c = subst (λ (ks : List _). Contains ks c.args.node.now) (sym (ap keys_of c.in_ok-insert.ensures.entries ∙ keys_inserted g.N.PartialEq.eq c.loop-user.found.entries c.args.node.now None)) (found_has g.N.PartialEq.eq c.requires.exact (keys_of c.loop-user.found.entries) c.args.node.now)

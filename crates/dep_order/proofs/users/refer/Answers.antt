@@ -1,5 +1,4 @@
-use Rattle.std.{proofs.Common.{◌++◌, refl, inl, inr, List, sym, subst, arith, ⊎_elim}, specs.List.{Contains}, proofs.lemmas.List.{take_all}}
-use Rattle.std.proofs.lemmas.List.Elements.{Contains-append_left, Contains-append_right, Contains-append_cases}
+use Rattle.std.{proofs.Common.{◌++◌, refl, inl, inr, List, sym, subst, arith, ⊎_elim}, specs.List.{Contains}, proofs.lemmas.List.{take_all}, proofs.lemmas.List.Elements.{Contains-append_left, Contains-append_right, Contains-append_cases}}
 use Rattle.dep_order.{specs.Users.{Uses}, proofs.Noting.{forget_more, note_more}, proofs.Following.{contains_none, contains_one}}
 use Rattle.dep_order.proofs.users.refer.Goals as goal
 

@@ -25,21 +25,18 @@ loop-half-init g c =
 
 pub join_row-requires-clause-from : goal.join_row-requires-clause-from
 join_row-requires-clause-from g c =
-    let parts = div-add-mod' c.args.from (2 * c.loop-half.half) in
-    (c.args.from / (2 * c.loop-half.half), omega (arith, parts, c.if-from-half-eq0.true))
+    (c.args.from / (2 * c.loop-half.half), omega (arith, div-add-mod' c.args.from (2 * c.loop-half.half), c.if-from-half-eq0.true))
 
 pub loop-half-preserved : goal.loop-half-preserved
 loop-half-preserved g c =
     let inv = c.loop-half.invariant in
-    let joined = c.join_row.ensures in
-    let parts = div-add-mod' c.args.from (2 * c.loop-half.half) in
     record {
       half = (suc inv.half.0, ap (λ k. 2 * k) inv.half.1 ∙ grind arith);
       wide = omega (arith, inv.wide);
-      whole = (c.args.from / (2 * c.loop-half.half), omega (arith, parts, c.if-from-half-eq0.true));
-      kept = joined.kept;
-      others = λ p away. joined.others p away ∙ inv.others p away;
-      sized = joined.length ∙ inv.sized;
+      whole = (c.args.from / (2 * c.loop-half.half), omega (arith, div-add-mod' c.args.from (2 * c.loop-half.half), c.if-from-half-eq0.true));
+      kept = c.join_row.ensures.kept;
+      others = λ p away. c.join_row.ensures.others p away ∙ inv.others p away;
+      sized = c.join_row.ensures.length ∙ inv.sized;
     }
 
 pub returns-else-from-half-eq0-clause-kept : goal.returns-else-from-half-eq0-clause-kept

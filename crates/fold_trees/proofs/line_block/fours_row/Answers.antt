@@ -1,28 +1,22 @@
-use Rattle.std.proofs.Common.{◌≡◌, ◌∙◌, ℕ, ◌+◌, ◌*◌, ◌<◌, ◌≤◌, ◌∷◌, [], length, set, get_or, pos, ap, sym, subst, arith, rules, to_z, of_z, w64, FitsSigned}
-use Rattle.std.{proofs.lemmas.Int.{to_z-of_z}, proofs.lemmas.List.{length-set}}
-use Rattle.fold_trees.{specs.declared.line.Line.{Line}, specs.LineTrees.{slot_at, nth_node, slot_of, segment}, specs.LineBlocks.{line_of, HaveNodes}}
-use Rattle.fold_trees.{proofs.BlockRows.{slot_row, line_slot, next_slot, node_row}, proofs.FourRows.{third_row, four_on, others_stay, as_long}}
-use Rattle.fold_trees.proofs.Segments.{segment_split}
+use Rattle.std.{proofs.Common.{◌≡◌, ◌∙◌, ℕ, ◌+◌, ◌*◌, ◌<◌, ◌≤◌, ◌∷◌, [], length, set, get_or, pos, ap, sym, subst, arith, rules, to_z, of_z, w64, FitsSigned}, proofs.lemmas.Int.{to_z-of_z}, proofs.lemmas.List.{length-set}}
+use Rattle.fold_trees.{specs.declared.line.Line.{Line}, specs.LineTrees.{slot_at, nth_node, slot_of, segment}, specs.LineBlocks.{line_of, HaveNodes}, proofs.BlockRows.{slot_row, line_slot, next_slot, node_row}, proofs.FourRows.{third_row, four_on, others_stay, as_long}, proofs.Segments.{segment_split}}
 use Rattle.fold_trees.proofs.line_block.fours_row.Goals as goal
 
 pub bounds-numbers-at-in-loop-column-2 : goal.bounds-numbers-at-in-loop-column-2
 bounds-numbers-at-in-loop-column-2 g c =
-    let first = c.args.first in
-    let row = slot_row first (length c.args.numbers.now) (c.args.from + 2) c.requires.slots (omega (arith, c.requires.full)) in
-    omega (arith, row, next_slot first c.args.from 2, c.slot_at-row.ensures, c.loop-column-test.true)
+    let row = slot_row c.args.first (length c.args.numbers.now) (c.args.from + 2) c.requires.slots (omega (arith, c.requires.full)) in
+    omega (arith, row, next_slot c.args.first c.args.from 2, c.slot_at-row.ensures, c.loop-column-test.true)
 
 pub bounds-numbers-at-in-loop-column-3 : goal.bounds-numbers-at-in-loop-column-3
 bounds-numbers-at-in-loop-column-3 g c =
-    let first = c.args.first in
-    let row = slot_row first (length c.args.numbers.now) (c.args.from + 3) c.requires.slots (omega (arith, c.requires.full)) in
-    omega (arith, row, next_slot first c.args.from 3, c.slot_at-row.ensures, c.loop-column-test.true)
+    let row = slot_row c.args.first (length c.args.numbers.now) (c.args.from + 3) c.requires.slots (omega (arith, c.requires.full)) in
+    omega (arith, row, next_slot c.args.first c.args.from 3, c.slot_at-row.ensures, c.loop-column-test.true)
 
 -- the last of the three nodes is one of the list
 inside : (first : Line) (from k node nodes before : ℕ) → HaveNodes first before → from + 4 ≤ first.count → node ≡ nth_node first (from + 1) → k < first.step → nodes ≡ before
     → node + k + 2 * first.step < nodes
 inside first from k node nodes before has full is below sized =
-    let row = node_row first before (from + 3) has (omega arith) (omega (arith, full)) in
-    omega (arith, row, third_row first from, is, below, sized)
+    omega (arith, node_row first before (from + 3) has (omega arith) (omega (arith, full)), third_row first from, is, below, sized)
 
 pub offset_bounds-nodes-here : goal.offset_bounds-nodes-here
 offset_bounds-nodes-here g c = let below = inside c.args.first c.args.from c.loop-column.column c.nth_node-node.result (length c.loop-column.nodes) (length c.args.nodes.now) c.requires.nodes c.requires.full c.nth_node-node.ensures c.loop-column-test.true c.loop-column.invariant.sized in search rules
@@ -60,10 +54,7 @@ loop-column-preserved g c =
     let numbers = c.args.numbers.now in
     let from = c.args.from in
     let tells = g.P.Part.tells in
-    let blank = g.P.Part.blank in
-    let nodes = c.loop-column.nodes in
     let k = c.loop-column.column in
-    let inv = c.loop-column.invariant in
     let below = c.loop-column-test.true in
     let l = line_of first k in
     let x = slot_of l numbers in
@@ -91,7 +82,7 @@ loop-column-preserved g c =
     let two : tells d (segment x (from + 2) 2) = subst (tells d) (λ i. x2 i ∷ x3 i ∷ []) c.two-later.ensures in
     let all : tells b (segment x from 4) = subst (tells b) (sym (segment_split x from 2 2)) (c.join.ensures (segment x from 2) (segment x (from + 2) 2) one two) in
     record {
-      told = four_on blank first from k here nodes a b d below here_is fits tells numbers one all two inv.told;
-      others = others_stay blank first from k here nodes a b d below here_is fits c.args.nodes.now inv.others;
-      sized = as_long blank first from k here nodes a b d below here_is fits ∙ inv.sized;
+      told = four_on g.P.Part.blank first from k here c.loop-column.nodes a b d below here_is fits tells numbers one all two c.loop-column.invariant.told;
+      others = others_stay g.P.Part.blank first from k here c.loop-column.nodes a b d below here_is fits c.args.nodes.now c.loop-column.invariant.others;
+      sized = as_long g.P.Part.blank first from k here c.loop-column.nodes a b d below here_is fits ∙ c.loop-column.invariant.sized;
     }

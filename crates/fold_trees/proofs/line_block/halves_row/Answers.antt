@@ -1,6 +1,5 @@
 use Rattle.std.{proofs.Common.{◌≡◌, ◌∙◌, ℕ, ◌+◌, ◌/◌, ◌<◌, ◌++◌, List, ℤ, length, sym, ap, subst, arith, rules}, proofs.lemmas.List.{length-set}}
-use Rattle.fold_trees.{specs.LineBlocks.{line_of}, proofs.BlockRows.{told_on, others_on, line_node, node_row, read_before}, specs.LineTrees.{nth_node, node_of}}
-use Rattle.fold_trees.proofs.line_block.halves_row.Given.{Over}
+use Rattle.fold_trees.{specs.LineBlocks.{line_of}, proofs.BlockRows.{told_on, others_on, line_node, node_row, read_before}, specs.LineTrees.{nth_node, node_of}, proofs.line_block.halves_row.Given.{Over}}
 use Rattle.fold_trees.proofs.line_block.halves_row.Goals as goal
 
 -- the node of the line is one of the list
@@ -43,22 +42,18 @@ loop-column-preserved g c =
     let first = c.args.first in
     let from = c.args.from in
     let half = c.args.half in
-    let tells = g.P.Part.tells in
     let blank = g.P.Part.blank in
     let before = c.args.nodes.now in
-    let nodes = c.loop-column.nodes in
     let k = c.loop-column.column in
-    let inv = c.loop-column.invariant in
-    let s = c.join.result in
     let node = c.nth_node-node.result + k in
     let here = ap (λ (n : ℕ). n + k) c.nth_node-node.ensures in
     record {
-      told = told_on blank (λ column t. (earlier rest : List ℤ) → tells (node_of blank (line_of first column) before (from + half / 2)) earlier
-          → tells (node_of blank (line_of first column) before (from + half + half / 2)) rest → tells t (earlier ++ rest))
+      told = told_on blank (λ column t. (earlier rest : List ℤ) → g.P.Part.tells (node_of blank (line_of first column) before (from + half / 2)) earlier
+          → g.P.Part.tells (node_of blank (line_of first column) before (from + half + half / 2)) rest → g.P.Part.tells t (earlier ++ rest))
           (λ column. nth_node (line_of first column) (from + half)) (nth_node first (from + half))
-          (λ column. line_node first column (from + half)) nodes k node s here (inside g c) inv.told
+          (λ column. line_node first column (from + half)) c.loop-column.nodes k node c.join.result here (inside g c) c.loop-column.invariant.told
           (λ earlier rest h l. c.join.ensures earlier rest
-          (subst (λ t. tells t earlier) (sym (earlier_is g c.before)) h) (subst (λ t. tells t rest) (sym (later_is g c.before)) l));
-      others = others_on blank nodes before (nth_node first (from + half)) k node s here inv.others;
-      sized = length-set nodes node s ∙ inv.sized;
+          (subst (λ t. g.P.Part.tells t earlier) (sym (earlier_is g c.before)) h) (subst (λ t. g.P.Part.tells t rest) (sym (later_is g c.before)) l));
+      others = others_on blank c.loop-column.nodes before (nth_node first (from + half)) k node c.join.result here c.loop-column.invariant.others;
+      sized = length-set c.loop-column.nodes node c.join.result ∙ c.loop-column.invariant.sized;
     }

@@ -1,7 +1,5 @@
-use Rattle.std.{proofs.Common.{◌≡◌, ◌∙◌, ◌+◌, ◌-◌, ◌*◌, ◌/◌, ◌%◌, ◌<◌, ◌++◌, List, ℤ, min, length, sym, ap, subst, arith, rules}, proofs.lemmas.Nat.{pow_pos}}
-use Rattle.std.proofs.lemmas.List.{length-set}
-use Rattle.fold_trees.{specs.declared.line.Line.{Line}, specs.LineTrees.{slot_of, nth_node, segment, numbers_of_block, node_of, ArePartsKeptIn}}
-use Rattle.fold_trees.{specs.LineBlocks.{line_of}, proofs.BlockRows.{told_on, others_on, line_node, column_away, node_row}, proofs.LineParts.{widen_even}}
+use Rattle.std.{proofs.Common.{◌≡◌, ◌∙◌, ◌+◌, ◌-◌, ◌*◌, ◌/◌, ◌%◌, ◌<◌, ◌++◌, List, ℤ, min, length, sym, ap, subst, arith, rules}, proofs.lemmas.Nat.{pow_pos}, proofs.lemmas.List.{length-set}}
+use Rattle.fold_trees.{specs.declared.line.Line.{Line}, specs.LineTrees.{slot_of, nth_node, segment, numbers_of_block, node_of, ArePartsKeptIn}, specs.LineBlocks.{line_of}, proofs.BlockRows.{told_on, others_on, line_node, column_away, node_row}, proofs.LineParts.{widen_even}}
 use Rattle.fold_trees.{proofs.BlockParts.{kept_in_first, kept_in_second, kept_in_still}, proofs.line_block.last_row.Given.{Over}}
 use Rattle.fold_trees.proofs.line_block.last_row.Goals as goal
 
@@ -19,39 +17,29 @@ part-requires-in-loop-column-clause-part g c =
 
 pub part-requires-clause-kept : goal.part-requires-clause-kept
 part-requires-clause-kept g c =
-    let first = c.args.first in
-    let numbers = c.args.numbers.now in
-    let from = c.args.from in
-    let half = c.args.half in
     let nodes = c.loop-column.nodes in
     let k = c.loop-column.column in
-    let below = c.loop-column-test.true in
-    let l = line_of first k in
+    let l = line_of c.args.first k in
     let tells = g.P.Part.tells in
     let blank = g.P.Part.blank in
-    subst (λ (m : Line). ArePartsKeptIn tells from half m.count (slot_of m numbers) (node_of blank m nodes)) (sym c.nth-line.ensures)
-    (kept_in_still tells from half first.count (slot_of l numbers) (node_of blank l c.args.nodes.now) (node_of blank l nodes)
-    (λ a. c.loop-column.invariant.others (nth_node l a) (column_away first k k a (from + half) below (omega arith)))
-    (kept_in_first blank tells from first numbers c.args.nodes.now half k below c.requires.kept))
+    subst (λ (m : Line). ArePartsKeptIn tells c.args.from c.args.half m.count (slot_of m c.args.numbers.now) (node_of blank m nodes)) (sym c.nth-line.ensures)
+    (kept_in_still tells c.args.from c.args.half c.args.first.count (slot_of l c.args.numbers.now) (node_of blank l c.args.nodes.now) (node_of blank l nodes)
+    (λ a. c.loop-column.invariant.others (nth_node l a) (column_away c.args.first k k a (c.args.from + c.args.half) c.loop-column-test.true (omega arith)))
+    (kept_in_first blank tells c.args.from c.args.first c.args.numbers.now c.args.nodes.now c.args.half k c.loop-column-test.true c.requires.kept))
 
 pub part-requires-in-loop-column-clause-kept : goal.part-requires-in-loop-column-clause-kept
 part-requires-in-loop-column-clause-kept g c =
-    let first = c.args.first in
-    let numbers = c.args.numbers.now in
-    let from = c.args.from in
     let half = c.args.half in
     let nodes = c.loop-column.nodes in
     let k = c.loop-column.column in
-    let below = c.loop-column-test.true in
-    let l = line_of first k in
+    let l = line_of c.args.first k in
     let tells = g.P.Part.tells in
     let blank = g.P.Part.blank in
-    let p = pow_pos c.requires.half.0 in
-    let some : 0 < half = omega (arith, p, c.requires.half.1) in
-    subst (λ (m : Line). ArePartsKeptIn tells (from + half) half m.count (slot_of m numbers) (node_of blank m nodes)) (sym c.nth-line.ensures)
-    (kept_in_still tells (from + half) half first.count (slot_of l numbers) (node_of blank l c.args.nodes.now) (node_of blank l nodes)
-    (λ a. c.loop-column.invariant.others (nth_node l a) (column_away first k k a (from + half) below (omega arith)))
-    (kept_in_second blank tells from first numbers c.args.nodes.now half k below some c.requires.kept))
+    let some : 0 < half = omega (arith, pow_pos c.requires.half.0, c.requires.half.1) in
+    subst (λ (m : Line). ArePartsKeptIn tells (c.args.from + half) half m.count (slot_of m c.args.numbers.now) (node_of blank m nodes)) (sym c.nth-line.ensures)
+    (kept_in_still tells (c.args.from + half) half c.args.first.count (slot_of l c.args.numbers.now) (node_of blank l c.args.nodes.now) (node_of blank l nodes)
+    (λ a. c.loop-column.invariant.others (nth_node l a) (column_away c.args.first k k a (c.args.from + half) c.loop-column-test.true (omega arith)))
+    (kept_in_second blank tells c.args.from c.args.first c.args.numbers.now c.args.nodes.now half k c.loop-column-test.true some c.requires.kept))
 
 -- the node of the line, and that it is one of the list
 here : (g : Over) (c : goal.After-nth_node g) → c.nth_node.result ≡ nth_node c.args.first (c.args.from + c.args.half) + c.loop-column.column
@@ -70,27 +58,19 @@ offset_bounds-nodes-nth_node g c = let below = inside g c in search rules
 pub loop-column-preserved : goal.loop-column-preserved
 loop-column-preserved g c =
     let first = c.args.first in
-    let numbers = c.args.numbers.now in
     let from = c.args.from in
     let half = c.args.half in
-    let before = c.args.nodes.now in
-    let tells = g.P.Part.tells in
     let blank = g.P.Part.blank in
-    let nodes = c.loop-column.nodes in
-    let k = c.loop-column.column in
     let inv = c.loop-column.invariant in
     let s = c.join-both.result in
-    let below = c.loop-column-test.true in
     let line = c.nth-line.result in
-    let l = line_of first k in
-    let x = slot_of l numbers in
+    let x = slot_of (line_of first c.loop-column.column) c.args.numbers.now in
     let count = first.count in
     let part = c.requires.from.0 in
-    let is = c.nth-line.ensures in
     let node = c.nth_node.result in
-    let one : Line → List ℤ = λ m. segment (slot_of m numbers) from (min half (m.count - from)) in
-    let other : Line → List ℤ = λ m. segment (slot_of m numbers) (from + half) (min half (m.count - (from + half))) in
-    let told : tells s (one line ++ other line) = c.join-both.ensures (one line) (other line) c.part.ensures c.part-in-loop-column.ensures in
+    let one : Line → List ℤ = λ m. segment (slot_of m c.args.numbers.now) from (min half (m.count - from)) in
+    let other : Line → List ℤ = λ m. segment (slot_of m c.args.numbers.now) (from + half) (min half (m.count - (from + half))) in
+    let told : g.P.Part.tells s (one line ++ other line) = c.join-both.ensures (one line) (other line) c.part.ensures c.part-in-loop-column.ensures in
     let even : 2 * part % 2 ≡ 0 = omega arith in
     let block : 2 * part / 2 ≡ part = omega arith in
     let start : from ≡ 2 * part * half = c.requires.from.1 ∙ grind arith in
@@ -99,12 +79,12 @@ loop-column-preserved g c =
     ∙ widen_even count x (2 * part) half even (omega (arith, next, c.requires.short))
     ∙ ap (λ b. numbers_of_block count x b (2 * half)) block
     ∙ sym (ap (λ f. segment x f (min (2 * half) (count - f))) c.requires.from.1) in
-    let made : tells s (segment x from (min (2 * half) (count - from))) =
-    subst (tells s) all (subst (λ (m : Line). tells s (one m ++ other m)) is told) in
+    let made : g.P.Part.tells s (segment x from (min (2 * half) (count - from))) =
+    subst (g.P.Part.tells s) all (subst (λ (m : Line). g.P.Part.tells s (one m ++ other m)) c.nth-line.ensures told) in
     record {
-      told = told_on blank (λ column t. tells t (segment (slot_of (line_of first column) numbers) from (min (2 * half) (count - from))))
+      told = told_on blank (λ column t. g.P.Part.tells t (segment (slot_of (line_of first column) c.args.numbers.now) from (min (2 * half) (count - from))))
           (λ column. nth_node (line_of first column) (from + half)) (nth_node first (from + half))
-          (λ column. line_node first column (from + half)) nodes k node s (here g c) (inside g c) inv.told made;
-      others = others_on blank nodes before (nth_node first (from + half)) k node s (here g c) inv.others;
-      sized = length-set nodes node s ∙ inv.sized;
+          (λ column. line_node first column (from + half)) c.loop-column.nodes c.loop-column.column node s (here g c) (inside g c) inv.told made;
+      others = others_on blank c.loop-column.nodes c.args.nodes.now (nth_node first (from + half)) c.loop-column.column node s (here g c) inv.others;
+      sized = length-set c.loop-column.nodes node s ∙ inv.sized;
     }

@@ -1,17 +1,13 @@
-use Rattle.std.proofs.Common.{◌≡◌, ◌∙◌, ℕ, suc, ◌+◌, ◌*◌, ◌/◌, ◌^◌, ◌<◌, ◌≤◌, ◌⊎◌, set, get_or, length, sym, ap, subst, arith, inl, inr, refl}
-use Rattle.std.{proofs.lemmas.List.{get_or_default}, proofs.lemmas.Nat.{pow_pos}}
-use Rattle.fold_trees.{specs.LineTrees.{numbers_of_block, node_of, block_up}, proofs.LineParts.{climb_start, climb_up}}
-use Rattle.fold_trees.{proofs.LineNodes.{IsStepUp, others_stay, step_up, kept_first, all_kept}, proofs.LineJoins.{level_below, meeting_near, ends_here}}
-use Rattle.fold_trees.{proofs.line_tree.put_parts.Given.{Over}, proofs.line_tree.put_parts.Goals.{In-loop-width, then-meeting-line, else-meeting-line}}
+use Rattle.std.{proofs.Common.{◌≡◌, ◌∙◌, ℕ, suc, ◌+◌, ◌*◌, ◌/◌, ◌^◌, ◌<◌, ◌≤◌, ◌⊎◌, set, get_or, length, sym, ap, subst, arith, inl, inr, refl}, proofs.lemmas.List.{get_or_default}, proofs.lemmas.Nat.{pow_pos}}
+use Rattle.fold_trees.{specs.LineTrees.{numbers_of_block, node_of, block_up}, proofs.LineParts.{climb_start, climb_up}, proofs.LineNodes.{IsStepUp, others_stay, step_up, kept_first, all_kept}, proofs.LineJoins.{level_below, meeting_near, ends_here}, proofs.line_tree.put_parts.Given.{Over}}
+use Rattle.fold_trees.proofs.line_tree.put_parts.Goals.{In-loop-width, then-meeting-line, else-meeting-line}
 use Rattle.fold_trees.proofs.line_tree.put_parts.Goals as goal
 
 some_meeting : (g : Over) (c : In-loop-width g) → 1 ≤ (c.loop-width.block / 2 * 2 + 1) * c.loop-width.width
 some_meeting g c =
-    let block = c.loop-width.block in
     let width = c.loop-width.width in
-    let inv = c.loop-width.invariant in
-    let is : (block / 2 * 2 + 1) * width ≡ 2 * (block / 2 * width) + width = grind arith in
-    omega (arith, is, pow_pos c.loop-width.level, inv.wide)
+    let is : (c.loop-width.block / 2 * 2 + 1) * width ≡ 2 * (c.loop-width.block / 2 * width) + width = grind arith in
+    omega (arith, is, pow_pos c.loop-width.level, c.loop-width.invariant.wide)
 
 below : (g : Over) (c : In-loop-width g) → c.loop-width.level < length c.args.parts.now
 below g c =
@@ -93,6 +89,5 @@ loop-width-preserved g c =
 
 pub returns-clause-kept : goal.returns-clause-kept
 returns-clause-kept g c x beside joined =
-    let inv = c.loop-width.invariant in
     all_kept g.P.Part.tells c.loop-width.width c.args.place c.args.line.count c.loop-width.level x (node_of g.P.Part.blank c.args.line c.loop-width.nodes)
-    inv.wide c.loop-width-test.false (inv.kept x beside joined)
+    c.loop-width.invariant.wide c.loop-width-test.false (c.loop-width.invariant.kept x beside joined)

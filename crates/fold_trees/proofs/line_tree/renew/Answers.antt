@@ -1,33 +1,26 @@
-use Rattle.std.proofs.Common.{◌≡◌, ◌∙◌, ◌+◌, ◌-◌, ◌*◌, ◌/◌, ◌<◌, ◌≤◌, ◌⊎◌, ◌∷◌, [], set, min, sym, ap, subst, arith, inl, inr, refl, w64, get_or, pos, FitsSigned, rules}
-use Rattle.std.{proofs.lemmas.Int.{to_z-of_z}, proofs.lemmas.Nat.{pow_pos}}
-use Rattle.fold_trees.{specs.LineTrees.{slot_of, segment, node_of}, proofs.LineParts.{climb_start, climb_up}}
-use Rattle.fold_trees.proofs.LineNodes.{IsStepUp, others_stay, step_up, kept_first, all_kept, kept_beside}
-use Rattle.fold_trees.proofs.line_tree.renew.Goals.{then-joined-eq1, else-joined-eq1}
+use Rattle.std.{proofs.Common.{◌≡◌, ◌∙◌, ◌+◌, ◌-◌, ◌*◌, ◌/◌, ◌<◌, ◌≤◌, ◌⊎◌, ◌∷◌, [], set, min, sym, ap, subst, arith, inl, inr, refl, w64, get_or, pos, rules}, proofs.lemmas.Int.{to_z-of_z}, proofs.lemmas.Nat.{pow_pos}}
+use Rattle.fold_trees.{specs.LineTrees.{slot_of, segment, node_of}, proofs.LineParts.{climb_start, climb_up}, proofs.LineNodes.{IsStepUp, others_stay, step_up, kept_first, all_kept, kept_beside}, proofs.line_tree.renew.Goals.{then-joined-eq1, else-joined-eq1}}
 use Rattle.fold_trees.proofs.line_tree.renew.Goals as goal
 
 pub loop-width-init : goal.loop-width-init
 loop-width-init g c =
-    let line = c.args.line in
     let place = c.args.place in
-    let numbers = c.args.numbers.now in
-    let x = slot_of line numbers in
+    let x = slot_of c.args.line c.args.numbers.now in
     let start : place * 1 ≡ place = omega arith in
-    let one : min 1 (line.count - place * 1) ≡ 1 = omega (arith, c.requires.place) in
-    let f : FitsSigned w64 (get_or numbers c.slot_at.result (pos 0)) = search rules in
-    let number = to_z-of_z w64 _ f ∙ ap (λ k. get_or numbers k (pos 0)) c.slot_at.ensures in
+    let one : min 1 (c.args.line.count - place * 1) ≡ 1 = omega (arith, c.requires.place) in
+    let number = to_z-of_z w64 _ (search rules) ∙ ap (λ k. get_or c.args.numbers.now k (pos 0)) c.slot_at.ensures in
     record {
       climb = climb_start place;
       told = subst (g.P.Part.tells c.of-kept.result) (ap (λ y. y ∷ []) number ∙ sym (λ i. segment x (start i) (one i))) c.of-kept.ensures;
-      kept = kept_first g.P.Part.tells place line.count x (node_of g.P.Part.blank line c.args.nodes.now) c.requires.kept;
+      kept = kept_first g.P.Part.tells place c.args.line.count x (node_of g.P.Part.blank c.args.line c.args.nodes.now) c.requires.kept;
       others = λ p h. refl;
       sized = refl;
     }
 
 pub widened-wider-requires-clause-kept : goal.widened-wider-requires-clause-kept
 widened-wider-requires-clause-kept g c =
-    let inv = c.loop-width.invariant in
     kept_beside g.P.Part.tells c.loop-width.width c.args.place c.loop-width.block c.args.line.count (slot_of c.args.line c.args.numbers.now)
-    (node_of g.P.Part.blank c.args.line c.loop-width.nodes) inv.climb inv.kept
+    (node_of g.P.Part.blank c.args.line c.loop-width.nodes) c.loop-width.invariant.climb c.loop-width.invariant.kept
 
 pub loop-width-preserved : goal.loop-width-preserved
 loop-width-preserved g c =

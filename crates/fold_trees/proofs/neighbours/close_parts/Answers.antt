@@ -1,7 +1,5 @@
-use Rattle.std.proofs.Common.{◌∙◌, ℕ, ℤ, suc, ◌+◌, ◌-◌, ◌*◌, ◌/◌, ◌<◌, length, get_or, set, ap, sym, subst, arith}
-use Rattle.std.{proofs.lemmas.List.{length-set, get_or-set_other, get_or_read}, proofs.lemmas.Nat.{pow_pos}}
-use Rattle.fold_trees.{proofs.LineEnds.{near_node, end_is, first_told, second_told, kept_up, kept_within}, proofs.PairEnds.{node_is, first_is, second_is}}
-use Rattle.fold_trees.{proofs.neighbours.close_parts.Goals.{After-index-nodes-node-in-loop-half}, proofs.neighbours.close_parts.Given.{Over}}
+use Rattle.std.{proofs.Common.{◌∙◌, ℕ, ℤ, suc, ◌+◌, ◌-◌, ◌*◌, ◌/◌, ◌<◌, length, get_or, set, ap, sym, subst, arith}, proofs.lemmas.List.{length-set, get_or-set_other, get_or_read}, proofs.lemmas.Nat.{pow_pos}}
+use Rattle.fold_trees.{proofs.LineEnds.{near_node, end_is, first_told, second_told, kept_up, kept_within}, proofs.PairEnds.{node_is, first_is, second_is}, proofs.neighbours.close_parts.Goals.{After-index-nodes-node-in-loop-half}, proofs.neighbours.close_parts.Given.{Over}}
 use Rattle.fold_trees.specs.LineTrees.{segment, node_of, ArePartsKeptUpTo}
 use Rattle.fold_trees.proofs.neighbours.close_parts.Goals as goal
 
@@ -9,43 +7,38 @@ use Rattle.fold_trees.proofs.neighbours.close_parts.Goals as goal
 earlier : (g : Over) (c : After-index-nodes-node-in-loop-half g) (x : ℕ → ℤ) → ArePartsKeptUpTo g.P.Part.tells c.args.end c.args.width c.args.line.count x (node_of g.P.Part.blank c.args.line c.args.nodes.now)
     → g.P.Part.tells c.index-nodes-node.result (segment x ((c.args.end / (2 * c.loop-half.half) - 1) * (2 * c.loop-half.half)) c.loop-half.half)
 earlier g c x h =
-    let blank = g.P.Part.blank in
-    let tells = g.P.Part.tells in
     let line = c.args.line in
     let end = c.args.end in
     let half = c.loop-half.half in
     let nodes = c.loop-half.nodes in
     let inv = c.loop-half.invariant in
-    let low = inv.half.0 in
-    let p = pow_pos low in
+    let p = pow_pos inv.half.0 in
     let kept = inv.kept x h in
-    let ends = end_is blank tells line nodes x end half low inv.half.1 c.loop-half-test.true c.requires.some c.requires.below kept in
-    let at = first_is line end half low (end / (2 * half) - 1) inv.half.1 ends c.requires.near in
+    let ends = end_is g.P.Part.blank g.P.Part.tells line nodes x end half inv.half.0 inv.half.1 c.loop-half-test.true c.requires.some c.requires.below kept in
+    let at = first_is line end half inv.half.0 (end / (2 * half) - 1) inv.half.1 ends c.requires.near in
     let inside : line.node + (end - half) - 1 - half / 2 < length nodes = omega (arith, c.requires.nodes, inv.sized, near_node line end c.requires.near, ends, inv.half.1, p) in
-    let read = get_or_read nodes (line.node + (end - half) - 1 - half / 2) c.index-nodes-node.result inside c.index-nodes-node.is blank in
-    subst (λ s. tells s (segment x ((end / (2 * half) - 1) * (2 * half)) half)) (sym (read ∙ sym (ap (λ k. get_or nodes k blank) at)))
-    (first_told blank tells line nodes x end half low inv.half.1 c.loop-half-test.true c.requires.some c.requires.below kept)
+    let read = get_or_read nodes (line.node + (end - half) - 1 - half / 2) c.index-nodes-node.result inside c.index-nodes-node.is g.P.Part.blank in
+    subst (λ s. g.P.Part.tells s (segment x ((end / (2 * half) - 1) * (2 * half)) half)) (sym (read ∙ sym (ap (λ k. get_or nodes k g.P.Part.blank) at)))
+    (first_told g.P.Part.blank g.P.Part.tells line nodes x end half inv.half.0 inv.half.1 c.loop-half-test.true c.requires.some c.requires.below kept)
 
 -- and of the later one
 later : (g : Over) (c : After-index-nodes-node-in-loop-half g) (x : ℕ → ℤ) → ArePartsKeptUpTo g.P.Part.tells c.args.end c.args.width c.args.line.count x (node_of g.P.Part.blank c.args.line c.args.nodes.now)
     → g.P.Part.tells c.index-nodes-node-in-loop-half.result (segment x ((c.args.end / (2 * c.loop-half.half) - 1) * (2 * c.loop-half.half) + c.loop-half.half) c.loop-half.half)
 later g c x h =
     let blank = g.P.Part.blank in
-    let tells = g.P.Part.tells in
     let line = c.args.line in
     let end = c.args.end in
     let half = c.loop-half.half in
     let nodes = c.loop-half.nodes in
     let inv = c.loop-half.invariant in
-    let low = inv.half.0 in
-    let p = pow_pos low in
+    let p = pow_pos inv.half.0 in
     let kept = inv.kept x h in
-    let ends = end_is blank tells line nodes x end half low inv.half.1 c.loop-half-test.true c.requires.some c.requires.below kept in
-    let at = second_is line end half low (end / (2 * half) - 1) inv.half.1 ends c.requires.near in
+    let ends = end_is blank g.P.Part.tells line nodes x end half inv.half.0 inv.half.1 c.loop-half-test.true c.requires.some c.requires.below kept in
+    let at = second_is line end half inv.half.0 (end / (2 * half) - 1) inv.half.1 ends c.requires.near in
     let inside : line.node + (end - half) - 1 + half / 2 < length nodes = omega (arith, c.requires.nodes, inv.sized, near_node line end c.requires.near, ends, inv.half.1, p) in
     let read = get_or_read nodes (line.node + (end - half) - 1 + half / 2) c.index-nodes-node-in-loop-half.result inside c.index-nodes-node-in-loop-half.is blank in
-    subst (λ s. tells s (segment x ((end / (2 * half) - 1) * (2 * half) + half) half)) (sym (read ∙ sym (ap (λ k. get_or nodes k blank) at)))
-    (second_told blank tells line nodes x end half low inv.half.1 c.loop-half-test.true c.requires.some c.requires.below kept)
+    subst (λ s. g.P.Part.tells s (segment x ((end / (2 * half) - 1) * (2 * half) + half) half)) (sym (read ∙ sym (ap (λ k. get_or nodes k blank) at)))
+    (second_told blank g.P.Part.tells line nodes x end half inv.half.0 inv.half.1 c.loop-half-test.true c.requires.some c.requires.below kept)
 
 pub join-requires-clause-here : goal.join-requires-clause-here
 join-requires-clause-here g c =

@@ -1,8 +1,5 @@
-use Rattle.std.proofs.Common.{◌≡◌, ◌∙◌, ℕ, ◌+◌, ◌<◌, ◌++◌, ◌∷◌, [], List, length, drop, get_or, ap, sym, subst, arith, rules}
-use Rattle.std.proofs.lemmas.List.{take_at, length-append, get_or_append_left, get_or_push}
-use Rattle.fold_trees.{specs.LineTrees.{nth_node, slot_of, segment, node_of, ArePartsKeptIn, ArePartsKeptUpTo}, proofs.LineEnds.{near_node}}
-use Rattle.fold_trees.{proofs.Segments.{segment_split}, proofs.Fours.{four_more}, proofs.neighbours.push_four.Goals.{After-deref_mut}}
-use Rattle.fold_trees.proofs.neighbours.push_four.Given.{Over}
+use Rattle.std.{proofs.Common.{◌≡◌, ◌∙◌, ℕ, ◌+◌, ◌<◌, ◌++◌, ◌∷◌, [], List, length, drop, get_or, ap, sym, subst, arith, rules}, proofs.lemmas.List.{take_at, length-append, get_or_append_left, get_or_push}}
+use Rattle.fold_trees.{specs.LineTrees.{nth_node, slot_of, segment, node_of, ArePartsKeptIn, ArePartsKeptUpTo}, proofs.LineEnds.{near_node}, proofs.Segments.{segment_split}, proofs.Fours.{four_more}, proofs.neighbours.push_four.Goals.{After-deref_mut}, proofs.neighbours.push_four.Given.{Over}}
 use Rattle.fold_trees.proofs.neighbours.push_four.Goals as goal
 
 -- what lies where, of four more nodes
@@ -98,12 +95,10 @@ close_parts-requires-clause-kept g c = (slot_of c.args.line c.args.numbers.now, 
 
 pub returns-clause-kept : goal.returns-clause-kept
 returns-clause-kept g c =
-    let line = c.args.line in
-    let x = slot_of line c.args.numbers.now in
-    let nodes = c.close_parts.new.nodes in
-    let long : length nodes ≡ c.push_reserved-4.new.self.len = c.close_parts.ensures.length ∙ c.deref_mut.ensures.len in
-    subst (λ ns. ArePartsKeptIn g.P.Part.tells 0 (c.args.from + 4) line.count x (node_of g.P.Part.blank line ns))
-    (sym (take_at nodes (drop (length nodes) c.push_reserved-4.new.self.items) c.push_reserved-4.new.self.len long))
+    let x = slot_of c.args.line c.args.numbers.now in
+    let long : length c.close_parts.new.nodes ≡ c.push_reserved-4.new.self.len = c.close_parts.ensures.length ∙ c.deref_mut.ensures.len in
+    subst (λ ns. ArePartsKeptIn g.P.Part.tells 0 (c.args.from + 4) c.args.line.count x (node_of g.P.Part.blank c.args.line ns))
+    (sym (take_at c.close_parts.new.nodes (drop (length c.close_parts.new.nodes) c.push_reserved-4.new.self.items) c.push_reserved-4.new.self.len long))
     (c.close_parts.ensures.kept x (kept g (goal.at.returns-clause-kept g c).After-deref_mut))
 
 pub returns-clause-others : goal.returns-clause-others

@@ -1,22 +1,18 @@
 use Rattle.std.proofs.Common.{◌≡◌, ◌<◌, ◌≤◌, ◌*◌, ◌/◌, ◌^◌, ◌∙◌, ◌⊎◌, ℕ, length, get_or, rules, sym, subst, arith}
-use Rattle.fold_trees.{proofs.BlockLines.{block_count, block_ends, have_slots, have_nodes, block_kept}, proofs.LineSpots.{lines_are}}
-use Rattle.fold_trees.{specs.declared.line.Line.{Line}, specs.LineTrees.{slot_of, node_of, ArePartsKept}}
-use Rattle.fold_trees.specs.LineBlocks.{line_of, HaveSlots, nodes_end, HaveNodes}
+use Rattle.fold_trees.{proofs.BlockLines.{block_count, block_ends, have_slots, have_nodes, block_kept}, proofs.LineSpots.{lines_are}, specs.declared.line.Line.{Line}, specs.LineTrees.{slot_of, node_of, ArePartsKept}, specs.LineBlocks.{line_of, HaveSlots, nodes_end, HaveNodes}}
 use Rattle.fold_trees.proofs.part_trees.fill_all.Goals as goal
 
 pub nth_block-requires-clause-fit : goal.nth_block-requires-clause-fit
 nth_block-requires-clause-fit g c =
     let long = length c.args.numbers.now in
     let small : long < 2 ^ 62 = search rules in
-    let fits = block_ends c.args.count c.args.step long c.requires.lines c.loop-block.block c.loop-block-test.true in
-    omega (arith, fits, small)
+    omega (arith, block_ends c.args.count c.args.step long c.requires.lines c.loop-block.block c.loop-block-test.true, small)
 
 pub fill_block-requires-clause-slots : goal.fill_block-requires-clause-slots
 fill_block-requires-clause-slots g c =
     let long = length c.args.numbers.now in
-    let small : long < 2 ^ 62 = search rules in
     subst (λ (l : Line). HaveSlots l long) (sym c.nth_block.ensures)
-    (have_slots c.args.count c.args.step long c.requires.lines c.loop-block.block c.loop-block-test.true small)
+    (have_slots c.args.count c.args.step long c.requires.lines c.loop-block.block c.loop-block-test.true (search rules))
 
 pub fill_block-requires-clause-nodes : goal.fill_block-requires-clause-nodes
 fill_block-requires-clause-nodes g c =
@@ -31,7 +27,6 @@ loop-block-preserved g c =
     let blank = g.P.Part.blank in
     let tells = g.P.Part.tells in
     let numbers = c.args.numbers.now in
-    let now = c.loop-block.nodes in
     let after = c.fill_block.new.nodes in
     let inv = c.loop-block.invariant in
     let told = c.fill_block.ensures in
@@ -39,19 +34,17 @@ loop-block-preserved g c =
     let here =
     subst (λ (l : Line). (column : ℕ) → column < l.step → ArePartsKept tells l.count (slot_of (line_of l column) numbers) (node_of blank (line_of l column) after)) is
     told.kept in
-    let others = subst (λ (l : Line). (p : ℕ) → (p < l.node ⊎ nodes_end l ≤ p) → get_or after p blank ≡ get_or now p blank) is told.others in
+    let others = subst (λ (l : Line). (p : ℕ) → (p < l.node ⊎ nodes_end l ≤ p) → get_or after p blank ≡ get_or c.loop-block.nodes p blank) is told.others in
     record {
-      kept = block_kept blank tells c.args.count c.args.step numbers now after c.loop-block.block c.requires.lines.apart here others inv.kept;
+      kept = block_kept blank tells c.args.count c.args.step numbers c.loop-block.nodes after c.loop-block.block c.requires.lines.apart here others inv.kept;
       sized = told.length ∙ inv.sized;
     }
 
 pub returns-clause-kept : goal.returns-clause-kept
 returns-clause-kept g c line h =
-    let count = c.args.count in
     let step = c.args.step in
     let long = length c.args.numbers.now in
-    let there = c.requires.lines in
-    let last : c.loop-block.block ≡ long / count / step = omega (arith, c.loop-block-test.false, c.loop-block.auto.block-end) in
-    let blocks_are = last ∙ block_count count step long there in
-    let all : long / count ≡ c.loop-block.block * step = lines_are count step long there ∙ sym (λ i. blocks_are i * step) in
+    let last : c.loop-block.block ≡ long / c.args.count / step = omega (arith, c.loop-block-test.false, c.loop-block.auto.block-end) in
+    let blocks_are = last ∙ block_count c.args.count step long c.requires.lines in
+    let all : long / c.args.count ≡ c.loop-block.block * step = lines_are c.args.count step long c.requires.lines ∙ sym (λ i. blocks_are i * step) in
     c.loop-block.invariant.kept line (omega (arith, h, all))

@@ -1,6 +1,5 @@
 use Rattle.std.proofs.Common.{◌≡◌, ◌∙◌, ℕ, ◌<◌, get_or, ap, subst, arith}
-use Rattle.fold_trees.{specs.declared.line.Line.{Line}, specs.LineTrees.{slot_of, node_of, ArePartsKept, nodes_in_line}}
-use Rattle.fold_trees.{proofs.BlockLines.{line_node_first, line_nodes_end, line_kept}, specs.LineBlocks.{nodes_end}}
+use Rattle.fold_trees.{specs.declared.line.Line.{Line}, specs.LineTrees.{slot_of, node_of, ArePartsKept, nodes_in_line}, proofs.BlockLines.{line_node_first, line_nodes_end, line_kept}, specs.LineBlocks.{nodes_end}}
 use Rattle.fold_trees.proofs.part_trees.nodes_of_lines.Goals as goal
 
 pub loop-line-preserved : goal.loop-line-preserved

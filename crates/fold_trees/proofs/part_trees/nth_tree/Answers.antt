@@ -6,13 +6,11 @@ pub nth_line-line-requires-clause-fit : goal.nth_line-line-requires-clause-fit
 nth_line-line-requires-clause-fit g c =
     let long = length c.args.numbers.now in
     let small : long < 2 ^ 62 = search rules in
-    let fits = line_fits c.args.count c.args.step long c.requires.trees.lines c.args.line c.requires.line in
-    omega (arith, fits, small)
+    omega (arith, line_fits c.args.count c.args.step long c.requires.trees.lines c.args.line c.requires.line, small)
 
 pub returns-clause-inside : goal.returns-clause-inside
 returns-clause-inside g c =
     let long = length c.args.numbers.now in
     let nodes = length c.args.nodes.now in
-    let small : long < 2 ^ 62 = search rules in
     subst (λ (l : Line). IsIn l long nodes) (sym c.nth_line-line.ensures)
-    (in_both c.args.count c.args.step long c.requires.trees.lines c.args.line c.requires.line nodes c.requires.trees.sized small)
+    (in_both c.args.count c.args.step long c.requires.trees.lines c.args.line c.requires.line nodes c.requires.trees.sized (search rules))

@@ -1,4 +1,4 @@
-use Rattle.std.proofs.Common.{◌∙◌, ◌<◌, ◌^◌, length, rules, sym, subst, arith}
+use Rattle.std.proofs.Common.{◌∙◌, length, rules, sym, subst, arith}
 use Rattle.fold_trees.{specs.declared.line.Line.{Line}, proofs.LongerTrees.{in_block}, proofs.TreeTaken.{IsTaken, taken_on}, specs.LineTrees.{IsIn}}
 use Rattle.fold_trees.proofs.part_trees.take_places.Goals as goal
 
@@ -6,10 +6,9 @@ pub take_last-requires-clause-inside : goal.take_last-requires-clause-inside
 take_last-requires-clause-inside g c =
     let long = length c.args.numbers.now in
     let nodes = length c.loop-line.nodes in
-    let small : long < 2 ^ 62 = search rules in
     subst (λ (l : Line). IsIn l long nodes) (sym c.nth_line.ensures)
     (in_block c.args.count c.args.step long nodes c.loop-line.line (omega (arith, c.requires.more)) c.requires.apart c.requires.slot_count
-    (c.loop-line.invariant.node_count ∙ c.requires.node_count) c.loop-line-test.true small)
+    (c.loop-line.invariant.node_count ∙ c.requires.node_count) c.loop-line-test.true (search rules))
 
 pub loop-line-preserved : goal.loop-line-preserved
 loop-line-preserved g c =

@@ -1,14 +1,9 @@
-use Rattle.std.proofs.Common.{◌≡◌, ◌+◌, ◌-◌, ◌<◌, ◌≤◌, [], ◌∷◌, to_z, of_z, w64, SFits, length, get_or, drop, List, Option, Some, None, Result, Ok, Err, is_ok, ◌∙◌, ap, sym, subst, map, arith, rules}
-use Rattle.std.{proofs.lemmas.Bool.{false≢true}, proofs.lemmas.Int.{to_z-of_z}}
-use Rattle.apl_expr.{specs.declared.expr.Expr.{Expr}, specs.declared.functions.Function2.TheVariants.{Dyad}, specs.declared.expr.Dyadic.TheVariants.{Scalar}}
-use Rattle.apl_expr.specs.Trees.{Tree, Numbers, Const, Index, before_argument, between_arguments, tree_of, position_of, positions_of}
-use Rattle.apl_expr.proofs.Rows.{tree_index}
+use Rattle.std.{proofs.Common.{◌≡◌, ◌+◌, ◌-◌, ◌<◌, ◌≤◌, [], ◌∷◌, to_z, of_z, w64, SFits, length, get_or, drop, List, Option, Some, None, Result, Ok, Err, is_ok, ◌∙◌, ap, sym, subst, map, arith, rules}, proofs.lemmas.Bool.{false≢true}, proofs.lemmas.Int.{to_z-of_z}}
+use Rattle.apl_expr.{specs.declared.expr.Expr.{Expr}, specs.declared.functions.Function2.TheVariants.{Dyad}, specs.declared.expr.Dyadic.TheVariants.{Scalar}, specs.Trees.{Tree, Numbers, Const, Index, before_argument, between_arguments, tree_of, position_of, positions_of}, proofs.Rows.{tree_index}}
 use Rattle.arrays_core.{specs.Arrays.{scalar_of}, specs.declared.fault.Fault.{Fault}, specs.Outcomes.{Outcome}}
 use Rattle.selection_fns.specs.Index.{Position}
-use Rattle.formula_core.{specs.Counts.{cost_in, cost_in_positions, ArePositionsCounted, IsTreeCounted}, specs.Evaluated.{outcome_of, position_in, positions_in}}
-use Rattle.formula_core.{specs.Meaning.{eval, eval_positions, applied1, applied2, indexed}, proofs.Applied.{eval_before, eval_between}}
-use Rattle.formula_core.proofs.Counted.{literal_counted, monad_counted, dyad_counted, index_counted, index_cost, cost_from, cost_written, cost_empty, cost_left, failed_at}
-use Rattle.formula_core.proofs.Indexing.{there}
+use Rattle.formula_core.{specs.Counts.{cost_in, cost_in_positions, ArePositionsCounted, IsTreeCounted}, specs.Evaluated.{outcome_of, position_in, positions_in}, specs.Meaning.{eval, eval_positions, applied1, applied2, indexed}, proofs.Applied.{eval_before, eval_between}}
+use Rattle.formula_core.{proofs.Counted.{literal_counted, monad_counted, dyad_counted, index_counted, index_cost, cost_from, cost_written, cost_empty, cost_left, failed_at}, proofs.Indexing.{there}}
 use Rattle.formula_core.proofs.evaluation.+value.Goals.{position_operands-in-Some+in_ok-operand-in-Some+in-Ok, position_operands-in-None}
 use Rattle.formula_core.proofs.evaluation.+value.Goals as goal
 

@@ -1,8 +1,6 @@
-use Rattle.std.{proofs.Common.{◌≡◌, ◌+◌, ◌∙◌, ap, sym, subst, arith, ℕ, List, [], ◌∷◌, ◌++◌, take, length, get_or}, specs.List.{Contains}}
-use Rattle.std.proofs.lemmas.List.{take_more, length-map, get_or-map}
+use Rattle.std.{proofs.Common.{◌≡◌, ◌+◌, ◌∙◌, ap, sym, subst, arith, ℕ, List, [], ◌∷◌, ◌++◌, take, length, get_or}, specs.List.{Contains}, proofs.lemmas.List.{take_more, length-map, get_or-map}}
 use Rattle.arrays_core.specs.declared.fault.Fault.{Fault}
-use Rattle.formula_core.{specs.declared.input.Input.{Input}, specs.Changes.{at_rest}, specs.Outcomes.{error_in}, specs.Plans.{AreInputs, IsNameSound}}
-use Rattle.formula_core.proofs.AtRest.{inputs_more, all_more}
+use Rattle.formula_core.{specs.declared.input.Input.{Input}, specs.Changes.{at_rest}, specs.Outcomes.{error_in}, specs.Plans.{AreInputs, IsNameSound}, proofs.AtRest.{inputs_more, all_more}}
 use Rattle.formula_core.proofs.evaluation.inputs_at_rest.Goals as goal
 
 pub loop-place-preserved : goal.loop-place-preserved

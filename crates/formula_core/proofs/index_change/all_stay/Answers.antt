@@ -1,5 +1,4 @@
-use Rattle.std.{proofs.Common.{rules, tests, ◌≡◌, ◌∙◌, sym, refl, ap, List, [], ◌∷◌, true, ◌&&◌, Option, Some, None}, specs.List.{list_all}}
-use Rattle.std.{specs.Option.{option_map_or}, proofs.lemmas.Iterator.{YieldsList-from_slice}, proofs.lemmas.Iterator.Search.{all_from_yields_List}}
+use Rattle.std.{proofs.Common.{rules, tests, ◌≡◌, ◌∙◌, sym, refl, ap, List, [], ◌∷◌, true, ◌&&◌, Option, Some, None}, specs.List.{list_all}, specs.Option.{option_map_or}, proofs.lemmas.Iterator.{YieldsList-from_slice}, proofs.lemmas.Iterator.Search.{all_from_yields_List}}
 use Rattle.formula_core.{specs.declared.input.Input.{Input}, specs.Inputs.{stays, written_inputs}}
 use Rattle.formula_core.proofs.index_change.all_stay.Goals as goal
 

@@ -1,7 +1,5 @@
-use Rattle.std.proofs.Common.{◌≡◌, ◌∙◌, ◌+◌, ◌-◌, ◌<◌, ◌≤◌, ◌∷◌, ◌++◌, [], List, length, take, sym, ap, arith, rules}
-use Rattle.std.proofs.lemmas.List.{length-append, take_more, take_all}
-use Rattle.formula_core.{specs.declared.kept.Kept.{Kept}, specs.declared.kept.NodeChange.{NodeChange}, specs.Changes.{each_with}}
-use Rattle.formula_core.{specs.Holdings.{holding, node_taking, no_change, IsFit}, proofs.Adopted.{no_node, left_after}}
+use Rattle.std.{proofs.Common.{◌≡◌, ◌∙◌, ◌+◌, ◌-◌, ◌<◌, ◌≤◌, ◌∷◌, ◌++◌, [], List, length, take, sym, ap, arith, rules}, proofs.lemmas.List.{length-append, take_more, take_all}}
+use Rattle.formula_core.{specs.declared.kept.Kept.{Kept}, specs.declared.kept.NodeChange.{NodeChange}, specs.Changes.{each_with}, specs.Holdings.{holding, node_taking, no_change, IsFit}, proofs.Adopted.{no_node, left_after}}
 use Rattle.formula_core.proofs.kept.adopt_all.Goals as goal
 
 pub loop-changes-preserved-then-can_be_lent :

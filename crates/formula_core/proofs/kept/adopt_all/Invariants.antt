@@ -1,6 +1,5 @@
 use Rattle.std.proofs.Common.{length}
-use Rattle.formula_core.{specs.declared.kept.Kept.{Kept}, specs.declared.kept.NodeChange.{NodeChange}, specs.Changes.{each_with}}
-use Rattle.formula_core.{specs.Holdings.{holding, node_taking, no_change, IsFit}, proofs.Adopted.{IsLeft, no_node}}
+use Rattle.formula_core.{specs.declared.kept.Kept.{Kept}, specs.declared.kept.NodeChange.{NodeChange}, specs.Changes.{each_with}, specs.Holdings.{holding, node_taking, no_change, IsFit}, proofs.Adopted.{IsLeft, no_node}}
 use Rattle.formula_core.proofs.kept.adopt_all.Given as goal
 
 abbrev pub invariant-loop-changes : goal.invariant-loop-changes

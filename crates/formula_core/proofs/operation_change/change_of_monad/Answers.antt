@@ -1,8 +1,7 @@
 use Rattle.std.proofs.Common.{◌≡◌, ◌∙◌, [], ◌∷◌, Some, sym, subst}
 use Rattle.reduce_fns.specs.declared.reduce.Reduce.{Reduce}
 use Rattle.change_core.specs.RuleModels.{RuleModel}
-use Rattle.formula_core.{specs.Inputs.{shown, delta_of, IsOperationChange}, specs.Stages.{AreTotalsJoined}, specs.Sums.{AreSumsKept}}
-use Rattle.formula_core.{proofs.Totalled.{total_is}, specs.Rules.{with_change}}
+use Rattle.formula_core.{specs.Inputs.{shown, delta_of, IsOperationChange}, specs.Stages.{AreTotalsJoined}, specs.Sums.{AreSumsKept}, proofs.Totalled.{total_is}, specs.Rules.{with_change}}
 use Rattle.formula_core.proofs.operation_change.change_of_monad.Goals as goal
 
 pub change_of_total-requires-clause-kept : goal.change_of_total-requires-clause-kept

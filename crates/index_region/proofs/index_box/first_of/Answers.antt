@@ -4,6 +4,5 @@ use Rattle.index_region.proofs.index_box.first_of.Goals as goal
 
 pub returns : goal.returns
 returns c =
-    let intervals = c.args.intervals.now in
-    let all = take_all c.loop-first.first-index intervals (omega (arith, c.loop-first-test.false)) in
-    c.loop-first.invariant ∙ ap (λ region. map (λ s. s.0) region) all ∙ sym (walk_first intervals)
+    let all = take_all c.loop-first.first-index c.args.intervals.now (omega (arith, c.loop-first-test.false)) in
+    c.loop-first.invariant ∙ ap (λ region. map (λ s. s.0) region) all ∙ sym (walk_first c.args.intervals.now)

@@ -1,5 +1,4 @@
-use Rattle.std.proofs.Common.{◌≡◌, ◌∙◌, ◌+◌, ◌-◌, ap, sym, subst, get_or, pos, length, arith, Ok, Err, drop, to_z, of_z, w64, SFits, rules}
-use Rattle.std.proofs.lemmas.Int.{to_z-of_z}
+use Rattle.std.{proofs.Common.{◌≡◌, ◌∙◌, ◌+◌, ◌-◌, ap, sym, subst, get_or, pos, length, arith, Ok, Err, drop, to_z, of_z, w64, SFits, rules}, proofs.lemmas.Int.{to_z-of_z}}
 use Rattle.item_fns.{specs.Folds.{folded}, proofs.RightFolds.{fold_last, rest_more, error_stands}, proofs.Errors.{passed_on}}
 use Rattle.item_fns.proofs.folds.fold_list.Goals as goal
 
@@ -19,7 +18,6 @@ returns-in_err-result g c =
     let xs = c.args.numbers.now in
     let before = c.loop-before.before in
     let e : before ≡ before - 1 + 1 = omega arith in
-    let below = c.loop-before.invariant.below in
     let later = subst (λ j. folded f (drop j xs) ≡ Ok c.loop-before.result) e (c.loop-before.invariant.folded ∙ ap Ok c.loop-before.result-is) in
     let item = get_or xs (before - 1) (pos 0) in
     let fits : SFits w64 item = search rules in
@@ -35,7 +33,6 @@ loop-before-preserved g c =
     let xs = c.args.numbers.now in
     let before = c.loop-before.before in
     let e : before ≡ before - 1 + 1 = omega arith in
-    let below = c.loop-before.invariant.below in
     let later = subst (λ j. folded f (drop j xs) ≡ Ok c.loop-before.result) e (c.loop-before.invariant.folded ∙ ap Ok c.loop-before.result-is) in
     let item = get_or xs (before - 1) (pos 0) in
     let fits : SFits w64 item = search rules in

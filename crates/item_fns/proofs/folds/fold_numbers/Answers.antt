@@ -1,16 +1,12 @@
-use Rattle.std.proofs.Common.{◌≡◌, ◌∙◌, ◌+◌, ◌-◌, ◌*◌, ap, sym, subst, get_or, pos, arith, Ok, Err, drop, take, to_z, of_z, w64, SFits, rules}
-use Rattle.std.proofs.lemmas.Int.{to_z-of_z}
+use Rattle.std.{proofs.Common.{◌≡◌, ◌∙◌, ◌+◌, ◌-◌, ◌*◌, ap, sym, subst, get_or, pos, arith, Ok, Err, drop, take, to_z, of_z, w64, SFits, rules}, proofs.lemmas.Int.{to_z-of_z}}
 use Rattle.item_fns.{specs.Folds.{strided, folded}, proofs.RightFolds.{strided_last, strided_more, strided_error, strided_run}, proofs.Errors.{passed_on}}
 use Rattle.item_fns.proofs.folds.fold_numbers.Goals as goal
 
 pub loop-before-init : goal.loop-before-init
 loop-before-init g c =
-    let xs = c.args.numbers.now in
-    let last = get_or xs (c.args.first + (c.args.count - 1) * c.args.stride) (pos 0) in
-    let fits : SFits w64 last = search rules in
     record {
-      folded = strided_last (pos 0) xs (g.S.TwoNumbers.gives c.args.step.now) c.args.first c.args.stride c.args.count c.requires.some
-          ∙ ap Ok (sym (to_z-of_z w64 last fits));
+      folded = strided_last (pos 0) c.args.numbers.now (g.S.TwoNumbers.gives c.args.step.now) c.args.first c.args.stride c.args.count c.requires.some
+          ∙ ap Ok (sym (to_z-of_z w64 (get_or c.args.numbers.now (c.args.first + (c.args.count - 1) * c.args.stride) (pos 0)) (search rules)));
       below = omega arith;
     }
 
@@ -51,12 +47,10 @@ loop-before-preserved g c =
 pub returns-then-stride-eq1 : goal.returns-then-stride-eq1
 returns-then-stride-eq1 g c =
     let f = g.S.TwoNumbers.gives c.args.step.now in
-    let xs = c.args.numbers.now in
     let n = c.args.count in
     let e : c.args.first + n - c.args.first ≡ n = omega arith in
     let high = rw c.if-stride-eq1.true at c.requires.high in
-    let some = c.requires.some in
     c.fold_list.ensures
-    ∙ ap (λ m. folded f (take m (drop c.args.first xs))) e
-    ∙ ap (folded f) (strided_run (pos 0) xs c.args.first n (omega arith))
-    ∙ ap (λ s. folded f (strided (pos 0) xs c.args.first s n)) (sym c.if-stride-eq1.true)
+    ∙ ap (λ m. folded f (take m (drop c.args.first c.args.numbers.now))) e
+    ∙ ap (folded f) (strided_run (pos 0) c.args.numbers.now c.args.first n (omega arith))
+    ∙ ap (λ s. folded f (strided (pos 0) c.args.numbers.now c.args.first s n)) (sym c.if-stride-eq1.true)

@@ -1,5 +1,4 @@
-use Rattle.std.proofs.Common.{◌≡◌, ◌∙◌, ◌+◌, ◌++◌, ◌∷◌, [], ap, sym, length, get_or, map, arith, Ok, Err, pos, to_z, of_z, w64, SFits, rules}
-use Rattle.std.{proofs.lemmas.List.{length-map, get_or-map}, proofs.lemmas.Int.{to_z-of_z}}
+use Rattle.std.{proofs.Common.{◌≡◌, ◌∙◌, ◌+◌, ◌++◌, ◌∷◌, [], ap, sym, length, get_or, map, arith, Ok, Err, pos, to_z, of_z, w64, SFits, rules}, proofs.lemmas.List.{length-map, get_or-map}, proofs.lemmas.Int.{to_z-of_z}}
 use Rattle.arrays_core.proofs.Order.{front_more, front_error}
 use Rattle.item_fns.proofs.Errors.{list_error}
 use Rattle.item_fns.proofs.loops.on_each.Goals as goal

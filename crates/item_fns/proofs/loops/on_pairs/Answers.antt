@@ -1,5 +1,4 @@
-use Rattle.std.{proofs.Common.{◌≡◌, ◌∙◌, ◌+◌, ◌++◌, ◌∷◌, [], ap, sym, length, arith, Ok, Err, to_z, of_z, w64, SFits, rules}, proofs.lemmas.List.{take_all}}
-use Rattle.std.proofs.lemmas.Int.{to_z-of_z}
+use Rattle.std.{proofs.Common.{◌≡◌, ◌∙◌, ◌+◌, ◌++◌, ◌∷◌, [], ap, sym, length, arith, Ok, Err, to_z, of_z, w64, SFits, rules}, proofs.lemmas.List.{take_all}, proofs.lemmas.Int.{to_z-of_z}}
 use Rattle.arrays_core.{specs.Items.{all_or_first_error}, proofs.Order.{front_more, front_error}}
 use Rattle.item_fns.{specs.NumberLists.{results_by}, proofs.Errors.{list_error}, proofs.Lists.{own_result, places_of_equal, length-results}}
 use Rattle.item_fns.proofs.loops.on_pairs.Goals as goal
@@ -8,16 +7,15 @@ pub loop-place-preserved : goal.loop-place-preserved
 loop-place-preserved g c =
     let f = (g.S.TwoNumbers.gives c.args.step.now) in
     let xs = c.args.left.now in
-    let ys = c.args.right.now in
     let k = c.loop-place.place in
     let z = c.in_ok-result.result in
-    let long : length (results_by f xs ys) ≡ length xs = length-results f xs ys ∙ places_of_equal xs ys c.requires in
+    let long : length (results_by f xs c.args.right.now) ≡ length xs = length-results f xs c.args.right.now ∙ places_of_equal xs c.args.right.now c.requires in
     let z_fits : SFits w64 z = search rules in
     let z_same : to_z w64 (of_z w64 z) ≡ z = to_z-of_z w64 _ z_fits in
-    let here = own_result f xs ys k (Ok z) c.requires (omega arith) ∙ sym c.in_ok-result.ensures in
+    let here = own_result f xs c.args.right.now k (Ok z) c.requires (omega arith) ∙ sym c.in_ok-result.ensures in
     let items : c.push_reserved.new.self.items ≡ c.loop-place.results.items ++ z ∷ [] = rw z_same at c.push_reserved.ensures.items in
     record {
-      made = rw items (front_more (results_by f xs ys) k c.loop-place.results.items z (omega arith) here c.loop-place.invariant.made);
+      made = rw items (front_more (results_by f xs c.args.right.now) k c.loop-place.results.items z (omega arith) here c.loop-place.invariant.made);
       long = c.push_reserved.ensures.len ∙ ap (λ n. n + 1) c.loop-place.invariant.long;
       room = omega (arith, c.push_reserved.ensures.capacity, c.loop-place.invariant.room);
     }

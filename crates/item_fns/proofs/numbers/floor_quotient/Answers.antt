@@ -1,7 +1,5 @@
-use Rattle.std.proofs.Common.{◌≡◌, ◌∙◌, ◌-ℤ◌, ℤ, Err, false, sym, ap, SomeIff, pos, arith, int_lt, to_z, of_z, w64, SFits, int_div, rules}
-use Rattle.std.{specs.Int.{CanDivide, IsNonZero}, proofs.lemmas.Int.{to_z-of_z}}
-use Rattle.item_fns.{specs.Numbers.{residue, floor_div, number_or_limit}, proofs.Residues.{whole_quotient}}
-use Rattle.item_fns.{proofs.Floors.{not_zero, one_above, held_below, held_ok}, proofs.Signs.{zero_of_bits, some_iff_rest}}
+use Rattle.std.{proofs.Common.{◌≡◌, ◌∙◌, ◌-ℤ◌, ℤ, Err, false, sym, ap, SomeIff, pos, arith, int_lt, to_z, of_z, w64, SFits, int_div, rules}, specs.Int.{CanDivide, IsNonZero}, proofs.lemmas.Int.{to_z-of_z}}
+use Rattle.item_fns.{specs.Numbers.{residue, floor_div, number_or_limit}, proofs.Residues.{whole_quotient}, proofs.Floors.{not_zero, one_above, held_below, held_ok}, proofs.Signs.{zero_of_bits, some_iff_rest}}
 use mathlib.Core.Bool.{beq}
 use Rattle.item_fns.proofs.numbers.floor_quotient.Goals as goal
 
@@ -52,7 +50,5 @@ returns c =
     let one = one_above a b c.requires differ (λ e. c.if-residue-eq0.false (ap (of_z w64) (is ∙ e))) in
     let q = c.in_ok-quotient.field-0 in
     let q_is : q ≡ int_div a b = held_ok (int_div a b) q (sym first ∙ c.in_ok-quotient.was) in
-    let fits : SFits w64 q = search rules in
-    let same : to_z w64 (of_z w64 q) ≡ q = to_z-of_z w64 q fits in
-    let less = c.in_range.ensures (q -ℤ pos 1) (rw same at c.checked_sub.ensures) in
+    let less = c.in_range.ensures (q -ℤ pos 1) (rw (to_z-of_z w64 q (search rules)) at c.checked_sub.ensures) in
     less ∙ ap (λ z. number_or_limit (z -ℤ pos 1)) (q_is ∙ one.quotient) ∙ ap number_or_limit (sym one.floor)

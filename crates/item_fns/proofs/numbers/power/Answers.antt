@@ -1,31 +1,27 @@
-use Rattle.std.{proofs.Common.{◌≡◌, ◌∙◌, sym, ap, pos, negsuc, Ok, w64, SFits}, proofs.lemmas.Int.{to_z-of_z}}
+use Rattle.std.{proofs.Common.{◌∙◌, sym, ap, Ok, w64, SFits}, proofs.lemmas.Int.{to_z-of_z}}
 use Rattle.item_fns.{specs.Numbers.{power}, proofs.Powers.{power_of_one, power_of_zero_is, even_power, odd_power, far_exponent}, proofs.Signs.{by_bits}}
 use Rattle.item_fns.proofs.numbers.power.Goals as goal
 
 pub returns-then-a-eq1 : goal.returns-then-a-eq1
 returns-then-a-eq1 c =
-    let one : c.args.a ≡ pos 1 = by_bits c.args.a 1 c.ranges.a c.if-a-eq1.true in
-    sym (ap (λ a. power a c.args.b) one ∙ power_of_one c.args.b)
+    sym (ap (λ a. power a c.args.b) (by_bits c.args.a 1 c.ranges.a c.if-a-eq1.true) ∙ power_of_one c.args.b)
 
 pub returns-then-b-eq0 : goal.returns-then-b-eq0
 returns-then-b-eq0 c =
-    let minus_one : c.args.a ≡ negsuc 0 = by_bits c.args.a _ c.ranges.a c.if-a-eqminus1.true in
     let even = rw (to_z-of_z w64 c.args.b c.ranges.b) at c.if-b-eq0.true in
-    sym (ap (λ a. power a c.args.b) minus_one ∙ even_power c.args.b even)
+    sym (ap (λ a. power a c.args.b) (by_bits c.args.a _ c.ranges.a c.if-a-eqminus1.true) ∙ even_power c.args.b even)
 
 pub returns-else-b-eq0 : goal.returns-else-b-eq0
 returns-else-b-eq0 c =
-    let minus_one : c.args.a ≡ negsuc 0 = by_bits c.args.a _ c.ranges.a c.if-a-eqminus1.true in
     let odd = rw (to_z-of_z w64 c.args.b c.ranges.b) at c.if-b-eq0.false in
-    sym (ap (λ a. power a c.args.b) minus_one ∙ odd_power c.args.b odd)
+    sym (ap (λ a. power a c.args.b) (by_bits c.args.a _ c.ranges.a c.if-a-eqminus1.true) ∙ odd_power c.args.b odd)
 
 pub returns-then-a-eq0 : goal.returns-then-a-eq0
 returns-then-a-eq0 c =
-    let zero : c.args.a ≡ pos 0 = by_bits c.args.a 0 c.ranges.a c.if-a-eq0.true in
     let positive = rw (to_z-of_z w64 c.args.b c.ranges.b) at c.if-b-lt0.false in
     let fits : SFits w64 c.truth.result = record { sfits = c.truth.type_inv } in
     ap Ok (to_z-of_z w64 c.truth.result fits ∙ c.truth.ensures)
-    ∙ sym (ap (λ a. power a c.args.b) zero ∙ power_of_zero_is c.args.b positive)
+    ∙ sym (ap (λ a. power a c.args.b) (by_bits c.args.a 0 c.ranges.a c.if-a-eq0.true) ∙ power_of_zero_is c.args.b positive)
 
 pub returns-in-Err : goal.returns-in-Err
 returns-in-Err c =

@@ -15,8 +15,7 @@ returns-clause-there c k h =
     let many : size a.shape ≢ 1 = omega (arith, c.if-places-eq1.false, c.places.ensures.size) in
     let long : column_length a ≡ c.args.count = c.requires.long (omega (arith, c.if-places-eq1.false, c.places.ensures.is)) in
     let first = column_place a column 0 many c.requires.inside (omega (arith, c.requires.some)) in
-    let here = column_place a column k many c.requires.inside (omega arith) in
     let same : c.as_slice.result.now ≡ 1 ∷ column = c.as_slice.ensures ∙ c.with_axis-first.ensures.is in
     let start : c.position.result ≡ places_before a.shape (1 ∷ column) + 1 = rw (← same, ← c.shape-shape.ensures.is) c.position.ensures.is in
     let apart : c.stride.result ≡ size (drop 1 a.shape) = rw (← c.shape-shape.ensures.is, ← c.as_slice-2.ensures) c.stride.ensures.is in
-    rw apart (omega (arith, first.place, here.below, c.places.ensures.is, c.places.ensures.size))
+    rw apart (omega (arith, first.place, (column_place a column k many c.requires.inside (omega arith)).below, c.places.ensures.is, c.places.ensures.size))

@@ -1,23 +1,19 @@
-use Rattle.std.proofs.Common.{◌≡◌, ◌∙◌, ◌+◌, ◌-◌, ℕ, ap, sym, refl, subst, length, drop, pos, arith, Ok, Err, to_z, of_z, w64, SFits, rules}
-use Rattle.std.{proofs.Math.ListN.{length-set}, proofs.lemmas.Int.{to_z-of_z}, proofs.lemmas.List.{drop_all}}
+use Rattle.std.{proofs.Common.{◌≡◌, ◌∙◌, ◌+◌, ◌-◌, ℕ, ap, sym, refl, subst, length, drop, pos, arith, Ok, Err, to_z, of_z, w64, SFits, rules}, proofs.Math.ListN.{length-set}, proofs.lemmas.Int.{to_z-of_z}, proofs.lemmas.List.{drop_all}}
 use Rattle.item_fns.proofs.Errors.{passed_on}
-use Rattle.operator_fns.{specs.InnerProduct.{all_or_last_error}, specs.RowByColumn.{entry, all_met}, proofs.Meetings.{length-met, met_at}}
-use Rattle.operator_fns.proofs.MetLists.{one_written, one_failed}
+use Rattle.operator_fns.{specs.InnerProduct.{all_or_last_error}, specs.RowByColumn.{entry, all_met}, proofs.Meetings.{length-met, met_at}, proofs.MetLists.{one_written, one_failed}}
 use Rattle.operator_fns.proofs.met_numbers.meet.Goals as goal
 
 pub loop-place-init : goal.loop-place-init
 loop-place-init g c =
-    let zs = c.args.met.now in
-    let n = length zs in
+    let n = length c.args.met.now in
     let f = g.G.TwoNumbers.gives c.args.each.now in
     let x = entry (pos 0) c.args.left.now c.args.row in
     let y = entry (pos 0) c.args.right.now c.args.column in
     let long = length-met f x y n in
-    let none = drop_all n (all_met f x y n) (omega arith) in
     record {
       long = refl;
       low = omega arith;
-      made = ap all_or_last_error none ∙ ap Ok (sym (drop_all n zs (omega arith)));
+      made = ap all_or_last_error (drop_all n (all_met f x y n) (omega arith)) ∙ ap Ok (sym (drop_all n c.args.met.now (omega arith)));
     }
 
 pub returns-in_err-met-clause-failed : goal.returns-in_err-met-clause-failed
@@ -27,10 +23,8 @@ returns-in_err-met-clause-failed g c =
     let x = entry (pos 0) c.args.left.now c.args.row in
     let y = entry (pos 0) c.args.right.now c.args.column in
     let rs = all_met f x y n in
-    let place = c.loop-place.place in
-    let k = place - 1 in
-    let next : place ≡ k + 1 = omega arith in
-    let low = c.loop-place.invariant.low in
+    let k = c.loop-place.place - 1 in
+    let next : c.loop-place.place ≡ k + 1 = omega arith in
     let e = c.in_err-met.field-0.0 in
     let x_fits : SFits w64 (x k) = search rules in
     let x_same : to_z w64 (of_z w64 (x k)) ≡ x k = to_z-of_z w64 _ x_fits in
@@ -48,11 +42,8 @@ loop-place-preserved g c =
     let x = entry (pos 0) c.args.left.now c.args.row in
     let y = entry (pos 0) c.args.right.now c.args.column in
     let rs = all_met f x y n in
-    let zs = c.loop-place.met in
-    let place = c.loop-place.place in
-    let k = place - 1 in
-    let next : place ≡ k + 1 = omega arith in
-    let low = c.loop-place.invariant.low in
+    let k = c.loop-place.place - 1 in
+    let next : c.loop-place.place ≡ k + 1 = omega arith in
     let z = c.in_ok-met.field-0 in
     let fits : SFits w64 z = search rules in
     let same : to_z w64 (of_z w64 z) ≡ z = to_z-of_z w64 _ fits in
@@ -61,11 +52,10 @@ loop-place-preserved g c =
     let y_fits : SFits w64 (y k) = search rules in
     let y_same : to_z w64 (of_z w64 (y k)) ≡ y k = to_z-of_z w64 _ y_fits in
     let gave : f (x k) (y k) ≡ Ok z = rw (x_same, y_same) at (sym c.at.ensures) ∙ c.in_ok-met.was in
-    let later = subst (λ (j : ℕ). all_or_last_error (drop j rs) ≡ Ok (drop j zs)) next c.loop-place.invariant.made in
-    let long = c.loop-place.invariant.long in
+    let later = subst (λ (j : ℕ). all_or_last_error (drop j rs) ≡ Ok (drop j c.loop-place.met)) next c.loop-place.invariant.made in
     rw same
     (record {
-      long = length-set zs k z ∙ long;
+      long = length-set c.loop-place.met k z ∙ c.loop-place.invariant.long;
       low = omega arith;
-      made = one_written rs zs k z (omega (arith, length-met f x y n)) (omega arith) (met_at f x y n k (Ok z) (omega arith) ∙ gave) later;
+      made = one_written rs c.loop-place.met k z (omega (arith, length-met f x y n)) (omega arith) (met_at f x y n k (Ok z) (omega arith) ∙ gave) later;
     })

@@ -1,5 +1,4 @@
-use Rattle.std.proofs.Common.{◌≡◌, ◌∙◌, ◌++◌, ◌∷◌, [], append_assoc, ap, sym, length, get_or, map, arith, Ok, Err, pos, to_z, of_z, w64, SFits, rules}
-use Rattle.std.{proofs.lemmas.List.{length-map, get_or-map, take_all}, proofs.lemmas.Int.{to_z-of_z}}
+use Rattle.std.{proofs.Common.{◌≡◌, ◌∙◌, ◌++◌, ◌∷◌, [], append_assoc, ap, sym, length, get_or, map, arith, Ok, Err, pos, to_z, of_z, w64, SFits, rules}, proofs.lemmas.List.{length-map, get_or-map, take_all}, proofs.lemmas.Int.{to_z-of_z}}
 use Rattle.arrays_core.{specs.Items.{all_or_first_error, and_then}, proofs.Order.{front_more, front_error}}
 use Rattle.operator_fns.proofs.OuterRows.{RowTo, left_error}
 use Rattle.operator_fns.proofs.outer_product.push_row.Goals as goal
@@ -35,12 +34,11 @@ loop-number-preserved g c =
     let z_fits : SFits w64 z = search rules in
     let z_same : to_z w64 (of_z w64 z) ≡ z = to_z-of_z w64 _ z_fits in
     let gave : f (get_or ys k (pos 0)) ≡ Ok z = rw (same, left) at (sym c.in_ok-result.ensures) in
-    let here = get_or-map f ys k (pos 0) (Ok z) c.loop-number-test.true ∙ gave in
     let so_far : RowTo c.args.row.now.items rs k c.loop-number.row.items = rw left at c.loop-number.invariant in
     let items : c.push.new.self.items ≡ c.loop-number.row.items ++ z ∷ [] = rw z_same at c.in_ok-push.ensures.items in
     rw left (record {
       new = so_far.new ++ z ∷ [];
-      made = front_more rs k so_far.new z (omega arith) here so_far.made;
+      made = front_more rs k so_far.new z (omega arith) (get_or-map f ys k (pos 0) (Ok z) c.loop-number-test.true ∙ gave) so_far.made;
       is = items ∙ ap (λ zs. zs ++ z ∷ []) so_far.is ∙ append_assoc c.args.row.now.items so_far.new (z ∷ []);
     })
 

@@ -1,18 +1,15 @@
-use Rattle.std.proofs.Common.{◌≡◌, ◌∙◌, ◌<◌, ◌≢◌, ap, get_or, length, pos, arith, to_z, of_z, ◌+ℤ◌, ◌*ℤ◌, w64, SFits, rules, below_more, get_or-set_same, get_or-set_other}
-use Rattle.std.{proofs.Math.ListN.{length-set}, proofs.lemmas.Int.{to_z-of_z}}
+use Rattle.std.{proofs.Common.{◌≡◌, ◌∙◌, ◌<◌, ◌≢◌, ap, get_or, length, pos, arith, to_z, of_z, ◌+ℤ◌, ◌*ℤ◌, w64, SFits, rules, below_more, get_or-set_same, get_or-set_other}, proofs.Math.ListN.{length-set}, proofs.lemmas.Int.{to_z-of_z}}
 use Rattle.operator_fns.proofs.small_products.add_row.Goals as goal
 
 pub loop-column-preserved : goal.loop-column-preserved
 loop-column-preserved c =
-    let row = c.args.row.now in
     let k = c.loop-column.column in
     let sums = c.loop-column.sums in
-    let before = c.args.sums.now in
-    let x = get_or row k (pos 0) in
+    let x = get_or c.args.row.now k (pos 0) in
     let s = get_or sums k (pos 0) in
     let m = c.args.factor in
     let fits = c.requires.fits k c.loop-column-test.true in
-    let old : s ≡ get_or before k (pos 0) = c.loop-column.invariant.left k (omega arith) in
+    let old : s ≡ get_or c.args.sums.now k (pos 0) = c.loop-column.invariant.left k (omega arith) in
     let x_fits : SFits w64 x = search rules in
     let x_is : to_z w64 (of_z w64 x) ≡ x = to_z-of_z w64 _ x_fits in
     let s_fits : SFits w64 s = search rules in
@@ -21,11 +18,10 @@ loop-column-preserved c =
     let p_is : to_z w64 (of_z w64 (m *ℤ x)) ≡ m *ℤ x = to_z-of_z w64 _ fits.product in
     let t_fits : SFits w64 (s +ℤ m *ℤ x) = rw old fits.total in
     let t_is : to_z w64 (of_z w64 (s +ℤ m *ℤ x)) ≡ s +ℤ m *ℤ x = to_z-of_z w64 _ t_fits in
-    let long = c.loop-column.invariant.long in
     let inside : k < length sums = omega arith in
     rw (x_is, s_is, m_is, p_is, t_is)
     (record {
-      long = length-set sums k (s +ℤ m *ℤ x) ∙ long;
+      long = length-set sums k (s +ℤ m *ℤ x) ∙ c.loop-column.invariant.long;
       made = below_more _ _
           (λ j below. let other : j ≢ k = omega arith in get_or-set_other sums k j (s +ℤ m *ℤ x) (pos 0) other ∙ (rw m_is at (c.loop-column.invariant.made j below)))
           (get_or-set_same sums k (s +ℤ m *ℤ x) (pos 0) inside ∙ ap (λ z. z +ℤ m *ℤ x) old);

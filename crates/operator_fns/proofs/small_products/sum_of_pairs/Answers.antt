@@ -20,7 +20,6 @@ overflow_add-sum c =
     let xs = c.args.left.now in
     let ys = c.args.right.now in
     let k = c.loop-place.place in
-    let same = c.requires.long in
     let row = λ (k : ℕ). get_or xs k (pos 0) in
     let column = λ (k : ℕ). get_or ys k (pos 0) in
     let small = small_entries xs ys (length xs) (λ k. k) (λ k. k) c.requires.small (λ k below. below) (λ k below. omega arith) in
@@ -30,7 +29,6 @@ overflow_add-sum c =
     let y_is : to_z w64 (of_z w64 (get_or ys k (pos 0))) ≡ get_or ys k (pos 0) = to_z-of_z w64 _ y_fits in
     let p_is : to_z w64 (of_z w64 (get_or xs k (pos 0) *ℤ get_or ys k (pos 0))) ≡ get_or xs k (pos 0) *ℤ get_or ys k (pos 0) =
     to_z-of_z w64 _ (product_fits _ _ (length xs) small k c.loop-place-test.true) in
-    let so_far = c.loop-place.invariant in
     rw (x_is, y_is, p_is, c.loop-place.invariant) (next_fits row column (length xs) small k c.loop-place-test.true)
 
 pub loop-place-preserved : goal.loop-place-preserved

@@ -1,7 +1,6 @@
 use Rattle.std.{proofs.Common.{◌≡◌, ◌∙◌, ap, subst, sym, true}, proofs.lemmas.Result.{IfErr-weaker, IfOk-weaker, err_from_is_err_and}}
 use Rattle.clap.{specs.Words.{App, HasKind, app_of, fault_of, subcommand_rows_of, takes}, specs.Walk.{texts}}
-use Rattle.program_words.{specs.Asked.{IsRefusalOf, Means}, specs.Matched.{IsWholeTable}, specs.Program.{aplsheet}, proofs.Exact.{is_free, matched, no_fault}}
-use Rattle.program_words.{proofs.Refusals.{refused_by_clap, refused_for_name, taken_for_name, taken_without_memory}, proofs.Required.{words_whole}}
+use Rattle.program_words.{specs.Asked.{IsRefusalOf, Means}, specs.Matched.{IsWholeTable}, specs.Program.{aplsheet}, proofs.Exact.{is_free, matched, no_fault}, proofs.Refusals.{refused_by_clap, refused_for_name, taken_for_name, taken_without_memory}, proofs.Required.{words_whole}}
 use Rattle.program_words.proofs.reading.read_words.Goals as goal
 
 pub returns-in_err-command-clause-refused : goal.returns-in_err-command-clause-refused

@@ -15,9 +15,7 @@ returns-then-ne-clause-ok c =
 pub table_of-requires : goal.table_of-requires
 unfolding IsWholeTable
 table_of-requires c =
-    let n = c.in-Some.ensures in
-    let whole = rw (sub_some _ _ _ (sym n.name) (sym n.rows)) at c.requires in
-    whole (not-false _ (sym c.ne.ensures ∙ c.if-ne.false))
+    (rw (sub_some _ _ _ (sym c.in-Some.ensures.name) (sym c.in-Some.ensures.rows)) at c.requires) (not-false _ (sym c.ne.ensures ∙ c.if-ne.false))
 
 pub returns-in_err-table-clause-bad_name : goal.returns-in_err-table-clause-bad_name
 unfolding HasBadName

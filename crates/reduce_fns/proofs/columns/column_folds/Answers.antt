@@ -23,26 +23,23 @@ loop-block-preserved g c =
     let xs = c.args.lines.now.numbers.now in
     let s = c.args.lines.now.stride in
     let n = c.args.lines.now.count in
-    let b = c.loop-block.block in
-    let first = b * (n * s) in
+    let first = c.loop-block.block * (n * s) in
     let before = c.loop-block.folds.items in
     let all = c.push_folds.new.folds in
     let size : first + n * s - first ≡ n * s = omega arith in
     let ends : EndsInFolds f (take (n * s) (drop first xs)) s n before all.items =
     subst (λ m. EndsInFolds f (take m (drop first xs)) s n before all.items) size c.in_ok-push_folds.ensures in
-    let long : length before ≡ b * s = sym c.loop-block.folds.ok.0 ∙ c.loop-block.invariant.long in
-    let more = ends.long in
+    let long : length before ≡ c.loop-block.block * s = sym c.loop-block.folds.ok.0 ∙ c.loop-block.invariant.long in
     let joined : length all.items ≡ length before + length ends.folds = ap length ends.is ∙ length-append before ends.folds in
     record {
       long = all.ok.0 ∙ omega arith;
-      made = block_more f xs s n b before all.items long ends c.loop-block.invariant.made;
+      made = block_more f xs s n c.loop-block.block before all.items long ends c.loop-block.invariant.made;
     }
 
 pub returns-clause-is : goal.returns-clause-is
 returns-clause-is g c =
     let f = g.S.TwoNumbers.gives c.args.step.now in
     let all = all_blocks c.loop-block.block c.args.lines.now.stride c.args.lines.now.places c.loop-block.auto.block-end c.loop-block-test.false c.args.lines.now.even in
-    let long = c.loop-block.folds.ok.0 in
     all_places (at_place f c.args.lines.now.numbers.now c.args.lines.now.stride c.args.lines.now.count) c.args.lines.now.places c.loop-block.folds.items (pos 0)
     (sym c.loop-block.folds.ok.0 ∙ c.loop-block.invariant.long ∙ all)
     (λ k below. c.loop-block.invariant.made k (omega arith))

@@ -1,21 +1,16 @@
-use Rattle.std.proofs.Common.{◌≡◌, ◌∙◌, ◌<◌, ◌≤◌, ◌+◌, ◌-◌, ◌*◌, ap, sym, subst, get_or, drop, take, length, pos, arith, Ok}
-use Rattle.std.{proofs.lemmas.List.{get_or-take, get_or-drop, length-take, length-drop}, proofs.Math.Nat.{mul-le-mul_right}}
+use Rattle.std.{proofs.Common.{◌≡◌, ◌∙◌, ◌<◌, ◌+◌, ◌-◌, ◌*◌, ap, sym, subst, get_or, drop, take, length, pos, arith, Ok}, proofs.lemmas.List.{get_or-take, get_or-drop}}
 use Rattle.item_fns.{specs.Folds.{strided, folded}, proofs.RightFolds.{strided_last, strided_more}}
 use Rattle.reduce_fns.proofs.columns.fold_rows.Goals as goal
 
 pub loop-before-init : goal.loop-before-init
 loop-before-init g c =
-    let f = g.S.TwoNumbers.gives c.args.step.now in
-    let rows = c.args.rows.now in
     let s = length c.args.folds.now in
-    let n = c.args.count in
     record {
       long = omega arith;
       folded = λ column below.
-          let place : column + (n - 1) * s ≡ (n - 1) * s + column = omega arith in
-          strided_last (pos 0) rows f column s n c.requires.some
-          ∙ ap (λ p. Ok (get_or rows p (pos 0))) place
-          ∙ ap Ok (sym (get_or-drop ((n - 1) * s) rows column (pos 0)) ∙ ap (λ xs. get_or xs column (pos 0)) (sym c.requires.last));
+          strided_last (pos 0) c.args.rows.now (g.S.TwoNumbers.gives c.args.step.now) column s c.args.count c.requires.some
+          ∙ ap (λ p. Ok (get_or c.args.rows.now p (pos 0))) (omega arith)
+          ∙ ap Ok (sym (get_or-drop ((c.args.count - 1) * s) c.args.rows.now column (pos 0)) ∙ ap (λ xs. get_or xs column (pos 0)) (sym c.requires.last));
       below = omega (arith, c.requires.some);
     }
 
@@ -25,21 +20,16 @@ loop-before-preserved g c =
     let rows = c.args.rows.now in
     let s = length c.args.folds.now in
     let n = c.args.count in
-    let before = c.loop-before.before in
-    let k = before - 1 in
-    let e : before ≡ k + 1 = omega arith in
+    let k = c.loop-before.before - 1 in
+    let e : c.loop-before.before ≡ k + 1 = omega arith in
     let high : k + 1 < n = omega (arith, c.loop-before.invariant.below) in
-    let inside : (k + 1) * s ≤ n * s = mul-le-mul_right s (omega arith) in
-    let one : k * s + s - k * s ≡ s = omega arith in
-    let row = take (k * s + s - k * s) (drop (k * s) rows) in
-    let long : length row ≡ s = length-take (k * s + s - k * s) (drop (k * s) rows) ∙ omega (arith, length-drop (k * s) rows, c.requires.whole) in
     record {
       long = c.in_ok-put_over.ensures.long ∙ c.loop-before.invariant.long;
       folded = λ column below.
           let y = get_or c.loop-before.folds column (pos 0) in
           let later = subst (λ j. folded f (drop j (strided (pos 0) rows column s n)) ≡ Ok y) e (c.loop-before.invariant.folded column below) in
           let place : k * s + column ≡ column + k * s = omega arith in
-          let entry : get_or row column (pos 0) ≡ get_or rows (column + k * s) (pos 0) =
+          let entry : get_or (take (k * s + s - k * s) (drop (k * s) rows)) column (pos 0) ≡ get_or rows (column + k * s) (pos 0) =
           get_or-take (k * s + s - k * s) (drop (k * s) rows) column (pos 0) (omega arith) ∙ get_or-drop (k * s) rows column (pos 0) ∙ ap (λ p. get_or rows p (pos 0)) place in
           strided_more (pos 0) rows f column s n k y high later
           ∙ ap (λ x. f x y) (sym entry)

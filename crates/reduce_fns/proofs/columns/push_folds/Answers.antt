@@ -11,15 +11,13 @@ fold_rows-requires-clause-last g c =
     let columns = c.args.columns in
     let n = c.args.count in
     let p = (n - 1) * columns in
-    let items = c.deref_mut.result.now in
-    let b = c.len-before.result in
     let back = take (length rows - p) (drop p rows) in
-    let is : items ≡ c.args.folds.now.items ++ back = c.deref_mut.ensures.value ∙ c.in_ok-extend_from_slice.ensures.items in
-    let front : b ≡ length c.args.folds.now.items = c.len-before.ensures ∙ c.args.folds.now.ok.0 in
+    let is : c.deref_mut.result.now ≡ c.args.folds.now.items ++ back = c.deref_mut.ensures.value ∙ c.in_ok-extend_from_slice.ensures.items in
+    let front : c.len-before.result ≡ length c.args.folds.now.items = c.len-before.ensures ∙ c.args.folds.now.ok.0 in
     let e : n * columns ≡ p + columns = (let one : n ≡ n - 1 + 1 = omega (arith, c.requires.some) in ap (λ m. m * columns) one ∙ mul_more (n - 1) columns) in
     let long : length (drop p rows) ≡ columns = omega (arith, length-drop p rows, c.requires.whole) in
     let last : take (length rows - p) (drop p rows) ≡ drop p rows = take_all (length rows - p) (drop p rows) (omega (arith, length-drop p rows)) in
-    let here = back_is c.args.folds.now.items back items is b front ∙ last in
+    let here = back_is c.args.folds.now.items back c.deref_mut.result.now is c.len-before.result front ∙ last in
     here ∙ ap (λ m. drop ((n - 1) * m) rows) (sym (ap length here ∙ long))
 
 pub returns : goal.returns

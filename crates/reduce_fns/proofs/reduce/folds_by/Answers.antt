@@ -6,10 +6,9 @@ use Rattle.reduce_fns.proofs.reduce.folds_by.Goals as goal
 
 pub returns-in_ok-from_numbers-in-Ok : goal.returns-in_ok-from_numbers-in-Ok
 returns-in_ok-from_numbers-in-Ok g c =
-    let shape = c.args.shape.now.items in
     let rule = fold_at (g.S.TwoNumbers.gives c.args.step.now) c.args.lines.now in
-    let made : all_or_first_error (map rule (range_with_len 0 (size shape))) ≡ Ok c.in-Ok.folds.items =
+    let made : all_or_first_error (map rule (range_with_len 0 (size c.args.shape.now.items))) ≡ Ok c.in-Ok.folds.items =
     ap (λ n. all_or_first_error (map rule (range_with_len 0 n))) c.requires.shaped ∙ c.in-Ok.ensures.is in
-    numbers_collected shape rule
-    ∙ ap (λ r. with_items Nums shape (number_items r)) made
+    numbers_collected c.args.shape.now.items rule
+    ∙ ap (λ r. with_items Nums c.args.shape.now.items (number_items r)) made
     ∙ ap Ok (sym c.in_ok-from_numbers-in-Ok.ensures)

@@ -1,7 +1,6 @@
 use Rattle.std.proofs.Common.{◌≡◌, ◌∙◌, ◌+◌, ◌-◌, ◌*◌, ap, sym, subst, get_or, length, arith, Ok, Err, drop}
 use Rattle.arrays_core.specs.Items.{fill}
-use Rattle.item_fns.{specs.Items.{dyadic_on_items}, specs.Folds.{strided, folded}}
-use Rattle.item_fns.{proofs.RightFolds.{strided_last, strided_more, strided_error, length-strided}, proofs.Errors.{passed_on}, proofs.ItemFolds.{some_folded}}
+use Rattle.item_fns.{specs.Items.{dyadic_on_items}, specs.Folds.{strided, folded}, proofs.RightFolds.{strided_last, strided_more, strided_error, length-strided}, proofs.Errors.{passed_on}, proofs.ItemFolds.{some_folded}}
 use Rattle.reduce_fns.proofs.Folds.{place_high}
 use Rattle.reduce_fns.proofs.right_fold.fold_items.Goals as goal
 
@@ -13,14 +12,10 @@ overflow_add-first c = omega (arith, c.requires.high, c.requires.few)
 
 pub loop-before-init : goal.loop-before-init
 loop-before-init c =
-    let a = c.args.array.now in
-    let d = fill a.item_type in
-    let first = c.args.first in
-    let ahead = (c.args.count - 1) * c.args.stride in
-    let place : first + ahead - 1 ≡ first - 1 + ahead = omega (arith, c.requires.low) in
+    let d = fill c.args.array.now.item_type in
     record {
-      folded = strided_last d a.items (dyadic_on_items c.args.function) (first - 1) c.args.stride c.args.count c.requires.some
-          ∙ ap Ok (sym (c.item-result.ensures.is ∙ ap (λ m. get_or a.items m d) place));
+      folded = strided_last d c.args.array.now.items (dyadic_on_items c.args.function) (c.args.first - 1) c.args.stride c.args.count c.requires.some
+          ∙ ap Ok (sym (c.item-result.ensures.is ∙ ap (λ m. get_or c.args.array.now.items m d) (omega (arith, c.requires.low))));
       below = omega (arith, c.requires.some);
       typed_last = λ h. c.item-result.ensures.typed;
       typed = λ h. absurd (omega arith);
@@ -28,13 +23,11 @@ loop-before-init c =
 
 pub overflow_mul-before : goal.overflow_mul-before
 overflow_mul-before c =
-    let below = c.loop-before.invariant.below in
     let high = place_high c.args.first c.args.stride c.args.count (c.loop-before.before - 1) (length c.args.array.now.items) (omega arith) c.requires.high in
     omega (arith, c.requires.few)
 
 pub overflow_add-first-in-loop-before : goal.overflow_add-first-in-loop-before
 overflow_add-first-in-loop-before c =
-    let below = c.loop-before.invariant.below in
     let high = place_high c.args.first c.args.stride c.args.count (c.loop-before.before - 1) (length c.args.array.now.items) (omega arith) c.requires.high in
     omega (arith, c.requires.few)
 
@@ -46,13 +39,11 @@ returns-in_err-result-clause-is c =
     let from = c.args.first - 1 in
     let before = c.loop-before.before in
     let e : before ≡ before - 1 + 1 = omega arith in
-    let below = c.loop-before.invariant.below in
     let later = subst (λ j. folded f (drop j (strided d a.items from c.args.stride c.args.count)) ≡ Ok c.loop-before.result) e c.loop-before.invariant.folded in
     let place : c.args.first + (before - 1) * c.args.stride - 1 ≡ from + (before - 1) * c.args.stride = omega (arith, c.requires.low) in
-    let item = c.item.ensures.is ∙ ap (λ m. get_or a.items m d) place in
     let k = c.in_err-result.field-0.0 in
     let gave : f (get_or a.items (from + (before - 1) * c.args.stride) d) c.loop-before.result ≡ Err k =
-    ap (λ x. f x c.loop-before.result) (sym item) ∙ sym c.two.ensures.is ∙ c.in_err-result.was in
+    ap (λ x. f x c.loop-before.result) (sym (c.item.ensures.is ∙ ap (λ m. get_or a.items m d) place)) ∙ sym c.two.ensures.is ∙ c.in_err-result.was in
     let long = length-strided d a.items from c.args.stride c.args.count in
     passed_on _ k c.from_residual.ensures
     ∙ sym (some_folded c.args.function (strided d a.items from c.args.stride c.args.count) (omega arith)
@@ -66,12 +57,10 @@ loop-before-preserved c =
     let from = c.args.first - 1 in
     let before = c.loop-before.before in
     let e : before ≡ before - 1 + 1 = omega arith in
-    let below = c.loop-before.invariant.below in
     let later = subst (λ j. folded f (drop j (strided d a.items from c.args.stride c.args.count)) ≡ Ok c.loop-before.result) e c.loop-before.invariant.folded in
     let place : c.args.first + (before - 1) * c.args.stride - 1 ≡ from + (before - 1) * c.args.stride = omega (arith, c.requires.low) in
-    let item = c.item.ensures.is ∙ ap (λ m. get_or a.items m d) place in
     let gave : f (get_or a.items (from + (before - 1) * c.args.stride) d) c.loop-before.result ≡ Ok c.in_ok-result.result =
-    ap (λ x. f x c.loop-before.result) (sym item) ∙ sym c.two.ensures.is ∙ c.in_ok-result.was in
+    ap (λ x. f x c.loop-before.result) (sym (c.item.ensures.is ∙ ap (λ m. get_or a.items m d) place)) ∙ sym c.two.ensures.is ∙ c.in_ok-result.was in
     record {
       folded = strided_more d a.items f from c.args.stride c.args.count (before - 1) c.loop-before.result (omega arith) later ∙ gave;
       below = omega arith;
@@ -81,10 +70,9 @@ loop-before-preserved c =
 
 pub returns-clause-is : goal.returns-clause-is
 returns-clause-is c =
-    let a = c.args.array.now in
-    let d = fill a.item_type in
+    let d = fill c.args.array.now.item_type in
     let from = c.args.first - 1 in
-    let xs = strided d a.items from c.args.stride c.args.count in
-    let long = length-strided d a.items from c.args.stride c.args.count in
+    let xs = strided d c.args.array.now.items from c.args.stride c.args.count in
+    let long = length-strided d c.args.array.now.items from c.args.stride c.args.count in
     let none : c.loop-before.before ≡ 0 = omega arith in
     sym (some_folded c.args.function xs (omega arith) ∙ subst (λ j. folded (dyadic_on_items c.args.function) (drop j xs) ≡ Ok c.loop-before.result) none c.loop-before.invariant.folded)

@@ -16,30 +16,26 @@ position-first_place-requires-clause-in_range c =
 
 pub fold_items-requires-clause-high : goal.fold_items-requires-clause-high
 fold_items-requires-clause-high c =
-    let a = c.args.array.now in
-    let index = c.args.index.now in
-    let high = line_high a c.args.axis index c.requires.there c.requires.inside c.args.count c.requires.some c.requires.few in
+    let high = line_high c.args.array.now c.args.axis c.args.index.now c.requires.there c.requires.inside c.args.count c.requires.some c.requires.few in
     let next : c.args.axis + 1 ≡ suc c.args.axis = omega arith in
-    let step : c.stride.result ≡ size (drop (suc c.args.axis) a.shape) =
+    let step : c.stride.result ≡ size (drop (suc c.args.axis) c.args.array.now.shape) =
     rw (c.as_slice-2.ensures, c.shape-shape.ensures.is, next) at c.stride.ensures.is in
-    let first : c.position-first_place.result ≡ places_before a.shape (insert index c.args.axis 1) + 1 =
+    let first : c.position-first_place.result ≡ places_before c.args.array.now.shape (insert c.args.index.now c.args.axis 1) + 1 =
     rw (c.shape-shape.ensures.is, c.as_slice.ensures, c.with_axis-first.ensures.is) at c.position-first_place.ensures.is in
-    let places = c.shape-shape.ensures.sound.one_item_a_place in
-    rw (step, first, places) (omega (arith, high))
+    rw (step, first, c.shape-shape.ensures.sound.one_item_a_place) (omega (arith, high))
 
 pub returns-clause-is : goal.returns-clause-is
 returns-clause-is c =
     let a = c.args.array.now in
-    let index = c.args.index.now in
     let next : c.args.axis + 1 ≡ suc c.args.axis = omega arith in
     let step : c.stride.result ≡ size (drop (suc c.args.axis) a.shape) =
     rw (c.as_slice-2.ensures, c.shape-shape.ensures.is, next) at c.stride.ensures.is in
-    let first : c.position-first_place.result ≡ places_before a.shape (insert index c.args.axis 1) + 1 =
+    let first : c.position-first_place.result ≡ places_before a.shape (insert c.args.index.now c.args.axis 1) + 1 =
     rw (c.shape-shape.ensures.is, c.as_slice.ensures, c.with_axis-first.ensures.is) at c.position-first_place.ensures.is in
-    let from : c.position-first_place.result - 1 ≡ places_before a.shape (insert index c.args.axis 1) = omega (arith, first) in
-    let start = places_before a.shape (insert index c.args.axis 1) in
+    let from : c.position-first_place.result - 1 ≡ places_before a.shape (insert c.args.index.now c.args.axis 1) = omega (arith, first) in
+    let start = places_before a.shape (insert c.args.index.now c.args.axis 1) in
     let apart = size (drop (suc c.args.axis) a.shape) in
-    let whole : take c.args.count (line a c.args.axis index) ≡ strided (fill a.item_type) a.items start apart c.args.count =
-    ap (take c.args.count) (line-strided a c.args.axis index c.requires.there c.requires.inside)
+    let whole : take c.args.count (line a c.args.axis c.args.index.now) ≡ strided (fill a.item_type) a.items start apart c.args.count =
+    ap (take c.args.count) (line-strided a c.args.axis c.args.index.now c.requires.there c.requires.inside)
     ∙ take-strided (fill a.item_type) a.items start apart (get_or a.shape c.args.axis 0) c.args.count c.requires.few in
     c.fold_items.ensures.is ∙ (rw (from, step) (ap (fold_right c.args.function) (sym whole)))

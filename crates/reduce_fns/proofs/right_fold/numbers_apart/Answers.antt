@@ -1,5 +1,4 @@
-use Rattle.std.{proofs.Common.{rules, ◌≡◌, ◌∙◌, ◌+◌, ◌-◌, ◌*◌, ◌∷◌, [], ◌++◌, pos, ap, sym, get_or, arith, SFits, w64}, proofs.lemmas.Int.{to_z-of_z}}
-use Rattle.std.proofs.lemmas.List.FromFn.{map-range_with_len_more}
+use Rattle.std.{proofs.Common.{rules, ◌≡◌, ◌∙◌, ◌+◌, ◌-◌, ◌*◌, ◌∷◌, [], ◌++◌, pos, ap, sym, get_or, arith, w64}, proofs.lemmas.Int.{to_z-of_z}, proofs.lemmas.List.FromFn.{map-range_with_len_more}}
 use Rattle.index_region.specs.Arguments.{numbers}
 use Rattle.reduce_fns.proofs.right_fold.numbers_apart.Goals as goal
 
@@ -9,10 +8,8 @@ loop-before-preserved c =
     let from = c.args.first - 1 in
     let before = c.loop-before.before in
     let s = c.args.stride in
-    let fits : SFits w64 c.number.result = search rules in
-    let same = to_z-of_z w64 c.number.result fits in
-    let place : c.args.first + before * s - 1 ≡ from + before * s = omega (arith, c.requires.low) in
-    let read : c.number.result ≡ get_or zs (from + before * s) (pos 0) = c.number.ensures ∙ ap (λ m. get_or zs m (pos 0)) place in
+    let same = to_z-of_z w64 c.number.result (search rules) in
+    let read : c.number.result ≡ get_or zs (from + before * s) (pos 0) = c.number.ensures ∙ ap (λ m. get_or zs m (pos 0)) (omega (arith, c.requires.low)) in
     let items : c.push_reserved.new.self.items ≡ c.loop-before.numbers.items ++ c.number.result ∷ [] = rw same at c.push_reserved.ensures.items in
     record {
       read = items

@@ -1,5 +1,4 @@
-use Rattle.std.{proofs.Common.{◌≡◌, ◌∙◌, ◌+◌, ◌==◌, ◌++◌, ◌∷◌, [], ap, get_or, arith, to_z, of_z, w64, SFits, rules}, proofs.lemmas.Int.{to_z-of_z}}
-use Rattle.std.proofs.lemmas.Grind.{common_steps}
+use Rattle.std.{proofs.Common.{◌≡◌, ◌∙◌, ◌+◌, ◌==◌, ◌++◌, ◌∷◌, [], ap, get_or, arith, to_z, of_z, w64, SFits, rules}, proofs.lemmas.Int.{to_z-of_z}, proofs.lemmas.Grind.{common_steps}}
 use Rattle.arrays_core.proofs.Building.{listed_more}
 use Rattle.scalar_fns.specs.Characters.{told}
 use Rattle.scalar_fns.proofs.characters.told_each.Goals as goal

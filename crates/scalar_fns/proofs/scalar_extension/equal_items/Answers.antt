@@ -1,6 +1,5 @@
 use Rattle.std.proofs.Common.{◌≡◌, ◌∙◌, ℕ, sym, ap, refl, subst, Ok}
-use Rattle.scalar_fns.{specs.Laws.Extension.{common_extends}, proofs.Joint.{IsOf, as_long_as}, specs.Characters.{AreTold}}
-use Rattle.scalar_fns.proofs.Equalities.{of_characters, of_other_types}
+use Rattle.scalar_fns.{specs.Laws.Extension.{common_extends}, proofs.Joint.{IsOf, as_long_as}, specs.Characters.{AreTold}, proofs.Equalities.{of_characters, of_other_types}}
 use Rattle.arrays_core.{specs.declared.item.Item.TheVariants.{Char}, specs.Shapes.{size}}
 use Rattle.scalar_fns.proofs.scalar_extension.equal_items.Goals as goal
 
@@ -18,13 +17,11 @@ returns-in_default-characters c =
 
 pub equalities-requires-clause-right_long : goal.equalities-requires-clause-right_long
 equalities-requires-clause-right_long c =
-    let shape = c.args.shape.now.items in
     let b = c.args.right.now in
     let others = c.in-Some-characters.others.now in
     let is_b : IsOf (λ x. Char x) b others = record { items = c.in-Some-characters.ensures.is.1; long = c.requires.right_sound.one_item_a_place } in
-    let fits = common_extends c.args.left.now.shape b.shape shape c.requires.shaped in
-    let places : size shape ≡ c.size-places.result = sym (ap size c.as_slice.ensures) ∙ sym c.size-places.ensures in
-    λ many. as_long_as (λ x. Char x) b others shape is_b fits.1 many ∙ places
+    let fits = common_extends c.args.left.now.shape b.shape c.args.shape.now.items c.requires.shaped in
+    λ many. as_long_as (λ x. Char x) b others c.args.shape.now.items is_b fits.1 many ∙ (sym (ap size c.as_slice.ensures) ∙ sym c.size-places.ensures)
 
 pub returns : goal.returns
 returns c =

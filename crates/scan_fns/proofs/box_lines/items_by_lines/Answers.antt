@@ -1,90 +1,37 @@
-use Rattle.std.{proofs.Common.{ℕ, List, Option, None, ◌≡◌, ◌∙◌, ◌<◌, ap, sym, subst, get_or, length, inl, inr, arith}, proofs.lemmas.Bool.{cases_lt}}
-use Rattle.std.proofs.lemmas.List.{get_or_default}
+use Rattle.std.{proofs.Common.{ℕ, List, Option, None, ◌≡◌, ◌∙◌, ◌<◌, ap, sym, subst, get_or, length, inl, inr, arith}, proofs.lemmas.Bool.{cases_lt}, proofs.lemmas.List.{get_or_default}}
 use Rattle.arrays_core.{specs.declared.item.ItemType.TheVariants.{Nums}, specs.declared.item.Kind.{Kind}, specs.Arrays.{ArrayValue}}
 use Rattle.index_region.{specs.Boxes.{box_size, walk_at}, proofs.Boxes.{fits_length}, proofs.Walks.{walk_within, some_place}}
 use Rattle.change_core.proofs.Filling.{few_places, filled_many, place_of, vector_within}
-use Rattle.scan_fns.{specs.Scan.{scan_form, scan_item}, specs.BoxLines.{LineIsIn}, proofs.OneLine.{on_axis}}
-use Rattle.scan_fns.proofs.BoxErrors.{IsDone, IsMet, all_fail, done_here, done_still, met_more}
-use Rattle.scan_fns.proofs.BoxTables.{as_long_as, line_begins, table_is, begins_below, begins_first, begins_on_line}
+use Rattle.scan_fns.{specs.Scan.{scan_form, scan_item}, specs.BoxLines.{LineIsIn}, proofs.OneLine.{on_axis}, proofs.BoxErrors.{IsDone, IsMet, all_fail, done_here, done_still, met_more}, proofs.BoxTables.{as_long_as, line_begins, table_is, begins_below, begins_first, begins_on_line}}
 use Rattle.scan_fns.proofs.box_lines.items_by_lines.Goals.{then-as_slice-axis+in_ok-answer+in_ok-failed, else-as_slice-axis}
 use Rattle.scan_fns.proofs.box_lines.items_by_lines.Goals as goal
 
 pub size-places-requires : goal.size-places-requires
 size-places-requires c =
-    let b = c.args.array.now in
-    let scan = c.args.scan.now in
-    let axis = c.args.axis in
-    let region = c.args.region.now in
-    let item = scan_item scan.function scan.along b in
-    let long : length region ≡ length b.shape = fits_length region b.shape c.requires.fit in
-    let there : axis < length region = omega (arith, long, c.requires.there) in
-    let fit = on_axis axis region b.shape there c.requires.fit in
-    let few = few_places region b.shape c.requires.fit c.requires.sound.within in
-    omega (arith, few)
+    omega (arith, few_places c.args.region.now c.args.array.now.shape c.requires.fit c.requires.sound.within)
 
 pub overflow_cast-places : goal.overflow_cast-places
 overflow_cast-places c =
-    let b = c.args.array.now in
-    let scan = c.args.scan.now in
-    let axis = c.args.axis in
-    let region = c.args.region.now in
-    let item = scan_item scan.function scan.along b in
-    let long : length region ≡ length b.shape = fits_length region b.shape c.requires.fit in
-    let there : axis < length region = omega (arith, long, c.requires.there) in
-    let fit = on_axis axis region b.shape there c.requires.fit in
-    let few = few_places region b.shape c.requires.fit c.requires.sound.within in
-    omega (arith, few, c.size-places.ensures)
+    omega (arith, few_places c.args.region.now c.args.array.now.shape c.requires.fit c.requires.sound.within, c.size-places.ensures)
 
 pub filled-requires : goal.filled-requires
 filled-requires c =
-    let b = c.args.array.now in
-    let scan = c.args.scan.now in
-    let axis = c.args.axis in
-    let region = c.args.region.now in
-    let item = scan_item scan.function scan.along b in
-    let long : length region ≡ length b.shape = fits_length region b.shape c.requires.fit in
-    let there : axis < length region = omega (arith, long, c.requires.there) in
-    let fit = on_axis axis region b.shape there c.requires.fit in
-    let few = few_places region b.shape c.requires.fit c.requires.sound.within in
+    let few = few_places c.args.region.now c.args.array.now.shape c.requires.fit c.requires.sound.within in
     vector_within _ _ c.shape_of-shape.ensures.items (omega (arith, few, c.size-places.ensures))
 
 pub bounds-as_slice-axis : goal.bounds-as_slice-axis
 bounds-as_slice-axis c =
-    let b = c.args.array.now in
-    let scan = c.args.scan.now in
-    let axis = c.args.axis in
     let region = c.args.region.now in
-    let item = scan_item scan.function scan.along b in
-    let long : length region ≡ length b.shape = fits_length region b.shape c.requires.fit in
-    let there : axis < length region = omega (arith, long, c.requires.there) in
-    let fit = on_axis axis region b.shape there c.requires.fit in
-    let few = few_places region b.shape c.requires.fit c.requires.sound.within in
+    let there : c.args.axis < length region = omega (arith, fits_length region c.args.array.now.shape c.requires.fit, c.requires.there) in
     omega (arith, there, ap length c.as_slice.ensures.is)
 
 pub index_at-index-requires-clause-below : goal.index_at-index-requires-clause-below
 index_at-index-requires-clause-below c =
-    let b = c.args.array.now in
-    let scan = c.args.scan.now in
-    let axis = c.args.axis in
-    let region = c.args.region.now in
-    let item = scan_item scan.function scan.along b in
-    let long : length region ≡ length b.shape = fits_length region b.shape c.requires.fit in
-    let there : axis < length region = omega (arith, long, c.requires.there) in
-    let fit = on_axis axis region b.shape there c.requires.fit in
-    let few = few_places region b.shape c.requires.fit c.requires.sound.within in
-    some_place region b.shape c.requires.fit
+    some_place c.args.region.now c.args.array.now.shape c.requires.fit
 
 pub loop-place-init : goal.loop-place-init
 loop-place-init c =
-    let b = c.args.array.now in
-    let scan = c.args.scan.now in
-    let axis = c.args.axis in
     let region = c.args.region.now in
-    let item = scan_item scan.function scan.along b in
-    let long : length region ≡ length b.shape = fits_length region b.shape c.requires.fit in
-    let there : axis < length region = omega (arith, long, c.requires.there) in
-    let fit = on_axis axis region b.shape there c.requires.fit in
-    let few = few_places region b.shape c.requires.fit c.requires.sound.within in
     let many = filled_many c.in-Ok.table Nums c.shape_of-shape.result.items c.size-places.result (box_size region) c.in-Ok.ensures c.shape_of-shape.ensures.items c.size-places.ensures in
     record {
       at = λ some. c.index_at-index.ensures;
@@ -95,76 +42,38 @@ loop-place-init c =
 
 pub bounds-as_slice-axis-in-loop-place : goal.bounds-as_slice-axis-in-loop-place
 bounds-as_slice-axis-in-loop-place c =
-    let b = c.args.array.now in
-    let scan = c.args.scan.now in
-    let axis = c.args.axis in
     let region = c.args.region.now in
-    let item = scan_item scan.function scan.along b in
-    let long : length region ≡ length b.shape = fits_length region b.shape c.requires.fit in
-    let there : axis < length region = omega (arith, long, c.requires.there) in
-    let fit = on_axis axis region b.shape there c.requires.fit in
-    let few = few_places region b.shape c.requires.fit c.requires.sound.within in
+    let there : c.args.axis < length region = omega (arith, fits_length region c.args.array.now.shape c.requires.fit, c.requires.there) in
     let below : c.loop-place._place < box_size region = omega (arith, c.loop-place-test.true, c.size-places.ensures) in
-    let at : c.loop-place.index ≡ walk_at region c.loop-place._place = c.loop-place.invariant.at below in
     let walk_long : length (walk_at region c.loop-place._place) ≡ length region = as_long_as region _ (walk_within region c.loop-place._place below) in
-    omega (arith, ap length (c.as_slice-in-loop-place.ensures.is ∙ at), walk_long, there)
+    omega (arith, ap length (c.as_slice-in-loop-place.ensures.is ∙ (c.loop-place.invariant.at below)), walk_long, there)
 
 pub write_line-requires-clause-place : goal.write_line-requires-clause-place
 write_line-requires-clause-place c =
     let b = c.args.array.now in
     let scan = c.args.scan.now in
-    let axis = c.args.axis in
     let region = c.args.region.now in
-    let item = scan_item scan.function scan.along b in
-    let long : length region ≡ length b.shape = fits_length region b.shape c.requires.fit in
-    let there : axis < length region = omega (arith, long, c.requires.there) in
-    let fit = on_axis axis region b.shape there c.requires.fit in
-    let few = few_places region b.shape c.requires.fit c.requires.sound.within in
     let below : c.loop-place._place < box_size region = omega (arith, c.loop-place-test.true, c.size-places.ensures) in
     let at : c.loop-place.index ≡ walk_at region c.loop-place._place = c.loop-place.invariant.at below in
-    let walk_long : length (walk_at region c.loop-place._place) ≡ length region = as_long_as region _ (walk_within region c.loop-place._place below) in
     place_of (scan_form scan.along b) b.shape Nums region c.loop-place._place _ c.requires.checked c.requires.fit below (c.as_slice-line.ensures.is ∙ at)
 
 pub write_line-requires-clause-inside : goal.write_line-requires-clause-inside
 write_line-requires-clause-inside c =
-    let b = c.args.array.now in
-    let scan = c.args.scan.now in
-    let axis = c.args.axis in
     let region = c.args.region.now in
-    let item = scan_item scan.function scan.along b in
-    let long : length region ≡ length b.shape = fits_length region b.shape c.requires.fit in
-    let there : axis < length region = omega (arith, long, c.requires.there) in
-    let fit = on_axis axis region b.shape there c.requires.fit in
-    let few = few_places region b.shape c.requires.fit c.requires.sound.within in
     let below : c.loop-place._place < box_size region = omega (arith, c.loop-place-test.true, c.size-places.ensures) in
-    let at : c.loop-place.index ≡ walk_at region c.loop-place._place = c.loop-place.invariant.at below in
-    let walk_long : length (walk_at region c.loop-place._place) ≡ length region = as_long_as region _ (walk_within region c.loop-place._place below) in
-    rw (c.as_slice-line.ensures.is ∙ at) (walk_within region c.loop-place._place below)
+    rw (c.as_slice-line.ensures.is ∙ (c.loop-place.invariant.at below)) (walk_within region c.loop-place._place below)
 
 pub write_line-requires-clause-table : goal.write_line-requires-clause-table
 write_line-requires-clause-table c =
-    let b = c.args.array.now in
-    let scan = c.args.scan.now in
-    let axis = c.args.axis in
-    let region = c.args.region.now in
-    let item = scan_item scan.function scan.along b in
-    let long : length region ≡ length b.shape = fits_length region b.shape c.requires.fit in
-    let there : axis < length region = omega (arith, long, c.requires.there) in
-    let fit = on_axis axis region b.shape there c.requires.fit in
-    let few = few_places region b.shape c.requires.fit c.requires.sound.within in
     c.loop-place.invariant.table
 
 pub loop-place-preserved : goal.loop-place-preserved
 loop-place-preserved c =
-    let b = c.args.array.now in
-    let scan = c.args.scan.now in
     let axis = c.args.axis in
     let region = c.args.region.now in
-    let item = scan_item scan.function scan.along b in
-    let long : length region ≡ length b.shape = fits_length region b.shape c.requires.fit in
-    let there : axis < length region = omega (arith, long, c.requires.there) in
-    let fit = on_axis axis region b.shape there c.requires.fit in
-    let few = few_places region b.shape c.requires.fit c.requires.sound.within in
+    let item = scan_item c.args.scan.now.function c.args.scan.now.along c.args.array.now in
+    let there : axis < length region = omega (arith, fits_length region c.args.array.now.shape c.requires.fit, c.requires.there) in
+    let fit = on_axis axis region c.args.array.now.shape there c.requires.fit in
     let below : c.loop-place._place < box_size region = omega (arith, c.loop-place-test.true, c.size-places.ensures) in
     let at : c.loop-place.index ≡ walk_at region c.loop-place._place = c.loop-place.invariant.at below in
     let walk_long : length (walk_at region c.loop-place._place) ≡ length region = as_long_as region _ (walk_within region c.loop-place._place below) in
@@ -209,35 +118,26 @@ loop-place-preserved c =
 
 pub returns-in-Some : goal.returns-in-Some
 returns-in-Some c =
-    let b = c.args.array.now in
-    let scan = c.args.scan.now in
     let axis = c.args.axis in
     let region = c.args.region.now in
-    let item = scan_item scan.function scan.along b in
-    let long : length region ≡ length b.shape = fits_length region b.shape c.requires.fit in
+    let item = scan_item c.args.scan.now.function c.args.scan.now.along c.args.array.now in
+    let long : length region ≡ length c.args.array.now.shape = fits_length region c.args.array.now.shape c.requires.fit in
     let there : axis < length region = omega (arith, long, c.requires.there) in
-    let fit = on_axis axis region b.shape there c.requires.fit in
-    let few = few_places region b.shape c.requires.fit c.requires.sound.within in
-    let kind = c.in-Some.kind in
+    let few = few_places region c.args.array.now.shape c.requires.fit c.requires.sound.within in
     let inv = c.loop-place.invariant in
-    all_fail item region axis there c.loop-place.table kind (subst (IsMet item region axis) c.in-Some.is inv.met) (λ place below.
-    let begins = begins_below region axis there fit.order place below in
+    all_fail item region axis there c.loop-place.table c.in-Some.kind (subst (IsMet item region axis) c.in-Some.is inv.met) (λ place below.
+    let begins = begins_below region axis there (on_axis axis region c.args.array.now.shape there c.requires.fit).order place below in
     subst (λ (f : Option Kind). IsDone item region axis c.loop-place.table f place) c.in-Some.is (inv.made place below (omega (arith, begins, c.loop-place-test.false, c.size-places.ensures))))
 
 pub returns : goal.returns
 returns c =
-    let b = c.args.array.now in
-    let scan = c.args.scan.now in
     let axis = c.args.axis in
     let region = c.args.region.now in
-    let item = scan_item scan.function scan.along b in
-    let long : length region ≡ length b.shape = fits_length region b.shape c.requires.fit in
-    let there : axis < length region = omega (arith, long, c.requires.there) in
-    let fit = on_axis axis region b.shape there c.requires.fit in
-    let few = few_places region b.shape c.requires.fit c.requires.sound.within in
+    let item = scan_item c.args.scan.now.function c.args.scan.now.along c.args.array.now in
+    let there : axis < length region = omega (arith, fits_length region c.args.array.now.shape c.requires.fit, c.requires.there) in
     let inv = c.loop-place.invariant in
     let none : c.loop-place.failed ≡ None = c.in_default-failed.is in
     let whole = table_is item region c.loop-place.table inv.table (λ place below.
-    let begins = begins_below region axis there fit.order place below in
+    let begins = begins_below region axis there (on_axis axis region c.args.array.now.shape there c.requires.fit).order place below in
     subst (λ (f : Option Kind). IsDone item region axis c.loop-place.table f place) none (inv.made place below (omega (arith, begins, c.loop-place-test.false, c.size-places.ensures)))) in
     (whole, inv.table.typed)

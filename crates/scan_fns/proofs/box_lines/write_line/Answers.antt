@@ -1,249 +1,111 @@
-use Rattle.std.proofs.Common.{ℕ, ◌≡◌, ◌∙◌, ◌+◌, ◌-◌, ◌<◌, ◌≤◌, true, ap, sym, subst, get_or, length, set, insert, remove, inl, inr, arith, Ok, Err}
-use Rattle.std.proofs.lemmas.Bool.{cases_lt}
+use Rattle.std.{proofs.Common.{ℕ, List, ◌≡◌, ◌∙◌, ◌+◌, ◌-◌, ◌<◌, ◌≤◌, true, ap, sym, subst, get_or, length, set, insert, remove, inl, inr, arith, Ok, Err}, proofs.lemmas.Bool.{cases_lt}}
 use Rattle.arrays_core.specs.Items.{fill}
-use Rattle.index_region.{specs.Boxes.{box_offset, walk_at, is_within}, proofs.Boxes.{fits_length}, proofs.Walks.{walk_within, offset_of_walk, walk_of_offset}}
+use Rattle.index_region.{specs.Boxes.{Interval, box_offset, walk_at, is_within}, proofs.Boxes.{fits_length}, proofs.Walks.{walk_within, offset_of_walk, walk_of_offset}}
 use Rattle.change_core.proofs.Filling.{few_places}
-use Rattle.scan_fns.{specs.Scan.{scan_item, scan_along}, proofs.Scanned.{restored}, specs.BoxLines.{Holds}, proofs.OneLine.{on_axis}}
-use Rattle.scan_fns.proofs.BoxErrors.{line_fails}
-use Rattle.scan_fns.proofs.BoxTables.{as_long_as, long_removed, within_line, between, holds_there, holds_still, table_still, line_item}
+use Rattle.scan_fns.{specs.Scan.{scan_item, scan_along}, proofs.Scanned.{restored}, specs.BoxLines.{Holds}, proofs.OneLine.{OnAxis, on_axis}, proofs.BoxErrors.{line_fails}, proofs.BoxTables.{as_long_as, long_removed, within_line, between, holds_there, holds_still, table_still, line_item}}
+use Rattle.scan_fns.proofs.box_lines.write_line.Goals.{After-as_slice, After-as_slice-in-loop-before-2}
 use Rattle.scan_fns.proofs.box_lines.write_line.Goals as goal
+
+there : (c : After-as_slice) → c.args.axis < length c.args.region.now
+there c = omega (arith, fits_length c.args.region.now c.args.array.now.shape c.requires.fit, c.requires.there)
+
+-- the ends of the box along the axis, as they are read
+ends : (c : After-as_slice) → OnAxis c.as_slice.result.now c.args.array.now.shape c.args.axis
+ends c =
+    subst (λ r. OnAxis r c.args.array.now.shape c.args.axis) (sym c.as_slice.ensures.is) (on_axis c.args.axis c.args.region.now c.args.array.now.shape (there c) c.requires.fit)
+
+first : (c : After-as_slice) → (get_or c.as_slice.result.now c.args.axis (0, 0)).0 ≡ (get_or c.args.region.now c.args.axis (0, 0)).0
+first c = ap (λ (r : List Interval). (get_or r c.args.axis (0, 0)).0) c.as_slice.ensures.is
+
+last : (c : After-as_slice) → (get_or c.as_slice.result.now c.args.axis (0, 0)).1 ≡ (get_or c.args.region.now c.args.axis (0, 0)).1
+last c = ap (λ (r : List Interval). (get_or r c.args.axis (0, 0)).1) c.as_slice.ensures.is
+
+in_index : (c : After-as_slice) → c.args.axis < length c.args.index.now
+in_index c = omega (arith, as_long_as c.args.region.now c.args.index.now c.requires.inside, there c)
 
 pub along_line-requires-clause-high : goal.along_line-requires-clause-high
 along_line-requires-clause-high c =
-    let b = c.args.array.now in
-    let scan = c.args.scan.now in
-    let axis = c.args.axis in
-    let region = c.args.region.now in
-    let index = c.args.index.now in
-    let item = scan_item scan.function scan.along b in
-    let long : length region ≡ length b.shape = fits_length region b.shape c.requires.fit in
-    let there : axis < length region = omega (arith, long, c.requires.there) in
-    let fit = on_axis axis region b.shape there c.requires.fit in
-    let interval : get_or c.as_slice.result.now axis (0, 0) ≡ get_or region axis (0, 0) = ap (λ r. get_or r axis (0, 0)) c.as_slice.ensures.is in
-    let first = ap (λ (s : ℕ × ℕ). s.0) interval in
-    let last = ap (λ (s : ℕ × ℕ). s.1) interval in
-    let most : get_or b.shape axis 0 ≤ 1048576 = c.requires.sound.within.axes axis 0 c.requires.there in
-    let few = few_places region b.shape c.requires.fit c.requires.sound.within in
-    let index_long : length index ≡ length region = as_long_as region index c.requires.inside in
-    rw (sym c.requires.meant) (omega (arith, last, fit.high))
+    let fit = ends (goal.at.along_line-requires-clause-high c).After-as_slice in
+    rw (sym c.requires.meant) (omega (arith, fit.high))
 
 pub overflow_add-before-end : goal.overflow_add-before-end
-overflow_add-before-end c =
-    let b = c.args.array.now in
-    let scan = c.args.scan.now in
-    let axis = c.args.axis in
-    let region = c.args.region.now in
-    let index = c.args.index.now in
-    let item = scan_item scan.function scan.along b in
-    let long : length region ≡ length b.shape = fits_length region b.shape c.requires.fit in
-    let there : axis < length region = omega (arith, long, c.requires.there) in
-    let fit = on_axis axis region b.shape there c.requires.fit in
-    let interval : get_or c.as_slice.result.now axis (0, 0) ≡ get_or region axis (0, 0) = ap (λ r. get_or r axis (0, 0)) c.as_slice.ensures.is in
-    let first = ap (λ (s : ℕ × ℕ). s.0) interval in
-    let last = ap (λ (s : ℕ × ℕ). s.1) interval in
-    let most : get_or b.shape axis 0 ≤ 1048576 = c.requires.sound.within.axes axis 0 c.requires.there in
-    let few = few_places region b.shape c.requires.fit c.requires.sound.within in
-    let index_long : length index ≡ length region = as_long_as region index c.requires.inside in
-    omega (arith, last, fit.high, most)
+overflow_add-before-end c = omega (arith, (ends (goal.at.overflow_add-before-end c).After-as_slice).high, c.requires.sound.within.axes c.args.axis 0 c.requires.there)
 
 pub overflow_sub-before-end : goal.overflow_sub-before-end
-overflow_sub-before-end c =
-    let b = c.args.array.now in
-    let scan = c.args.scan.now in
-    let axis = c.args.axis in
-    let region = c.args.region.now in
-    let index = c.args.index.now in
-    let item = scan_item scan.function scan.along b in
-    let long : length region ≡ length b.shape = fits_length region b.shape c.requires.fit in
-    let there : axis < length region = omega (arith, long, c.requires.there) in
-    let fit = on_axis axis region b.shape there c.requires.fit in
-    let interval : get_or c.as_slice.result.now axis (0, 0) ≡ get_or region axis (0, 0) = ap (λ r. get_or r axis (0, 0)) c.as_slice.ensures.is in
-    let first = ap (λ (s : ℕ × ℕ). s.0) interval in
-    let last = ap (λ (s : ℕ × ℕ). s.1) interval in
-    let most : get_or b.shape axis 0 ≤ 1048576 = c.requires.sound.within.axes axis 0 c.requires.there in
-    let few = few_places region b.shape c.requires.fit c.requires.sound.within in
-    let index_long : length index ≡ length region = as_long_as region index c.requires.inside in
-    omega (arith, first, last, fit.order)
+overflow_sub-before-end c = omega (arith, (ends (goal.at.overflow_sub-before-end c).After-as_slice).order)
 
 pub loop-before-init : goal.loop-before-init
 loop-before-init c =
-    let b = c.args.array.now in
-    let scan = c.args.scan.now in
-    let axis = c.args.axis in
     let region = c.args.region.now in
-    let index = c.args.index.now in
-    let item = scan_item scan.function scan.along b in
-    let long : length region ≡ length b.shape = fits_length region b.shape c.requires.fit in
-    let there : axis < length region = omega (arith, long, c.requires.there) in
-    let fit = on_axis axis region b.shape there c.requires.fit in
-    let interval : get_or c.as_slice.result.now axis (0, 0) ≡ get_or region axis (0, 0) = ap (λ r. get_or r axis (0, 0)) c.as_slice.ensures.is in
-    let first = ap (λ (s : ℕ × ℕ). s.0) interval in
-    let last = ap (λ (s : ℕ × ℕ). s.1) interval in
-    let most : get_or b.shape axis 0 ≤ 1048576 = c.requires.sound.within.axes axis 0 c.requires.there in
-    let few = few_places region b.shape c.requires.fit c.requires.sound.within in
-    let index_long : length index ≡ length region = as_long_as region index c.requires.inside in
     record {
       table = c.requires.table;
       keeps = λ place h. h;
       made = λ place below on_line early.
-          let within = between axis region (walk_at region place) there (walk_within region place below) in
+          let within = between c.args.axis region (walk_at region place) (there (goal.at.loop-before-init c).After-as_slice) (walk_within region place below) in
           absurd (omega (arith, early, within.low));
     }
 
 pub overflow_add-first : goal.overflow_add-first
 overflow_add-first c =
-    let b = c.args.array.now in
-    let scan = c.args.scan.now in
-    let axis = c.args.axis in
-    let region = c.args.region.now in
-    let index = c.args.index.now in
-    let item = scan_item scan.function scan.along b in
-    let long : length region ≡ length b.shape = fits_length region b.shape c.requires.fit in
-    let there : axis < length region = omega (arith, long, c.requires.there) in
-    let fit = on_axis axis region b.shape there c.requires.fit in
-    let interval : get_or c.as_slice.result.now axis (0, 0) ≡ get_or region axis (0, 0) = ap (λ r. get_or r axis (0, 0)) c.as_slice.ensures.is in
-    let first = ap (λ (s : ℕ × ℕ). s.0) interval in
-    let last = ap (λ (s : ℕ × ℕ). s.1) interval in
-    let most : get_or b.shape axis 0 ≤ 1048576 = c.requires.sound.within.axes axis 0 c.requires.there in
-    let few = few_places region b.shape c.requires.fit c.requires.sound.within in
-    let index_long : length index ≡ length region = as_long_as region index c.requires.inside in
-    omega (arith, c.loop-before-test.true, first, last, fit.order, fit.high, most)
+    let fit = ends (goal.at.overflow_add-first c).After-as_slice in
+    omega (arith, c.loop-before-test.true, fit.order, fit.high, c.requires.sound.within.axes c.args.axis 0 c.requires.there)
 
 pub with_axis-place-requires-clause-rank : goal.with_axis-place-requires-clause-rank
 with_axis-place-requires-clause-rank c =
-    let b = c.args.array.now in
-    let scan = c.args.scan.now in
-    let axis = c.args.axis in
-    let region = c.args.region.now in
     let index = c.args.index.now in
-    let item = scan_item scan.function scan.along b in
-    let long : length region ≡ length b.shape = fits_length region b.shape c.requires.fit in
-    let there : axis < length region = omega (arith, long, c.requires.there) in
-    let fit = on_axis axis region b.shape there c.requires.fit in
-    let interval : get_or c.as_slice.result.now axis (0, 0) ≡ get_or region axis (0, 0) = ap (λ r. get_or r axis (0, 0)) c.as_slice.ensures.is in
-    let first = ap (λ (s : ℕ × ℕ). s.0) interval in
-    let last = ap (λ (s : ℕ × ℕ). s.1) interval in
-    let most : get_or b.shape axis 0 ≤ 1048576 = c.requires.sound.within.axes axis 0 c.requires.there in
-    let few = few_places region b.shape c.requires.fit c.requires.sound.within in
-    let index_long : length index ≡ length region = as_long_as region index c.requires.inside in
-    let others : c.as_slice-in-loop-before.result.now ≡ remove index axis = c.as_slice-in-loop-before.ensures ∙ c.without_axis-others.ensures.is in
-    omega (arith, ap length others, long_removed axis index (omega (arith, index_long, there)), index_long, c.as_slice.ensures.few)
+    let others : c.as_slice-in-loop-before.result.now ≡ remove index c.args.axis = c.as_slice-in-loop-before.ensures ∙ c.without_axis-others.ensures.is in
+    let long = as_long_as c.args.region.now index c.requires.inside in
+    omega (arith, ap length others, long_removed c.args.axis index (in_index (goal.at.with_axis-place-requires-clause-rank c).After-as_slice), long, c.as_slice.ensures.few)
+
+-- the place of the line that a step writes, and that it is in the box
+placed : (c : After-as_slice-in-loop-before-2)
+    → c.as_slice-in-loop-before-2.result.now ≡ insert (remove c.args.index.now c.args.axis) c.args.axis ((get_or c.as_slice.result.now c.args.axis (0, 0)).0 + c.loop-before.before)
+placed c =
+    c.as_slice-in-loop-before-2.ensures ∙ c.with_axis-place.ensures.is
+    ∙ ap (λ xs. insert xs c.args.axis ((get_or c.as_slice.result.now c.args.axis (0, 0)).0 + c.loop-before.before)) (c.as_slice-in-loop-before.ensures ∙ c.without_axis-others.ensures.is)
+
+within : (c : After-as_slice-in-loop-before-2) → is_within c.args.region.now c.as_slice-in-loop-before-2.result.now ≡ true
+within c =
+    let low = ap (λ (r : List Interval). (get_or r c.args.axis (0, 0)).0) c.as_slice.ensures.is in
+    let high = ap (λ (r : List Interval). (get_or r c.args.axis (0, 0)).1) c.as_slice.ensures.is in
+    let inside : c.args.axis < length c.args.region.now = omega (arith, fits_length c.args.region.now c.args.array.now.shape c.requires.fit, c.requires.there) in
+    rw (placed c)
+    (within_line c.args.axis c.args.region.now c.args.index.now ((get_or c.as_slice.result.now c.args.axis (0, 0)).0 + c.loop-before.before) inside c.requires.inside (omega (arith, low))
+    (omega (arith, low, high, c.loop-before-test.true)))
 
 pub offset-offset-requires-clause-within : goal.offset-offset-requires-clause-within
-offset-offset-requires-clause-within c =
-    let b = c.args.array.now in
-    let scan = c.args.scan.now in
-    let axis = c.args.axis in
-    let region = c.args.region.now in
-    let index = c.args.index.now in
-    let item = scan_item scan.function scan.along b in
-    let long : length region ≡ length b.shape = fits_length region b.shape c.requires.fit in
-    let there : axis < length region = omega (arith, long, c.requires.there) in
-    let fit = on_axis axis region b.shape there c.requires.fit in
-    let interval : get_or c.as_slice.result.now axis (0, 0) ≡ get_or region axis (0, 0) = ap (λ r. get_or r axis (0, 0)) c.as_slice.ensures.is in
-    let first = ap (λ (s : ℕ × ℕ). s.0) interval in
-    let last = ap (λ (s : ℕ × ℕ). s.1) interval in
-    let most : get_or b.shape axis 0 ≤ 1048576 = c.requires.sound.within.axes axis 0 c.requires.there in
-    let few = few_places region b.shape c.requires.fit c.requires.sound.within in
-    let index_long : length index ≡ length region = as_long_as region index c.requires.inside in
-    let before = c.loop-before.before in
-    let j = (get_or c.as_slice.result.now axis (0, 0)).0 + before in
-    let others : c.as_slice-in-loop-before.result.now ≡ remove index axis = c.as_slice-in-loop-before.ensures ∙ c.without_axis-others.ensures.is in
-    let place_is : c.as_slice-in-loop-before-2.result.now ≡ insert (remove index axis) axis j = c.as_slice-in-loop-before-2.ensures ∙ c.with_axis-place.ensures.is ∙ ap (λ xs. insert xs axis j) others in
-    let within : is_within region c.as_slice-in-loop-before-2.result.now ≡ true =
-    rw place_is (within_line axis region index j there c.requires.inside (omega (arith, first)) (omega (arith, first, last, c.loop-before-test.true))) in
-    within
+offset-offset-requires-clause-within c = within (goal.at.offset-offset-requires-clause-within c).After-as_slice-in-loop-before-2
 
 pub offset-offset-requires-clause-size : goal.offset-offset-requires-clause-size
-offset-offset-requires-clause-size c =
-    let b = c.args.array.now in
-    let scan = c.args.scan.now in
-    let axis = c.args.axis in
-    let region = c.args.region.now in
-    let index = c.args.index.now in
-    let item = scan_item scan.function scan.along b in
-    let long : length region ≡ length b.shape = fits_length region b.shape c.requires.fit in
-    let there : axis < length region = omega (arith, long, c.requires.there) in
-    let fit = on_axis axis region b.shape there c.requires.fit in
-    let interval : get_or c.as_slice.result.now axis (0, 0) ≡ get_or region axis (0, 0) = ap (λ r. get_or r axis (0, 0)) c.as_slice.ensures.is in
-    let first = ap (λ (s : ℕ × ℕ). s.0) interval in
-    let last = ap (λ (s : ℕ × ℕ). s.1) interval in
-    let most : get_or b.shape axis 0 ≤ 1048576 = c.requires.sound.within.axes axis 0 c.requires.there in
-    let few = few_places region b.shape c.requires.fit c.requires.sound.within in
-    let index_long : length index ≡ length region = as_long_as region index c.requires.inside in
-    omega (arith, few)
+offset-offset-requires-clause-size c = omega (arith, few_places c.args.region.now c.args.array.now.shape c.requires.fit c.requires.sound.within)
 
 pub overflow_cast-offset : goal.overflow_cast-offset
-overflow_cast-offset c =
-    let b = c.args.array.now in
-    let scan = c.args.scan.now in
-    let axis = c.args.axis in
-    let region = c.args.region.now in
-    let index = c.args.index.now in
-    let item = scan_item scan.function scan.along b in
-    let long : length region ≡ length b.shape = fits_length region b.shape c.requires.fit in
-    let there : axis < length region = omega (arith, long, c.requires.there) in
-    let fit = on_axis axis region b.shape there c.requires.fit in
-    let interval : get_or c.as_slice.result.now axis (0, 0) ≡ get_or region axis (0, 0) = ap (λ r. get_or r axis (0, 0)) c.as_slice.ensures.is in
-    let first = ap (λ (s : ℕ × ℕ). s.0) interval in
-    let last = ap (λ (s : ℕ × ℕ). s.1) interval in
-    let most : get_or b.shape axis 0 ≤ 1048576 = c.requires.sound.within.axes axis 0 c.requires.there in
-    let few = few_places region b.shape c.requires.fit c.requires.sound.within in
-    let index_long : length index ≡ length region = as_long_as region index c.requires.inside in
-    omega (arith, few, c.offset-offset.ensures.below)
+overflow_cast-offset c = omega (arith, few_places c.args.region.now c.args.array.now.shape c.requires.fit c.requires.sound.within, c.offset-offset.ensures.below)
 
 pub overflow_add-offset : goal.overflow_add-offset
-overflow_add-offset c =
-    let b = c.args.array.now in
-    let scan = c.args.scan.now in
-    let axis = c.args.axis in
-    let region = c.args.region.now in
-    let index = c.args.index.now in
-    let item = scan_item scan.function scan.along b in
-    let long : length region ≡ length b.shape = fits_length region b.shape c.requires.fit in
-    let there : axis < length region = omega (arith, long, c.requires.there) in
-    let fit = on_axis axis region b.shape there c.requires.fit in
-    let interval : get_or c.as_slice.result.now axis (0, 0) ≡ get_or region axis (0, 0) = ap (λ r. get_or r axis (0, 0)) c.as_slice.ensures.is in
-    let first = ap (λ (s : ℕ × ℕ). s.0) interval in
-    let last = ap (λ (s : ℕ × ℕ). s.1) interval in
-    let most : get_or b.shape axis 0 ≤ 1048576 = c.requires.sound.within.axes axis 0 c.requires.there in
-    let few = few_places region b.shape c.requires.fit c.requires.sound.within in
-    let index_long : length index ≡ length region = as_long_as region index c.requires.inside in
-    omega (arith, few, c.offset-offset.ensures.below)
+overflow_add-offset c = omega (arith, few_places c.args.region.now c.args.array.now.shape c.requires.fit c.requires.sound.within, c.offset-offset.ensures.below)
 
 pub loop-before-preserved : goal.loop-before-preserved
 loop-before-preserved c =
-    let b = c.args.array.now in
+    let here = (goal.at.loop-before-preserved c).After-as_slice in
+    let write = (goal.at.loop-before-preserved c).After-as_slice-in-loop-before-2 in
     let scan = c.args.scan.now in
     let axis = c.args.axis in
     let region = c.args.region.now in
     let index = c.args.index.now in
-    let item = scan_item scan.function scan.along b in
-    let long : length region ≡ length b.shape = fits_length region b.shape c.requires.fit in
-    let there : axis < length region = omega (arith, long, c.requires.there) in
-    let fit = on_axis axis region b.shape there c.requires.fit in
-    let interval : get_or c.as_slice.result.now axis (0, 0) ≡ get_or region axis (0, 0) = ap (λ r. get_or r axis (0, 0)) c.as_slice.ensures.is in
-    let first = ap (λ (s : ℕ × ℕ). s.0) interval in
-    let last = ap (λ (s : ℕ × ℕ). s.1) interval in
-    let most : get_or b.shape axis 0 ≤ 1048576 = c.requires.sound.within.axes axis 0 c.requires.there in
-    let few = few_places region b.shape c.requires.fit c.requires.sound.within in
-    let index_long : length index ≡ length region = as_long_as region index c.requires.inside in
+    let item = scan_item scan.function scan.along c.args.array.now in
     let before = c.loop-before.before in
     let j = (get_or c.as_slice.result.now axis (0, 0)).0 + before in
-    let others : c.as_slice-in-loop-before.result.now ≡ remove index axis = c.as_slice-in-loop-before.ensures ∙ c.without_axis-others.ensures.is in
-    let place_is : c.as_slice-in-loop-before-2.result.now ≡ insert (remove index axis) axis j = c.as_slice-in-loop-before-2.ensures ∙ c.with_axis-place.ensures.is ∙ ap (λ xs. insert xs axis j) others in
-    let within : is_within region c.as_slice-in-loop-before-2.result.now ≡ true =
-    rw place_is (within_line axis region index j there c.requires.inside (omega (arith, first)) (omega (arith, first, last, c.loop-before-test.true))) in
+    let begin = first here in
     let line = c.in-Ok.line in
     let q = c.offset-offset.result in
     let x = c.item.result in
     let inv = c.loop-before.invariant in
-    let walk : walk_at region q ≡ insert (remove index axis) axis j = ap (walk_at region) c.offset-offset.ensures.is ∙ walk_of_offset region _ within ∙ place_is in
-    let answered : scan_along scan.function scan.along b index (get_or c.as_slice.result.now axis (0, 0)).1 ≡ Ok line = rw c.in-Ok.is at c.in_ok-answer.ensures in
-    let in_index : axis < length index = omega (arith, index_long, there) in
-    let below : before < (get_or c.as_slice.result.now axis (0, 0)).1 + 1 - get_or index axis 1 = omega (arith, c.loop-before-test.true, first, c.requires.begins) in
-    let there_item = line_item scan.function scan.along b region index _ line axis c.requires.meant in_index answered before below in
-    let same : j ≡ get_or index axis 1 + before = omega (arith, first, c.requires.begins) in
+    let walk : walk_at region q ≡ insert (remove index axis) axis j = ap (walk_at region) c.offset-offset.ensures.is ∙ walk_of_offset region _ (within write) ∙ placed write in
+    let answered : scan_along scan.function scan.along c.args.array.now index (get_or c.as_slice.result.now axis (0, 0)).1 ≡ Ok line = rw c.in-Ok.is at c.in_ok-answer.ensures in
+    let below : before < (get_or c.as_slice.result.now axis (0, 0)).1 + 1 - get_or index axis 1 = omega (arith, c.loop-before-test.true, begin, c.requires.begins) in
+    let there_item = line_item scan.function scan.along c.args.array.now region index _ line axis c.requires.meant (in_index here) answered before below in
+    let same : j ≡ get_or index axis 1 + before = omega (arith, begin, c.requires.begins) in
     let read : before + 1 - 1 ≡ before = omega arith in
     let right : item (walk_at region q) ≡ Ok x =
     ap item (walk ∙ ap (insert (remove index axis) axis) same) ∙ there_item ∙ ap (λ y. Ok y) (sym (c.item.ensures.is ∙ ap (λ m. get_or line.items m (fill line.item_type)) read)) in
@@ -255,12 +117,12 @@ loop-before-preserved c =
       table = table_still item region old c.write_at.new.self q x is inside right inv.table;
       keeps = λ place h. holds_still item region old c.write_at.new.self q x is inside right place (inv.keeps place h);
       made = λ place below_size on_line early. elim (cases_lt (get_or (walk_at region place) axis 1) j) [
-        | inl earlier ↦ holds_still item region old c.write_at.new.self q x is inside right place (inv.made place below_size on_line (omega (arith, earlier, first)))
+        | inl earlier ↦ holds_still item region old c.write_at.new.self q x is inside right place (inv.made place below_size on_line (omega (arith, earlier, begin)))
         | inr later ↦
-            let at : get_or (walk_at region place) axis 1 ≡ j = omega (arith, early, later, first) in
+            let at : get_or (walk_at region place) axis 1 ≡ j = omega (arith, early, later, begin) in
             let walk_long : length (walk_at region place) ≡ length region = as_long_as region (walk_at region place) (walk_within region place below_size) in
             let own : walk_at region place ≡ walk_at region q =
-            sym (restored (walk_at region place) axis 1 (omega (arith, walk_long, there))) ∙ ap (λ m. insert (remove (walk_at region place) axis) axis m) at ∙ ap (λ xs. insert xs axis j) on_line ∙ sym walk in
+            sym (restored (walk_at region place) axis 1 (omega (arith, walk_long, there here))) ∙ ap (λ m. insert (remove (walk_at region place) axis) axis m) at ∙ ap (λ xs. insert xs axis j) on_line ∙ sym walk in
             let e : place ≡ q = sym (offset_of_walk region place below_size) ∙ ap (box_offset region) own ∙ offset_of_walk region q c.offset-offset.ensures.below in
             subst (Holds item region c.write_at.new.self) (sym e) (holds_there item region old c.write_at.new.self q x is inside right)
       ];
@@ -268,42 +130,14 @@ loop-before-preserved c =
 
 pub returns-clause-line : goal.returns-clause-line
 returns-clause-line c =
-    let b = c.args.array.now in
-    let scan = c.args.scan.now in
-    let axis = c.args.axis in
-    let region = c.args.region.now in
-    let index = c.args.index.now in
-    let item = scan_item scan.function scan.along b in
-    let long : length region ≡ length b.shape = fits_length region b.shape c.requires.fit in
-    let there : axis < length region = omega (arith, long, c.requires.there) in
-    let fit = on_axis axis region b.shape there c.requires.fit in
-    let interval : get_or c.as_slice.result.now axis (0, 0) ≡ get_or region axis (0, 0) = ap (λ r. get_or r axis (0, 0)) c.as_slice.ensures.is in
-    let first = ap (λ (s : ℕ × ℕ). s.0) interval in
-    let last = ap (λ (s : ℕ × ℕ). s.1) interval in
-    let most : get_or b.shape axis 0 ≤ 1048576 = c.requires.sound.within.axes axis 0 c.requires.there in
-    let few = few_places region b.shape c.requires.fit c.requires.sound.within in
-    let index_long : length index ≡ length region = as_long_as region index c.requires.inside in
+    let here = (goal.at.returns-clause-line c).After-as_slice in
     λ place below_size on_line.
-    let within = between axis region (walk_at region place) there (walk_within region place below_size) in
-    c.loop-before.invariant.made place below_size on_line (omega (arith, within.high, c.loop-before-test.false, first, last, fit.order))
+    let inside = between c.args.axis c.args.region.now (walk_at c.args.region.now place) (there here) (walk_within c.args.region.now place below_size) in
+    c.loop-before.invariant.made place below_size on_line (omega (arith, inside.high, c.loop-before-test.false, first here, last here, (ends here).order))
 
 pub returns-in-Err-clause-line : goal.returns-in-Err-clause-line
 returns-in-Err-clause-line c =
-    let b = c.args.array.now in
+    let here = (goal.at.returns-in-Err-clause-line c).After-as_slice in
     let scan = c.args.scan.now in
-    let axis = c.args.axis in
-    let region = c.args.region.now in
-    let index = c.args.index.now in
-    let item = scan_item scan.function scan.along b in
-    let long : length region ≡ length b.shape = fits_length region b.shape c.requires.fit in
-    let there : axis < length region = omega (arith, long, c.requires.there) in
-    let fit = on_axis axis region b.shape there c.requires.fit in
-    let interval : get_or c.as_slice.result.now axis (0, 0) ≡ get_or region axis (0, 0) = ap (λ r. get_or r axis (0, 0)) c.as_slice.ensures.is in
-    let first = ap (λ (s : ℕ × ℕ). s.0) interval in
-    let last = ap (λ (s : ℕ × ℕ). s.1) interval in
-    let most : get_or b.shape axis 0 ≤ 1048576 = c.requires.sound.within.axes axis 0 c.requires.there in
-    let few = few_places region b.shape c.requires.fit c.requires.sound.within in
-    let index_long : length index ≡ length region = as_long_as region index c.requires.inside in
-    let fails : scan_along scan.function scan.along b index (get_or c.as_slice.result.now axis (0, 0)).1 ≡ Err c.in_ok-kind-in-Err.kind = rw (c.in-Err.is ∙ ap (λ f. Err f) c.in_ok-kind-in-Err.ensures) at c.in_ok-answer.ensures in
-    let in_index : axis < length index = omega (arith, index_long, there) in
-    line_fails scan.function scan.along b region axis index _ c.in_ok-kind-in-Err.kind c.requires.meant in_index c.requires.begins last fails
+    let fails : scan_along scan.function scan.along c.args.array.now c.args.index.now (get_or c.as_slice.result.now c.args.axis (0, 0)).1 ≡ Err c.in_ok-kind-in-Err.kind = rw (c.in-Err.is ∙ ap (λ f. Err f) c.in_ok-kind-in-Err.ensures) at c.in_ok-answer.ensures in
+    line_fails scan.function scan.along c.args.array.now c.args.region.now c.args.axis c.args.index.now _ c.in_ok-kind-in-Err.kind c.requires.meant (in_index here) c.requires.begins (last here) fails

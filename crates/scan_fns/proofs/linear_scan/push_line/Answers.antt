@@ -1,5 +1,4 @@
-use Rattle.std.proofs.Common.{◌≡◌, ◌∙◌, ◌+◌, ◌-◌, ◌%◌, ◌<◌, ◌++◌, ◌∷◌, [], ap, sym, subst, length, get_or, min, arith, Ok, Err, pos, to_z, of_z, w64, SFits, rules}
-use Rattle.std.{proofs.lemmas.List.{get_or-append_right}, proofs.lemmas.Int.{to_z-of_z}}
+use Rattle.std.{proofs.Common.{◌≡◌, ◌∙◌, ◌+◌, ◌-◌, ◌%◌, ◌<◌, ◌++◌, ◌∷◌, [], ap, sym, subst, length, get_or, min, arith, Ok, Err, pos, to_z, of_z, w64, SFits, rules}, proofs.lemmas.List.{get_or-append_right}, proofs.lemmas.Int.{to_z-of_z}}
 use Rattle.item_fns.proofs.Errors.{passed_on}
 use Rattle.scan_fns.{specs.LinearScan.{left_rule, AreResultsTo}, proofs.LeftScans.{next_beside, one_more, first_error, fails_here}}
 use Rattle.scan_fns.proofs.linear_scan.push_line.Goals as goal
@@ -17,36 +16,34 @@ returns-in_err-before-clause-first g c =
     let f = g.S.TwoNumbers.gives c.args.step.now in
     let zs = c.args.numbers.now in
     let k = c.loop-place.place in
-    let before = c.loop-place.invariant in
     let begins : c.len-first.result % c.args.count ≡ 0 = ap (λ n. n % c.args.count) c.len-first.ensures ∙ c.requires.begins in
     let below : k < length zs = omega (arith, c.loop-place-test.true, c.min.ensures, c.len-first.ensures) in
     let near : k < c.len-first.result + c.args.count = omega (arith, c.loop-place-test.true, c.min.ensures) in
     let fit : SFits w64 (get_or zs k (pos 0)) = search rules in
     let read : to_z w64 (of_z w64 (get_or zs k (pos 0))) ≡ get_or zs k (pos 0) = to_z-of_z w64 _ fit in
     let given : left_rule f zs 1 c.args.count k ≡ Err c.in_err-before.field-0.0 = next_beside f zs c.args.count c.requires.some k c.len-first.result c.loop-place.results.items c.loop-place.before (Err c.in_err-before.field-0.0)
-    below before.so_far.made begins c.loop-place.auto.place near (λ h. before.last h ∙ c.loop-place.before-is)
+    below c.loop-place.invariant.so_far.made begins c.loop-place.auto.place near (λ h. c.loop-place.invariant.last h ∙ c.loop-place.before-is)
     (λ h. rw (read) at (c.in_err-before.ensures.first h))
     (λ h. rw (c.loop-place.before-is, read) at (c.in_err-before.ensures.later h)) in
     rw (passed_on c.from_residual.result c.in_err-before.field-0.0 c.from_residual.ensures)
-    (first_error (left_rule f zs 1 c.args.count) zs k c.loop-place.results before.so_far below fit c.in_err-before.field-0.0 given)
+    (first_error (left_rule f zs 1 c.args.count) zs k c.loop-place.results c.loop-place.invariant.so_far below fit c.in_err-before.field-0.0 given)
 
 pub returns-in_err-before-clause-read : goal.returns-in_err-before-clause-read
 returns-in_err-before-clause-read g c =
     let f = g.S.TwoNumbers.gives c.args.step.now in
     let zs = c.args.numbers.now in
     let k = c.loop-place.place in
-    let before = c.loop-place.invariant in
     let begins : c.len-first.result % c.args.count ≡ 0 = ap (λ n. n % c.args.count) c.len-first.ensures ∙ c.requires.begins in
     let below : k < length zs = omega (arith, c.loop-place-test.true, c.min.ensures, c.len-first.ensures) in
     let near : k < c.len-first.result + c.args.count = omega (arith, c.loop-place-test.true, c.min.ensures) in
     let fit : SFits w64 (get_or zs k (pos 0)) = search rules in
     let read : to_z w64 (of_z w64 (get_or zs k (pos 0))) ≡ get_or zs k (pos 0) = to_z-of_z w64 _ fit in
     let given : left_rule f zs 1 c.args.count k ≡ Err c.in_err-before.field-0.0 = next_beside f zs c.args.count c.requires.some k c.len-first.result c.loop-place.results.items c.loop-place.before (Err c.in_err-before.field-0.0)
-    below before.so_far.made begins c.loop-place.auto.place near (λ h. before.last h ∙ c.loop-place.before-is)
+    below c.loop-place.invariant.so_far.made begins c.loop-place.auto.place near (λ h. c.loop-place.invariant.last h ∙ c.loop-place.before-is)
     (λ h. rw (read) at (c.in_err-before.ensures.first h))
     (λ h. rw (c.loop-place.before-is, read) at (c.in_err-before.ensures.later h)) in
     rw (passed_on c.from_residual.result c.in_err-before.field-0.0 c.from_residual.ensures)
-    (fails_here (left_rule f zs 1 c.args.count) zs k c.loop-place.results before.so_far below fit c.in_err-before.field-0.0 given)
+    (fails_here (left_rule f zs 1 c.args.count) zs k c.loop-place.results c.loop-place.invariant.so_far below fit c.in_err-before.field-0.0 given)
 
 pub push_reserved-requires : goal.push_reserved-requires
 push_reserved-requires g c = omega (arith, c.loop-place.invariant.so_far.long, c.loop-place.invariant.so_far.room, c.min.ensures, c.loop-place-test.true)

@@ -1,5 +1,4 @@
-use Rattle.std.proofs.Common.{◌≡◌, ◌∙◌, ◌+◌, ◌*◌, ◌%◌, ◌++◌, ◌∷◌, [], ap, sym, length, get_or, map, arith, Ok, Err, pos, to_z, of_z, w64, SFits, rules}
-use Rattle.std.{specs.List.{range_with_len}, proofs.lemmas.Int.{to_z-of_z}, proofs.Math.Nat.{mod-add-mod, zero-mod}}
+use Rattle.std.{proofs.Common.{◌≡◌, ◌∙◌, ◌+◌, ◌*◌, ◌%◌, ◌++◌, ◌∷◌, [], ap, sym, length, get_or, map, arith, Ok, Err, pos, to_z, of_z, w64, SFits, rules}, specs.List.{range_with_len}, proofs.lemmas.Int.{to_z-of_z}, proofs.Math.Nat.{mod-add-mod, zero-mod}}
 use Rattle.arrays_core.specs.Items.{all_or_first_error}
 use Rattle.item_fns.proofs.Errors.{list_error}
 use Rattle.scan_fns.{specs.LinearScan.{left_rule}, proofs.LeftScans.{next_left, all_fit, error_read, none_yet, one_more, first_error, fails_here, results_end}}
@@ -24,12 +23,11 @@ returns-in_err-result-clause-is g c =
     let so_far = c.loop-place.invariant.so_far in
     let fit : SFits w64 (get_or zs k (pos 0)) = search rules in
     let read : to_z w64 (of_z w64 (get_or zs k (pos 0))) ≡ get_or zs k (pos 0) = to_z-of_z w64 _ fit in
-    let value = c.deref.ensures.value in
     let count : length c.deref.result.now ≡ k = omega (arith, c.deref.ensures.len, so_far.long) in
     let given : rule k ≡ Err c.in_err-result.field-0.0 = next_left f zs c.args.lines.now.stride c.args.lines.now.count c.args.lines.now.apart c.args.lines.now.some k c.loop-place.block_place c.loop-place.results.items
     (Err c.in_err-result.field-0.0) (omega arith) so_far.made c.loop-place.invariant.here
     (λ h. rw (read) at (c.in_err-result.ensures.first h))
-    (λ h. rw (count, value, read) at (c.in_err-result.ensures.later h)) in
+    (λ h. rw (count, c.deref.ensures.value, read) at (c.in_err-result.ensures.later h)) in
     list_error (all_or_first_error (map rule (range_with_len 0 (length zs)))) c.in_err-result.field-0.0 _ (first_error rule zs k c.loop-place.results so_far (omega arith) fit c.in_err-result.field-0.0 given) c.from_residual-in_err-result.ensures
 
 pub returns-in_err-result-clause-read : goal.returns-in_err-result-clause-read
@@ -41,12 +39,11 @@ returns-in_err-result-clause-read g c =
     let so_far = c.loop-place.invariant.so_far in
     let fit : SFits w64 (get_or zs k (pos 0)) = search rules in
     let read : to_z w64 (of_z w64 (get_or zs k (pos 0))) ≡ get_or zs k (pos 0) = to_z-of_z w64 _ fit in
-    let value = c.deref.ensures.value in
     let count : length c.deref.result.now ≡ k = omega (arith, c.deref.ensures.len, so_far.long) in
     let given : rule k ≡ Err c.in_err-result.field-0.0 = next_left f zs c.args.lines.now.stride c.args.lines.now.count c.args.lines.now.apart c.args.lines.now.some k c.loop-place.block_place c.loop-place.results.items
     (Err c.in_err-result.field-0.0) (omega arith) so_far.made c.loop-place.invariant.here
     (λ h. rw (read) at (c.in_err-result.ensures.first h))
-    (λ h. rw (count, value, read) at (c.in_err-result.ensures.later h)) in
+    (λ h. rw (count, c.deref.ensures.value, read) at (c.in_err-result.ensures.later h)) in
     error_read (folded_left f) zs c.args.lines.now.stride c.args.lines.now.count c.in_err-result.field-0.0 _ (fails_here rule zs k c.loop-place.results so_far (omega arith) fit c.in_err-result.field-0.0 given) c.from_residual-in_err-result.ensures
 
 pub push_reserved-requires : goal.push_reserved-requires
@@ -61,12 +58,11 @@ loop-place-preserved g c =
     let so_far = c.loop-place.invariant.so_far in
     let fit : SFits w64 (get_or zs k (pos 0)) = search rules in
     let read : to_z w64 (of_z w64 (get_or zs k (pos 0))) ≡ get_or zs k (pos 0) = to_z-of_z w64 _ fit in
-    let value = c.deref.ensures.value in
     let count : length c.deref.result.now ≡ k = omega (arith, c.deref.ensures.len, so_far.long) in
     let given : rule k ≡ Ok c.in_ok-result.result = next_left f zs c.args.lines.now.stride c.args.lines.now.count c.args.lines.now.apart c.args.lines.now.some k c.loop-place.block_place c.loop-place.results.items
     (Ok c.in_ok-result.result) (omega arith) so_far.made c.loop-place.invariant.here
     (λ h. rw (read) at (c.in_ok-result.ensures.first h))
-    (λ h. rw (count, value, read) at (c.in_ok-result.ensures.later h)) in
+    (λ h. rw (count, c.deref.ensures.value, read) at (c.in_ok-result.ensures.later h)) in
     let z = c.in_ok-result.result in
     let fits : SFits w64 z = search rules in
     let same : to_z w64 (of_z w64 z) ≡ z = to_z-of_z w64 _ fits in

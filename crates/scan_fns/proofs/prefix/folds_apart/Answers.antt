@@ -1,9 +1,7 @@
-use Rattle.std.proofs.Common.{◌≡◌, ◌∙◌, ◌+◌, ◌*◌, ◌%◌, ◌++◌, ◌∷◌, [], ap, sym, length, get_or, map, arith, Ok, Err, pos, to_z, of_z, w64, SFits, rules}
-use Rattle.std.{specs.List.{range_with_len}, proofs.lemmas.Int.{to_z-of_z}, proofs.lemmas.Nat.{mod_below}, proofs.Math.Nat.{mod-add-mod, mul-pos}}
+use Rattle.std.{proofs.Common.{◌≡◌, ◌∙◌, ◌+◌, ◌*◌, ◌%◌, ◌++◌, ◌∷◌, [], ap, sym, length, get_or, map, arith, Ok, Err, pos, to_z, of_z, w64, SFits, rules}, specs.List.{range_with_len}, proofs.lemmas.Int.{to_z-of_z}, proofs.lemmas.Nat.{mod_below}, proofs.Math.Nat.{mod-add-mod, mul-pos}}
 use Rattle.arrays_core.specs.Items.{all_or_first_error}
 use Rattle.item_fns.proofs.Errors.{list_error}
-use Rattle.scan_fns.{specs.Prefixes.{fold_to}, proofs.LeftScans.{one_more, first_error, results_end}}
-use Rattle.scan_fns.proofs.Prefixes.{IsFoldKept, line_kept, more_kept, fold_here}
+use Rattle.scan_fns.{specs.Prefixes.{fold_to}, proofs.LeftScans.{one_more, first_error, results_end}, proofs.Prefixes.{IsFoldKept, line_kept, more_kept, fold_here}}
 use Rattle.scan_fns.proofs.prefix.folds_apart.Goals as goal
 
 pub returns-in_err-result-clause-is : goal.returns-in_err-result-clause-is

@@ -1,4 +1,4 @@
-use Rattle.std.{proofs.Common.{◌≡◌, ◌∙◌, ◌+◌, ◌<◌, ◌%◌, ap, length, vec_len, arith, subst, sym}, proofs.Math.Nat.{add-mod_right, mod-eq_of_lt}}
+use Rattle.std.{proofs.Common.{◌∙◌, ◌<◌, ◌%◌, ap, length, vec_len, arith, subst, sym}, proofs.Math.Nat.{add-mod_right, mod-eq_of_lt}}
 use Rattle.scan_fns.{specs.LinearScan.{AreResultsTo}, specs.Prefixes.{fold_to}, proofs.LeftScans.{none_yet, results_end}}
 use Rattle.scan_fns.proofs.prefix.folds_beside.Goals as goal
 
@@ -32,8 +32,7 @@ loop-results-preserved g c =
       so_far = subst (λ p. AreResultsTo p rule c.args.numbers.now c.push_folds.new.results) (sym is.long) is;
       within = omega (arith, is.long);
       begins = λ h.
-          let whole : vec_len c.push_folds.new.results ≡ n + c.args.count = omega (arith, is.long, h) in
-          ap (λ m. m % c.args.count) whole ∙ add-mod_right n c.args.count ∙ c.loop-results.invariant.begins more;
+          ap (λ m. m % c.args.count) (omega (arith, is.long, h)) ∙ add-mod_right n c.args.count ∙ c.loop-results.invariant.begins more;
     }
 
 pub returns-clause-is : goal.returns-clause-is

@@ -14,8 +14,7 @@ loop-results-preserved c =
       so_far = subst (λ p. AreResultsTo p rule c.args.lines.now.numbers.now c.push_row-row.new.results) (sym is.long) is;
       within = omega (arith, is.long);
       begins = λ h.
-          let whole : vec_len c.push_row-row.new.results ≡ n + c.args.lines.now.stride = omega (arith, is.long, h) in
-          ap (λ m. m % c.args.lines.now.stride) whole ∙ add-mod_right n c.args.lines.now.stride ∙ c.loop-results.invariant.begins more;
+          ap (λ m. m % c.args.lines.now.stride) (omega (arith, is.long, h)) ∙ add-mod_right n c.args.lines.now.stride ∙ c.loop-results.invariant.begins more;
       row = λ h.
           let whole : vec_len c.push_row-row.new.results ≡ n + c.args.lines.now.stride = omega (arith, is.long, h) in
           c.push_row-row.ensures.next

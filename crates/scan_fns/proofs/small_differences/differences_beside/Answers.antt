@@ -1,4 +1,4 @@
-use Rattle.std.{proofs.Common.{◌≡◌, ◌∙◌, ◌+◌, ◌<◌, ◌%◌, ap, length, vec_len, arith, subst, sym}, proofs.Math.Nat.{add-mod_right}}
+use Rattle.std.{proofs.Common.{◌∙◌, ◌<◌, ◌%◌, ap, length, vec_len, arith, subst, sym}, proofs.Math.Nat.{add-mod_right}}
 use Rattle.function_names.specs.declared.scalar.Scalar2.TheVariants.{Minus}
 use Rattle.item_fns.specs.Numbers.{dyadic_on_numbers}
 use Rattle.scan_fns.{specs.LinearScan.{AreResultsTo}, specs.Prefixes.{fold_to}, proofs.LeftScans.{results_end}}
@@ -14,8 +14,7 @@ loop-results-preserved c =
       so_far = subst (λ p. AreResultsTo p rule c.args.numbers.now c.push_line.new.results) (sym is.long) is;
       within = omega (arith, is.long);
       begins = λ h.
-          let whole : vec_len c.push_line.new.results ≡ n + c.args.count = omega (arith, is.long, h) in
-          ap (λ m. m % c.args.count) whole ∙ add-mod_right n c.args.count ∙ c.loop-results.invariant.begins more;
+          ap (λ m. m % c.args.count) (omega (arith, is.long, h)) ∙ add-mod_right n c.args.count ∙ c.loop-results.invariant.begins more;
     }
 
 pub returns-clause-is : goal.returns-clause-is

@@ -1,9 +1,7 @@
-use Rattle.std.proofs.Common.{◌≡◌, ◌∙◌, ◌+◌, ◌-◌, ◌%◌, ◌<◌, ◌++◌, ◌∷◌, [], ap, sym, subst, length, get_or, arith, Ok, pos, to_z, of_z, w64, SFits, rules}
-use Rattle.std.proofs.lemmas.Int.{to_z-of_z}
+use Rattle.std.{proofs.Common.{◌≡◌, ◌∙◌, ◌+◌, ◌-◌, ◌%◌, ◌<◌, ◌++◌, ◌∷◌, [], ap, sym, subst, length, get_or, arith, Ok, pos, to_z, of_z, w64, SFits, rules}, proofs.lemmas.Int.{to_z-of_z}}
 use Rattle.function_names.specs.declared.scalar.Scalar2.TheVariants.{Minus}
 use Rattle.item_fns.specs.Numbers.{dyadic_on_numbers}
-use Rattle.scan_fns.{specs.LinearScan.{depth}, specs.Prefixes.{fold_to}, proofs.LeftScans.{one_more}, proofs.Runs.{past_stride}}
-use Rattle.scan_fns.proofs.SmallDifferences.{sum_to, next_total, next_sum, result_is, row_depth, sum_is, sum_fits}
+use Rattle.scan_fns.{specs.LinearScan.{depth}, specs.Prefixes.{fold_to}, proofs.LeftScans.{one_more}, proofs.Runs.{past_stride}, proofs.SmallDifferences.{sum_to, next_total, next_sum, result_is, row_depth, sum_is, sum_fits}}
 use Rattle.scan_fns.proofs.small_differences.push_row.Goals as goal
 
 pub total_before-before-requires-clause-enough : goal.total_before-before-requires-clause-enough

@@ -1,5 +1,4 @@
-use Rattle.std.{proofs.Common.{◌≡◌, ◌+◌, ◌∙◌, ap, sym, map, Ok, Err, ◌+ℤ◌, ◌*ℤ◌, to_z, of_z, w64, SFits, rules}, specs.List.{range_with_len}}
-use Rattle.std.proofs.lemmas.Int.{to_z-of_z}
+use Rattle.std.{proofs.Common.{◌≡◌, ◌+◌, ◌∙◌, ap, sym, map, Ok, Err, ◌+ℤ◌, ◌*ℤ◌, w64, rules}, specs.List.{range_with_len}, proofs.lemmas.Int.{to_z-of_z}}
 use Rattle.arrays_core.specs.Items.{and_then}
 use Rattle.item_fns.{specs.Numbers.{number_or_limit}, specs.Items.{number_item}}
 use Rattle.search_fns.{specs.Decode.{radix_at, digit_at, worth, decoded, decode_item}, proofs.Worths.{digits_after, digit_pair, all_digits, one_more_digit}}
@@ -7,11 +6,7 @@ use Rattle.search_fns.proofs.decode.decoded_at.Goals as goal
 
 pub loop-before-init : goal.loop-before-init
 loop-before-init c =
-    let a = c.args.radices.now in
-    let b = c.args.array.now in
-    let index = c.args.index.now in
-    let count = c.digit_count-count.result in
-    all_digits a b index count
+    all_digits c.args.radices.now c.args.array.now c.args.index.now c.digit_count-count.result
 
 pub loop-before-preserved : goal.loop-before-preserved
 loop-before-preserved c =
@@ -24,10 +19,8 @@ loop-before-preserved c =
     let more = one_more_digit a b index count k c.loop-before.value c.loop-before-test.true in
     let so_far : worth c.loop-before.value (digits_after a b index count k) ≡ decoded (map f (range_with_len 1 count)) = rw c.loop-before.value-is at c.loop-before.invariant in
     let v = c.in_ok-value.value in
-    let fits : SFits w64 v = search rules in
-    let same : to_z w64 (of_z w64 v) ≡ v = to_z-of_z w64 _ fits in
     let gave : Ok v ≡ and_then (number_or_limit (c.loop-before.value *ℤ radix_at a (k + 1))) (λ product. number_or_limit (product +ℤ digit_at b index (k + 1))) = rw c.loop-before.value-is at c.in_ok-value.ensures in
-    ap (λ z. worth z (digits_after a b index count (k + 1))) same
+    ap (λ z. worth z (digits_after a b index count (k + 1))) (to_z-of_z w64 _ (search rules))
     ∙ sym (more ∙ ap (λ r. and_then r (λ next. worth next (digits_after a b index count (k + 1)))) (sym gave))
     ∙ so_far
 

@@ -4,10 +4,9 @@ use Rattle.search_fns.proofs.decode.digit_at.Goals as goal
 
 pub append_axes-requires : goal.append_axes-requires
 append_axes-requires c =
-    let shape = c.args.array.now.shape in
-    let inside : is_index_of (drop 1 shape) c.args.index.now ≡ true = search rules in
-    let long = as_long (drop 1 shape) c.args.index.now inside in
-    let fewer = length-drop 1 shape in
+    let inside : is_index_of (drop 1 c.args.array.now.shape) c.args.index.now ≡ true = search rules in
+    let long = as_long (drop 1 c.args.array.now.shape) c.args.index.now inside in
+    let fewer = length-drop 1 c.args.array.now.shape in
     let one = ap length c.shape_of-at.ensures.items in
     let few : length c.shape_of-at.result.items + length c.args.index.now ≤ 4 = omega (arith, c.shape-shape.ensures.sound.within.rank) in
     omega (arith, c.shape_of-at.ensures.inline)

@@ -2,40 +2,23 @@ use Rattle.std.proofs.Common.{◌≡◌, ◌∙◌, ◌+◌, ◌-◌, ◌*◌, �
 use Rattle.arrays_core.{specs.Arrays.{ArrayValue}, specs.Shapes.{size}}
 use Rattle.index_region.specs.Boxes.{Interval, box_size}
 use Rattle.change_core.{proofs.Filling.{few_places, vector_within}, specs.Parts.{items_in}}
-use Rattle.search_fns.{specs.Encode.{encode_item, encode_whole}, specs.Digits.{AreColumns}}
-use Rattle.search_fns.proofs.BoxDigits.{digit_box, columns_in, digits_hold, digits_long, digits_typed}
+use Rattle.search_fns.{specs.Encode.{encode_item, encode_whole}, specs.Digits.{AreColumns}, proofs.BoxDigits.{digit_box, columns_in, digits_hold, digits_long, digits_typed}}
 use Rattle.search_fns.proofs.digits.digits_at_once.Goals as goal
 
 pub size-places-requires : goal.size-places-requires
 size-places-requires c =
-    let a = c.args.radices.now in
-    let b = c.args.array.now in
-    let region = c.args.region.now in
-    let whole = digit_box a.shape b.shape region c.requires.vector c.requires.fit in
-    let s = whole.first in
-    let few = few_places region (a.shape ++ b.shape) c.requires.fit c.requires.within in
-    omega (arith, few)
+    omega (arith, few_places c.args.region.now (c.args.radices.now.shape ++ c.args.array.now.shape) c.requires.fit c.requires.within)
 
 pub overflow_cast-places : goal.overflow_cast-places
 overflow_cast-places c =
-    let a = c.args.radices.now in
-    let b = c.args.array.now in
-    let region = c.args.region.now in
-    let whole = digit_box a.shape b.shape region c.requires.vector c.requires.fit in
-    let s = whole.first in
-    let few = few_places region (a.shape ++ b.shape) c.requires.fit c.requires.within in
-    omega (arith, few, c.size-places.ensures)
+    omega (arith, few_places c.args.region.now (c.args.radices.now.shape ++ c.args.array.now.shape) c.requires.fit c.requires.within, c.size-places.ensures)
 
 pub column_numbers-requires-clause-row : goal.column_numbers-requires-clause-row
 column_numbers-requires-clause-row c =
-    let a = c.args.radices.now in
-    let b = c.args.array.now in
     let region = c.args.region.now in
-    let whole = digit_box a.shape b.shape region c.requires.vector c.requires.fit in
+    let whole = digit_box c.args.radices.now.shape c.args.array.now.shape region c.requires.vector c.requires.fit in
     let s = whole.first in
-    let few = few_places region (a.shape ++ b.shape) c.requires.fit c.requires.within in
     let first : slice_index_or c.as_slice.result.now 0 (0, 0) ≡ s = ap (λ (r : List Interval). slice_index_or r 0 (0, 0)) (c.as_slice.ensures.is ∙ whole.is) in
-    let first_0 = ap (λ (t : Interval). t.0) first in
     let row : c.size-places.result / ((slice_index_or c.as_slice.result.now 0 (0, 0)).1 + 1 - (slice_index_or c.as_slice.result.now 0 (0, 0)).0) ≡ box_size (drop 1 region) =
     ap (λ (t : Interval). c.size-places.result / (t.1 + 1 - t.0)) first ∙ ap (λ n. n / (s.1 + 1 - s.0)) (c.size-places.ensures ∙ ap box_size whole.is) ∙ columns_in s whole.later whole.order whole.some
     ∙ sym (ap (λ (r : List Interval). box_size (drop 1 r)) whole.is) in
@@ -43,14 +26,10 @@ column_numbers-requires-clause-row c =
 
 pub column_numbers-requires-clause-some : goal.column_numbers-requires-clause-some
 column_numbers-requires-clause-some c =
-    let a = c.args.radices.now in
-    let b = c.args.array.now in
     let region = c.args.region.now in
-    let whole = digit_box a.shape b.shape region c.requires.vector c.requires.fit in
+    let whole = digit_box c.args.radices.now.shape c.args.array.now.shape region c.requires.vector c.requires.fit in
     let s = whole.first in
-    let few = few_places region (a.shape ++ b.shape) c.requires.fit c.requires.within in
     let first : slice_index_or c.as_slice.result.now 0 (0, 0) ≡ s = ap (λ (r : List Interval). slice_index_or r 0 (0, 0)) (c.as_slice.ensures.is ∙ whole.is) in
-    let first_0 = ap (λ (t : Interval). t.0) first in
     let row : c.size-places.result / ((slice_index_or c.as_slice.result.now 0 (0, 0)).1 + 1 - (slice_index_or c.as_slice.result.now 0 (0, 0)).0) ≡ box_size (drop 1 region) =
     ap (λ (t : Interval). c.size-places.result / (t.1 + 1 - t.0)) first ∙ ap (λ n. n / (s.1 + 1 - s.0)) (c.size-places.ensures ∙ ap box_size whole.is) ∙ columns_in s whole.later whole.order whole.some
     ∙ sym (ap (λ (r : List Interval). box_size (drop 1 r)) whole.is) in
@@ -58,36 +37,22 @@ column_numbers-requires-clause-some c =
 
 pub column_numbers-requires-clause-few : goal.column_numbers-requires-clause-few
 column_numbers-requires-clause-few c =
-    let a = c.args.radices.now in
-    let b = c.args.array.now in
-    let region = c.args.region.now in
-    let whole = digit_box a.shape b.shape region c.requires.vector c.requires.fit in
-    let s = whole.first in
-    let few = few_places region (a.shape ++ b.shape) c.requires.fit c.requires.within in
-    omega (arith, few)
+    omega (arith, few_places c.args.region.now (c.args.radices.now.shape ++ c.args.array.now.shape) c.requires.fit c.requires.within)
 
 pub overflow_sub-places : goal.overflow_sub-places
 overflow_sub-places c =
     let a = c.args.radices.now in
-    let b = c.args.array.now in
-    let region = c.args.region.now in
-    let whole = digit_box a.shape b.shape region c.requires.vector c.requires.fit in
+    let whole = digit_box a.shape c.args.array.now.shape c.args.region.now c.requires.vector c.requires.fit in
     let s = whole.first in
-    let few = few_places region (a.shape ++ b.shape) c.requires.fit c.requires.within in
     let first : slice_index_or c.as_slice.result.now 0 (0, 0) ≡ s = ap (λ (r : List Interval). slice_index_or r 0 (0, 0)) (c.as_slice.ensures.is ∙ whole.is) in
-    let first_0 = ap (λ (t : Interval). t.0) first in
     let many : length a.items ≡ whole.count = c.requires.sound.one_item_a_place ∙ ap size whole.shaped ∙ (let one : whole.count * 1 ≡ whole.count = omega arith in one) in
-    let places : c.places.result ≡ whole.count = c.places.ensures.is ∙ many in
-    omega (arith, places, first_0, whole.order, whole.high)
+    omega (arith, c.places.ensures.is ∙ many, ap (λ (t : Interval). t.0) first, whole.order, whole.high)
 
 pub part-requires-clause-inside : goal.part-requires-clause-inside
 part-requires-clause-inside c =
     let a = c.args.radices.now in
-    let b = c.args.array.now in
-    let region = c.args.region.now in
-    let whole = digit_box a.shape b.shape region c.requires.vector c.requires.fit in
+    let whole = digit_box a.shape c.args.array.now.shape c.args.region.now c.requires.vector c.requires.fit in
     let s = whole.first in
-    let few = few_places region (a.shape ++ b.shape) c.requires.fit c.requires.within in
     let first : slice_index_or c.as_slice.result.now 0 (0, 0) ≡ s = ap (λ (r : List Interval). slice_index_or r 0 (0, 0)) (c.as_slice.ensures.is ∙ whole.is) in
     let first_0 = ap (λ (t : Interval). t.0) first in
     let many : length a.items ≡ whole.count = c.requires.sound.one_item_a_place ∙ ap size whole.shaped ∙ (let one : whole.count * 1 ≡ whole.count = omega arith in one) in
@@ -98,22 +63,15 @@ part-requires-clause-inside c =
 
 pub part-requires-2-clause-within : goal.part-requires-2-clause-within
 part-requires-2-clause-within c =
-    let a = c.args.radices.now in
-    let b = c.args.array.now in
-    let region = c.args.region.now in
-    let whole = digit_box a.shape b.shape region c.requires.vector c.requires.fit in
-    let s = whole.first in
-    let few = few_places region (a.shape ++ b.shape) c.requires.fit c.requires.within in
+    let few = few_places c.args.region.now (c.args.radices.now.shape ++ c.args.array.now.shape) c.requires.fit c.requires.within in
     vector_within _ _ c.shape_of-shape.ensures.items (omega (arith, few, c.size-places.ensures))
 
 pub part-requires-2-clause-inside : goal.part-requires-2-clause-inside
 part-requires-2-clause-inside c =
     let a = c.args.radices.now in
     let b = c.args.array.now in
-    let region = c.args.region.now in
-    let whole = digit_box a.shape b.shape region c.requires.vector c.requires.fit in
+    let whole = digit_box a.shape b.shape c.args.region.now c.requires.vector c.requires.fit in
     let s = whole.first in
-    let few = few_places region (a.shape ++ b.shape) c.requires.fit c.requires.within in
     let first : slice_index_or c.as_slice.result.now 0 (0, 0) ≡ s = ap (λ (r : List Interval). slice_index_or r 0 (0, 0)) (c.as_slice.ensures.is ∙ whole.is) in
     let first_0 = ap (λ (t : Interval). t.0) first in
     let many : length a.items ≡ whole.count = c.requires.sound.one_item_a_place ∙ ap size whole.shaped ∙ (let one : whole.count * 1 ≡ whole.count = omega arith in one) in
@@ -136,10 +94,8 @@ pub returns : goal.returns
 returns c =
     let a = c.args.radices.now in
     let b = c.args.array.now in
-    let region = c.args.region.now in
-    let whole = digit_box a.shape b.shape region c.requires.vector c.requires.fit in
+    let whole = digit_box a.shape b.shape c.args.region.now c.requires.vector c.requires.fit in
     let s = whole.first in
-    let few = few_places region (a.shape ++ b.shape) c.requires.fit c.requires.within in
     let first : slice_index_or c.as_slice.result.now 0 (0, 0) ≡ s = ap (λ (r : List Interval). slice_index_or r 0 (0, 0)) (c.as_slice.ensures.is ∙ whole.is) in
     let first_0 = ap (λ (t : Interval). t.0) first in
     let many : length a.items ≡ whole.count = c.requires.sound.one_item_a_place ∙ ap size whole.shaped ∙ (let one : whole.count * 1 ≡ whole.count = omega arith in one) in

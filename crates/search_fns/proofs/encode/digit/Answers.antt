@@ -1,5 +1,4 @@
-use Rattle.std.proofs.Common.{◌≡◌, ◌∙◌, ◌+◌, ◌-◌, ◌<◌, ap, sym, pos, length, drop, get_or, arith, Ok, Err, to_z, of_z, w64, SFits, rules}
-use Rattle.std.{proofs.lemmas.Int.{to_z-of_z}, proofs.lemmas.List.{length-map}}
+use Rattle.std.{proofs.Common.{◌≡◌, ◌∙◌, ◌+◌, ◌-◌, ◌<◌, ap, sym, pos, length, drop, get_or, arith, Ok, Err, to_z, of_z, w64, SFits, rules}, proofs.lemmas.Int.{to_z-of_z}, proofs.lemmas.List.{length-map}}
 use Rattle.arrays_core.specs.Items.{and_then}
 use Rattle.index_region.specs.Arguments.{numbers, number_of}
 use Rattle.item_fns.specs.Numbers.{residue}
@@ -34,21 +33,19 @@ returns c =
     let place = c.args.place in
     let ended : c.loop-before.before ≡ place = omega (arith, c.loop-before-test.false, c.loop-before.invariant.above) in
     let fits : SFits w64 c.number-2.result = record { sfits = c.number-2.type_inv } in
-    let same : to_z w64 (of_z w64 c.number-2.result) ≡ c.number-2.result = to_z-of_z w64 _ fits in
     let same_number : to_z w64 (of_z w64 c.args.number) ≡ c.args.number = to_z-of_z w64 _ c.ranges.number in
     let through : carried_through (drop place radices) c.args.number ≡ Ok c.loop-before.rest =
     ap (λ n. carried_through (drop n radices) c.args.number) (sym ended) ∙ (rw (same_number, c.loop-before.rest-is) at c.loop-before.invariant.carried) in
-    (rw (same, c.loop-before.rest-is, c.number-2.ensures) at c.two_numbers.ensures)
+    (rw (to_z-of_z w64 _ fits, c.loop-before.rest-is, c.number-2.ensures) at c.two_numbers.ensures)
     ∙ sym (ap (λ r. and_then r (λ rest. Ok (residue (get_or radices (place - 1) (pos 0)) rest))) through)
 
 pub returns-then-rest-eq0 : goal.returns-then-rest-eq0
 returns-then-rest-eq0 c =
     let radices = numbers c.args.radices.now in
-    let place = c.args.place in
     let number = c.args.number in
     let same_number : to_z w64 (of_z w64 number) ≡ number = to_z-of_z w64 _ c.ranges.number in
     let nothing : to_z w64 c.loop-before.rest-bits ≡ pos 0 = ap (to_z w64) c.if-rest-eq0.true in
     let after : carried_through (drop c.loop-before.before radices) number ≡ Ok (pos 0) = (rw same_number at c.loop-before.invariant.carried) ∙ ap Ok nothing in
-    let front = zero_in_front radices place c.loop-before.before number c.loop-before.invariant.above after in
-    let radix = get_or radices (place - 1) (pos 0) in
+    let front = zero_in_front radices c.args.place c.loop-before.before number c.loop-before.invariant.above after in
+    let radix = get_or radices (c.args.place - 1) (pos 0) in
     sym (ap (λ r. and_then r (λ rest. Ok (residue radix rest))) front ∙ ap Ok (zero_digit radix))

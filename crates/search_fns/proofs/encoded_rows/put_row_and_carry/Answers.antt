@@ -1,5 +1,4 @@
-use Rattle.std.proofs.Common.{◌≡◌, ◌≢◌, ◌∙◌, ◌+◌, ◌<◌, ap, sym, get_or, length, pos, arith, Ok, rules, to_z, of_z, w64, SFits, below_more, get_or-set_same, get_or-set_other}
-use Rattle.std.{proofs.Math.ListN.{length-set}, proofs.lemmas.Int.{to_z-of_z}}
+use Rattle.std.{proofs.Common.{◌≡◌, ◌≢◌, ◌∙◌, ◌+◌, ◌<◌, ap, sym, get_or, length, pos, arith, Ok, rules, to_z, of_z, w64, SFits, below_more, get_or-set_same, get_or-set_other}, proofs.Math.ListN.{length-set}, proofs.lemmas.Int.{to_z-of_z}}
 use Rattle.item_fns.specs.Numbers.{residue}
 use Rattle.search_fns.specs.Encode.{carried}
 use Rattle.search_fns.proofs.encoded_rows.put_row_and_carry.Goals as goal

@@ -1,5 +1,4 @@
-use Rattle.std.proofs.Common.{◌≡◌, ℕ, ◌+◌, ◌-◌, ◌*◌, ◌<◌, drop, length, get_or, pos, Ok, ◌∙◌, subst, arith, rules, to_z, of_z, w64, SFits}
-use Rattle.std.{proofs.lemmas.Int.{to_z-of_z}, proofs.lemmas.Bool.Decides.{nat_tests}}
+use Rattle.std.{proofs.Common.{◌≡◌, ℕ, ◌+◌, ◌-◌, ◌*◌, ◌<◌, drop, length, get_or, pos, Ok, ◌∙◌, subst, arith, rules, to_z, of_z, w64, SFits}, proofs.lemmas.Int.{to_z-of_z}, proofs.lemmas.Bool.Decides.{nat_tests}}
 use Rattle.search_fns.{specs.Encode.{carried_through}, specs.EncodedRows.{AreCarried, HasRow}, proofs.DigitRows.{carried_more, row_more}}
 use Rattle.search_fns.proofs.encoded_rows.put_rows.Goals as goal
 

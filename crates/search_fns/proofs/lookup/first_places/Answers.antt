@@ -1,5 +1,4 @@
-use Rattle.std.{proofs.Common.{◌≡◌, ◌+◌, add-one, ◌++◌, ◌∷◌, [], ◌∙◌, ap, suc, pos, to_z, of_z, w64, SFits, rules}, proofs.lemmas.Int.{to_z-of_z}}
-use Rattle.std.specs.List.{position_or_len}
+use Rattle.std.{proofs.Common.{◌≡◌, ◌+◌, add-one, ◌++◌, ◌∷◌, [], ◌∙◌, ap, suc, pos, to_z, of_z, w64, SFits, rules}, proofs.lemmas.Int.{to_z-of_z}, specs.List.{position_or_len}}
 use Rattle.search_fns.proofs.Lookups.{mapped_more}
 use Rattle.search_fns.proofs.lookup.first_places.Goals as goal
 

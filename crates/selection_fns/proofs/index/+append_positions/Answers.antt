@@ -1,4 +1,4 @@
-use Rattle.std.{proofs.Common.{rules, ◌≡◌, ◌++◌, arith}, proofs.lemmas.Grind.{common_steps}, specs.Prelude.{IfOk, take}}
+use Rattle.std.{proofs.Common.{rules, arith}, proofs.lemmas.Grind.{common_steps}}
 use Rattle.selection_fns.proofs.Positions.{written_axes}
 use Rattle.selection_fns.proofs.index.+append_positions.Goals as goal
 
@@ -10,5 +10,4 @@ returns-in_err-append_within-2-clause-beyond t c =
 
 pub returns-then-not-written-clause-items : goal.returns-then-not-written-clause-items
 returns-then-not-written-clause-items t c =
-    let whole_axis : IfOk c.append_within.result (λ _. c.append_within.new.shape.items ≡ c.args.shape.now.items ++ take 1 c.args.axes.now) = c.append_within.ensures.items in
     grind (arith, common_steps)

@@ -28,7 +28,6 @@ append_source_index-requires-2 t c =
     let long = step.long in
     let on = step.on c.requires.on in
     let more : length c.push_reserved-2.new.self.items ≡ length c.args.at.now.items + 1 = rw c.push_reserved-2.ensures.items (length_push c.args.at.now.items c.index_in.result) in
-    let room = c.requires.room in
     let some : 0 < length c.args.written.now = search rules in
     let parted : c.split_at.result.1.now ≡ drop (length p.shape) c.args.index.now = search rules in
     (search rules, (search rules, (rw (tail_of c.args.written.now) (simp length-drop (omega arith)), (search rules, (rw (tail_of c.args.written.now, tail_of c.args.positions.now) long, (rw (tail_of c.args.axes.now, tail_of c.args.written.now, tail_of c.args.positions.now) on, rw (tail_of c.args.axes.now, tail_of c.args.written.now, tail_of c.args.positions.now, parted) others))))))

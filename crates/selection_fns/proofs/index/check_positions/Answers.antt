@@ -8,20 +8,17 @@ returns-then-written-axes-clause-failed c rest =
 
 pub returns-then-not-are_numbers-clause-failed : goal.returns-then-not-are_numbers-clause-failed
 returns-then-not-are_numbers-clause-failed c rest =
-    let agree = ranks_do_agree c.args.array.now c.args.written.now c.args.positions.now c.requires.long (search rules) (search rules) in
     let numbers : list_all are_numbers (written_positions c.args.written.now c.args.positions.now) ≡ false = search rules in
-    rw (agree, numbers) refl
+    rw (ranks_do_agree c.args.array.now c.args.written.now c.args.positions.now c.requires.long (search rules) (search rules), numbers) refl
 
 pub returns-then-not-are_on-clause-failed : goal.returns-then-not-are_on-clause-failed
 returns-then-not-are_on-clause-failed c rest =
-    let agree = ranks_do_agree c.args.array.now c.args.written.now c.args.positions.now c.requires.long (search rules) (search rules) in
     let numbers : list_all are_numbers (written_positions c.args.written.now c.args.positions.now) ≡ true = search rules in
     let on : are_on c.args.array.now.shape (written_positions c.args.written.now c.args.positions.now) ≡ false = search rules in
-    rw (agree, numbers, on) refl
+    rw (ranks_do_agree c.args.array.now c.args.written.now c.args.positions.now c.requires.long (search rules) (search rules), numbers, on) refl
 
 pub returns-clause-passed : goal.returns-clause-passed
 returns-clause-passed c rest =
-    let agree = ranks_do_agree c.args.array.now c.args.written.now c.args.positions.now c.requires.long (search rules) (search rules) in
     let numbers : list_all are_numbers (written_positions c.args.written.now c.args.positions.now) ≡ true = search rules in
     let on : are_on c.args.array.now.shape (written_positions c.args.written.now c.args.positions.now) ≡ true = search rules in
-    rw (agree, numbers, on) refl
+    rw (ranks_do_agree c.args.array.now c.args.written.now c.args.positions.now c.requires.long (search rules) (search rules), numbers, on) refl

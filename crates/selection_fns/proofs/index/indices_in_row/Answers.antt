@@ -1,5 +1,4 @@
-use Rattle.std.proofs.Common.{rules, ◌≡◌, ◌∙◌, ◌+◌, ◌-◌, ◌++◌, ◌∷◌, [], ap, sym, length, take, drop, get_or, pos, arith}
-use Rattle.std.proofs.lemmas.List.{length-drop, take_all, get_or-take, get_or-drop}
+use Rattle.std.{proofs.Common.{rules, ◌≡◌, ◌∙◌, ◌+◌, ◌-◌, ◌++◌, ◌∷◌, [], ap, sym, length, take, drop, get_or, pos, arith}, proofs.lemmas.List.{length-drop, take_all, get_or-take, get_or-drop}}
 use Rattle.arrays_core.specs.Shapes.{places_before}
 use Rattle.selection_fns.proofs.IndexedRows.{indices_of_row}
 use Rattle.selection_fns.proofs.index.indices_in_row.Goals as goal

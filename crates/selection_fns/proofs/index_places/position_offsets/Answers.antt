@@ -5,8 +5,7 @@ use Rattle.selection_fns.proofs.index_places.position_offsets.Goals as goal
 
 pub index_offsets-requires-clause-on : goal.index_offsets-requires-clause-on
 index_offsets-requires-clause-on c =
-    let same = numbers_read c.args.position.now c.in-Some.indices.now c.in-Some.ensures.is.1 in
-    subst (λ zs. IsTrue (list_all (is_on_axis c.args.axis) zs)) same c.requires.on
+    subst (λ zs. IsTrue (list_all (is_on_axis c.args.axis) zs)) (numbers_read c.args.position.now c.in-Some.indices.now c.in-Some.ensures.is.1) c.requires.on
 
 pub returns-in-Some : goal.returns-in-Some
 returns-in-Some c =

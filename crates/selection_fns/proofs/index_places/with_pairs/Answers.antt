@@ -8,11 +8,10 @@ loop-k-preserved c =
     let second = c.args.second.now in
     let k = c.loop-k.k in
     let below : k < length first = omega arith in
-    let one = c.push_reserved.ensures in
     let other = c.push_reserved-in-loop-k.ensures in
     record {
-      room = omega (arith, c.loop-k.invariant.room, one.capacity, other.capacity);
-      long = omega (arith, c.loop-k.invariant.long, one.len, other.len);
+      room = omega (arith, c.loop-k.invariant.room, c.push_reserved.ensures.capacity, other.capacity);
+      long = omega (arith, c.loop-k.invariant.long, c.push_reserved.ensures.len, other.len);
       made = pairs_more c.args.list.items c.loop-k.list.items c.push_reserved-in-loop-k.new.self.items first second k below c.requires.two c.loop-k.invariant.made
-          (other.items ∙ ap (λ xs. xs ++ (get_or first k 0 + get_or second 1 0) ∷ []) one.items);
+          (other.items ∙ ap (λ xs. xs ++ (get_or first k 0 + get_or second 1 0) ∷ []) c.push_reserved.ensures.items);
     }

@@ -1,7 +1,6 @@
 use Rattle.std.{proofs.Common.{rules, ◌≡◌, ◌∙◌, ◌+◌, ◌-◌, ◌++◌, List, length, take, drop, ap, sym, arith, Some, append_assoc}, proofs.lemmas.List.{take_all}}
 use Rattle.index_region.specs.Boxes.{Interval, whole_of}
-use Rattle.selection_fns.{specs.Index.{written_positions}, specs.PositionAxes.{axes_before}}
-use Rattle.selection_fns.proofs.ResultAxes.{axes_within, fits_at_length, parts_long, position_at}
+use Rattle.selection_fns.{specs.Index.{written_positions}, specs.PositionAxes.{axes_before}, proofs.ResultAxes.{axes_within, fits_at_length, parts_long, position_at}}
 use Rattle.selection_fns.proofs.index_rule.position_box.Goals as goal
 
 pub prove-unreachable-requires : goal.prove-unreachable-requires
@@ -18,8 +17,7 @@ and_all-requires c =
     let rank : c.len.result ≡ length p.shape = search rules in
     let parts = parts_long c.args.shape.now c.args.region.now c.axes_before-before.result c.len.result (search rules) (long ∙ sym rank) in
     let first : length c.whole.result ≡ c.axes_before-before.result = ap length c.whole.ensures ∙ parts.first in
-    let region = ap length c.as_slice.ensures.is in
-    omega (arith, first, region, rank, long, c.requires.few, c.if-prove.false)
+    omega (arith, first, ap length c.as_slice.ensures.is, rank, long, c.requires.few, c.if-prove.false)
 
 pub and_whole-requires : goal.and_whole-requires
 and_whole-requires c =
@@ -29,8 +27,7 @@ and_whole-requires c =
     let parts = parts_long c.args.shape.now c.args.region.now c.axes_before-before.result c.len.result (search rules) (long ∙ sym rank) in
     let after = c.axes_before-before.result + c.len.result in
     let front : length c.and_all.result ≡ after = ap length c.and_all.ensures ∙ (λ i. length (c.whole.ensures i ++ c.as_slice.ensures.is i)) ∙ parts.front in
-    let rest : take (length c.args.shape.now - after) (drop after c.args.shape.now) ≡ drop after c.args.shape.now = take_all (length c.args.shape.now - after) (drop after c.args.shape.now) (let r = parts.rest in omega (arith, r)) in
-    let others = ap length rest in
+    let others = ap length (take_all (length c.args.shape.now - after) (drop after c.args.shape.now) (let r = parts.rest in omega (arith, r))) in
     omega (arith, front, others, parts.rest, c.requires.few)
 
 pub returns : goal.returns

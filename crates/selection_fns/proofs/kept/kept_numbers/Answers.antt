@@ -1,7 +1,5 @@
-use Rattle.std.{proofs.Common.{◌≡◌, ◌<◌, ◌++◌, ◌∷◌, [], ◌∙◌, ap, sym, length, get_or, pos, unsigned_abs, arith, w64, to_z, of_z}, proofs.lemmas.Int.{ints}}
-use Rattle.std.proofs.lemmas.List.{length_push, same_from_push}
-use Rattle.selection_fns.{proofs.Copies.{mask_count}, proofs.KeptNumbers.{one_of_bit, one_kept, not_kept, kept_fit}}
-use Rattle.selection_fns.proofs.kept.kept_numbers.Goals.{then-counts-place-eq0, else-counts-place-eq0}
+use Rattle.std.{proofs.Common.{◌≡◌, ◌<◌, ◌++◌, ◌∷◌, [], ◌∙◌, ap, sym, length, get_or, pos, unsigned_abs, arith, w64, to_z, of_z}, proofs.lemmas.Int.{ints}, proofs.lemmas.List.{length_push, same_from_push}}
+use Rattle.selection_fns.{proofs.Copies.{mask_count}, proofs.KeptNumbers.{one_of_bit, one_kept, not_kept, kept_fit}, proofs.kept.kept_numbers.Goals.{then-counts-place-eq0, else-counts-place-eq0}}
 use Rattle.selection_fns.proofs.kept.kept_numbers.Goals as goal
 
 pub loop-place-preserved : goal.loop-place-preserved
@@ -11,14 +9,12 @@ loop-place-preserved c =
     let k = c.loop-place.place in
     let kept = c.loop-place.kept.items in
     let z = get_or zs k (pos 0) in
-    let room = c.loop-place.invariant.room in
     let so_far = c.loop-place.invariant.so_far in
     let below : k < length zs = omega arith in
     let same : to_z w64 (of_z w64 z) ≡ z = omega (arith, ints) in
     let number : to_z w64 (of_z w64 (get_or ns k (pos 0))) ≡ get_or ns k (pos 0) = omega (arith, ints) in
     let put : c.push_reserved.new.self.items ≡ kept ++ get_or ns k (pos 0) ∷ [] = c.push_reserved.ensures.items ∙ ap (λ x. kept ++ x ∷ []) number in
     let fit = kept_fit zs ns k kept below so_far in
-    let all = c.requires.mask.copies in
     elim c.if-counts-place-eq0.branch [
       | then-counts-place-eq0 w ↦
           let none : unsigned_abs z ≡ 0 = ap unsigned_abs (sym same ∙ ap (to_z w64) w.if-counts-place-eq0.true) in

@@ -1,5 +1,4 @@
-use Rattle.std.proofs.Common.{◌≡◌, ◌<◌, ◌+◌, ◌-◌, ◌++◌, ◌∷◌, [], get_or, length, take, ap, sym, ◌∙◌, pos, to_z, of_z, w64, SFits, arith, rules}
-use Rattle.std.{proofs.lemmas.Int.{to_z-of_z}, proofs.lemmas.List.{length-map, take_more, take_all}, proofs.lemmas.Result.{IfOk-weaker}}
+use Rattle.std.{proofs.Common.{◌≡◌, ◌<◌, ◌+◌, ◌-◌, ◌++◌, ◌∷◌, [], get_or, length, take, ap, sym, ◌∙◌, pos, to_z, of_z, w64, SFits, arith, rules}, proofs.lemmas.Int.{to_z-of_z}, proofs.lemmas.List.{length-map, take_more, take_all}, proofs.lemmas.Result.{IfOk-weaker}}
 use Rattle.index_region.{specs.Arguments.{numbers, number_of}, proofs.Numbers.{numbers_read}}
 use Rattle.selection_fns.proofs.numbers.numbers_of.Goals as goal
 

@@ -1,5 +1,4 @@
-use Rattle.std.{proofs.Common.{◌≡◌, ◌∙◌, ap, sym, get_or, map, pos, unsigned_abs, arith, w64, to_z, of_z}, proofs.lemmas.Int.{ints}}
-use Rattle.std.proofs.lemmas.List.{length-map, get_or-map}
+use Rattle.std.{proofs.Common.{◌≡◌, ◌∙◌, ap, sym, get_or, map, pos, unsigned_abs, arith, w64, to_z, of_z}, proofs.lemmas.Int.{ints}, proofs.lemmas.List.{length-map, get_or-map}}
 use Rattle.selection_fns.proofs.Copies.{copies_fit, one_place_more}
 use Rattle.selection_fns.proofs.replicate.before_copies_of_counts.Goals as goal
 

@@ -5,12 +5,9 @@ use Rattle.selection_fns.proofs.replicate.before_each_copy.Goals as goal
 
 pub before_copies_of_list-requires-clause-mask : goal.before_copies_of_list-requires-clause-mask
 before_copies_of_list-requires-clause-mask c h =
-    let counts = c.args.counts.now in
-    subst (λ zs. list_all is_bit zs ≡ true) (numbers_read counts c.in-Some.list.now c.in-Some.ensures.is.1)
-    (mask_bits c.args.mask (numbers counts) c.requires.mask (sym c.is_some.ensures ∙ h))
+    subst (λ zs. list_all is_bit zs ≡ true) (numbers_read c.args.counts.now c.in-Some.list.now c.in-Some.ensures.is.1)
+    (mask_bits c.args.mask (numbers c.args.counts.now) c.requires.mask (sym c.is_some.ensures ∙ h))
 
 pub returns-in-Some-clause-is : goal.returns-in-Some-clause-is
 returns-in-Some-clause-is c =
-    let same = numbers_read c.args.counts.now c.in-Some.list.now c.in-Some.ensures.is.1 in
-    let told = rw (sym same) at c.before_copies_of_list.ensures.is in
-    search (rules, told)
+    search (rules, rw (sym (numbers_read c.args.counts.now c.in-Some.list.now c.in-Some.ensures.is.1)) at c.before_copies_of_list.ensures.is)

@@ -7,5 +7,4 @@ pub shape_of-at-requires : goal.shape_of-at-requires
 shape_of-at-requires c =
     let axes = c.args.axes.now in
     let facts = is_copied axes c.args.axis (sum (times c.args.counts.now (places_along axes c.args.axis))) c.args.index.now c.requires.there c.requires.inside in
-    let long = facts.long in
     omega (arith, c.requires.rank)

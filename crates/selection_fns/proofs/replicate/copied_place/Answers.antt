@@ -1,5 +1,4 @@
-use Rattle.std.proofs.Common.{◌≡◌, ◌≢◌, ◌∙◌, ℕ, Bool, false, nat_eq, if◌then◌else◌, length, pos, get_or, replicate, unsigned_abs, ap, sym, arith, to_z, of_z, w64, SFits}
-use Rattle.std.{proofs.lemmas.Int.{to_z-of_z}, proofs.lemmas.Bool.Decides.{nat_tests}}
+use Rattle.std.{proofs.Common.{◌≡◌, ◌≢◌, ◌∙◌, ℕ, Bool, false, nat_eq, if◌then◌else◌, length, pos, get_or, replicate, unsigned_abs, ap, sym, arith, to_z, of_z, w64, SFits}, proofs.lemmas.Int.{to_z-of_z}, proofs.lemmas.Bool.Decides.{nat_tests}}
 use Rattle.index_region.specs.Arguments.{numbers}
 use Rattle.selection_fns.{specs.Replicate.{times, maker, copied_place}, proofs.Repeated.{times_of_one}}
 use Rattle.selection_fns.proofs.replicate.copied_place.Goals as goal

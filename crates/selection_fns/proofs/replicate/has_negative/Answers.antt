@@ -1,4 +1,4 @@
-use Rattle.std.{proofs.Common.{◌≡◌, true, ◌∙◌, ap, sym}, specs.Prelude.{not}, specs.Option.{is_some}}
+use Rattle.std.{proofs.Common.{◌∙◌, ap, sym}, specs.Prelude.{not}}
 use Rattle.index_region.specs.Arguments.{numbers}
 use Rattle.selection_fns.proofs.Copies.{mask_bits, mask_from_0}
 use Rattle.selection_fns.proofs.replicate.has_negative.Goals as goal
@@ -6,5 +6,4 @@ use Rattle.selection_fns.proofs.replicate.has_negative.Goals as goal
 pub returns-else-is_none : goal.returns-else-is_none
 returns-else-is_none c =
     let zs = numbers c.args.counts.now in
-    let some : is_some c.args.mask ≡ true = c.is_none.ensures ∙ ap not c.if-is_none.false in
-    c.if-is_none.false ∙ ap not (sym (mask_from_0 zs (mask_bits c.args.mask zs c.requires some)))
+    c.if-is_none.false ∙ ap not (sym (mask_from_0 zs (mask_bits c.args.mask zs c.requires (c.is_none.ensures ∙ ap not c.if-is_none.false))))

@@ -6,9 +6,8 @@ use Rattle.selection_fns.proofs.replicate_rule.copied_box.Goals as goal
 
 pub bounds-shape-axis : goal.bounds-shape-axis
 bounds-shape-axis c =
-    let known = copied_along c.args.along c.args.counts.now c.args.array.now c.args.shape.now c.requires.checked in
     let axis : c.axis_at-axis.result ≡ axis_at (max 1 (length c.args.array.now.shape)) c.args.along = search rules in
-    rw axis known.there
+    rw axis (copied_along c.args.along c.args.counts.now c.args.array.now c.args.shape.now c.requires.checked).there
 
 pub bounds-as_slice-axis : goal.bounds-as_slice-axis
 bounds-as_slice-axis c =
@@ -19,29 +18,23 @@ bounds-as_slice-axis c =
 
 pub copied_interval-first-requires-clause-low : goal.copied_interval-first-requires-clause-low
 copied_interval-first-requires-clause-low c =
-    let on = interval_on c.args.region.now c.args.array.now.shape c.axis_at-axis.result c.requires.fit (search rules) in
     let same : c.as_slice.result.now ≡ c.args.region.now = search rules in
-    rw same on.low
+    rw same (interval_on c.args.region.now c.args.array.now.shape c.axis_at-axis.result c.requires.fit (search rules)).low
 
 pub copied_interval-first-requires-clause-order : goal.copied_interval-first-requires-clause-order
 copied_interval-first-requires-clause-order c =
-    let on = interval_on c.args.region.now c.args.array.now.shape c.axis_at-axis.result c.requires.fit (search rules) in
     let same : c.as_slice.result.now ≡ c.args.region.now = search rules in
-    rw same on.order
+    rw same (interval_on c.args.region.now c.args.array.now.shape c.axis_at-axis.result c.requires.fit (search rules)).order
 
 pub copied_interval-first-requires-clause-high : goal.copied_interval-first-requires-clause-high
 copied_interval-first-requires-clause-high c =
-    let on = interval_on c.args.region.now c.args.array.now.shape c.axis_at-axis.result c.requires.fit (search rules) in
     let same : c.as_slice.result.now ≡ c.args.region.now = search rules in
     let axes : c.as_slice-axes.result.now ≡ c.args.array.now.shape = search rules in
-    rw (same, axes) on.high
+    rw (same, axes) (interval_on c.args.region.now c.args.array.now.shape c.axis_at-axis.result c.requires.fit (search rules)).high
 
 pub copied_interval-first-requires-clause-few : goal.copied_interval-first-requires-clause-few
 copied_interval-first-requires-clause-few c =
-    let known = copied_along c.args.along c.args.counts.now c.args.array.now c.args.shape.now c.requires.checked in
-    let axis : c.axis_at-axis.result ≡ axis_at (max 1 (length c.args.array.now.shape)) c.args.along = search rules in
     let axes : c.as_slice-axes.result.now ≡ c.args.array.now.shape = search rules in
-    let there : c.axis_at-axis.result < length c.args.array.now.shape = search rules in
     let places : get_or c.args.array.now.shape c.axis_at-axis.result 0 ≡ places_along c.args.array.now.shape (axis_at (max 1 (length c.args.array.now.shape)) c.args.along) =
-    get_or_default c.args.array.now.shape c.axis_at-axis.result 0 1 there ∙ ap (λ (k : ℕ). places_along c.args.array.now.shape k) axis in
-    rw (axes, places) known.few
+    get_or_default c.args.array.now.shape c.axis_at-axis.result 0 1 (search rules) ∙ ap (λ (k : ℕ). places_along c.args.array.now.shape k) (search rules) in
+    rw (axes, places) (copied_along c.args.along c.args.counts.now c.args.array.now c.args.shape.now c.requires.checked).few

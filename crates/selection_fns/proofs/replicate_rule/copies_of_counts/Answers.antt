@@ -19,7 +19,6 @@ overflow_add-copies c =
 
 pub loop-place-preserved : goal.loop-place-preserved
 loop-place-preserved c =
-    let counts = map unsigned_abs (numbers c.args.counts.now) in
     let step = count_step c.args.counts.now c.loop-place.place (search rules) in
-    let at : c.unsigned_abs.result ≡ get_or counts c.loop-place.place 0 = search (rules, step.at) in
+    let at : c.unsigned_abs.result ≡ get_or (map unsigned_abs (numbers c.args.counts.now)) c.loop-place.place 0 = search (rules, step.at) in
     omega (arith, at, step.taken, c.loop-place.invariant)

@@ -1,5 +1,4 @@
-use Rattle.std.{proofs.Common.{◌≡◌, ◌∙◌, ◌-◌, true, length, take, slice_index, ap, sym, arith}, specs.Prelude.{nat_lt, ◌==◌, ◌&&◌, if◌then◌else◌}}
-use Rattle.std.proofs.lemmas.Bool.Decides.{nat_tests}
+use Rattle.std.{proofs.Common.{◌≡◌, ◌∙◌, ◌-◌, true, length, take, slice_index, ap, sym, arith}, specs.Prelude.{nat_lt, ◌==◌, ◌&&◌, if◌then◌else◌}, proofs.lemmas.Bool.Decides.{nat_tests}}
 use Rattle.sheet_cli.specs.Lines.{strip_cr}
 use Rattle.sheet_cli.proofs.answer.strip_cr.Goals as goal
 

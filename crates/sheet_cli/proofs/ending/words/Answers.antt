@@ -1,6 +1,5 @@
 use Rattle.std.proofs.lemmas.Result.{err_from_is_err_and}
-use Rattle.program_words.{specs.Asked.{IsRefusalOf}, specs.declared.reading.WordsFault.{WordsFault}}
-use Rattle.program_words.specs.declared.reading.WordsFault.TheVariants.{NoMemory, BadName, BadWords}
+use Rattle.program_words.{specs.Asked.{IsRefusalOf}, specs.declared.reading.WordsFault.{WordsFault}, specs.declared.reading.WordsFault.TheVariants.{NoMemory, BadName, BadWords}}
 use Rattle.clap.specs.Walk.{texts}
 use Rattle.sheet_cli.specs.Endings.{OfWords, ending_of}
 use Rattle.sheet_cli.proofs.ending.words.Goals as goal

@@ -1,6 +1,5 @@
 use Rattle.std.{proofs.Common.{◌≡◌, ◌<◌, ◌∙◌, inl, inr, arith, length, take}, proofs.lemmas.List.{length-take-le, length-take}, proofs.Math.Bool.{or-true}}
-use Rattle.sheet_cli.proofs.Devices.{Keeps-same, Consumes-zero}
-use Rattle.sheet_cli.proofs.RunLemmas.{IsRunning-start, IsRunning-more, Completes-from, BreaksOff-from, IsCut-midway, IsCut-end}
+use Rattle.sheet_cli.{proofs.Devices.{Keeps-same, Consumes-zero}, proofs.RunLemmas.{IsRunning-start, IsRunning-more, Completes-from, BreaksOff-from, IsCut-midway, IsCut-end}}
 use Rattle.sheet_cli.proofs.run_loop.run.Goals as goal
 
 pub loop-bytes_read-init : goal.loop-bytes_read-init

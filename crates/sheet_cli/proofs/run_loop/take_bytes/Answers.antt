@@ -1,5 +1,4 @@
-use Rattle.std.proofs.Common.{◌≡◌, [], ◌++◌, ◌+◌, length, take, drop, refl, sym, ◌∙◌, arith, append_assoc, length-append}
-use Rattle.std.{proofs.lemmas.List.{take_rest, take-append-drop, append-nil, length-take-le, nil_from_length}, proofs.lemmas.Bool.{eqb-true}}
+use Rattle.std.{proofs.Common.{◌≡◌, [], ◌++◌, ◌+◌, length, take, drop, refl, sym, ◌∙◌, arith, append_assoc, length-append}, proofs.lemmas.List.{take_rest, take-append-drop, append-nil, length-take-le, nil_from_length}, proofs.lemmas.Bool.{eqb-true}}
 use Rattle.sheet_cli.{proofs.Devices.{Appends-none, Appends-more}, proofs.RunLemmas.{Feeds-is, Feeds-none, Feeds-more, StopsIn-is, StopsIn-more, OnErr-from}}
 use Rattle.sheet_cli.proofs.run_loop.take_bytes.Goals as goal
 

@@ -1,6 +1,5 @@
 use Rattle.std.{proofs.Common.{◌≡◌, [], ◌∷◌, ◌++◌, ◌+◌, take, drop, sym}, proofs.lemmas.List.{take-append-drop}, proofs.Math.Seq.{take-length}}
-use Rattle.sheet_cli.{proofs.Cuts.{take-lf}, proofs.Devices.{Appends-none}}
-use Rattle.sheet_cli.proofs.RunLemmas.{Feeds-is, Feeds-piece, Feeds-more, StopsIn-is, StopsIn-more, StopsIn-later, OnErr-from}
+use Rattle.sheet_cli.{proofs.Cuts.{take-lf}, proofs.Devices.{Appends-none}, proofs.RunLemmas.{Feeds-is, Feeds-piece, Feeds-more, StopsIn-is, StopsIn-more, StopsIn-later, OnErr-from}}
 use Rattle.sheet_cli.proofs.run_loop.take_piece.Goals as goal
 
 pub returns-in_default-clause-ok : goal.returns-in_default-clause-ok

@@ -1,9 +1,7 @@
-use Rattle.std.{proofs.Common.{◌≡◌, ◌∙◌, ℕ, List, [], cond, Option, Some, None, get_or, slice_get, sym, ap}, specs.Str.{bytes_eq}}
-use Rattle.std.{specs.Map.{keys_of, values_of}, specs.Option.{unwrap_or, option_map}, proofs.lemmas.Option.{slice_get-map}}
+use Rattle.std.{proofs.Common.{◌≡◌, ◌∙◌, ℕ, List, [], cond, Option, Some, None, get_or, slice_get, sym, ap}, specs.Str.{bytes_eq}, specs.Map.{keys_of, values_of}, specs.Option.{unwrap_or, option_map}, proofs.lemmas.Option.{slice_get-map}}
 use Rattle.indexmap.{specs.IndexMap.{IndexMap, IsUnique, get, set_value_at}, proofs.CallerLemmas.{keys-with_value_at, updates-with_value_at}}
 use Rattle.formula_core.specs.Plans.{PlanValue}
-use Rattle.sheet_recalc.{specs.Live.{plan_in}, proofs.NameEquality.{names_equal}, proofs.Entered.{name_at}}
-use Rattle.sheet_recalc.proofs.Live.{put_beside, adopting_same, adopting_either}
+use Rattle.sheet_recalc.{specs.Live.{plan_in}, proofs.NameEquality.{names_equal}, proofs.Entered.{name_at}, proofs.Live.{put_beside, adopting_same, adopting_either}}
 use Rattle.sheet_recalc.proofs.commit.adopt_at.Goals as goal
 
 -- what lies at a place, and what is left there

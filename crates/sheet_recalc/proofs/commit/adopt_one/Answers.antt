@@ -1,8 +1,6 @@
-use Rattle.std.{proofs.Common.{◌≡◌, ◌∙◌, ℕ, List, Some, None, cond, slice_get, sym, ap, subst}, specs.Str.{bytes_eq}, specs.Map.{lookup, values_of}}
-use Rattle.std.{specs.Option.{option_map}, proofs.lemmas.Option.{slice_get-map}}
+use Rattle.std.{proofs.Common.{◌≡◌, ◌∙◌, ℕ, List, Some, None, cond, slice_get, sym, ap, subst}, specs.Str.{bytes_eq}, specs.Map.{lookup, values_of}, specs.Option.{option_map}, proofs.lemmas.Option.{slice_get-map}}
 use Rattle.indexmap.{specs.IndexMap.{set_value_at}, proofs.CallerLemmas.{updates-with_value_at}}
-use Rattle.sheet_recalc.{specs.Entries.{names_of, adopting}, specs.Live.{CanAdopt}, specs.declared.entry.Entry.{Entry}, proofs.NameEquality.{names_equal}}
-use Rattle.sheet_recalc.proofs.Live.{names_of_adopting, names_of_adopting_at}
+use Rattle.sheet_recalc.{specs.Entries.{names_of, adopting}, specs.Live.{CanAdopt}, specs.declared.entry.Entry.{Entry}, proofs.NameEquality.{names_equal}, proofs.Live.{names_of_adopting, names_of_adopting_at}}
 use Rattle.sheet_recalc.proofs.commit.adopt_one.Goals as goal
 
 -- what a place holds is the value there

@@ -1,7 +1,6 @@
 use Rattle.std.{proofs.Common.{◌≡◌, ◌∙◌, sym, ap, subst}, specs.Str.{bytes_eq}}
 use Rattle.indexmap.specs.IndexMap.{insert_entry}
-use Rattle.sheet_recalc.{specs.Names.{put}, specs.Entries.{names_of, binding_of}, specs.Live.{IsAdopting, plan_in}}
-use Rattle.sheet_recalc.proofs.Live.{names_of_insert, adopting_planned}
+use Rattle.sheet_recalc.{specs.Names.{put}, specs.Entries.{names_of, binding_of}, specs.Live.{IsAdopting, plan_in}, proofs.Live.{names_of_insert, adopting_planned}}
 use Rattle.sheet_recalc.proofs.commit.commit.Goals as goal
 
 pub adopt_all-requires : goal.adopt_all-requires

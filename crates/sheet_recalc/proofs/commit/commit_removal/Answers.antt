@@ -1,6 +1,5 @@
 use Rattle.std.{proofs.Common.{◌≡◌, ◌∙◌, sym, ap, subst, None, List, ℕ, inl, inr, ⊎_elim}, specs.List.{Contains}}
-use Rattle.sheet_recalc.{specs.Names.{without, referred_by}, specs.Entries.{names_of}, specs.Live.{IsAdopting, plan_in}, proofs.Live.{adopting_removed}}
-use Rattle.sheet_recalc.{proofs.Removing.{others, removed_others, names_of_others}, proofs.Rebound.{table_after}}
+use Rattle.sheet_recalc.{specs.Names.{without, referred_by}, specs.Entries.{names_of}, specs.Live.{IsAdopting, plan_in}, proofs.Live.{adopting_removed}, proofs.Removing.{others, removed_others, names_of_others}, proofs.Rebound.{table_after}}
 use Rattle.sheet_recalc.proofs.commit.commit_removal.Goals as goal
 
 pub adopt_all-requires : goal.adopt_all-requires

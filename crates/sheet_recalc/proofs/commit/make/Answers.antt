@@ -1,13 +1,9 @@
 use Rattle.std.{proofs.Common.{◌≡◌, ◌∙◌, ℕ, List, refl, sym, ap, subst, Some, Option, Ok, Err}, specs.Prelude.{Box, Vec}, specs.Option.{option_map}}
 use Rattle.change_rules.specs.Currency.{applied}
 use Rattle.arrays_core.{specs.Growth.{grown_by}, specs.Arrays.{ArrayValue}}
-use Rattle.index_region.{specs.Patches.{PatchValue, patched}, specs.Tails.{TailValue}, specs.declared.delta.Delta.{Delta}}
-use Rattle.index_region.specs.declared.delta.Delta.TheVariants.{Same, Patch, Grown, Whole}
-use Rattle.sheet_recalc.{specs.Names.{Names, Data, binding, put, rebound}, specs.Meaning.{val}, specs.Entries.{names_of, binding_of, HasData}}
-use Rattle.sheet_recalc.{specs.Planning.{IsProposalAt}, specs.Tables.{Tables}, specs.Pending.{IsReadyToMake, outline_at}}
-use Rattle.sheet_recalc.{specs.Live.{TellsUsers, AreRightOnceTaken, plan_in}, specs.ProposedSheet.{data_entry, proposed_entry, proposed_names, names_with}}
-use Rattle.sheet_recalc.{specs.declared.entry.Entry.{Entry}, specs.declared.growth.Growth.{Growth}, specs.declared.proposal.Proposal.{Proposal}}
-use Rattle.sheet_recalc.{proofs.Live.{val_data, binding_of_name}, proofs.Accounted.{table_kept}}
+use Rattle.index_region.{specs.Patches.{PatchValue, patched}, specs.Tails.{TailValue}, specs.declared.delta.Delta.{Delta}, specs.declared.delta.Delta.TheVariants.{Same, Patch, Grown, Whole}}
+use Rattle.sheet_recalc.{specs.Names.{Names, Data, binding, put, rebound}, specs.Meaning.{val}, specs.Entries.{names_of, binding_of, HasData}, specs.Planning.{IsProposalAt}, specs.Tables.{Tables}, specs.Pending.{IsReadyToMake, outline_at}, specs.Live.{TellsUsers, AreRightOnceTaken, plan_in}}
+use Rattle.sheet_recalc.{specs.ProposedSheet.{data_entry, proposed_entry, proposed_names, names_with}, specs.declared.entry.Entry.{Entry}, specs.declared.growth.Growth.{Growth}, specs.declared.proposal.Proposal.{Proposal}, proofs.Live.{val_data, binding_of_name}, proofs.Accounted.{table_kept}}
 use Rattle.formula_core.{specs.Changes.{FitsIn}, specs.Plans.{PlanValue}}
 use Rattle.sheet_recalc.specs.declared.entry.Entry.TheVariants as entry
 use Rattle.sheet_recalc.specs.declared.proposal.Proposal.TheVariants as proposed

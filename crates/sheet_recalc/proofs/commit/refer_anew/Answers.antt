@@ -1,6 +1,5 @@
 use Rattle.std.{proofs.Common.{◌≡◌, ◌∙◌, sym, subst, inl, inr, ⊎_elim, List, ℕ, Some}, specs.List.{Contains}}
-use Rattle.sheet_recalc.{specs.Names.{referred, referred_by}, specs.Entries.{names_of, binding_of}, proofs.NameEquality.{equal-true, lists-true}}
-use Rattle.sheet_recalc.proofs.Rebound.{table_after, table_stays, used_still}
+use Rattle.sheet_recalc.{specs.Names.{referred, referred_by}, specs.Entries.{names_of, binding_of}, proofs.NameEquality.{equal-true, lists-true}, proofs.Rebound.{table_after, table_stays, used_still}}
 use Rattle.sheet_recalc.proofs.commit.refer_anew.Goals as goal
 
 pub refer-requires-clause-exact : goal.refer-requires-clause-exact

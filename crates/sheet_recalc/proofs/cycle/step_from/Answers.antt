@@ -1,6 +1,5 @@
 use Rattle.std.{proofs.Common.{ℕ, List, sym, subst}, specs.List.{Contains}, specs.Map.{keys_of}}
-use Rattle.sheet_recalc.{specs.ProposedSheet.{outline_of, proposed_names}, proofs.Cycles.{goes_on, goes_down}}
-use Rattle.sheet_recalc.proofs.Rebound.{referred_refers, refers_referred}
+use Rattle.sheet_recalc.{specs.ProposedSheet.{outline_of, proposed_names}, proofs.Cycles.{goes_on, goes_down}, proofs.Rebound.{referred_refers, refers_referred}}
 use Rattle.sheet_recalc.proofs.cycle.step_from.Goals as goal
 
 pub unreachable-requires : goal.unreachable-requires

@@ -1,6 +1,5 @@
 use Rattle.std.{proofs.Common.{◌-◌, take}, specs.Map.{keys_of}}
-use Rattle.sheet_recalc.{specs.Live.{plan_in}, specs.ProposedSheet.{outline_of}, specs.Planning.{waiting_names}, proofs.Working.{reads_done}}
-use Rattle.sheet_recalc.proofs.Forward.{next_planned, next_cost, no_formula_left, applied_way}
+use Rattle.sheet_recalc.{specs.Live.{plan_in}, specs.ProposedSheet.{outline_of}, specs.Planning.{waiting_names}, proofs.Working.{reads_done}, proofs.Forward.{next_planned, next_cost, no_formula_left, applied_way}}
 use Rattle.sheet_recalc.proofs.planning.apply_next.Goals as goal
 
 pub apply_to-requires-clause-done : goal.apply_to-requires-clause-done

@@ -1,10 +1,6 @@
-use Rattle.std.{proofs.Common.{ℕ, List, [], Option, ◌∙◌, sym, ap, subst, refl, None}, specs.List.{Contains}, specs.Map.{keys_of}}
-use Rattle.std.specs.Option.{option_map, option_map_or}
-use Rattle.sheet_recalc.{specs.Names.{Binding, referred}, specs.Meaning.{val}, specs.Entries.{names_of, binding_of}}
-use Rattle.sheet_recalc.{specs.ProposedSheet.{outline_of, own_entry, proposed_names, proposed_references}, specs.declared.plans.Plans.{Plans}}
-use Rattle.sheet_recalc.{proofs.Forward.{first_way}, proofs.NameEquality.{equal-true}, proofs.Rebound.{reaching_new, referred_refers}}
-use Rattle.sheet_recalc.proofs.Readied.{references_made, ready_acyclic, ready_proposed, ready_affected, ready_names, ready_all, ready_cost}
-use Rattle.sheet_recalc.proofs.Binding.{rebound_own}
+use Rattle.std.{proofs.Common.{ℕ, List, [], Option, ◌∙◌, sym, ap, subst, refl, None}, specs.List.{Contains}, specs.Map.{keys_of}, specs.Option.{option_map, option_map_or}}
+use Rattle.sheet_recalc.{specs.Names.{Binding, referred}, specs.Meaning.{val}, specs.Entries.{names_of, binding_of}, specs.ProposedSheet.{outline_of, own_entry, proposed_names, proposed_references}, specs.declared.plans.Plans.{Plans}, proofs.Forward.{first_way}, proofs.NameEquality.{equal-true}}
+use Rattle.sheet_recalc.{proofs.Rebound.{reaching_new, referred_refers}, proofs.Readied.{references_made, ready_acyclic, ready_proposed, ready_affected, ready_names, ready_all, ready_cost}, proofs.Binding.{rebound_own}}
 use Rattle.sheet_recalc.proofs.planning.begun.Goals as goal
 
 pub first_found-requires : goal.first_found-requires

@@ -1,5 +1,4 @@
-use Rattle.std.{proofs.Common.{◌<◌, ◌∙◌, [], length, ap, arith}, specs.List.{sum_by}, specs.Map.{keys_of}, proofs.lemmas.List.{take_all}}
-use Rattle.std.proofs.lemmas.List.Sums.{sum_by_more}
+use Rattle.std.{proofs.Common.{◌<◌, ◌∙◌, [], length, ap, arith}, specs.List.{sum_by}, specs.Map.{keys_of}, proofs.lemmas.List.{take_all}, proofs.lemmas.List.Sums.{sum_by_more}}
 use Rattle.sheet_recalc.{specs.Planning.{functions_at}, specs.ProposedSheet.{outline_of}, proofs.Forward.{keys_long}}
 use Rattle.sheet_recalc.proofs.planning.functions_in.Goals as goal
 

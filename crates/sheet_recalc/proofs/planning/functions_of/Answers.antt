@@ -1,7 +1,6 @@
 use Rattle.std.{proofs.Common.{◌≡◌, ◌∙◌, ℕ, List, Option, Some, None, refl, sym, ap}, specs.Option.{option_map, option_map_or}}
 use Rattle.formula_core.specs.Formulas.{FormulaValue}
-use Rattle.sheet_recalc.{specs.Names.{Binding}, specs.Entries.{binding_of}, specs.Costs.{functions_of}, specs.Planning.{functions_at}}
-use Rattle.sheet_recalc.{specs.ProposedSheet.{Outline, outline_of, entry_of}, specs.declared.entry.Entry.{Entry}, proofs.PlannedNames.{binding_entry}}
+use Rattle.sheet_recalc.{specs.Names.{Binding}, specs.Entries.{binding_of}, specs.Costs.{functions_of}, specs.Planning.{functions_at}, specs.ProposedSheet.{Outline, outline_of, entry_of}, specs.declared.entry.Entry.{Entry}, proofs.PlannedNames.{binding_entry}}
 use Rattle.sheet_recalc.specs.declared.entry.Entry.TheVariants as entry
 use Rattle.sheet_recalc.proofs.planning.functions_of.Goals as goal
 

@@ -1,6 +1,5 @@
 use Rattle.std.{proofs.Common.{◌≡◌, ◌∙◌, sym, refl, arith, ℕ, List, inl, Bool, true, false, MatchBool}, proofs.lemmas.List.{length-map}}
-use Rattle.sheet_recalc.{specs.Names.{Binding}, specs.Entries.{names_of, binding_of}, specs.Changes.{HasRoomForName, IsFullFor}}
-use Rattle.sheet_recalc.{specs.declared.entry.Entry.{Entry}, proofs.Live.{present_name, absent_name}}
+use Rattle.sheet_recalc.{specs.Names.{Binding}, specs.Entries.{names_of, binding_of}, specs.Changes.{HasRoomForName, IsFullFor}, specs.declared.entry.Entry.{Entry}, proofs.Live.{present_name, absent_name}}
 use Rattle.sheet_recalc.proofs.planning.has_room.Goals as goal
 
 pub returns-else-len-lt-MOST_NAMES : goal.returns-else-len-lt-MOST_NAMES

@@ -1,6 +1,5 @@
 use Rattle.std.{proofs.Common.{◌≡◌, ◌-◌, ◌∙◌, [], get_or, Some, ap, take, cond}, specs.Str.{bytes_eq}, specs.Map.{keys_of}}
-use Rattle.sheet_recalc.{specs.Live.{plan_in}, specs.ProposedSheet.{outline_of, entry_of}, specs.Planning.{waiting_names}, proofs.Working.{reads_done}}
-use Rattle.sheet_recalc.proofs.Forward.{passed_over, planned_way}
+use Rattle.sheet_recalc.{specs.Live.{plan_in}, specs.ProposedSheet.{outline_of, entry_of}, specs.Planning.{waiting_names}, proofs.Working.{reads_done}, proofs.Forward.{passed_over, planned_way}}
 use Rattle.sheet_recalc.proofs.planning.plan_each.Goals as goal
 
 pub next_name-requires : goal.next_name-requires

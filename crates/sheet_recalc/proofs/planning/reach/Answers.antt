@@ -1,6 +1,5 @@
 use Rattle.std.{proofs.Common.{ℕ, List, arith}, proofs.lemmas.List.{length-map}}
-use Rattle.sheet_recalc.{specs.Names.{Binding}, specs.Entries.{names_of, binding_of}, specs.declared.entry.Entry.{Entry}, proofs.NameEquality.{equal-true}}
-use Rattle.sheet_recalc.proofs.Keeping.{within, name_order}
+use Rattle.sheet_recalc.{specs.Names.{Binding}, specs.Entries.{names_of, binding_of}, specs.declared.entry.Entry.{Entry}, proofs.NameEquality.{equal-true}, proofs.Keeping.{within, name_order}}
 use Rattle.sheet_recalc.proofs.planning.reach.Goals as goal
 
 pub affected-requires : goal.affected-requires

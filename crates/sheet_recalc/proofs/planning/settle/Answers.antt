@@ -1,7 +1,5 @@
-use Rattle.std.proofs.Common.{◌≡◌, ◌-◌, ◌<◌, ◌++◌, ◌∷◌, [], ◌∙◌, Some, Result, Ok, Err, OnErr, false, ap, sym, subst, length, take, get_or, cond, arith}
-use Rattle.std.{specs.Str.{bytes_eq}, specs.Map.{keys_of}}
-use Rattle.sheet_recalc.{specs.ProposedSheet.{outline_of}, specs.Live.{plan_in}, specs.Planning.{IsOnTheWay, waiting_names}, specs.declared.plans.Plans.{Plans}}
-use Rattle.sheet_recalc.proofs.Forward.{skipped, kept_way, stopped_way, ended_way}
+use Rattle.std.{proofs.Common.{◌≡◌, ◌-◌, ◌<◌, ◌++◌, ◌∷◌, [], ◌∙◌, Some, Result, Ok, Err, OnErr, false, ap, sym, subst, length, take, get_or, cond, arith}, specs.Str.{bytes_eq}, specs.Map.{keys_of}}
+use Rattle.sheet_recalc.{specs.ProposedSheet.{outline_of}, specs.Live.{plan_in}, specs.Planning.{IsOnTheWay, waiting_names}, specs.declared.plans.Plans.{Plans}, proofs.Forward.{skipped, kept_way, stopped_way, ended_way}}
 use Rattle.sheet_recalc.proofs.planning.settle.Goals as goal
 
 pub next_name-requires : goal.next_name-requires

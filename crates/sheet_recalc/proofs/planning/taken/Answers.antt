@@ -1,6 +1,5 @@
 use Rattle.std.proofs.Common.{◌∙◌, sym, Result, Ok, Err, IfOk}
-use Rattle.sheet_recalc.{specs.Live.{plan_in}, specs.ProposedSheet.{outline_of}, specs.Planning.{waiting_names}, proofs.Working.{reads_done}}
-use Rattle.sheet_recalc.proofs.Forward.{started_way}
+use Rattle.sheet_recalc.{specs.Live.{plan_in}, specs.ProposedSheet.{outline_of}, specs.Planning.{waiting_names}, proofs.Working.{reads_done}, proofs.Forward.{started_way}}
 use Rattle.sheet_recalc.proofs.planning.taken.Goals as goal
 
 pub started-requires-clause-done : goal.started-requires-clause-done

@@ -1,7 +1,6 @@
 use Rattle.std.{proofs.Common.{◌≡◌, ◌∙◌, sym, ap, subst, Option, Some, None, Err}, specs.Option.{option_map}, proofs.lemmas.Result.{IfErr-weaker}}
 use Rattle.apl_expr.specs.Trees.{literal_of}
-use Rattle.sheet_recalc.{specs.Names.{Binding, Data, binding}, specs.Entries.{names_of, binding_of}, specs.Cells.{IsDataAnswer}, specs.Rows.{row_put}}
-use Rattle.sheet_recalc.{specs.declared.entry.Entry.{Entry}, proofs.Asked.{if_ok_both}, proofs.Live.{binding_of_name}}
+use Rattle.sheet_recalc.{specs.Names.{Binding, Data, binding}, specs.Entries.{names_of, binding_of}, specs.Cells.{IsDataAnswer}, specs.Rows.{row_put}, specs.declared.entry.Entry.{Entry}, proofs.Asked.{if_ok_both}, proofs.Live.{binding_of_name}}
 use Rattle.sheet_recalc.proofs.row.row_behind.Goals as goal
 
 pub returns-in-None-clause-refused : goal.returns-in-None-clause-refused

@@ -1,5 +1,4 @@
-use Rattle.std.{proofs.Common.{◌≡◌, ◌∙◌, false, true, length, replicate, ap, sym, arith, rules}, specs.Prelude.{if◌then◌else◌}}
-use Rattle.std.{proofs.lemmas.Bool.Decides.{nat_tests}, proofs.lemmas.List.{length-replicate}}
+use Rattle.std.{proofs.Common.{◌≡◌, ◌∙◌, false, true, length, replicate, ap, sym, arith, rules}, specs.Prelude.{if◌then◌else◌}, proofs.lemmas.Bool.Decides.{nat_tests}, proofs.lemmas.List.{length-replicate}}
 use Rattle.index_region.specs.Arguments.{is_scalar}
 use Rattle.structural_fns.proofs.axis_counts.check_axis_counts.Goals.{else-rank-gt0-via-then-rank-gt0+else-places-rank, else-rank-gt0-via-else-rank-gt0}
 use Rattle.structural_fns.proofs.axis_counts.check_axis_counts.Goals as goal

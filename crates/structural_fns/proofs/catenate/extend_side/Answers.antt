@@ -18,15 +18,13 @@ extend_evenly-requires-clause-typed c =
 
 pub extend_evenly-requires-clause-inside : goal.extend_evenly-requires-clause-inside
 extend_evenly-requires-clause-inside c =
-    let s = c.args.side.now in
     let some : 0 < c.args.kept = let not_none = c.if-kept-eq0.false in omega arith in
-    side_inside s c.args.axis c.args.skipped c.args.row.now c.args.before c.args.kept c.requires.axis c.requires.skipped c.requires.inside
+    side_inside c.args.side.now c.args.axis c.args.skipped c.args.row.now c.args.before c.args.kept c.requires.axis c.requires.skipped c.requires.inside
     c.place_in_side-first.result c.place_in_side-second.result c.min.result c.min.ensures some c.place_in_side-first.ensures.is c.place_in_side-second.ensures.is c.place_in_side-first.ensures.sound
 
 pub returns-clause-items : goal.returns-clause-items
 returns-clause-items c =
-    let s = c.args.side.now in
     let some : 0 < c.args.kept = let not_none = c.if-kept-eq0.false in omega arith in
     on_ok_weaker c.extend_evenly.result (λ e. e ∙ ap (λ xs. c.args.items.now.items ++ xs)
-    (side_items s c.args.axis c.args.skipped c.args.row.now c.args.before c.args.kept c.requires.axis c.requires.skipped c.requires.inside
+    (side_items c.args.side.now c.args.axis c.args.skipped c.args.row.now c.args.before c.args.kept c.requires.axis c.requires.skipped c.requires.inside
     c.place_in_side-first.result c.place_in_side-second.result c.min.result c.min.ensures some c.place_in_side-first.ensures.is c.place_in_side-second.ensures.is)) c.extend_evenly.ensures.items

@@ -1,5 +1,4 @@
-use Rattle.std.{proofs.Common.{◌≡◌, ◌∙◌, ◌+◌, suc, true, false, length, ap, sym, arith, rules}, specs.Prelude.{nat_le, ◌&&◌, ◌||◌}}
-use Rattle.std.proofs.lemmas.Bool.Decides.{nat_tests}
+use Rattle.std.{proofs.Common.{◌≡◌, ◌∙◌, ◌+◌, suc, true, false, length, ap, sym, arith, rules}, specs.Prelude.{nat_le, ◌&&◌, ◌||◌}, proofs.lemmas.Bool.Decides.{nat_tests}}
 use Rattle.index_region.specs.Arguments.{is_scalar}
 use Rattle.structural_fns.proofs.catenate.ranks_join.Goals as goal
 

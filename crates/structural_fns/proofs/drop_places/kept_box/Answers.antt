@@ -6,18 +6,16 @@ use Rattle.structural_fns.proofs.drop_places.kept_box.Goals as goal
 pub loop-k-preserved : goal.loop-k-preserved
 loop-k-preserved c =
     let axes = c.args.axes.now in
-    let intervals = c.args.intervals.now in
     let k = c.loop-k.k in
-    let inv = c.loop-k.invariant in
     let a = c.args.counts.now in
     let long = numbers_long a in
-    let more = kept_more axes (numbers a) intervals k (omega arith) (omega (arith, c.requires.long)) (omega (arith, c.requires.as_many)) in
+    let more = kept_more axes (numbers a) c.args.intervals.now k (omega arith) (omega (arith, c.requires.long)) (omega (arith, c.requires.as_many)) in
     let e : to_z w64 (of_z w64 c.number-count.result) ≡ c.number-count.result = omega (arith, ints) in
     let same : k + 1 - 1 ≡ k = omega arith in
     let read : c.number-count.result ≡ get_or (numbers a) k (pos 0) = rw same at c.number-count.ensures in
-    let put : c.kept_interval-first.result ≡ (kept (get_or axes k 0) (get_or (numbers a) k (pos 0))).image (get_or intervals k (0, 0)) =
-    c.kept_interval-first.ensures (get_or axes k 0) ∙ ap (λ (z : ℤ). (kept (get_or axes k 0) z).image (get_or intervals k (0, 0))) (e ∙ read) in
+    let put : c.kept_interval-first.result ≡ (kept (get_or axes k 0) (get_or (numbers a) k (pos 0))).image (get_or c.args.intervals.now k (0, 0)) =
+    c.kept_interval-first.ensures (get_or axes k 0) ∙ ap (λ (z : ℤ). (kept (get_or axes k 0) z).image (get_or c.args.intervals.now k (0, 0))) (e ∙ read) in
     record {
-      long = omega (arith, c.push.ensures.long, inv.long);
-      done = rw c.push.ensures.is (rw append_assoc (rw put (rw more at inv.done)));
+      long = omega (arith, c.push.ensures.long, c.loop-k.invariant.long);
+      done = rw c.push.ensures.is (rw append_assoc (rw put (rw more at c.loop-k.invariant.done)));
     }

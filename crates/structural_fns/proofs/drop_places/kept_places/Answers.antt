@@ -1,5 +1,4 @@
-use Rattle.std.proofs.Common.{◌≡◌, ◌+◌, ◌-◌, ◌≤◌, ap, get_or, pos, subst, sym, ◌∙◌, append_assoc, unsigned_abs, arith, w64, to_z, of_z}
-use Rattle.std.{proofs.lemmas.Int.{ints}, proofs.lemmas.List.{length_push}}
+use Rattle.std.{proofs.Common.{◌≡◌, ◌+◌, ◌-◌, ◌≤◌, ap, get_or, pos, subst, sym, ◌∙◌, append_assoc, unsigned_abs, arith, w64, to_z, of_z}, proofs.lemmas.Int.{ints}, proofs.lemmas.List.{length_push}}
 use Rattle.index_region.specs.Arguments.{numbers}
 use Rattle.structural_fns.{specs.Drop.{kept_place}, proofs.Counting.{numbers_long, left_at, kept_more}}
 use Rattle.structural_fns.proofs.drop_places.kept_places.Goals as goal
@@ -22,26 +21,22 @@ pub push_reserved-requires : goal.push_reserved-requires
 push_reserved-requires c =
     let within = c.shape.ensures.sound.within.axes in
     let h = left_at c.args.counts.now c.args.array.now c.args.index.now c.loop-k.k within c.requires.long c.requires.within c.requires.inside (omega arith) in
-    let four = h.four in
     grind arith
 
 pub loop-k-preserved : goal.loop-k-preserved
 loop-k-preserved c =
-    let index = c.args.index.now in
     let k = c.loop-k.k in
-    let inv = c.loop-k.invariant in
-    let a = c.args.counts.now in
     let within = c.shape.ensures.sound.within.axes in
-    let h = left_at a c.args.array.now index k within c.requires.long c.requires.within c.requires.inside (omega arith) in
-    let long = numbers_long a in
-    let more = kept_more (numbers a) index k (omega arith) h.there in
+    let h = left_at c.args.counts.now c.args.array.now c.args.index.now k within c.requires.long c.requires.within c.requires.inside (omega arith) in
+    let long = numbers_long c.args.counts.now in
+    let more = kept_more (numbers c.args.counts.now) c.args.index.now k (omega arith) h.there in
     let e : to_z w64 (of_z w64 c.number-count.result) ≡ c.number-count.result = omega (arith, ints) in
     let same : k + 1 - 1 ≡ k = omega arith in
-    let read : c.number-count.result ≡ get_or (numbers a) k (pos 0) = rw same at c.number-count.ensures in
-    let put : c.kept_place.result ≡ kept_place (get_or (numbers a) k (pos 0)) (get_or index k 0) =
-    c.kept_place.ensures ∙ ap (λ z. kept_place z (get_or index k 0)) (e ∙ read) in
+    let read : c.number-count.result ≡ get_or (numbers c.args.counts.now) k (pos 0) = rw same at c.number-count.ensures in
+    let put : c.kept_place.result ≡ kept_place (get_or (numbers c.args.counts.now) k (pos 0)) (get_or c.args.index.now k 0) =
+    c.kept_place.ensures ∙ ap (λ z. kept_place z (get_or c.args.index.now k 0)) (e ∙ read) in
     record {
-      made = rw c.push_reserved.ensures.items (rw append_assoc (rw put (rw more at inv.made)));
+      made = rw c.push_reserved.ensures.items (rw append_assoc (rw put (rw more at c.loop-k.invariant.made)));
       long = rw c.push_reserved.ensures.items (rw length_push (omega arith));
-      inline = c.push_reserved.ensures.capacity ∙ inv.inline;
+      inline = c.push_reserved.ensures.capacity ∙ c.loop-k.invariant.inline;
     }

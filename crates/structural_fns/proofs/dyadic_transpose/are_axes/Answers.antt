@@ -5,8 +5,5 @@ use Rattle.structural_fns.proofs.dyadic_transpose.are_axes.Goals as goal
 pub loop-axis-preserved : goal.loop-axis-preserved
 loop-axis-preserved c =
     let axes = axes_to c.args.axes.now in
-    let k = c.loop-axis.axis in
-    let more = range_more (greatest_of axes) k (omega (arith, c.greatest-axis-end.ensures)) in
-    let here : occurs axes (k + 1) ≡ true = grind arith in
-    let shown = rw more at c.loop-axis.invariant in
-    rw here at shown
+    let here : occurs axes (c.loop-axis.axis + 1) ≡ true = grind arith in
+    rw here at (rw (range_more (greatest_of axes) c.loop-axis.axis (omega (arith, c.greatest-axis-end.ensures))) at c.loop-axis.invariant)

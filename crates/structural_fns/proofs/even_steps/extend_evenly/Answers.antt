@@ -11,8 +11,7 @@ extend_run-requires-clause-inside c =
     let n = c.args.count in
     let last : c.args.first + (n - 1) * c.args.step < length c.args.array.now.items = let some = c.requires.some in c.requires.inside (n - 1) (omega arith) in
     let one : c.args.first + (n - 1) * 1 < length c.args.array.now.items = rw c.if-step-eq1.true at last in
-    let some = c.requires.some in
-    omega (arith, one, some)
+    omega (arith, one, c.requires.some)
 
 pub returns-then-step-eq0-clause-items : goal.returns-then-step-eq0-clause-items
 returns-then-step-eq0-clause-items c =

@@ -12,7 +12,6 @@ position-last-requires-clause-in_range c =
 
 pub returns-clause-order : goal.returns-clause-order
 returns-clause-order c =
-    let order = first_before_last c.args.region.now c.args.array.now.shape c.requires in
     let first = rw (c.shape-shape.ensures.is, c.as_slice.ensures.is, c.first_index.ensures, c.as_slice-intervals.ensures.is) at c.position-first.ensures.is in
     let last = rw (c.shape-shape.ensures.is, c.as_slice-2.ensures.is, c.last_index.ensures, c.as_slice-intervals.ensures.is) at c.position-last.ensures.is in
-    omega (arith, order, first, last)
+    omega (arith, first_before_last c.args.region.now c.args.array.now.shape c.requires, first, last)

@@ -1,5 +1,4 @@
-use Rattle.std.{proofs.lemmas.Result.{IfOk-weaker}, proofs.Common.{◌≡◌, ◌%◌, ◌∙◌, ap, length, get_or, arith}}
-use Rattle.std.proofs.lemmas.List.FromFn.{length-map-range_with_len}
+use Rattle.std.{proofs.lemmas.Result.{IfOk-weaker}, proofs.Common.{◌≡◌, ◌%◌, ◌∙◌, ap, length, get_or, arith}, proofs.lemmas.List.FromFn.{length-map-range_with_len}}
 use Rattle.arrays_core.{specs.Items.{fill}, specs.Building.{listed}, specs.Shapes.{size}}
 use Rattle.structural_fns.proofs.Runs.{built_long, all_built}
 use Rattle.structural_fns.proofs.reshape.recycled.Goals as goal
@@ -12,8 +11,7 @@ into_array-requires-clause-one_item_a_place c =
 pub repeat_to-requires-clause-more : goal.repeat_to-requires-clause-more
 repeat_to-requires-clause-more c =
     let long = built_long c.extend_run.new.items.items c.in_ok-items.items.items c.places-round.result _ c.in_ok-extend_run.ensures.items (ap (λ b. b.items) c.in_ok-items.ensures) in
-    let sized : c.size-places.result ≡ size c.args.shape.now.items = c.size-places.ensures ∙ ap size c.as_slice.ensures in
-    omega (arith, long, sized, c.places-round.ensures.is, c.requires.more)
+    omega (arith, long, c.size-places.ensures ∙ ap size c.as_slice.ensures, c.places-round.ensures.is, c.requires.more)
 
 pub into_array-requires-2-clause-one_item_a_place : goal.into_array-requires-2-clause-one_item_a_place
 into_array-requires-2-clause-one_item_a_place c =
@@ -27,12 +25,11 @@ returns c =
     let all = all_built c.extend_run.new.items.items c.in_ok-items.items.items b.items (fill b.item_type) c.places-round.result c.in_ok-extend_run.ensures.items (ap (λ x. x.items) c.in_ok-items.ensures)
     c.places-round.ensures.is in
     let typed : c.extend_run.new.items.item_type ≡ b.item_type = c.in_ok-extend_run.ensures.typed ∙ ap (λ x. x.item_type) c.in_ok-items.ensures ∙ c.item_type-item_type.ensures.is in
-    let sized : c.size-places.result ≡ size c.args.shape.now.items = c.size-places.ensures ∙ ap size c.as_slice.ensures in
     IfOk-weaker c.into_array-2.result _ _ (λ made is. is
     ∙ ap (λ t. record { item_type = t; shape = c.args.shape.now.items; items = c.repeat_to.new.self.items }) (c.in_ok-repeat_to.ensures.typed ∙ typed)
     ∙ ap (λ xs. record { item_type = b.item_type; shape = c.args.shape.now.items; items = xs })
     (c.in_ok-repeat_to.ensures.items
     ∙ ap (λ xs. listed c.size-places.result (λ k. get_or xs (k % length xs) (fill c.extend_run.new.items.item_type))) all
     ∙ ap (λ t. listed c.size-places.result (λ k. get_or b.items (k % length b.items) (fill t))) typed
-    ∙ ap (λ n. listed n (λ k. get_or b.items (k % length b.items) (fill b.item_type))) sized))
+    ∙ ap (λ n. listed n (λ k. get_or b.items (k % length b.items) (fill b.item_type))) (c.size-places.ensures ∙ ap size c.as_slice.ensures)))
     c.into_array-2.ensures

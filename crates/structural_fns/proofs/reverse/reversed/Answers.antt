@@ -8,10 +8,8 @@ shape_of-at-requires c = let long = as_long c.args.axes.now c.args.index.now c.r
 pub overflow_sub-axes : goal.overflow_sub-axes
 overflow_sub-axes c =
     let axes = c.args.axes.now in
-    let index = c.args.index.now in
     let k = c.axis_at-axis.result in
-    let long = as_long axes index c.requires.in_range in
+    let long = as_long axes c.args.index.now c.requires.in_range in
     let some : 0 < length axes = search rules in
     let below : k < length axes = c.axis_at-axis.ensures.below some in
-    let head = head_at axes index k (omega (arith, below)) below (drop_inside k axes index c.requires.in_range) in
-    omega (arith, head.high)
+    omega (arith, (head_at axes c.args.index.now k (omega (arith, below)) below (drop_inside k axes c.args.index.now c.requires.in_range)).high)

@@ -1,5 +1,4 @@
-use Rattle.std.{proofs.Common.{rules, ◌≡◌, ◌<◌, ◌++◌, List, ℕ, length, set, get_or, take, drop, ◌∙◌, arith, to_z, of_z, w64}, proofs.lemmas.Int.{to_z-of_z}}
-use Rattle.std.{proofs.lemmas.Grind.{get_or_default_zero}, proofs.lemmas.List.{length-set, take_at}}
+use Rattle.std.{proofs.Common.{rules, ◌≡◌, ◌<◌, ◌++◌, List, ℕ, length, set, get_or, take, drop, ◌∙◌, arith, to_z, of_z, w64}, proofs.lemmas.Int.{to_z-of_z}, proofs.lemmas.Grind.{get_or_default_zero}, proofs.lemmas.List.{length-set, take_at}}
 use Rattle.index_region.specs.Axes.{places_along}
 use Rattle.structural_fns.specs.Rotate.{rotated_place}
 use Rattle.arrays_core.{proofs.Shapes.{as_long, head_at}, proofs.NextIndex.{drop_inside}}
@@ -11,22 +10,18 @@ shape_of-at-requires c = let long = as_long c.args.axes.now c.args.index.now c.r
 pub rotated_place-requires-clause-low : goal.rotated_place-requires-clause-low
 rotated_place-requires-clause-low c =
     let axes = c.args.axes.now in
-    let index = c.args.index.now in
-    let k = c.args.axis in
-    let long = as_long axes index c.requires.in_range in
+    let long = as_long axes c.args.index.now c.requires.in_range in
     let some : 0 < length axes = search rules in
-    let below : k < length axes = c.requires.there some in
-    (head_at axes index k (omega (arith, below)) below (drop_inside k axes index c.requires.in_range)).low
+    let below : c.args.axis < length axes = c.requires.there some in
+    (head_at axes c.args.index.now c.args.axis (omega (arith, below)) below (drop_inside c.args.axis axes c.args.index.now c.requires.in_range)).low
 
 pub rotated_place-requires-clause-high : goal.rotated_place-requires-clause-high
 rotated_place-requires-clause-high c =
     let axes = c.args.axes.now in
-    let index = c.args.index.now in
-    let k = c.args.axis in
-    let long = as_long axes index c.requires.in_range in
+    let long = as_long axes c.args.index.now c.requires.in_range in
     let some : 0 < length axes = search rules in
-    let below : k < length axes = c.requires.there some in
-    (head_at axes index k (omega (arith, below)) below (drop_inside k axes index c.requires.in_range)).high
+    let below : c.args.axis < length axes = c.requires.there some in
+    (head_at axes c.args.index.now c.args.axis (omega (arith, below)) below (drop_inside c.args.axis axes c.args.index.now c.requires.in_range)).high
 
 pub bounds-deref_mut-axis : goal.bounds-deref_mut-axis
 bounds-deref_mut-axis c =

@@ -13,20 +13,18 @@ taken_interval-first-requires-clause-on_axis c =
 
 pub loop-k-preserved : goal.loop-k-preserved
 loop-k-preserved c =
-    let axes = c.args.axes.now in
     let intervals = c.args.intervals.now in
     let k = c.loop-k.k in
-    let inv = c.loop-k.invariant in
     let a = c.args.counts.now in
     let long = numbers_long a in
-    let as_many = fits_long intervals axes c.requires.fit in
-    let more = taken_more axes (numbers a) intervals k (omega arith) (omega (arith, c.requires.long)) (omega arith) in
+    let as_many = fits_long intervals c.args.axes.now c.requires.fit in
+    let more = taken_more c.args.axes.now (numbers a) intervals k (omega arith) (omega (arith, c.requires.long)) (omega arith) in
     let e : to_z w64 (of_z w64 c.number-count.result) ≡ c.number-count.result = omega (arith, ints) in
     let same : k + 1 - 1 ≡ k = omega arith in
     let read : c.number-count.result ≡ get_or (numbers a) k (pos 0) = rw same at c.number-count.ensures in
-    let put : c.taken_interval-first.result ≡ (taken (get_or axes k 0) (get_or (numbers a) k (pos 0))).image (get_or intervals k (0, 0)) =
-    c.taken_interval-first.ensures ∙ ap (λ (z : ℤ). (taken (get_or axes k 0) z).image (get_or intervals k (0, 0))) (e ∙ read) in
+    let put : c.taken_interval-first.result ≡ (taken (get_or c.args.axes.now k 0) (get_or (numbers a) k (pos 0))).image (get_or intervals k (0, 0)) =
+    c.taken_interval-first.ensures ∙ ap (λ (z : ℤ). (taken (get_or c.args.axes.now k 0) z).image (get_or intervals k (0, 0))) (e ∙ read) in
     record {
-      long = omega (arith, c.push.ensures.long, inv.long);
-      done = rw c.push.ensures.is (rw append_assoc (rw put (rw more at inv.done)));
+      long = omega (arith, c.push.ensures.long, c.loop-k.invariant.long);
+      done = rw c.push.ensures.is (rw append_assoc (rw put (rw more at c.loop-k.invariant.done)));
     }

@@ -1,5 +1,4 @@
-use Rattle.std.proofs.Common.{◌≡◌, ◌+◌, ◌-◌, ◌≤◌, ap, get_or, pos, subst, sym, ◌∙◌, append_assoc, unsigned_abs, arith, w64, to_z, of_z}
-use Rattle.std.{proofs.lemmas.Int.{ints}, proofs.lemmas.List.{length_push}}
+use Rattle.std.{proofs.Common.{◌≡◌, ◌+◌, ◌-◌, ◌≤◌, ap, get_or, pos, subst, sym, ◌∙◌, append_assoc, unsigned_abs, arith, w64, to_z, of_z}, proofs.lemmas.Int.{ints}, proofs.lemmas.List.{length_push}}
 use Rattle.index_region.specs.Arguments.{numbers}
 use Rattle.structural_fns.{specs.Take.{taken_place}, proofs.Counting.{numbers_long, count_at, taken_more}}
 use Rattle.structural_fns.proofs.take.taken_places.Goals as goal
@@ -23,20 +22,17 @@ taken_place-requires-clause-index_within c =
 
 pub loop-k-preserved : goal.loop-k-preserved
 loop-k-preserved c =
-    let axes = c.args.axes.now in
     let k = c.loop-k.k in
-    let inv = c.loop-k.invariant in
-    let a = c.args.counts.now in
-    let h = count_at a c.args.index.now k c.requires.within c.requires.inside (omega (arith, c.requires.long)) in
-    let long = numbers_long a in
-    let more = taken_more axes (numbers a) c.args.index.now k (omega arith) (omega (arith, c.requires.long)) h.there in
+    let h = count_at c.args.counts.now c.args.index.now k c.requires.within c.requires.inside (omega (arith, c.requires.long)) in
+    let long = numbers_long c.args.counts.now in
+    let more = taken_more c.args.axes.now (numbers c.args.counts.now) c.args.index.now k (omega arith) (omega (arith, c.requires.long)) h.there in
     let e : to_z w64 (of_z w64 c.number-count.result) ≡ c.number-count.result = omega (arith, ints) in
     let same : k + 1 - 1 ≡ k = omega arith in
-    let read : c.number-count.result ≡ get_or (numbers a) k (pos 0) = rw same at c.number-count.ensures in
-    let put : c.taken_place.result ≡ taken_place (get_or axes k 0) (get_or (numbers a) k (pos 0)) (get_or c.args.index.now k 0) =
-    c.taken_place.ensures ∙ ap (λ z. taken_place (get_or axes k 0) z (get_or c.args.index.now k 0)) (e ∙ read) in
+    let read : c.number-count.result ≡ get_or (numbers c.args.counts.now) k (pos 0) = rw same at c.number-count.ensures in
+    let put : c.taken_place.result ≡ taken_place (get_or c.args.axes.now k 0) (get_or (numbers c.args.counts.now) k (pos 0)) (get_or c.args.index.now k 0) =
+    c.taken_place.ensures ∙ ap (λ z. taken_place (get_or c.args.axes.now k 0) z (get_or c.args.index.now k 0)) (e ∙ read) in
     record {
-      made = rw c.push_reserved.ensures.items (rw append_assoc (rw put (rw more at inv.made)));
+      made = rw c.push_reserved.ensures.items (rw append_assoc (rw put (rw more at c.loop-k.invariant.made)));
       long = rw c.push_reserved.ensures.items (rw length_push (omega arith));
-      inline = c.push_reserved.ensures.capacity ∙ inv.inline;
+      inline = c.push_reserved.ensures.capacity ∙ c.loop-k.invariant.inline;
     }

@@ -1,6 +1,5 @@
 use Rattle.std.proofs.Common.{◌≡◌, ◌∙◌, ◌+◌, ◌-◌, ◌<◌, true, ℕ, ℤ, List, length, map, remove, Err, refl, ap, sym, subst, arith}
-use Rattle.arrays_core.{specs.declared.item.Item.TheVariants.{Num}, specs.Shapes.{is_index_of, index_after, size, places_before}}
-use Rattle.arrays_core.proofs.Order.{index_after-within, places_before-index_after}
+use Rattle.arrays_core.{specs.declared.item.Item.TheVariants.{Num}, specs.Shapes.{is_index_of, index_after, size, places_before}, proofs.Order.{index_after-within, places_before-index_after}}
 use Rattle.function_names.specs.Axes.{axis_at}
 use Rattle.index_region.{specs.Boxes.{is_within}, specs.Patches.{patched}, proofs.Patched.{patched_sound}}
 use Rattle.reduce_fns.specs.Reduce.{reduce_item}
@@ -19,8 +18,7 @@ total-requires g c =
     let below : line < size shape = omega (arith, c.if-line-size.false, c.size.ensures, ap size c.as_slice.ensures) in
     let on : is_index_of (remove axes axis) (index_after shape line) ≡ true = subst (λ (s : List ℕ). is_index_of s (index_after shape line) ≡ true) c.requires.shaped (index_after-within shape line below) in
     let which : places_before (remove axes axis) (index_after shape line) ≡ line = ap (λ (s : List ℕ). places_before s (index_after shape line)) (sym c.requires.shaped) ∙ places_before-index_after shape line below in
-    let there = line_below axis t (array_of_shape axes t.numbers) c.requires.lines (index_after shape line) on in
-    omega (arith, there, which)
+    omega (arith, line_below axis t (array_of_shape axes t.numbers) c.requires.lines (index_after shape line) on, which)
 
 pub returns : goal.returns
 returns g c =

@@ -5,8 +5,7 @@ use Rattle.arrays_core.specs.declared.item.Item.TheVariants.{Num}
 use Rattle.item_fns.specs.RightFold.{fold_right}
 use Rattle.fold_trees.specs.ArrayLines.{numbers_of_line}
 use Rattle.reduce_fns.{specs.Reduce.{reduce_item}, proofs.Lines.{long_with_axis, remove_inserted}}
-use Rattle.sum_rules.{specs.LineSums.{array_of_shape}, proofs.KeptLines.{kept_total, line_below, within_one}}
-use Rattle.sum_rules.{proofs.after_error.total_now.Goals.{After-as_slice-then-contains}, proofs.after_error.total_now.Given.{Over}}
+use Rattle.sum_rules.{specs.LineSums.{array_of_shape}, proofs.KeptLines.{kept_total, line_below, within_one}, proofs.after_error.total_now.Goals.{After-as_slice-then-contains}, proofs.after_error.total_now.Given.{Over}}
 use Rattle.sum_rules.proofs.after_error.total_now.Goals as goal
 
 -- the index list of the new number
@@ -38,11 +37,9 @@ returns-then-contains-clause-total g c =
 
 pub kept_total-requires : goal.kept_total-requires
 kept_total-requires g c =
-    let shape = c.args.axes.now.items in
-    let axis = axis_at (length shape) c.args.fold.along in
+    let axis = axis_at (length c.args.axes.now.items) c.args.fold.along in
     let t = g.S.LineTotals.trees c.args.sums.now in
-    let there = line_below axis t (array_of_shape shape t.numbers) c.requires.lines c.args.index.now c.requires.index in
-    omega (arith, there, c.requires.line)
+    omega (arith, line_below axis t (array_of_shape c.args.axes.now.items t.numbers) c.requires.lines c.args.index.now c.requires.index, c.requires.line)
 
 pub returns-clause-total : goal.returns-clause-total
 returns-clause-total g c =

@@ -1,15 +1,10 @@
-use Rattle.std.proofs.Common.{◌≡◌, ◌∙◌, ◌<◌, ◌≤◌, ◌+◌, ◌-◌, true, ℕ, List, take, length, refl, ap, sym, subst, arith, inl, inr, Ok, Err}
-use Rattle.std.{proofs.lemmas.Bool.{cases_Bool}, proofs.lemmas.List.{length-replicate}}
-use Rattle.arrays_core.{specs.declared.item.ItemType.TheVariants.{Nums}, specs.Arrays.{ArrayValue, with_items}, specs.Items.{fill}}
-use Rattle.arrays_core.{specs.Shapes.{is_index_of, size, index_after, places_before}, proofs.Order.{index_after-within, places_before-index_after}}
+use Rattle.std.{proofs.Common.{◌≡◌, ◌∙◌, ◌<◌, ◌≤◌, ◌+◌, ◌-◌, true, ℕ, List, take, length, refl, ap, sym, subst, arith, inl, inr, Ok, Err}, proofs.lemmas.Bool.{cases_Bool}, proofs.lemmas.List.{length-replicate}}
+use Rattle.arrays_core.{specs.declared.item.ItemType.TheVariants.{Nums}, specs.Arrays.{ArrayValue, with_items}, specs.Items.{fill}, specs.Shapes.{is_index_of, size, index_after, places_before}, proofs.Order.{index_after-within, places_before-index_after}}
 use Rattle.function_names.specs.Axes.{axis_at}
 use Rattle.index_region.{specs.Boxes.{box_size, fits, is_within, walk_at, whole_of}, specs.Patches.{patched}}
 use Rattle.reduce_fns.specs.Reduce.{reduce_item}
-use Rattle.change_core.{specs.Meters.{ticked}, proofs.Filling.{all_filled, as_many_written, nothing_filled, one_filled, one_more_tick}}
-use Rattle.change_core.proofs.Walking.{rest_err, walk-whole}
-use Rattle.sum_rules.{specs.LineSums.{array_of_shape, length_along}, specs.Totals.{AreJoinsFrom, AreJoinsWithin, box_of_lines}}
-use Rattle.sum_rules.{proofs.ChangedLines.{as_many_lines, fits_axes}, proofs.KeptLines.{items_walked, some_lines}}
-use Rattle.sum_rules.proofs.PassedLines.{Passed, none_passed, over_one, over_other, most_passed, all_passed}
+use Rattle.change_core.{specs.Meters.{ticked}, proofs.Filling.{all_filled, as_many_written, nothing_filled, one_filled, one_more_tick}, proofs.Walking.{rest_err, walk-whole}}
+use Rattle.sum_rules.{specs.LineSums.{array_of_shape, length_along}, specs.Totals.{AreJoinsFrom, AreJoinsWithin, box_of_lines}, proofs.ChangedLines.{as_many_lines, fits_axes}, proofs.KeptLines.{items_walked, some_lines}, proofs.PassedLines.{Passed, none_passed, over_one, over_other, most_passed, all_passed}}
 use Rattle.sum_rules.{proofs.after_error.totals_now.Goals.{After-total_now}, proofs.after_error.totals_now.Given.{Over}}
 use Rattle.sum_rules.proofs.after_error.totals_now.Goals as goal
 
@@ -37,16 +32,14 @@ below g c = omega (arith, c.loop-line-test.true, c.size-line-end.ensures, ap siz
 
 index_is : (g : Over) (c : After-total_now g) → c.as_slice-in-loop-line.result.now ≡ index_after c.args.shape.now.items c.loop-line.line
 index_is g c =
-    let before : c.loop-line.line + 1 - 1 ≡ c.loop-line.line = omega arith in
-    c.as_slice-in-loop-line.ensures ∙ c.index_of_position-index.ensures.is ∙ ap (index_after c.args.shape.now.items) before
+    c.as_slice-in-loop-line.ensures ∙ c.index_of_position-index.ensures.is ∙ ap (index_after c.args.shape.now.items) (omega arith)
 
 -- the box lies in the shape of the totals
 fit : (g : Over) (c : After-total_now g) → fits (box_of_lines (axis_at (length c.args.axes.now.items) c.args.fold.along) c.args.patch.now.region) c.args.shape.now.items ≡ true
 fit g c =
-    let axes = c.args.axes.now.items in
     let t = g.S.LineTotals.trees c.args.sums.now in
-    let axis = axis_at (length axes) c.args.fold.along in
-    let all = fits_axes axis t (array_of_shape axes t.numbers) c.args.patch.now c.requires.lines c.requires.fit c.requires.one in
+    let axis = axis_at (length c.args.axes.now.items) c.args.fold.along in
+    let all = fits_axes axis t (array_of_shape c.args.axes.now.items t.numbers) c.args.patch.now c.requires.lines c.requires.fit c.requires.one in
     subst (λ (s : List ℕ). fits (box_of_lines axis c.args.patch.now.region) s ≡ true) (sym c.requires.shaped) all.rest
 
 -- one more line is passed
@@ -121,12 +114,10 @@ returns-clause-totals g c =
 
 pub returns-clause-exact : goal.returns-clause-exact
 returns-clause-exact g c =
-    let axes = c.args.axes.now.items in
     let t = g.S.LineTotals.trees c.args.sums.now in
-    let lines = some_lines (axis_at (length axes) c.args.fold.along) t (array_of_shape axes t.numbers) c.requires.lines in
+    let lines = some_lines (axis_at (length c.args.axes.now.items) c.args.fold.along) t (array_of_shape c.args.axes.now.items t.numbers) c.requires.lines in
     let last : c.loop-line.line ≡ size c.args.shape.now.items = omega (arith, c.loop-line-test.false, c.size-line-end.ensures, ap size c.as_slice.ensures) in
-    let some : 0 < c.loop-line.line = omega (arith, last, lines, ap size c.requires.shaped) in
-    c.loop-line.invariant.some some ∙ ap (ticked c.args.meter.now.ticks) last
+    c.loop-line.invariant.some (omega (arith, last, lines, ap size c.requires.shaped)) ∙ ap (ticked c.args.meter.now.ticks) last
 
 pub returns-clause-joins : goal.returns-clause-joins
 returns-clause-joins g c =

@@ -1,22 +1,17 @@
 use Rattle.std.{proofs.Common.{◌≡◌, ◌∙◌, ◌<◌, ◌+◌, ℕ, ℤ, List, get_or, set, map, sym, ap, arith, refl, subst}, proofs.lemmas.List.{length-map}}
-use Rattle.arrays_core.{specs.declared.item.Item.{Item}, specs.declared.item.Item.TheVariants.{Num}, specs.declared.item.ItemType.TheVariants.{Nums}}
-use Rattle.arrays_core.{specs.Arrays.{IsArray}, specs.Items.{fill}, specs.Shapes.{is_index_of, places_before}}
-use Rattle.index_region.{specs.Boxes.{Interval, box_size, box_offset, is_within, walk_at}, specs.Patches.{patched}}
-use Rattle.index_region.{proofs.Patched.{box_within_size, fits_within, patched_sound}, proofs.Walks.{offset_of_walk, some_place, walk_within}}
-use Rattle.index_region.proofs.Written.{IsWritten, written_none, written_more, written_all}
+use Rattle.arrays_core.{specs.declared.item.Item.{Item}, specs.declared.item.Item.TheVariants.{Num}, specs.declared.item.ItemType.TheVariants.{Nums}, specs.Arrays.{IsArray}, specs.Items.{fill}, specs.Shapes.{is_index_of, places_before}}
+use Rattle.index_region.{specs.Boxes.{Interval, box_size, box_offset, is_within, walk_at}, specs.Patches.{patched}, proofs.Patched.{box_within_size, fits_within, patched_sound}, proofs.Walks.{offset_of_walk, some_place, walk_within}, proofs.Written.{IsWritten, written_none, written_more, written_all}}
 use Rattle.sum_rules.specs.LineSums.{array_of_shape}
 use Rattle.sum_rules.proofs.line_sums.write_into.Goals as goal
 
 pub index_at-index-requires-clause-size : goal.index_at-index-requires-clause-size
 index_at-index-requires-clause-size c =
     let most = box_within_size c.args.patch.now.region c.args.shape.now.items c.requires.fit.inside in
-    let within = c.requires.lines.within.size_within in
     subst (λ (r : List Interval). box_size r < 18446744073709551616) (sym c.region-region.ensures) (omega arith)
 
 pub size-before-end-requires : goal.size-before-end-requires
 size-before-end-requires c =
     let most = box_within_size c.args.patch.now.region c.args.shape.now.items c.requires.fit.inside in
-    let within = c.requires.lines.within.size_within in
     subst (λ (r : List Interval). box_size r < 18446744073709551616) (sym c.region-region.ensures) (omega arith)
 
 pub index_at-index-requires-clause-below : goal.index_at-index-requires-clause-below
@@ -96,6 +91,5 @@ returns-clause-sound c =
 
 pub set_item-requires-clause-place : goal.set_item-requires-clause-place
 set_item-requires-clause-place c =
-    let numbers = c.loop-before.trees.lines.numbers in
-    let long = sym (length-map numbers (λ (z : ℤ). Num z)) ∙ c.loop-before.invariant.written.long in
+    let long = sym (length-map c.loop-before.trees.lines.numbers (λ (z : ℤ). Num z)) ∙ c.loop-before.invariant.written.long in
     omega (arith, long, c.places_before-place.ensures.below)

@@ -7,9 +7,8 @@ use Rattle.sum_rules.proofs.line_sums.write_joined.Goals as goal
 
 pub returns-clause-sound : goal.returns-clause-sound
 returns-clause-sound c =
-    let shape = c.args.shape.now.items in
     let p = c.args.patch.now.patch in
-    let a = array_of_shape shape c.args.trees.now.lines.numbers in
-    let same : array_of_shape shape c.set_joined.new.self.lines.numbers ≡ patched a p =
-    ap (λ (t : FoldsValue). array_of_shape shape t.lines.numbers) c.set_joined.ensures ∙ (c.requires.joined c.if-not-patch.false).writes in
+    let a = array_of_shape c.args.shape.now.items c.args.trees.now.lines.numbers in
+    let same : array_of_shape c.args.shape.now.items c.set_joined.new.self.lines.numbers ≡ patched a p =
+    ap (λ (t : FoldsValue). array_of_shape c.args.shape.now.items t.lines.numbers) c.set_joined.ensures ∙ (c.requires.joined c.if-not-patch.false).writes in
     subst IsArray (sym same) (patched_sound a p c.requires.lines c.item_type-one_item.ensures.sound c.requires.fit)

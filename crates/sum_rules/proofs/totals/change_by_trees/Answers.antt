@@ -10,28 +10,25 @@ use Rattle.sum_rules.proofs.totals.change_by_trees.Goals as goal
 pub size-cost-requires : goal.size-cost-requires
 size-cost-requires g c =
     let seen : c.again.result ≡ c.args.array.now = c.again.ensures in
-    let changed : c.copy.result ≡ c.args.patch.now.region = c.copy.ensures ∙ c.region.ensures in
     let form = subst (λ (a : ArrayValue). reduce_form c.args.fold.along a ≡ Ok (form_of c.in-Ok.form.0.items c.in-Ok.form.1)) seen c.in-Ok.ensures.0 in
     let reach : Inside c.in-Inside.region ≡ reach_of (total_rule c.args.fold) (c.args.array.now ∷ []) (Some c.args.patch.now.region ∷ []) =
-    c.in-Inside.ensures ∙ (λ i. reach_of (total_rule c.args.fold) (seen i ∷ []) (Some (changed i) ∷ [])) in
+    c.in-Inside.ensures ∙ (λ i. reach_of (total_rule c.args.fold) (seen i ∷ []) (Some ((c.copy.ensures ∙ c.region.ensures) i) ∷ [])) in
     omega (arith, few_lines c.args.fold (g.S.LineTotals.trees c.args.sums.now) c.args.patch.now c.args.array.now c.requires.lines c.requires.one c.in-Ok.form.0.items c.in-Ok.form.1 form c.in-Inside.region reach)
 
 pub overflow_cast-cost : goal.overflow_cast-cost
 overflow_cast-cost g c =
     let seen : c.again.result ≡ c.args.array.now = c.again.ensures in
-    let changed : c.copy.result ≡ c.args.patch.now.region = c.copy.ensures ∙ c.region.ensures in
     let form = subst (λ (a : ArrayValue). reduce_form c.args.fold.along a ≡ Ok (form_of c.in-Ok.form.0.items c.in-Ok.form.1)) seen c.in-Ok.ensures.0 in
     let reach : Inside c.in-Inside.region ≡ reach_of (total_rule c.args.fold) (c.args.array.now ∷ []) (Some c.args.patch.now.region ∷ []) =
-    c.in-Inside.ensures ∙ (λ i. reach_of (total_rule c.args.fold) (seen i ∷ []) (Some (changed i) ∷ [])) in
+    c.in-Inside.ensures ∙ (λ i. reach_of (total_rule c.args.fold) (seen i ∷ []) (Some ((c.copy.ensures ∙ c.region.ensures) i) ∷ [])) in
     omega (arith, c.size-cost.ensures, few_lines c.args.fold (g.S.LineTotals.trees c.args.sums.now) c.args.patch.now c.args.array.now c.requires.lines c.requires.one c.in-Ok.form.0.items c.in-Ok.form.1 form c.in-Inside.region reach)
 
 pub patch_of-requires-clause-region : goal.patch_of-requires-clause-region
 patch_of-requires-clause-region g c =
     let seen : c.again.result ≡ c.args.array.now = c.again.ensures in
-    let changed : c.copy.result ≡ c.args.patch.now.region = c.copy.ensures ∙ c.region.ensures in
     let form = subst (λ (a : ArrayValue). reduce_form c.args.fold.along a ≡ Ok (form_of c.in-Ok.form.0.items c.in-Ok.form.1)) seen c.in-Ok.ensures.0 in
     let reach : Inside c.in-Inside.region ≡ reach_of (total_rule c.args.fold) (c.args.array.now ∷ []) (Some c.args.patch.now.region ∷ []) =
-    c.in-Inside.ensures ∙ (λ i. reach_of (total_rule c.args.fold) (seen i ∷ []) (Some (changed i) ∷ [])) in
+    c.in-Inside.ensures ∙ (λ i. reach_of (total_rule c.args.fold) (seen i ∷ []) (Some ((c.copy.ensures ∙ c.region.ensures) i) ∷ [])) in
     reached_box c.args.fold (g.S.LineTotals.trees c.args.sums.now) c.args.patch.now c.args.array.now c.requires.lines c.requires.one c.in-Ok.form.0.items c.in-Ok.form.1 form c.in-Inside.region reach
 
 pub returns-in_err-patch_of-in-Inside-clause-ticks : goal.returns-in_err-patch_of-in-Inside-clause-ticks
@@ -51,10 +48,9 @@ returns-in-Inside-clause-ticks g c =
 pub returns-in-Inside-clause-exact : goal.returns-in-Inside-clause-exact
 returns-in-Inside-clause-exact g c = λ sound.
     let seen : c.again.result ≡ c.args.array.now = c.again.ensures in
-    let changed : c.copy.result ≡ c.args.patch.now.region = c.copy.ensures ∙ c.region.ensures in
     let form = subst (λ (a : ArrayValue). reduce_form c.args.fold.along a ≡ Ok (form_of c.in-Ok.form.0.items c.in-Ok.form.1)) seen c.in-Ok.ensures.0 in
     let reach : Inside c.in-Inside.region ≡ reach_of (total_rule c.args.fold) (c.args.array.now ∷ []) (Some c.args.patch.now.region ∷ []) =
-    c.in-Inside.ensures ∙ (λ i. reach_of (total_rule c.args.fold) (seen i ∷ []) (Some (changed i) ∷ [])) in
+    c.in-Inside.ensures ∙ (λ i. reach_of (total_rule c.args.fold) (seen i ∷ []) (Some ((c.copy.ensures ∙ c.region.ensures) i) ∷ [])) in
     let back = sym reach in
     let size : reached_cost (total_rule c.args.fold) (c.args.array.now ∷ []) (Some c.args.patch.now.region ∷ []) ≡ box_size c.in-Inside.region = λ i. size_in (form i) (back i) in
     let all : reached_cost (total_rule c.args.fold) (c.args.array.now ∷ []) (Some c.args.patch.now.region ∷ []) ≡ box_size c.args.patch.now.region =
@@ -64,8 +60,7 @@ returns-in-Inside-clause-exact g c = λ sound.
 pub returns-in-Unmoved-clause-least : goal.returns-in-Unmoved-clause-least
 returns-in-Unmoved-clause-least g c =
     let seen : c.again.result ≡ c.args.array.now = c.again.ensures in
-    let changed : c.copy.result ≡ c.args.patch.now.region = c.copy.ensures ∙ c.region.ensures in
     let form = subst (λ (a : ArrayValue). reduce_form c.args.fold.along a ≡ Ok (form_of c.in-Ok.form.0.items c.in-Ok.form.1)) seen c.in-Ok.ensures.0 in
     let reach : Unmoved ≡ reach_of (total_rule c.args.fold) (c.args.array.now ∷ []) (Some c.args.patch.now.region ∷ []) =
-    c.in-Unmoved.ensures ∙ (λ i. reach_of (total_rule c.args.fold) (seen i ∷ []) (Some (changed i) ∷ [])) in
+    c.in-Unmoved.ensures ∙ (λ i. reach_of (total_rule c.args.fold) (seen i ∷ []) (Some ((c.copy.ensures ∙ c.region.ensures) i) ∷ [])) in
     absurd (some_reached c.args.fold (g.S.LineTotals.trees c.args.sums.now) c.args.patch.now c.args.array.now c.requires.lines c.requires.one c.in-Ok.form.0.items c.in-Ok.form.1 form reach)

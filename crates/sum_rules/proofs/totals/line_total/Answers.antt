@@ -29,15 +29,11 @@ returns-clause-total g c =
 pub returns-clause-joins : goal.returns-clause-joins
 returns-clause-joins g c = λ digits h.
     let count : (g.S.LineTotals.trees c.args.sums.now).count ≡ length_along c.args.fold.along c.args.shape.now.items = c.requires.lines.counted ∙ sym (along_axis c.args.fold.along c.args.shape.now.items c.requires.on_axis) in
-    let more = c.total_with-total.ensures.joins digits (rw count h) in
     let kept = ap (λ (m : MeterValue). m.joins) c.tick.ensures.exact in
-    let now = ap (λ (m : MeterValue). m.joins) c.count_joins.ensures in
-    omega (arith, more, kept, now)
+    omega (arith, c.total_with-total.ensures.joins digits (rw count h), kept, ap (λ (m : MeterValue). m.joins) c.count_joins.ensures)
 
 pub returns-clause-least : goal.returns-clause-least
 returns-clause-least g c = λ two.
     let count : (g.S.LineTotals.trees c.args.sums.now).count ≡ length_along c.args.fold.along c.args.shape.now.items = c.requires.lines.counted ∙ sym (along_axis c.args.fold.along c.args.shape.now.items c.requires.on_axis) in
-    let more = c.total_with-total.ensures.some (rw count two) in
     let kept = ap (λ (m : MeterValue). m.joins) c.tick.ensures.exact in
-    let now = ap (λ (m : MeterValue). m.joins) c.count_joins.ensures in
-    omega (arith, more, kept, now)
+    omega (arith, c.total_with-total.ensures.some (rw count two), kept, ap (λ (m : MeterValue). m.joins) c.count_joins.ensures)

@@ -3,9 +3,7 @@ use Rattle.arrays_core.specs.Arrays.{ArrayValue}
 use Rattle.function_names.specs.Axes.{axis_at}
 use Rattle.index_region.{specs.Boxes.{Interval, box_size, is_within, walk_at}, specs.Patches.{patched}, proofs.Walks.{some_place, walk_within}}
 use Rattle.reduce_fns.specs.Reduce.{reduce_item}
-use Rattle.change_core.{specs.Meters.{ticked}, proofs.Collected.{items_are}}
-use Rattle.change_core.proofs.Filling.{all_filled, as_many_written, few_places, filled_many, nothing_filled, one_filled, one_more_tick, vector_within}
-use Rattle.change_core.proofs.Walking.{rest_err}
+use Rattle.change_core.{specs.Meters.{ticked}, proofs.Collected.{items_are}, proofs.Filling.{all_filled, as_many_written, few_places, filled_many, nothing_filled, one_filled, one_more_tick, vector_within}, proofs.Walking.{rest_err}}
 use Rattle.sum_rules.{specs.LineSums.{array_of_shape}, specs.Totals.{box_of_lines}, proofs.ChangedLines.{as_many_lines, line_there}}
 use Rattle.sum_rules.proofs.totals.new_totals.Goals as goal
 
@@ -50,21 +48,19 @@ loop-line-init g c =
 
 pub write_at-requires-clause-high : goal.write_at-requires-clause-high
 write_at-requires-clause-high g c =
-    let p = c.args.patch.now in
     let t = g.S.LineTotals.trees c.args.sums.now in
     let axis = axis_at (length c.args.shape.now.items) c.args.fold.along in
-    let as_many = as_many_lines axis t (array_of_shape c.args.shape.now.items t.numbers) p c.requires.lines c.requires.fit c.requires.one in
+    let as_many = as_many_lines axis t (array_of_shape c.args.shape.now.items t.numbers) c.args.patch.now c.requires.lines c.requires.fit c.requires.one in
     omega (arith, c.loop-line.invariant.many, c.loop-line-test.true, c.size-lines.ensures, ap box_size c.region-region.ensures)
 
 pub returns-clause-totals : goal.returns-clause-totals
 returns-clause-totals g c =
-    let p = c.args.patch.now in
     let t = g.S.LineTotals.trees c.args.sums.now in
     let axis = axis_at (length c.args.shape.now.items) c.args.fold.along in
     let a = array_of_shape c.args.shape.now.items t.numbers in
-    let region = box_of_lines axis p.region in
-    let item = reduce_item c.args.fold.function c.args.fold.along (patched a p) in
-    let as_many = as_many_lines axis t a p c.requires.lines c.requires.fit c.requires.one in
+    let region = box_of_lines axis c.args.patch.now.region in
+    let item = reduce_item c.args.fold.function c.args.fold.along (patched a c.args.patch.now) in
+    let as_many = as_many_lines axis t a c.args.patch.now c.requires.lines c.requires.fit c.requires.one in
     let ended : box_size region ≤ c.loop-line.line = omega (arith, c.loop-line-test.false, c.size-lines.ensures, ap box_size c.region-region.ensures) in (
       sym (items_are item region) ∙ all_filled c.loop-line.totals (λ q. item (walk_at region q)) (box_size region) c.loop-line.line _ c.loop-line.invariant.many ended c.loop-line.invariant.rest,
       c.loop-line.invariant.typed,
@@ -74,29 +70,25 @@ pub returns-clause-exact : goal.returns-clause-exact
 returns-clause-exact g c =
     let p = c.args.patch.now in
     let last : c.loop-line.line ≡ box_size p.region = omega (arith, c.loop-line-test.false, c.size-lines.ensures, ap box_size c.region-region.ensures) in
-    let some : 0 < c.loop-line.line = omega (arith, last, some_place p.region c.args.shape.now.items c.requires.fit.inside) in
-    c.loop-line.invariant.some some ∙ ap (ticked c.args.meter.now.ticks) last
+    c.loop-line.invariant.some (omega (arith, last, some_place p.region c.args.shape.now.items c.requires.fit.inside)) ∙ ap (ticked c.args.meter.now.ticks) last
 
 pub line_total-requires-clause-inside : goal.line_total-requires-clause-inside
 line_total-requires-clause-inside g c =
-    let p = c.args.patch.now in
     let before = c.loop-line.line in
-    let below : before < box_size p.region = omega (arith, c.loop-line-test.true, c.size-lines.ensures, ap box_size c.region-region.ensures) in
-    ap (is_within p.region) (c.as_slice.ensures.is ∙ c.loop-line.invariant.at below) ∙ walk_within p.region before below
+    let below : before < box_size c.args.patch.now.region = omega (arith, c.loop-line-test.true, c.size-lines.ensures, ap box_size c.region-region.ensures) in
+    ap (is_within c.args.patch.now.region) (c.as_slice.ensures.is ∙ c.loop-line.invariant.at below) ∙ walk_within c.args.patch.now.region before below
 
 pub returns-in-Err-clause-totals : goal.returns-in-Err-clause-totals
 returns-in-Err-clause-totals g c =
     let p = c.args.patch.now in
-    let shape = c.args.shape.now.items in
     let t = g.S.LineTotals.trees c.args.sums.now in
-    let axis = axis_at (length shape) c.args.fold.along in
-    let a = array_of_shape shape t.numbers in
+    let axis = axis_at (length c.args.shape.now.items) c.args.fold.along in
+    let a = array_of_shape c.args.shape.now.items t.numbers in
     let region = box_of_lines axis p.region in
     let item = reduce_item c.args.fold.function c.args.fold.along (patched a p) in
     let before = c.loop-line.line in
     let below : before < box_size p.region = omega (arith, c.loop-line-test.true, c.size-lines.ensures, ap box_size c.region-region.ensures) in
-    let as_many = as_many_lines axis t a p c.requires.lines c.requires.fit c.requires.one in
-    let under : before < box_size region = omega (arith, as_many) in
+    let under : before < box_size region = omega (arith, as_many_lines axis t a p c.requires.lines c.requires.fit c.requires.one) in
     let index : c.as_slice.result.now ≡ walk_at p.region before = c.as_slice.ensures.is ∙ c.loop-line.invariant.at below in
     let there = ap (λ (i : List ℕ). remove i axis) index ∙ line_there axis t a p c.requires.lines c.requires.fit c.requires.one before under in
     let failed = ap item (sym there) ∙ sym c.line_total.ensures.total ∙ c.in-Err.is in
@@ -106,23 +98,19 @@ pub returns-in-Err-clause-joins : goal.returns-in-Err-clause-joins
 returns-in-Err-clause-joins g c = λ digits h.
     let below : c.loop-line.line < box_size c.args.patch.now.region = omega (arith, c.loop-line-test.true, c.size-lines.ensures, ap box_size c.region-region.ensures) in
     let most : (c.loop-line.line + 1) * digits ≤ box_size c.args.patch.now.region * digits = mul-le-mul_right digits (omega (arith, below)) in
-    let so_far = c.loop-line.invariant.joins digits h in
-    let more = c.line_total.ensures.joins digits h in
-    omega (arith, so_far, more, most)
+    omega (arith, c.loop-line.invariant.joins digits h, c.line_total.ensures.joins digits h, most)
 
 pub loop-line-preserved : goal.loop-line-preserved
 loop-line-preserved g c =
     let p = c.args.patch.now in
-    let shape = c.args.shape.now.items in
     let t = g.S.LineTotals.trees c.args.sums.now in
-    let axis = axis_at (length shape) c.args.fold.along in
-    let a = array_of_shape shape t.numbers in
+    let axis = axis_at (length c.args.shape.now.items) c.args.fold.along in
+    let a = array_of_shape c.args.shape.now.items t.numbers in
     let region = box_of_lines axis p.region in
     let item = reduce_item c.args.fold.function c.args.fold.along (patched a p) in
     let before = c.loop-line.line in
     let below : before < box_size p.region = omega (arith, c.loop-line-test.true, c.size-lines.ensures, ap box_size c.region-region.ensures) in
-    let as_many = as_many_lines axis t a p c.requires.lines c.requires.fit c.requires.one in
-    let under : before < box_size region = omega (arith, as_many) in
+    let under : before < box_size region = omega (arith, as_many_lines axis t a p c.requires.lines c.requires.fit c.requires.one) in
     let here = c.loop-line.invariant.at below in
     let index : c.as_slice.result.now ≡ walk_at p.region before = c.as_slice.ensures.is ∙ here in
     let there = ap (λ (i : List ℕ). remove i axis) index ∙ line_there axis t a p c.requires.lines c.requires.fit c.requires.one before under in
@@ -133,13 +121,9 @@ loop-line-preserved g c =
       some = λ _. one_more_tick c.args.meter.now.ticks before c.loop-line.meter.ticks _ c.loop-line.invariant.none c.loop-line.invariant.some c.line_total.ensures.ticks;
       rises = omega (arith, c.line_total.ensures.rises, c.loop-line.invariant.rises);
       joins = λ digits h.
-          let so_far = c.loop-line.invariant.joins digits h in
-          let more = c.line_total.ensures.joins digits h in
-          omega (arith, so_far, more);
+          omega (arith, c.loop-line.invariant.joins digits h, c.line_total.ensures.joins digits h);
       least = λ two.
-          let so_far = c.loop-line.invariant.least two in
-          let more = c.line_total.ensures.least two in
-          omega (arith, so_far, more);
+          omega (arith, c.loop-line.invariant.least two, c.line_total.ensures.least two);
       at = subst (λ (r : List Interval). before + 1 < box_size r → c.advance.new.index ≡ walk_at r (before + 1)) c.region-region.ensures
           (λ later. c.advance.ensures.next before later (here ∙ ap (λ (r : List Interval). walk_at r before) (sym c.region-region.ensures)));
       many = as_many_written c.loop-line.totals c.write_at.new.self (box_size region) before _ c.loop-line.invariant.many c.write_at.ensures;

@@ -4,15 +4,13 @@ use Rattle.change_rules.{proofs.Items.{as_many as one_item_a_place}, specs.Nodes
 use Rattle.index_region.{specs.declared.delta.Delta.TheVariants.{Whole}, specs.Boxes.{box_size}}
 use Rattle.reduce_fns.specs.Reduce.{reduce_item}
 use Rattle.change_core.{specs.Meters.{ticked}, proofs.Filling.{few_places}}
-use Rattle.sum_rules.{specs.LineSums.{length_along}, specs.Totals.{AreJoinsFrom, AreJoinsWithin}}
-use Rattle.sum_rules.{proofs.ChangedTotals.{as_many_lines_now, items_now, one_place}, proofs.Outcomes.{array_given, error_given}}
+use Rattle.sum_rules.{specs.LineSums.{length_along}, specs.Totals.{AreJoinsFrom, AreJoinsWithin}, proofs.ChangedTotals.{as_many_lines_now, items_now, one_place}, proofs.Outcomes.{array_given, error_given}}
 use Rattle.sum_rules.proofs.totals.patch_of.Goals as goal
 
 pub size-requires : goal.size-requires
 size-requires g c =
-    let stood = c.requires.lines in
-    let few = few_places c.args.patch.now.region stood.before.shape stood.fit.inside stood.lines.sound.within in
-    let as_many = as_many_lines_now c.args.fold (g.S.LineTotals.trees c.args.sums.now) c.args.patch.now c.args.array.now stood c.requires.one in
+    let few = few_places c.args.patch.now.region c.requires.lines.before.shape c.requires.lines.fit.inside c.requires.lines.lines.sound.within in
+    let as_many = as_many_lines_now c.args.fold (g.S.LineTotals.trees c.args.sums.now) c.args.patch.now c.args.array.now c.requires.lines c.requires.one in
     omega (arith, few, as_many, ap box_size c.requires.region)
 
 pub returns-then-size-eq1-clause-ticks : goal.returns-then-size-eq1-clause-ticks

@@ -1,16 +1,14 @@
 use Rattle.std.proofs.Common.{◌∙◌, Ok, Err, List, [], ◌∷◌, ap, sym, arith}
 use Rattle.arrays_core.{specs.declared.fault.Fault.{Fault}, specs.declared.item.ItemType.{ItemType}, specs.declared.item.ItemType.TheVariants.{Nums}}
 use Rattle.change_core.proofs.Filling.{few_places}
-use Rattle.index_region.{specs.Boxes.{Interval, box_size, is_within, walk_at}, proofs.Walks.{some_place, walk_within}}
-use Rattle.index_region.specs.declared.delta.Delta.TheVariants.{Patch, Whole}
+use Rattle.index_region.{specs.Boxes.{Interval, box_size, is_within, walk_at}, proofs.Walks.{some_place, walk_within}, specs.declared.delta.Delta.TheVariants.{Patch, Whole}}
 use Rattle.change_rules.specs.Nodes.{patch_delta}
 use Rattle.sum_rules.proofs.ChangedTotals.{one_total}
 use Rattle.sum_rules.proofs.totals.patch_of_one.Goals as goal
 
 pub index_at-index-requires-clause-size : goal.index_at-index-requires-clause-size
 index_at-index-requires-clause-size g c =
-    let stood = c.requires.lines in
-    let few = few_places c.args.patch.now.region stood.before.shape stood.fit.inside stood.lines.sound.within in
+    let few = few_places c.args.patch.now.region c.requires.lines.before.shape c.requires.lines.fit.inside c.requires.lines.lines.sound.within in
     omega (arith, few, ap box_size c.region.ensures)
 
 pub index_at-index-requires-clause-below : goal.index_at-index-requires-clause-below
@@ -18,9 +16,8 @@ index_at-index-requires-clause-below g c = rw c.region.ensures (some_place c.arg
 
 pub line_total-requires-clause-inside : goal.line_total-requires-clause-inside
 line_total-requires-clause-inside g c =
-    let p = c.args.patch.now in
-    ap (is_within p.region) (c.as_slice.ensures.is ∙ c.index_at-index.ensures ∙ ap (λ (r : List Interval). walk_at r 0) c.region.ensures)
-    ∙ walk_within p.region 0 (some_place p.region c.requires.lines.before.shape c.requires.lines.fit.inside)
+    ap (is_within c.args.patch.now.region) (c.as_slice.ensures.is ∙ c.index_at-index.ensures ∙ ap (λ (r : List Interval). walk_at r 0) c.region.ensures)
+    ∙ walk_within c.args.patch.now.region 0 (some_place c.args.patch.now.region c.requires.lines.before.shape c.requires.lines.fit.inside)
 
 pub returns-in-Ok-clause-delta : goal.returns-in-Ok-clause-delta
 returns-in-Ok-clause-delta g c =

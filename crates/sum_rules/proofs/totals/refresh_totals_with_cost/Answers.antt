@@ -1,11 +1,9 @@
 use Rattle.std.{proofs.Common.{◌≡◌, ℕ, List, [], ◌∷◌, length, false, ◌∙◌, refl, ap, sym, subst}, proofs.lemmas.Bool.{ne_eqb}}
 use Rattle.arrays_core.{proofs.Growing.{rank_longer}, specs.Arrays.{ArrayValue}}
 use Rattle.change_core.proofs.Covers.{covers, reaches_inside}
-use Rattle.change_rules.{specs.Currency.{BringsUpToDate, IsRight}, specs.Nodes.{views, moved}, proofs.NodeRight.{brings_up_to_date}}
-use Rattle.change_rules.proofs.Right.{answered, node_is_right}
+use Rattle.change_rules.{specs.Currency.{BringsUpToDate, IsRight}, specs.Nodes.{views, moved}, proofs.NodeRight.{brings_up_to_date}, proofs.Right.{answered, node_is_right}}
 use Rattle.reduce_fns.{specs.Laws.LinesGrowth.{reduce_growing}, specs.Laws.Reduce.{reduce_tight}}
-use Rattle.sum_rules.{specs.Totals.{total_rule, is_by_trees, is_narrow, is_one_a_line}, proofs.ChangedTotals.{delta_is, folded, not_patched}}
-use Rattle.sum_rules.proofs.totals.refresh_totals_with_cost.Goals.{in-Patch+else-is_one_a_line, in_default, in-Grown+else-axis_at-eq0, in_default-delta}
+use Rattle.sum_rules.{specs.Totals.{total_rule, is_by_trees, is_narrow, is_one_a_line}, proofs.ChangedTotals.{delta_is, folded, not_patched}, proofs.totals.refresh_totals_with_cost.Goals.{in-Patch+else-is_one_a_line, in_default, in-Grown+else-axis_at-eq0, in_default-delta}}
 use Rattle.function_names.specs.Axes.{is_axis, axis_at}
 use Rattle.sum_rules.proofs.totals.refresh_totals_with_cost.Goals as goal
 
@@ -47,12 +45,11 @@ change_by_growth-requires-clause-function g c = (c.requires.sums.grew c.in-Grown
 
 pub returns-clause-least : goal.returns-clause-least
 returns-clause-least g c =
-    let along = c.args.fold.along in
     let arg = c.args.arg in
     let held = c.args.old.now in
-    let axis = axis_at (length arg.0.shape) along in
-    let axes = ap (λ (s : List ℕ). axis_at (length s) along) (c.as_slice.ensures ∙ c.shape.ensures.is) in
-    let none : is_by_trees along arg ≡ false = elim c.match-delta.branch [
+    let axis = axis_at (length arg.0.shape) c.args.fold.along in
+    let axes = ap (λ (s : List ℕ). axis_at (length s) c.args.fold.along) (c.as_slice.ensures ∙ c.shape.ensures.is) in
+    let none : is_by_trees c.args.fold.along arg ≡ false = elim c.match-delta.branch [
       | in-Patch+else-is_one_a_line w ↦
           let meant : w.axis_at.result ≡ axis = w.axis_at.ensures.is ∙ axes in
           ap (is_narrow axis) w.in-Patch.is ∙ (λ i. is_one_a_line (sym meant i) (sym w.region.ensures i)) ∙ sym w.is_one_a_line.ensures ∙ w.if-is_one_a_line.false

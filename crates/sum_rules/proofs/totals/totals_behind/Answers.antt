@@ -1,10 +1,8 @@
-use Rattle.std.proofs.Common.{◌≡◌, ◌∙◌, ◌<◌, ◌≤◌, ◌++◌, ◌∷◌, [], ℤ, pos, get_or, map, length, take, rules, sym, ap, arith, Ok, Err, FitsSigned, w64}
-use Rattle.std.proofs.lemmas.Int.{to_z-of_z}
+use Rattle.std.{proofs.Common.{◌≡◌, ◌∙◌, ◌<◌, ◌≤◌, ◌++◌, ◌∷◌, [], ℤ, pos, get_or, map, length, take, rules, sym, ap, arith, Ok, Err, w64}, proofs.lemmas.Int.{to_z-of_z}}
 use Rattle.arrays_core.{specs.declared.item.Item.TheVariants.{Num}, specs.declared.item.ItemType.TheVariants.{Nums}, specs.Arrays.{ArrayValue, with_items}}
 use Rattle.item_fns.{specs.Items.{number_item}, specs.RightFold.{fold_right}}
 use Rattle.fold_trees.specs.ArrayLines.{numbers_of_line}
-use Rattle.change_core.{specs.Meters.{MeterValue}, proofs.Collected.{collected_is}, proofs.Filling.{all_filled, as_many_written, one_filled, one_more_tick}}
-use Rattle.change_core.proofs.Walking.{rest_err}
+use Rattle.change_core.{specs.Meters.{MeterValue}, proofs.Collected.{collected_is}, proofs.Filling.{all_filled, as_many_written, one_filled, one_more_tick}, proofs.Walking.{rest_err}}
 use Rattle.sum_rules.{specs.Totals.{longer_totals}, proofs.LongerTotals.{longer_total}}
 use Rattle.sum_rules.proofs.totals.totals_behind.Goals as goal
 
@@ -15,8 +13,7 @@ returns-in-Err-clause-totals g c =
     let numbers = c.args.numbers.now in
     let line = c.loop-line.line in
     let below : line < length numbers = c.loop-line-test.true in
-    let fits : FitsSigned w64 (get_or numbers line (pos 0)) = search rules in
-    let number = to_z-of_z w64 (get_or numbers line (pos 0)) fits in
+    let number = to_z-of_z w64 (get_or numbers line (pos 0)) (search rules) in
     let failed : longer_total f t numbers line ≡ Err c.in-Err.kind =
     sym (c.total_behind-total.ensures ∙ ap (λ (z : ℤ). fold_right f (map (λ (y : ℤ). Num y) (numbers_of_line t line ++ z ∷ []))) number) ∙ ap number_item c.in-Err.is in
     ap (with_items Nums c.args.shape.now.items)
@@ -29,12 +26,10 @@ loop-line-preserved g c =
     let numbers = c.args.numbers.now in
     let line = c.loop-line.line in
     let below : line < length numbers = c.loop-line-test.true in
-    let fits : FitsSigned w64 (get_or numbers line (pos 0)) = search rules in
-    let number = to_z-of_z w64 (get_or numbers line (pos 0)) fits in
+    let number = to_z-of_z w64 (get_or numbers line (pos 0)) (search rules) in
     let given : longer_total f t numbers line ≡ Ok (Num c.in-Ok.total) =
     sym (c.total_behind-total.ensures ∙ ap (λ (z : ℤ). fold_right f (map (λ (y : ℤ). Num y) (numbers_of_line t line ++ z ∷ []))) number) ∙ ap number_item c.in-Ok.is in
-    let sound : FitsSigned w64 c.in-Ok.total = search rules in
-    let written = given ∙ ap (λ (z : ℤ). Ok (Num z)) (sym (to_z-of_z w64 c.in-Ok.total sound)) in
+    let written = given ∙ ap (λ (z : ℤ). Ok (Num z)) (sym (to_z-of_z w64 c.in-Ok.total (search rules))) in
     let kept = ap (λ (m : MeterValue). m.joins) c.tick.ensures.exact in
     let now = ap (λ (m : MeterValue). m.joins) c.count_joins.ensures in
     record {

@@ -1,9 +1,8 @@
-use Rattle.std.{proofs.Common.{◌≡◌, ◌∙◌, ◌<◌, ◌≤◌, ℤ, take, rules, sym, ap, arith, Ok, Err, FitsSigned, w64}, proofs.lemmas.Int.{to_z-of_z}}
+use Rattle.std.{proofs.Common.{◌≡◌, ◌∙◌, ◌<◌, ◌≤◌, ℤ, take, rules, sym, ap, arith, Ok, Err, w64}, proofs.lemmas.Int.{to_z-of_z}}
 use Rattle.arrays_core.{specs.declared.item.Item.TheVariants.{Num}, specs.declared.item.ItemType.TheVariants.{Nums}, specs.Arrays.{ArrayValue, with_items}}
 use Rattle.item_fns.specs.Items.{number_item}
 use Rattle.fold_trees.specs.ArrayLines.{line_count}
-use Rattle.change_core.{specs.Meters.{MeterValue}, proofs.Collected.{collected_is}, proofs.Filling.{all_filled, as_many_written, one_filled, one_more_tick}}
-use Rattle.change_core.proofs.Walking.{rest_err}
+use Rattle.change_core.{specs.Meters.{MeterValue}, proofs.Collected.{collected_is}, proofs.Filling.{all_filled, as_many_written, one_filled, one_more_tick}, proofs.Walking.{rest_err}}
 use Rattle.sum_rules.{specs.Totals.{all_totals}, proofs.WholeTotals.{total_of_line}}
 use Rattle.sum_rules.proofs.whole_totals.totals_of_all.Goals as goal
 
@@ -23,9 +22,7 @@ loop-line-preserved c =
     let t = c.args.trees.now.lines in
     let line = c.loop-line.line in
     let below : line < line_count t = omega (arith, c.loop-line-test.true, c.len-line-end.ensures) in
-    let given : total_of_line f t line ≡ Ok (Num c.in-Ok.total) = sym c.result-total.ensures ∙ ap number_item c.in-Ok.is in
-    let sound : FitsSigned w64 c.in-Ok.total = search rules in
-    let written = given ∙ ap (λ (z : ℤ). Ok (Num z)) (sym (to_z-of_z w64 c.in-Ok.total sound)) in
+    let written = (sym c.result-total.ensures ∙ ap number_item c.in-Ok.is) ∙ ap (λ (z : ℤ). Ok (Num z)) (sym (to_z-of_z w64 c.in-Ok.total (search rules))) in
     record {
       ticks = omega (arith, c.tick.ensures.by_one, c.loop-line.invariant.ticks);
       none = λ h. absurd (omega arith);

@@ -7,7 +7,6 @@ use Rattle.sum_rules.proofs.whole_totals.totals_of_all.Given as goal
 
 abbrev pub invariant-loop-line : goal.invariant-loop-line
 invariant-loop-line l =
-    let f = l.fn.trees.function in
     let t = l.fn.trees.lines in
     let n = line_count t in
     record {
@@ -19,5 +18,5 @@ invariant-loop-line l =
       many : length l.totals.items ≡ n;
       typed : l.totals.item_type ≡ Nums;
       shaped : l.totals.shape ≡ l.fn.shape.items;
-      rest : prepend (take l.line l.totals.items) (rest_from (total_of_line f t) n l.line) ≡ collected (all_totals f t);
+      rest : prepend (take l.line l.totals.items) (rest_from (total_of_line l.fn.trees.function t) n l.line) ≡ collected (all_totals l.fn.trees.function t);
     }

@@ -1,6 +1,5 @@
 use Rattle.std.proofs.Common.{◌≡◌, ◌∙◌, sym, ap, subst, Ok}
-use Rattle.arrays_core.{specs.declared.item.ItemType.TheVariants.{Nums}, specs.Arrays.{ArrayValue, with_items}, specs.Items.{all_or_first_error}}
-use Rattle.arrays_core.specs.Outcomes.{given}
+use Rattle.arrays_core.{specs.declared.item.ItemType.TheVariants.{Nums}, specs.Arrays.{ArrayValue, with_items}, specs.Items.{all_or_first_error}, specs.Outcomes.{given}}
 use Rattle.function_names.specs.declared.scalar.Scalar2.{Scalar2}
 use Rattle.index_region.{specs.declared.delta.Delta.TheVariants.{Whole}, specs.Checks.{form_of}}
 use Rattle.reduce_fns.specs.Reduce.{reduce_form, reduce_whole}
@@ -10,18 +9,16 @@ use Rattle.sum_rules.proofs.whole_totals.totals_read.Goals as goal
 pub totals_of_all-requires-clause-places : goal.totals_of_all-requires-clause-places
 totals_of_all-requires-clause-places c =
     let fold = c.args.fold in
-    let a = c.args.array.now in
     let t = c.trees-trees.result.now.lines in
     let form = subst (λ (b : ArrayValue). reduce_form fold.along b ≡ Ok (form_of c.in-Ok.form.0.items c.in-Ok.form.1)) c.again.ensures c.in-Ok.ensures.0 in
-    places_are fold a c.args.sums.now t c.requires c.trees-trees.ensures.lines c.in-Ok.form.0.items c.in-Ok.form.1 form
+    places_are fold c.args.array.now c.args.sums.now t c.requires c.trees-trees.ensures.lines c.in-Ok.form.0.items c.in-Ok.form.1 form
 
 pub totals_of_all-requires-clause-some : goal.totals_of_all-requires-clause-some
 totals_of_all-requires-clause-some c =
     let fold = c.args.fold in
-    let a = c.args.array.now in
     let t = c.trees-trees.result.now.lines in
     let form = subst (λ (b : ArrayValue). reduce_form fold.along b ≡ Ok (form_of c.in-Ok.form.0.items c.in-Ok.form.1)) c.again.ensures c.in-Ok.ensures.0 in
-    some_lines fold a c.args.sums.now t c.requires c.trees-trees.ensures.lines c.in-Ok.form.0.items c.in-Ok.form.1 form
+    some_lines fold c.args.array.now c.args.sums.now t c.requires c.trees-trees.ensures.lines c.in-Ok.form.0.items c.in-Ok.form.1 form
 
 pub returns-clause-delta : goal.returns-clause-delta
 returns-clause-delta c =

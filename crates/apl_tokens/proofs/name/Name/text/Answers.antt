@@ -1,5 +1,4 @@
-use Rattle.std.{proofs.Common.{List, ℕ, Result, Ok, Err, subst, sym, rules}, specs.Result.{IsOk, MatchResult}, specs.Str.{IsUtf8}}
-use Rattle.std.proofs.lemmas.Str.{IsUtf8-from_is_utf8}
+use Rattle.std.{proofs.Common.{List, ℕ, Result, Ok, Err, subst, sym, rules}, specs.Result.{IsOk, MatchResult}, specs.Str.{IsUtf8}, proofs.lemmas.Str.{IsUtf8-from_is_utf8}}
 use Rattle.apl_tokens.proofs.name.Name.text.Goals as goal
 
 is_ok : {T E : Type 0} (P : T → Type 0) (Q : E → Type 0) (U : Type 0) (r : Result T E) → MatchResult r (λ s. P s × U) (λ e. ¬ U × Q e) → U → IsOk r

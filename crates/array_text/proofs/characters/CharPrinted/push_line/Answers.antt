@@ -1,6 +1,5 @@
 use lib.Utf8.{encode}
-use Rattle.std.{proofs.Common.{◌≡◌, ◌++◌, ◌∙◌, [], ◌∷◌, ap, sym, List, ℕ, take, append_assoc}, specs.Prelude.{encode_utf8_all, string_bytes}}
-use Rattle.std.proofs.lemmas.List.{take_more, take_all}
+use Rattle.std.{proofs.Common.{◌≡◌, ◌++◌, ◌∙◌, [], ◌∷◌, ap, sym, List, ℕ, take, append_assoc}, specs.Prelude.{encode_utf8_all, string_bytes}, proofs.lemmas.List.{take_more, take_all}}
 use Rattle.array_text.{specs.Text.{character_line}, proofs.Writing.{pushed, grown, encode_utf8_all-push}}
 use Rattle.array_text.proofs.characters.CharPrinted.push_line.Goals as goal
 

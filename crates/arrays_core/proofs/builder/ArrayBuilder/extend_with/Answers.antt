@@ -1,6 +1,5 @@
 use Rattle.std.{proofs.Common.{◌≡◌, ap, sym, ◌∙◌, arith, w64, to_z, of_z}, proofs.lemmas.Int.{ints}}
-use Rattle.arrays_core.{specs.declared.item.Item.TheVariants.{Num, Char}, specs.Ravels.{list_items}, proofs.Building.{put_same}}
-use Rattle.arrays_core.proofs.builder.ArrayBuilder.extend_with.Goals.{in-Nums+in-Num, in-Chars+in-Char-item}
+use Rattle.arrays_core.{specs.declared.item.Item.TheVariants.{Num, Char}, specs.Ravels.{list_items}, proofs.Building.{put_same}, proofs.builder.ArrayBuilder.extend_with.Goals.{in-Nums+in-Num, in-Chars+in-Char-item}}
 use Rattle.arrays_core.proofs.builder.ArrayBuilder.extend_with.Goals as goal
 
 pub returns-clause-items : goal.returns-clause-items

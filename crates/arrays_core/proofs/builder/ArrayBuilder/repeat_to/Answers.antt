@@ -1,6 +1,5 @@
 use Rattle.std.proofs.Common.{ap, sym, ◌∙◌, pos}
-use Rattle.arrays_core.{specs.declared.item.Item.TheVariants.{Num, Char}, specs.Items.{fill}, specs.Ravels.{list_items, list_type}, proofs.Building.{put_again}}
-use Rattle.arrays_core.proofs.builder.ArrayBuilder.repeat_to.Goals.{in-Nums, in-Chars}
+use Rattle.arrays_core.{specs.declared.item.Item.TheVariants.{Num, Char}, specs.Items.{fill}, specs.Ravels.{list_items, list_type}, proofs.Building.{put_again}, proofs.builder.ArrayBuilder.repeat_to.Goals.{in-Nums, in-Chars}}
 use Rattle.arrays_core.proofs.builder.ArrayBuilder.repeat_to.Goals as goal
 
 pub returns-clause-items : goal.returns-clause-items

@@ -1,5 +1,4 @@
-use Rattle.std.{proofs.Common.{◌≡◌, ◌∙◌, ◌+◌, ◌-◌, ℕ, List, map, take, drop, refl, sym, ap, arith}, specs.Prelude.{ℤ}, proofs.lemmas.List.{take-map, drop-map}}
-use Rattle.std.proofs.lemmas.Result.{IfOk-weaker}
+use Rattle.std.{proofs.Common.{◌≡◌, ◌∙◌, ◌+◌, ◌-◌, ℕ, List, map, take, drop, refl, sym, ap, arith}, specs.Prelude.{ℤ}, proofs.lemmas.List.{take-map, drop-map}, proofs.lemmas.Result.{IfOk-weaker}}
 use Rattle.arrays_core.{specs.declared.item.Item.TheVariants.{Num, Char}, specs.Ravels.{lent_items}}
 use Rattle.arrays_core.proofs.ravel.Ravel.part.Goals as goal
 
@@ -10,8 +9,7 @@ part_of f places skipped xs = sym (take-map f places (drop skipped xs)) ∙ ap (
 -- a part of which the end is given
 made_of : {A B : Type 0} (f : A → B) (places skipped : ℕ) (made lent : List A) → made ≡ take (skipped + places - skipped) (drop skipped lent) → map f made ≡ take places (drop skipped (map f lent))
 made_of f places skipped made lent is =
-    let long : skipped + places - skipped ≡ places = omega arith in
-    ap (λ ys. map f ys) (is ∙ ap (λ n. take n (drop skipped lent)) long) ∙ part_of f places skipped lent
+    ap (λ ys. map f ys) (is ∙ ap (λ n. take n (drop skipped lent)) (omega arith)) ∙ part_of f places skipped lent
 
 pub returns-in-Nums-clause-items : goal.returns-in-Nums-clause-items
 returns-in-Nums-clause-items c =

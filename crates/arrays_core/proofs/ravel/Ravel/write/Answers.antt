@@ -1,19 +1,16 @@
-use Rattle.std.{proofs.Common.{◌≡◌, length, to_z, of_z, w64, refl, ap, arith, rules, SFits}, proofs.lemmas.Int.{to_z-of_z}, proofs.lemmas.List.{map-set}}
+use Rattle.std.{proofs.Common.{◌≡◌, length, to_z, of_z, w64, refl, ap, arith, rules}, proofs.lemmas.Int.{to_z-of_z}, proofs.lemmas.List.{map-set}}
 use Rattle.arrays_core.{specs.declared.item.Item.TheVariants.{Num, Char}, specs.Ravels.{ravel_items}}
 use Rattle.arrays_core.proofs.ravel.Ravel.write.Goals as goal
 
 pub returns-in-Num-clause-items : goal.returns-in-Num-clause-items
 returns-in-Num-clause-items c =
-    let fits : SFits w64 c.in-Num.number = search rules in
-    let number : to_z w64 (of_z w64 c.in-Num.number) ≡ c.in-Num.number = to_z-of_z w64 c.in-Num.number fits in
     let one : length (ravel_items c.args.self.now) ≡ 1 = ap (λ r. length (ravel_items r)) c.in-One.is in
     let first : c.args.place ≡ 0 = omega (arith, one, c.requires.inside) in
-    rw (number, c.in-Num.is, c.in-One.is, first) refl
+    rw (to_z-of_z w64 c.in-Num.number (search rules), c.in-Num.is, c.in-One.is, first) refl
 
 pub returns-in-Num-item-clause-items : goal.returns-in-Num-item-clause-items
 returns-in-Num-item-clause-items c =
-    let fits : SFits w64 c.in-Num-item.number = search rules in
-    let number : to_z w64 (of_z w64 c.in-Num-item.number) ≡ c.in-Num-item.number = to_z-of_z w64 c.in-Num-item.number fits in
+    let number : to_z w64 (of_z w64 c.in-Num-item.number) ≡ c.in-Num-item.number = to_z-of_z w64 c.in-Num-item.number (search rules) in
     rw (number, c.in-Num-item.is, c.in-Nums.is) (map-set (λ z. Num z) c.in-Nums.numbers.items c.args.place c.in-Num-item.number)
 
 pub returns-in-Char-clause-items : goal.returns-in-Char-clause-items

@@ -1,9 +1,7 @@
 use Rattle.std.proofs.Common.{◌≡◌, ◌<◌, Ok, Err, arith, sym, ap, ◌∙◌, take, refl}
 use Rattle.arrays_core.specs.Arrays.{ArrayValue}
 use Rattle.index_region.{specs.Boxes.{box_size, walk_at}, proofs.Walks.{some_place}}
-use Rattle.change_core.proofs.Walking.{rest_err}
-use Rattle.change_core.proofs.Filling.{filled_many, nothing_filled, one_filled, as_many_written, all_filled, typed_item, place_of, few_places, one_more_tick, vector_within}
-use Rattle.change_core.{specs.Meters.{ticked}, proofs.Collected.{items_are}}
+use Rattle.change_core.{proofs.Walking.{rest_err}, proofs.Filling.{filled_many, nothing_filled, one_filled, as_many_written, all_filled, typed_item, place_of, few_places, one_more_tick, vector_within}, specs.Meters.{ticked}, proofs.Collected.{items_are}}
 use Rattle.change_core.proofs.rule.Rule.item_by_item.Goals as goal
 
 pub loop-place-init : goal.loop-place-init
@@ -77,9 +75,8 @@ filled-requires g c = vector_within _ _ c.shape_of.ensures.items (omega (arith, 
 
 pub returns-clause-exact : goal.returns-clause-exact
 returns-clause-exact g c =
-    let last : c.loop-place.place ≡ box_size c.args.region.now = omega (arith, c.size-places.ensures, c.loop-place-test.false) in
     let some : 0 < c.loop-place.place = omega (arith, some_place c.args.region.now c.args.shape.now c.requires.fit) in
-    c.loop-place.invariant.some some ∙ ap (ticked c.args.meter.now.ticks) last
+    c.loop-place.invariant.some some ∙ ap (ticked c.args.meter.now.ticks) (omega (arith, c.size-places.ensures, c.loop-place-test.false))
 
 pub index_at-index-requires-clause-below : goal.index_at-index-requires-clause-below
 index_at-index-requires-clause-below g c = some_place c.args.region.now c.args.shape.now c.requires.fit

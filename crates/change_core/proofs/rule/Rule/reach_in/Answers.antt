@@ -1,6 +1,5 @@
 use Rattle.std.{proofs.Common.{◌≡◌, ◌-◌, ◌+◌, ◌<◌, List, Option, Bool, false, arith, sym, ap, ◌∙◌, length, suc, get_or, drop}, proofs.lemmas.Bool.{cond-true}}
-use Rattle.change_core.proofs.Steps.{anew_past, changed_past, anew_there, anew_by, fit_at, changed_ranks, anew_step, changed_step, moved_at}
-use Rattle.change_core.{specs.Reaches.{bounded, is_anew}, proofs.rule.Rule.reach_in.Goals.{in-Some+else-selects, in_default}}
+use Rattle.change_core.{proofs.Steps.{anew_past, changed_past, anew_there, anew_by, fit_at, changed_ranks, anew_step, changed_step, moved_at}, specs.Reaches.{bounded, is_anew}, proofs.rule.Rule.reach_in.Goals.{in-Some+else-selects, in_default}}
 use Rattle.index_region.specs.Boxes.{Interval, join_boxes}
 use Rattle.change_core.proofs.rule.Rule.reach_in.Goals as goal
 

@@ -1,5 +1,4 @@
-use Rattle.std.proofs.Common.{◌≡◌, ◌≢◌, ◌∙◌, ◌+◌, ◌-◌, ◌*◌, ◌/◌, ◌^◌, ◌≤◌, ◌<◌, min, sym, ap, subst, get_or, length, arith}
-use Rattle.std.{proofs.lemmas.List.{get_or_default}, proofs.lemmas.Nat.{pow_pos}}
+use Rattle.std.{proofs.Common.{◌≡◌, ◌≢◌, ◌∙◌, ◌+◌, ◌-◌, ◌*◌, ◌/◌, ◌^◌, ◌≤◌, ◌<◌, min, sym, ap, subst, get_or, length, arith}, proofs.lemmas.List.{get_or_default}, proofs.lemmas.Nat.{pow_pos}}
 use Rattle.fold_trees.{specs.LineTrees.{slot_of, nth_node, segment, node_of}, proofs.LineParts.{least_part, half_level}}
 use Rattle.fold_trees.proofs.line_tree.LineTree.part.Goals as goal
 

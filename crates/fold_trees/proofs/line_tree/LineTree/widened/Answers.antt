@@ -1,20 +1,16 @@
 use Rattle.std.proofs.Common.{◌≡◌, ◌∙◌, ◌+◌, ◌-◌, ◌*◌, ◌/◌, ◌%◌, ◌<◌, min, ap, subst, arith}
-use Rattle.fold_trees.{specs.LineTrees.{slot_of, segment, numbers_of_block}, proofs.LineParts.{odd_block, even_block, widen_odd, widen_even, widen_alone}}
-use Rattle.fold_trees.proofs.Segments.{segment_same}
+use Rattle.fold_trees.{specs.LineTrees.{slot_of, segment, numbers_of_block}, proofs.LineParts.{odd_block, even_block, widen_odd, widen_even, widen_alone}, proofs.Segments.{segment_same}}
 use Rattle.fold_trees.proofs.line_tree.LineTree.widened.Goals as goal
 
 pub part-requires-clause-part : goal.part-requires-clause-part
 part-requires-clause-part g c =
-    let block = c.args.block in
-    let width = c.args.width in
-    let at = odd_block block width c.if-block-eq1.true in
-    let level = c.requires.level in
+    let at = odd_block c.args.block c.args.width c.if-block-eq1.true in
     record {
-      level = level.0;
-      place = 2 * (block / 2);
-      width_is = level.1;
-      from_is = let before : block * width - width ≡ 2 * (block / 2 * width) = omega (arith, at.0) in
-          before ∙ grind arith ∙ ap (λ w. 2 * (block / 2) * w) level.1;
+      level = c.requires.level.0;
+      place = 2 * (c.args.block / 2);
+      width_is = c.requires.level.1;
+      from_is = let before : c.args.block * c.args.width - c.args.width ≡ 2 * (c.args.block / 2 * c.args.width) = omega (arith, at.0) in
+          before ∙ grind arith ∙ ap (λ w. 2 * (c.args.block / 2) * w) c.requires.level.1;
     }
 
 pub part-requires-clause-kept : goal.part-requires-clause-kept
@@ -38,15 +34,12 @@ returns-then-block-eq1-clause-is g c x same told =
 
 pub returns-then-self-from-clause-is : goal.returns-then-self-from-clause-is
 returns-then-self-from-clause-is g c x same told =
-    let some = c.if-block-eq1.false in
-    let even : c.args.block % 2 ≡ 0 = omega (arith, some) in
+    let even : c.args.block % 2 ≡ 0 = omega (arith, c.if-block-eq1.false) in
     subst (g.P.Part.tells c.args.kept.now) (widen_alone c.args.self.now.line.count x c.args.block c.args.width even c.requires.from c.if-self-from.true) told
 
 pub part-requires-2-clause-kept : goal.part-requires-2-clause-kept
 part-requires-2-clause-kept g c level place low high =
-    let some = c.if-block-eq1.false in
-    let even : c.args.block % 2 ≡ 0 = omega (arith, some) in
-    let at = even_block c.args.block c.args.width even in
+    let at = even_block c.args.block c.args.width (omega (arith, c.if-block-eq1.false)) in
     c.requires.kept level place (omega (arith, at.0, at.1, low)) (omega (arith, at.0, at.1, high))
 
 pub returns-clause-is : goal.returns-clause-is

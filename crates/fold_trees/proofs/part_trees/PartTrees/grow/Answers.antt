@@ -1,8 +1,7 @@
 use Rattle.std.proofs.Common.{◌≡◌, ◌∙◌, ℕ, ◌+◌, ◌*◌, ◌/◌, ◌<◌, ◌^◌, ◌++◌, ℤ, List, length, sym, ap, subst, arith, vec_capacity}
 use Rattle.arrays_core.specs.Growth.{HasRoom}
-use Rattle.fold_trees.{specs.ArrayLines.{TreesValue, NewTreesValue, line_count}, specs.PartTrees.{AreLineTrees}, proofs.LineSpots.{all_slots, fewer_nodes}}
-use Rattle.fold_trees.{proofs.MoreLines.{in_all}, proofs.MoreTrees.{more_trees}, proofs.part_trees.PartTrees.grow.Given.{Over}}
-use Rattle.fold_trees.{proofs.part_trees.PartTrees.grow.Goals.{After-trees}, specs.LineTrees.{nodes_in_line}}
+use Rattle.fold_trees.{specs.ArrayLines.{TreesValue, NewTreesValue, line_count}, specs.PartTrees.{AreLineTrees}, proofs.LineSpots.{all_slots, fewer_nodes}, proofs.MoreLines.{in_all}, proofs.MoreTrees.{more_trees}, proofs.part_trees.PartTrees.grow.Given.{Over}, proofs.part_trees.PartTrees.grow.Goals.{After-trees}}
+use Rattle.fold_trees.specs.LineTrees.{nodes_in_line}
 use Rattle.fold_trees.proofs.part_trees.PartTrees.grow.Goals as goal
 
 -- ---- the new lines are as long as the old ones, their neighbours as far apart, and the room is for them
@@ -21,12 +20,10 @@ same_step g c =
 new_trees : (g : Over) (c : After-trees g)
     → AreLineTrees g.P.Part.blank g.P.Part.tells c.self.inside.count c.self.inside.step c.trees.inside.numbers.items c.trees.inside.nodes.items
 new_trees g c =
-    let blank = g.P.Part.blank in
-    let tells = g.P.Part.tells in
     let numbers = c.trees.inside.numbers.items in
     let nodes = c.trees.inside.nodes.items in
-    subst (λ (step : ℕ). AreLineTrees blank tells c.self.inside.count step numbers nodes) (same_step g c)
-    (subst (λ (count : ℕ). AreLineTrees blank tells count c.trees.inside.step numbers nodes) (same_count g c) c.trees.invariant.trees)
+    subst (λ (step : ℕ). AreLineTrees g.P.Part.blank g.P.Part.tells c.self.inside.count step numbers nodes) (same_step g c)
+    (subst (λ (count : ℕ). AreLineTrees g.P.Part.blank g.P.Part.tells count c.trees.inside.step numbers nodes) (same_count g c) c.trees.invariant.trees)
 
 old_count : (g : Over) (c : After-trees g) → c.more.inside.old_lines ≡ length c.self.inside.numbers.items / c.self.inside.count
 old_count g c = ap (λ (n : NewTreesValue). n.old_lines) c.more.view_is ∙ c.requires.old_lines ∙ sym (ap (λ (t : TreesValue). line_count t) c.self.view_is)
@@ -37,15 +34,12 @@ new_count g c = sym (ap (λ (t : TreesValue). line_count t) c.trees.view_is) ∙
 -- how many numbers there are, in lines
 held_numbers : (g : Over) (c : After-trees g) → length c.self.inside.numbers.items ≡ c.more.inside.old_lines * c.self.inside.count
 held_numbers g c =
-    let long = length c.self.inside.numbers.items in
-    all_slots c.self.inside.count c.self.inside.step long c.self.invariant.trees.lines
+    all_slots c.self.inside.count c.self.inside.step (length c.self.inside.numbers.items) c.self.invariant.trees.lines
     ∙ ap (λ n. n * c.self.inside.count) (sym (old_count g c))
 
 more_numbers : (g : Over) (c : After-trees g) → length c.trees.inside.numbers.items ≡ line_count c.more.inside.trees * c.self.inside.count
 more_numbers g c =
-    let long = length c.trees.inside.numbers.items in
-    let trees = new_trees g c in
-    all_slots c.self.inside.count c.self.inside.step long trees.lines
+    all_slots c.self.inside.count c.self.inside.step (length c.trees.inside.numbers.items) (new_trees g c).lines
     ∙ ap (λ n. n * c.self.inside.count) (sym (new_count g c))
 
 numbers_in_all : (g : Over) (c : After-trees g)
@@ -71,13 +65,11 @@ put_behind-requires-2-clause-few g c =
 
 pub put_behind-requires-clause-room : goal.put_behind-requires-clause-room
 put_behind-requires-clause-room g c =
-    let count = c.self.inside.count in
-    let old = c.more.inside.old_lines in
     let new = line_count c.more.inside.trees in
     let capacity = vec_capacity c.more.inside.slots in
     subst (λ n. HasRoom n (length c.self.inside.numbers.items + length c.trees.inside.numbers.items) capacity) (sym (held_numbers g c))
-    (subst (λ n. HasRoom (old * count) n capacity) (numbers_in_all g c)
-    (subst (λ n. HasRoom (old * n) ((old + new) * n) capacity) (seen_count g c) c.more.invariant.slot_room))
+    (subst (λ n. HasRoom (c.more.inside.old_lines * c.self.inside.count) n capacity) (numbers_in_all g c)
+    (subst (λ n. HasRoom (c.more.inside.old_lines * n) ((c.more.inside.old_lines + new) * n) capacity) (seen_count g c) c.more.invariant.slot_room))
 
 pub put_behind-requires-2-clause-room : goal.put_behind-requires-2-clause-room
 put_behind-requires-2-clause-room g c =
@@ -86,11 +78,10 @@ put_behind-requires-2-clause-room g c =
     let old = c.more.inside.old_lines in
     let new = line_count c.more.inside.trees in
     let capacity = vec_capacity c.more.inside.nodes in
-    let trees = new_trees g before in
     let nodes = length c.self.inside.nodes.items in
     let more = length c.trees.inside.nodes.items in
     let old_nodes = c.self.invariant.trees.sized ∙ ap (λ n. n * nodes_in_line count) (sym (old_count g before)) in
-    let new_nodes = trees.sized ∙ ap (λ n. n * nodes_in_line count) (sym (new_count g before)) in
+    let new_nodes = (new_trees g before).sized ∙ ap (λ n. n * nodes_in_line count) (sym (new_count g before)) in
     subst (λ n. HasRoom n (nodes + more) capacity) (sym old_nodes)
     (subst (λ n. HasRoom (old * nodes_in_line count) n capacity) (in_all old new nodes more (nodes_in_line count) old_nodes new_nodes)
     (subst (λ n. HasRoom (old * nodes_in_line n) ((old + new) * nodes_in_line n) capacity) (seen_count g before) c.more.invariant.node_room))

@@ -1,9 +1,7 @@
 use Rattle.std.{proofs.Common.{◌≡◌, ◌∙◌, ◌+◌, ◌-◌, ◌*◌, ◌++◌, ℤ, List, length, sym, ap, subst, arith, vec_capacity}, proofs.lemmas.List.{with_items_is}}
 use Rattle.arrays_core.specs.Growth.{IsRoomy, HasRoom}
-use Rattle.fold_trees.{specs.ArrayLines.{TreesValue, NewPlacesValue}, specs.PartTrees.{AreLineTrees, ArePartTrees}}
-use Rattle.fold_trees.specs.LineTrees.{slot_of, shorter, node_of, ArePartsKept, nodes_in_line}
-use Rattle.fold_trees.{proofs.LongerTrees.{all_long, held_nodes, kept_without, longer_trees, nodes_long}, proofs.part_trees.PartTrees.lengthen.Given.{Over}}
-use Rattle.fold_trees.{proofs.part_trees.PartTrees.lengthen.Goals.{After-more, After-deref_mut}, specs.LineBlocks.{line_at}}
+use Rattle.fold_trees.{specs.ArrayLines.{TreesValue, NewPlacesValue}, specs.PartTrees.{AreLineTrees, ArePartTrees}, specs.LineTrees.{slot_of, shorter, node_of, ArePartsKept, nodes_in_line}, proofs.LongerTrees.{all_long, held_nodes, kept_without, longer_trees, nodes_long}}
+use Rattle.fold_trees.{proofs.part_trees.PartTrees.lengthen.Given.{Over}, proofs.part_trees.PartTrees.lengthen.Goals.{After-more, After-deref_mut}, specs.LineBlocks.{line_at}}
 use Rattle.fold_trees.proofs.part_trees.PartTrees.lengthen.Goals as goal
 
 -- ---- the numbers are those of one more place of each line, and the room is for them
@@ -29,10 +27,8 @@ nodes_in_all : (g : Over) (c : After-more g)
 nodes_in_all g c =
     let step = c.self.inside.step in
     let before = nodes_in_line c.self.inside.count in
-    let some = c.self.invariant.trees.lines.some in
-    let whole : c.self.inside.count ≡ before + 1 = omega (arith, some) in
     let sum : (before + 1) * step ≡ before * step + step = grind arith in
-    let all : c.self.inside.count * step ≡ before * step + step = ap (λ n. n * step) whole ∙ sum in
+    let all : c.self.inside.count * step ≡ before * step + step = ap (λ n. n * step) (omega (arith, c.self.invariant.trees.lines.some)) ∙ sum in
     (λ i. same_count g c i * wide g c i) ∙ omega (arith, all, held g c, wide g c, c.more.invariant.more_nodes)
 
 pub put_behind-requires-2-clause-room : goal.put_behind-requires-2-clause-room
@@ -71,14 +67,13 @@ take_places-requires-clause-kept g c line h =
     let blank = g.P.Part.blank in
     let tells = g.P.Part.tells in
     let count = c.self.inside.count in
-    let step = c.self.inside.step in
     let numbers = c.self.inside.numbers.items in
     let more = c.more.inside.numbers.items in
     let before = (goal.at.take_places-requires-clause-kept g c).After-more in
-    let l = shorter (line_at (count + 1) step line) in
+    let l = shorter (line_at (count + 1) c.self.inside.step line) in
     subst (λ (s : List ℤ). ArePartsKept tells (count + 1 - 1) (slot_of l s) (node_of blank l c.deref_mut.result.now)) (sym (numbers_are g c))
     (subst (λ (n : List g.row.P.Denot). ArePartsKept tells (count + 1 - 1) (slot_of l (numbers ++ more)) (node_of blank l n)) (sym (nodes_are g c))
-    (kept_without blank tells count step numbers more c.self.inside.nodes.items c.more.inside.more_nodes.items c.self.invariant.trees
+    (kept_without blank tells count c.self.inside.step numbers more c.self.inside.nodes.items c.more.inside.more_nodes.items c.self.invariant.trees
     (between g before) line h))
 
 -- ---- when all lines have taken theirs

@@ -1,11 +1,7 @@
-use Rattle.std.proofs.Common.{rules, ◌^◌, ◌≡◌, ◌∙◌, ◌+◌, ◌*◌, ◌/◌, ◌%◌, ◌<◌, ℤ, List, length, sym, ap, subst, arith, vec_capacity, IfSome, to_z, of_z, w64}
-use Rattle.std.{proofs.lemmas.Int.{to_z-of_z}, proofs.lemmas.List.{with_items_is}, specs.Vec.{with_items}}
+use Rattle.std.{proofs.Common.{rules, ◌^◌, ◌≡◌, ◌∙◌, ◌+◌, ◌*◌, ◌/◌, ◌%◌, ◌<◌, ℤ, List, length, sym, ap, subst, arith, vec_capacity, IfSome, to_z, of_z, w64}, proofs.lemmas.Int.{to_z-of_z}, proofs.lemmas.List.{with_items_is}, specs.Vec.{with_items}}
 use Rattle.arrays_core.specs.Growth.{IsRoomy}
-use Rattle.fold_trees.{specs.ArrayLines.{TreesValue, line_through, with_number}, proofs.LinePlaces.{line_within}, proofs.LineSpots.{line_fits, in_both}}
-use Rattle.fold_trees.{specs.declared.line.Line.{Line}, specs.LineTrees.{slot_of, replaced, IsIn, node_of, ArePartsKept, AreJoined}}
-use Rattle.fold_trees.{specs.PartTrees.{ArePartTrees, AreJoinedFor}, proofs.TreeWrites.{IsWritten, written_numbers, written_trees}}
-use Rattle.fold_trees.{proofs.part_trees.PartTrees.set.Given.{Over}, proofs.part_trees.PartTrees.set.Goals.{After-self, After-nth_line-line, After-write}}
-use Rattle.fold_trees.specs.LineBlocks.{line_at}
+use Rattle.fold_trees.{specs.ArrayLines.{TreesValue, line_through, with_number}, proofs.LinePlaces.{line_within}, proofs.LineSpots.{line_fits, in_both}, specs.declared.line.Line.{Line}, specs.LineTrees.{slot_of, replaced, IsIn, node_of, ArePartsKept, AreJoined}, specs.PartTrees.{ArePartTrees, AreJoinedFor}}
+use Rattle.fold_trees.{proofs.TreeWrites.{IsWritten, written_numbers, written_trees}, proofs.part_trees.PartTrees.set.Given.{Over}, proofs.part_trees.PartTrees.set.Goals.{After-self, After-nth_line-line, After-write}, specs.LineBlocks.{line_at}}
 use Rattle.fold_trees.proofs.part_trees.PartTrees.set.Goals as goal
 
 -- ---- where the place lies
@@ -15,8 +11,7 @@ is_inside g c = omega (arith, c.requires.place, ap (λ (t : TreesValue). length 
 
 is_below : (g : Over) (c : After-self g) → line_through c.self.inside.count c.self.inside.step c.args.place < length c.self.inside.numbers.items / c.self.inside.count
 is_below g c =
-    let long = length c.self.inside.numbers.items in
-    line_within c.self.inside.count c.self.inside.step long c.self.invariant.trees.lines c.args.place (is_inside g c)
+    line_within c.self.inside.count c.self.inside.step (length c.self.inside.numbers.items) c.self.invariant.trees.lines c.args.place (is_inside g c)
 
 line_is : (g : Over) (c : After-nth_line-line g)
     → c.nth_line-line.result ≡ line_at c.self.inside.count c.self.inside.step (line_through c.self.inside.count c.self.inside.step c.args.place)
@@ -28,11 +23,9 @@ nth_line-line-requires-clause-fit g c =
     let step = c.self.inside.step in
     let long = length c.self.inside.numbers.items in
     let line = line_through count step c.args.place in
-    let below = is_below g (goal.at.nth_line-line-requires-clause-fit g c).After-self in
-    let fits = line_fits count step long c.self.invariant.trees.lines line below in
+    let fits = line_fits count step long c.self.invariant.trees.lines line (is_below g (goal.at.nth_line-line-requires-clause-fit g c).After-self) in
     let small : long < 2 ^ 62 = search rules in
-    let whole : line / step * (count * step) + count * step < 2 ^ 64 = omega (arith, fits, small) in
-    subst (λ n. n / step * (count * step) + count * step < 2 ^ 64) (sym c.line_through-line.ensures) whole
+    subst (λ n. n / step * (count * step) + count * step < 2 ^ 64) (sym c.line_through-line.ensures) (omega (arith, fits, small))
 
 pub write-requires-clause-inside : goal.write-requires-clause-inside
 write-requires-clause-inside g c =
@@ -54,28 +47,23 @@ write-requires-clause-kept g c =
     let blank = g.P.Part.blank in
     let tells = g.P.Part.tells in
     let count = c.self.inside.count in
-    let step = c.self.inside.step in
-    let numbers = c.self.inside.numbers.items in
-    let line = line_through count step c.args.place in
-    let l = line_at count step line in
+    let line = line_through count c.self.inside.step c.args.place in
+    let l = line_at count c.self.inside.step line in
     let is = line_is g (goal.at.write-requires-clause-kept g c).After-nth_line-line in
     subst (λ (l : Line). ArePartsKept tells l.count (slot_of l c.deref_mut.result.now) (node_of blank l c.deref_mut-2.result.now)) (sym is)
     (subst (λ (s : List ℤ). ArePartsKept tells count (slot_of l s) (node_of blank l c.deref_mut-2.result.now)) (sym c.deref_mut.ensures.value)
-    (subst (λ (n : List g.row.P.Denot). ArePartsKept tells count (slot_of l numbers) (node_of blank l n)) (sym c.deref_mut-2.ensures.value)
+    (subst (λ (n : List g.row.P.Denot). ArePartsKept tells count (slot_of l c.self.inside.numbers.items) (node_of blank l n)) (sym c.deref_mut-2.ensures.value)
     (c.self.invariant.trees.kept line (is_below g (goal.at.write-requires-clause-kept g c).After-self))))
 
 pub write-requires-clause-joined : goal.write-requires-clause-joined
 write-requires-clause-joined g c =
-    let count = c.self.inside.count in
-    let step = c.self.inside.step in
     let numbers = c.self.inside.numbers.items in
     let z = c.args.number in
-    let at = c.args.place / step % count in
-    let l = line_at count step (line_through count step c.args.place) in
-    let is = line_is g (goal.at.write-requires-clause-joined g c).After-nth_line-line in
+    let at = c.args.place / c.self.inside.step % c.self.inside.count in
+    let l = line_at c.self.inside.count c.self.inside.step (line_through c.self.inside.count c.self.inside.step c.args.place) in
     let held = λ (l : Line) (s : List ℤ) (y : ℤ). IfSome c.args.joined (λ parts. AreJoined g.P.Part.tells l.count (replaced (slot_of l s) at y) at parts.now) in
     let given : held l numbers z = subst (λ (t : TreesValue). IfSome c.args.joined (λ parts. AreJoinedFor g.P.Part.tells t c.args.place z parts.now)) (sym c.self.view_is) c.requires.joined in
-    subst (λ (l : Line). held l c.deref_mut.result.now (to_z w64 (of_z w64 z))) (sym is)
+    subst (λ (l : Line). held l c.deref_mut.result.now (to_z w64 (of_z w64 z))) (sym (line_is g (goal.at.write-requires-clause-joined g c).After-nth_line-line))
     (subst (λ (s : List ℤ). held l s (to_z w64 (of_z w64 z))) (sym c.deref_mut.ensures.value)
     (subst (held l numbers) (sym (to_z-of_z w64 z c.ranges.number)) given))
 
@@ -87,10 +75,7 @@ is_written : (g : Over) (c : After-write g)
 is_written g c =
     let blank = g.P.Part.blank in
     let tells = g.P.Part.tells in
-    let count = c.self.inside.count in
-    let step = c.self.inside.step in
-    let line = line_through count step c.args.place in
-    let place = c.args.place / step % count in
+    let place = c.args.place / c.self.inside.step % c.self.inside.count in
     let z = c.args.number in
     let after = c.write.new.numbers in
     let nodes_after = c.write.new.nodes in
@@ -105,7 +90,7 @@ is_written g c =
       slot_count = told.slot_count;
       node_count = told.node_count;
     } in
-    let l = line_at count step line in
+    let l = line_at c.self.inside.count c.self.inside.step (line_through c.self.inside.count c.self.inside.step c.args.place) in
     subst (λ (n : List g.row.P.Denot). IsWritten blank tells l place z c.self.inside.numbers.items after n nodes_after) c.deref_mut-2.ensures.value
     (subst (λ (s : List ℤ). IsWritten blank tells l place z s after c.deref_mut-2.result.now nodes_after) c.deref_mut.ensures.value
     (subst (λ (l : Line). IsWritten blank tells l place z c.deref_mut.result.now after c.deref_mut-2.result.now nodes_after) is

@@ -1,7 +1,5 @@
-use Rattle.std.{proofs.Common.{◌≡◌, ◌≤◌, sym, subst, ◌∙◌, to_z, of_z, SFits, ℤ, pos, neg_ℤ, ◌*ℤ◌, ◌≤ℤ◌, unsigned_abs}, specs.Int.{w64, int_min, int_max}}
-use Rattle.std.proofs.lemmas.Int.{to_z-of_z}
-use Rattle.fold_trees.specs.Products.{Products, AreOrdered, TellsProducts, kept_products, joined_products}
-use Rattle.fold_trees.{proofs.JoinedProducts.{products_eq, ordered_join, tells_join}, proofs.NearProducts.{narrow_fits, narrow_least, narrow_greatest}}
+use Rattle.std.{proofs.Common.{◌≡◌, ◌≤◌, sym, subst, ◌∙◌, to_z, of_z, SFits, ℤ, pos, neg_ℤ, ◌*ℤ◌, ◌≤ℤ◌, unsigned_abs}, specs.Int.{w64, int_min, int_max}, proofs.lemmas.Int.{to_z-of_z}}
+use Rattle.fold_trees.{specs.Products.{Products, AreOrdered, TellsProducts, kept_products, joined_products}, proofs.JoinedProducts.{products_eq, ordered_join, tells_join}, proofs.NearProducts.{narrow_fits, narrow_least, narrow_greatest}}
 use Rattle.fold_trees.proofs.product.Product.join_near.Goals as goal
 
 -- a number that is read, and what it is

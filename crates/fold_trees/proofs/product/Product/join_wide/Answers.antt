@@ -1,7 +1,5 @@
-use Rattle.std.{proofs.Common.{◌≡◌, ◌^◌, ◌≤◌, sym, subst, ◌∙◌, to_z, of_z, SFits, ℤ, pos, neg_ℤ, ◌*ℤ◌, ◌≤ℤ◌, unsigned_abs}, specs.Int.{w128, int_min, int_max}}
-use Rattle.std.proofs.lemmas.Int.{to_z-of_z}
-use Rattle.fold_trees.specs.Products.{Products, AreOrdered, TellsProducts, kept_products, joined_products}
-use Rattle.fold_trees.{proofs.JoinedProducts.{products_eq, ordered_join, tells_join}, proofs.NearProducts.{IsWithin126, are_near, times_fits, join_within}}
+use Rattle.std.{proofs.Common.{◌≡◌, ◌^◌, ◌≤◌, sym, subst, ◌∙◌, to_z, of_z, SFits, ℤ, pos, neg_ℤ, ◌*ℤ◌, ◌≤ℤ◌, unsigned_abs}, specs.Int.{w128, int_min, int_max}, proofs.lemmas.Int.{to_z-of_z}}
+use Rattle.fold_trees.{specs.Products.{Products, AreOrdered, TellsProducts, kept_products, joined_products}, proofs.JoinedProducts.{products_eq, ordered_join, tells_join}, proofs.NearProducts.{IsWithin126, are_near, times_fits, join_within}}
 use Rattle.fold_trees.proofs.product.Product.join_wide.Goals as goal
 
 -- a number that is read, and what it is
@@ -45,19 +43,16 @@ made : (c : goal.After-total) → record {
   greatest = to_z w128 (of_z w128 c.max-greatest.result);
 } ≡ joined_products (kept_products c.args.self.now) (kept_products c.args.later.now)
 made c =
-    let a = kept_products c.args.self.now in
-    let b = kept_products c.args.later.now in
     let here = are_near c.args.self.now _ c.requires.here.1 in
     let later = are_near c.args.later.now _ c.requires.later.1 in
     let factor : SFits w128 c.total-factor.result = record { sfits = c.total-factor.type_inv } in
     let one = times_read _ _ _ _ (record { sfits = c.least.type_inv }) factor c.least.ensures c.total-factor.ensures here.least later.total in
     let other = times_read _ _ _ _ (record { sfits = c.greatest.type_inv }) factor c.greatest.ensures c.total-factor.ensures here.greatest later.total in
-    let total = times_read _ _ _ _ (record { sfits = c.total.type_inv }) factor c.total.ensures c.total-factor.ensures here.total later.total in
     let low = read _ _ (record { sfits = c.least-2.type_inv }) c.least-2.ensures in
     let high = read _ _ (record { sfits = c.greatest-2.type_inv }) c.greatest-2.ensures in
     let min = read _ _ (record { sfits = c.min.type_inv }) (c.min.ensures.value ∙ (λ i. int_min (one i) (other i))) in
     let max = read _ _ (record { sfits = c.max.type_inv }) (c.max.ensures.value ∙ (λ i. int_max (one i) (other i))) in
-    products_eq _ _ total
+    products_eq _ _ (times_read _ _ _ _ (record { sfits = c.total.type_inv }) factor c.total.ensures c.total-factor.ensures here.total later.total)
     (read _ _ (record { sfits = c.min-least.type_inv }) (c.min-least.ensures.value ∙ (λ i. int_min (low i) (min i))))
     (read _ _ (record { sfits = c.max-greatest.type_inv }) (c.max-greatest.ensures.value ∙ (λ i. int_max (high i) (max i))))
 

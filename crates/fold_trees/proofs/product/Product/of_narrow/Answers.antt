@@ -4,12 +4,6 @@ use Rattle.fold_trees.proofs.product.Product.of_narrow.Goals as goal
 
 pub returns : goal.returns
 returns c =
-    let low = c.requires.low in
-    let high = c.requires.high in
-    let o1 = c.requires.ordered.least_total in
-    let o2 = c.requires.ordered.total_greatest in
-    let o3 = c.requires.ordered.least_zero in
-    let o4 = c.requires.ordered.zero_greatest in
     record {
       ordered = c.requires.ordered;
       sound = record {

@@ -5,6 +5,5 @@ use Rattle.fold_trees.proofs.sum_tree.SumTree.result.Goals as goal
 
 pub returns : goal.returns
 returns c =
-    let some : 0 < length c.args.self.now = search rules in
-    let held = subst (λ (xs : List ℤ). 0 < length xs) (sym c.self.view_is) some in
+    let held = subst (λ (xs : List ℤ). 0 < length xs) (sym c.self.view_is) (search rules) in
     subst (λ (xs : List ℤ). IsReductionBy Plus xs c.result.result) (numbers_of_one c.self.inside.trees c.self.invariant held ∙ c.self.view_is) c.result.ensures

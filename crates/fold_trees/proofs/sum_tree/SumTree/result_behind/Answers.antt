@@ -6,7 +6,6 @@ use Rattle.fold_trees.proofs.sum_tree.SumTree.result_behind.Goals as goal
 pub returns : goal.returns
 returns c =
     let z = c.args.number in
-    let some : 0 < length c.args.self.now = search rules in
-    let held = subst (λ (xs : List ℤ). 0 < length xs) (sym c.self.view_is) some in
+    let held = subst (λ (xs : List ℤ). 0 < length xs) (sym c.self.view_is) (search rules) in
     subst (λ (y : ℤ). IsReductionBy Plus (c.args.self.now ++ y ∷ []) c.result_behind.result) (to_z-of_z w64 z c.ranges.number)
     (subst (λ (xs : List ℤ). IsReductionBy Plus (xs ++ to_z w64 (of_z w64 z) ∷ []) c.result_behind.result) (numbers_of_one c.self.inside.trees c.self.invariant held ∙ c.self.view_is) c.result_behind.ensures)

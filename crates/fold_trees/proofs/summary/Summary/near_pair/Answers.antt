@@ -1,5 +1,4 @@
-use Rattle.std.proofs.Common.{◌≡◌, ◌∙◌, ◌+◌, ◌^◌, ◌<◌, ◌≤◌, [], ◌∷◌, ℤ, subst, arith, rules, pos, ◌+ℤ◌, to_z, of_z, w64, unsigned_abs, FitsSigned}
-use Rattle.std.{specs.Int.{int_min, int_max}, proofs.lemmas.Int.{ints, clamps, to_z-of_z, fits_signed_from_abs}}
+use Rattle.std.{proofs.Common.{◌≡◌, ◌∙◌, ◌+◌, ◌^◌, ◌<◌, ◌≤◌, [], ◌∷◌, ℤ, subst, arith, rules, pos, ◌+ℤ◌, to_z, of_z, w64, unsigned_abs, FitsSigned}, specs.Int.{int_min, int_max}, proofs.lemmas.Int.{ints, clamps, to_z-of_z, fits_signed_from_abs}}
 use Rattle.fold_trees.{specs.Sums.{IsSummaryOf, sums_of}, proofs.JoinedSums.{sums_eq}}
 use Rattle.fold_trees.proofs.summary.Summary.near_pair.Goals as goal
 

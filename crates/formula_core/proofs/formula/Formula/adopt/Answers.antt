@@ -1,7 +1,5 @@
 use Rattle.std.proofs.Common.{◌≡◌, ◌∙◌, ◌≤◌, List, ap, sym, subst, length, arith, false}
-use Rattle.formula_core.{specs.declared.table.Node.{Node}, specs.Formulas.{FormulaValue, IsTableOf, root_of}}
-use Rattle.formula_core.{specs.Holdings.{Holding, nodes_of, holdings_of, adopted}, specs.Plans.{PlanValue}, proofs.Planned.{counted}}
-use Rattle.formula_core.proofs.Adopted.{nodes_taken, held_taken}
+use Rattle.formula_core.{specs.declared.table.Node.{Node}, specs.Formulas.{FormulaValue, IsTableOf, root_of}, specs.Holdings.{Holding, nodes_of, holdings_of, adopted}, specs.Plans.{PlanValue}, proofs.Planned.{counted}, proofs.Adopted.{nodes_taken, held_taken}}
 use Rattle.formula_core.proofs.formula.Formula.adopt.Goals as goal
 
 pub invariant_of-self : goal.invariant_of-self

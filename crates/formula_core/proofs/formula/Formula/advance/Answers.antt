@@ -1,7 +1,6 @@
 use Rattle.std.proofs.Common.{◌∙◌, ap, length, arith}
 use Rattle.change_core.specs.Meters.{ticked, MeterValue}
-use Rattle.formula_core.{specs.Plans.{PlanValue}, specs.Tables.{subtrees, tree_at}}
-use Rattle.formula_core.{proofs.Progressed.{node_left, more_of, one_more, planned_more, counted_whole}, proofs.Tallied.{joined_whole}}
+use Rattle.formula_core.{specs.Plans.{PlanValue}, specs.Tables.{subtrees, tree_at}, proofs.Progressed.{node_left, more_of, one_more, planned_more, counted_whole}, proofs.Tallied.{joined_whole}}
 use Rattle.formula_core.proofs.formula.Formula.advance.Goals as goal
 
 pub push_next-requires-clause-below : goal.push_next-requires-clause-below

@@ -1,6 +1,5 @@
 use Rattle.std.{proofs.Common.{◌∙◌, List, ap, sym, refl, length, arith}, proofs.lemmas.Option.{IfSome_then}}
-use Rattle.formula_core.{specs.declared.kept.Kept.{Kept}, specs.Formulas.{FormulaValue}, specs.Meaning.{names_in}, specs.Tables.{subtrees}}
-use Rattle.formula_core.proofs.Planned.{counted, staged_by, stepped_by}
+use Rattle.formula_core.{specs.declared.kept.Kept.{Kept}, specs.Formulas.{FormulaValue}, specs.Meaning.{names_in}, specs.Tables.{subtrees}, proofs.Planned.{counted, staged_by, stepped_by}}
 use Rattle.formula_core.proofs.formula.Formula.next_place.Goals as goal
 
 pub next_place-requires-clause-below : goal.next_place-requires-clause-below

@@ -1,7 +1,5 @@
 use Rattle.std.proofs.Common.{◌∙◌, ◌<◌, Bool, ap, length, arith}
-use Rattle.formula_core.{specs.Tables.{subtrees}, specs.Plans.{tree_cost}, proofs.Alike.{unchanged_tree_costs_nothing}}
-use Rattle.formula_core.proofs.Planned.{planned_at_end, plan_of}
-use Rattle.formula_core.proofs.Progressed.{left_at, part_left, longer, cost_more, cost_within, counted_on, counted_all}
+use Rattle.formula_core.{specs.Tables.{subtrees}, specs.Plans.{tree_cost}, proofs.Alike.{unchanged_tree_costs_nothing}, proofs.Planned.{planned_at_end, plan_of}, proofs.Progressed.{left_at, part_left, longer, cost_more, cost_within, counted_on, counted_all}}
 use Rattle.formula_core.proofs.Tallied.{joined_all, joined_on, joins_more, joins_within, none_joined}
 use Rattle.formula_core.proofs.formula.Formula.plan.Goals as goal
 

@@ -1,6 +1,5 @@
 use Rattle.std.{proofs.Common.{ℕ, List, sym, subst, ◌∙◌}, specs.List.{Contains}}
-use Rattle.formula_core.{specs.declared.input.Input.{Input}, specs.Changes.{at_rest}, specs.Meaning.{names_in}, specs.Plans.{AreInputs, IsNameSound}}
-use Rattle.formula_core.proofs.AtRest.{told_at_rest, planned_at_rest}
+use Rattle.formula_core.{specs.declared.input.Input.{Input}, specs.Changes.{at_rest}, specs.Meaning.{names_in}, specs.Plans.{AreInputs, IsNameSound}, proofs.AtRest.{told_at_rest, planned_at_rest}}
 use Rattle.formula_core.proofs.formula.Formula.plan_anew.Goals as goal
 
 pub plan-requires : goal.plan-requires

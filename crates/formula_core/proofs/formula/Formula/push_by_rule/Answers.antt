@@ -1,6 +1,5 @@
 use Rattle.std.proofs.Common.{List, ap, refl, length, arith}
-use Rattle.formula_core.{specs.declared.kept.Kept.{Kept}, specs.declared.kept.NodeChange.{NodeChange}, specs.Formulas.{FormulaValue}, specs.Meaning.{names_in}}
-use Rattle.formula_core.{specs.Tables.{subtrees}, proofs.Planned.{counted, staged_by, stepped_by}}
+use Rattle.formula_core.{specs.declared.kept.Kept.{Kept}, specs.declared.kept.NodeChange.{NodeChange}, specs.Formulas.{FormulaValue}, specs.Meaning.{names_in}, specs.Tables.{subtrees}, proofs.Planned.{counted, staged_by, stepped_by}}
 use Rattle.formula_core.proofs.formula.Formula.push_by_rule.Goals as goal
 
 pub next-requires-clause-below : goal.next-requires-clause-below

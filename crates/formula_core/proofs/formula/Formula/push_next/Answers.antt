@@ -1,6 +1,5 @@
 use Rattle.std.proofs.Common.{List, sym, subst, length, get_or}
-use Rattle.formula_core.{specs.declared.kept.NodeChange.{NodeChange}, specs.Holdings.{not_worked_out, place_change}, specs.Stages.{IsBegun, IsNodeStep}}
-use Rattle.formula_core.specs.Tables.{subtrees, tree_at}
+use Rattle.formula_core.{specs.declared.kept.NodeChange.{NodeChange}, specs.Holdings.{not_worked_out, place_change}, specs.Stages.{IsBegun, IsNodeStep}, specs.Tables.{subtrees, tree_at}}
 use Rattle.formula_core.proofs.formula.Formula.push_next.Goals as goal
 
 pub returns-clause-more : goal.returns-clause-more

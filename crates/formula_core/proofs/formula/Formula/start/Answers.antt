@@ -1,6 +1,5 @@
 use Rattle.std.proofs.Common.{◌≡◌, ◌∙◌, ◌<◌, List, [], sym, subst, ap, length, arith, false, true}
-use Rattle.formula_core.{specs.declared.kept.NodeChange.{NodeChange}, specs.Formulas.{FormulaValue, is_operation}, specs.Stages.{IsBegun}}
-use Rattle.formula_core.{specs.Tables.{subtrees, tree_at}, proofs.Planned.{counted, known, tree_there, begun_none, begun_more}}
+use Rattle.formula_core.{specs.declared.kept.NodeChange.{NodeChange}, specs.Formulas.{FormulaValue, is_operation}, specs.Stages.{IsBegun}, specs.Tables.{subtrees, tree_at}, proofs.Planned.{counted, known, tree_there, begun_none, begun_more}}
 use Rattle.formula_core.proofs.Progressed.{applied_there, free, among_plain, leaf_alone, more_of, some_node}
 use Rattle.formula_core.proofs.formula.Formula.start.Goals as goal
 

@@ -1,6 +1,5 @@
 use Rattle.std.{proofs.Common.{◌∙◌, length, get_or, sym, ap}, proofs.lemmas.List.{get_or_default}}
-use Rattle.formula_core.{specs.Holdings.{Holding}, specs.Sums.{resummed}, specs.declared.sums.SumsDelta.{SumsDelta}}
-use Rattle.formula_core.{proofs.Planned.{next_node, next_held, next_fits, next_step}, proofs.Summed.{joined_for}}
+use Rattle.formula_core.{specs.Holdings.{Holding}, specs.Sums.{resummed}, specs.declared.sums.SumsDelta.{SumsDelta}, proofs.Planned.{next_node, next_held, next_fits, next_step}, proofs.Summed.{joined_for}}
 use Rattle.formula_core.proofs.stage.Stage.next.Goals as goal
 
 pub change_of-requires-clause-node : goal.change_of-requires-clause-node

@@ -1,8 +1,7 @@
 use Rattle.std.{proofs.Common.{◌∙◌, Ok, sym, subst, ap}, proofs.lemmas.Option.{IfSome_then}}
 use Rattle.apl_expr.{specs.declared.functions.Function1.{Function1}, specs.declared.functions.Function2.{Function2}}
 use Rattle.change_rules.specs.Nodes.{delta_of_place}
-use Rattle.formula_core.{specs.declared.table.Node.{Node}, specs.Tables.{tree_of_node, tree_of_operand}, specs.Stages.{IsStep}}
-use Rattle.formula_core.proofs.Stepping.{monad_step, dyad_step}
+use Rattle.formula_core.{specs.declared.table.Node.{Node}, specs.Tables.{tree_of_node, tree_of_operand}, specs.Stages.{IsStep}, proofs.Stepping.{monad_step, dyad_step}}
 use Rattle.apl_expr.specs.declared.expr.Monadic.TheVariants as monadic
 use Rattle.apl_expr.specs.declared.expr.Dyadic.TheVariants as dyadic
 use Rattle.apl_expr.specs.declared.functions.Function1.TheVariants as function1

@@ -1,6 +1,5 @@
 use Rattle.std.{proofs.Common.{◌+◌, ◌∙◌, List, map, take, Option, Some, None, sym, subst}, specs.Option.{option_map}, proofs.lemmas.List.{get_or_default}}
-use Rattle.formula_core.{specs.declared.input.Input.{Input}, specs.Inputs.{AllHaveFit}, specs.Stages.{GiveTheirTrees}, specs.Tables.{tree_of_operand}}
-use Rattle.formula_core.{proofs.Steps.{operand_within, position_ready}, proofs.Stepping.{fit_more}, proofs.stage.Stage.positions.Goals.{in-Some, in-None}}
+use Rattle.formula_core.{specs.declared.input.Input.{Input}, specs.Inputs.{AllHaveFit}, specs.Stages.{GiveTheirTrees}, specs.Tables.{tree_of_operand}, proofs.Steps.{operand_within, position_ready}, proofs.Stepping.{fit_more}, proofs.stage.Stage.positions.Goals.{in-Some, in-None}}
 use Rattle.formula_core.proofs.stage.Stage.positions.Goals as goal
 
 pub argument-requires-clause-within : goal.argument-requires-clause-within

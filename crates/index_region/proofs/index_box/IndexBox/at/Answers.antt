@@ -6,9 +6,8 @@ pub push-requires : goal.push-requires
 push-requires c =
     let index = c.args.index.now in
     let k = c.loop-place.place-index in
-    let long = as_long c.args.shape.now index c.requires.inside in
     let pushed : length c.loop-place.intervals ≡ k = ap (λ (r : List Interval). length r) c.loop-place.invariant ∙ length-map (take k index) (λ i. (i, i)) ∙ length-take-le k index (omega arith) in
-    omega (arith, long, pushed, c.requires.rank, c.loop-place-test.true)
+    omega (arith, as_long c.args.shape.now index c.requires.inside, pushed, c.requires.rank, c.loop-place-test.true)
 
 pub invariant_of-result : goal.invariant_of-result
 invariant_of-result c =

@@ -1,8 +1,6 @@
 use Rattle.std.proofs.Common.{◌≡◌, ◌∙◌, ◌<◌, ◌+◌, ◌-◌, ℕ, get_or, set, List, sym, ap, arith, subst}
 use Rattle.arrays_core.{specs.Arrays.{ArrayValue}, specs.Shapes.{is_index_of, places_before}, specs.Items.{fill}}
-use Rattle.index_region.{specs.Boxes.{Interval, box_size, walk_at}, specs.Patches.{PatchValue}, proofs.Walks.{walk_within, some_place}}
-use Rattle.index_region.{proofs.Patched.{fits_within}, proofs.Written.{IsWritten, written_none, written_more, written_all}}
-use Rattle.index_region.proofs.patch.Patch.write_into.Goals.{then-before-items, else-before-items}
+use Rattle.index_region.{specs.Boxes.{Interval, box_size, walk_at}, specs.Patches.{PatchValue}, proofs.Walks.{walk_within, some_place}, proofs.Patched.{fits_within}, proofs.Written.{IsWritten, written_none, written_more, written_all}, proofs.patch.Patch.write_into.Goals.{then-before-items, else-before-items}}
 use Rattle.index_region.proofs.patch.Patch.write_into.Goals as goal
 
 pub loop-before-init : goal.loop-before-init
@@ -18,7 +16,6 @@ index_at-index-requires-clause-below c =
 -- the box has as many places as there are items
 pub index_at-index-requires-clause-size : goal.index_at-index-requires-clause-size
 index_at-index-requires-clause-size c =
-    let many : c.count-items.result ≡ box_size c.self.inside.region = c.count-items.ensures ∙ c.self.invariant in
     omega (arith, c.count-items.type_inv)
 
 pub position-place-requires-clause-in_range : goal.position-place-requires-clause-in_range

@@ -1,7 +1,6 @@
 use Rattle.std.proofs.Common.{◌≡◌, ℕ, length, sym, subst}
 use Rattle.arrays_core.{specs.Growth.{HasRoom, IsRoomFor}, specs.declared.item.ItemType.{ItemType}}
-use Rattle.index_region.{specs.NewItems.{items_of}, specs.Tails.{TailValue, FitsTail, IsRoomBehind}, specs.declared.new_items.NewItems.{NewItems}}
-use Rattle.index_region.proofs.Grown.{room_for}
+use Rattle.index_region.{specs.NewItems.{items_of}, specs.Tails.{TailValue, FitsTail, IsRoomBehind}, specs.declared.new_items.NewItems.{NewItems}, proofs.Grown.{room_for}}
 use Rattle.index_region.proofs.tail.Tail.write_behind.Goals as goal
 
 pub grow_by_one-requires-clause-room : goal.grow_by_one-requires-clause-room

@@ -4,5 +4,4 @@ use Rattle.item_fns.proofs.kernels.MagnitudeOneNumber.at.Goals as goal
 
 pub returns : goal.returns
 returns c =
-    let b = c.args.b in
-    c.in_range.ensures _ (magnitude_fits _ b c.ranges.b (rw (to_z-of_z w64 b c.ranges.b) at c.checked_abs.ensures))
+    c.in_range.ensures _ (magnitude_fits _ c.args.b c.ranges.b (rw (to_z-of_z w64 c.args.b c.ranges.b) at c.checked_abs.ensures))

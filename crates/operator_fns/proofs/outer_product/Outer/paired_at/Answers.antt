@@ -12,14 +12,12 @@ split_at-requires c =
 
 pub position-requires-clause-in_range : goal.position-requires-clause-in_range
 position-requires-clause-in_range c =
-    let a = c.args.left.now.shape in
     let b = c.args.right.now.shape in
-    let p = parts a b c.args.index.now (place_inside (a ++ b) Nums c.args.index.now c.requires) in
+    let p = parts c.args.left.now.shape b c.args.index.now (place_inside (c.args.left.now.shape ++ b) Nums c.args.index.now c.requires) in
     rw (c.shape-2.ensures.is, c.split_at.ensures.front, c.len.ensures.value, c.shape.ensures.is) p.front
 
 pub position-requires-2-clause-in_range : goal.position-requires-2-clause-in_range
 position-requires-2-clause-in_range c =
-    let a = c.args.left.now.shape in
     let b = c.args.right.now.shape in
-    let p = parts a b c.args.index.now (place_inside (a ++ b) Nums c.args.index.now c.requires) in
+    let p = parts c.args.left.now.shape b c.args.index.now (place_inside (c.args.left.now.shape ++ b) Nums c.args.index.now c.requires) in
     rw (c.shape-3.ensures.is, c.split_at.ensures.back, c.len.ensures.value, c.shape.ensures.is) p.back

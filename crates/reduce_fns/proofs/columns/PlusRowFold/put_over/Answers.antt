@@ -1,17 +1,15 @@
-use Rattle.std.proofs.Common.{◌≡◌, ◌∙◌, ◌<◌, ◌≢◌, ap, sym, get_or, length, pos, arith, Ok, ◌+ℤ◌, to_z, of_z, w64, SFits, FitsSigned, rules, below_more, get_or-set_same, get_or-set_other}
-use Rattle.std.{specs.Bool.{FalseIff}, specs.Int.{int_wrapping_add}, proofs.Math.ListN.{length-set}, proofs.lemmas.Int.{to_z-of_z}}
+use Rattle.std.{proofs.Common.{◌≡◌, ◌∙◌, ◌<◌, ◌≢◌, ap, sym, get_or, length, pos, arith, Ok, ◌+ℤ◌, to_z, of_z, w64, SFits, FitsSigned, rules, below_more, get_or-set_same, get_or-set_other}, specs.Bool.{FalseIff}, specs.Int.{int_wrapping_add}, proofs.Math.ListN.{length-set}, proofs.lemmas.Int.{to_z-of_z}}
 use Rattle.item_fns.specs.Numbers.{number_or_limit}
 use Rattle.reduce_fns.proofs.FlaggedSums.{all_within}
 use Rattle.reduce_fns.proofs.columns.PlusRowFold.put_over.Goals as goal
 
 pub loop-column-preserved : goal.loop-column-preserved
 loop-column-preserved c =
-    let row = c.args.row.now in
     let k = c.loop-column.column in
     let folds = c.loop-column.folds in
     let z = c.overflowing_add-sum.result.0 in
     let is_beyond = c.overflowing_add-sum.result.1 in
-    let upper = get_or row k (pos 0) in
+    let upper = get_or c.args.row.now k (pos 0) in
     let lower = get_or folds k (pos 0) in
     let upper_fits : SFits w64 upper = search rules in
     let upper_is : to_z w64 (of_z w64 upper) ≡ upper = to_z-of_z w64 _ upper_fits in
@@ -22,11 +20,10 @@ loop-column-preserved c =
     let value : z ≡ int_wrapping_add w64 upper lower = rw (upper_is, lower_is) at c.overflowing_add-sum.ensures.value in
     let flag : FalseIff is_beyond (FitsSigned w64 (upper +ℤ lower)) = rw (upper_is, lower_is) at c.overflowing_add-sum.ensures.overflow in
     let old = c.loop-column.invariant.left k (omega arith) in
-    let long = c.loop-column.invariant.long in
     let inside : k < length folds = omega arith in
     rw same
     (record {
-      long = length-set folds k z ∙ long;
+      long = length-set folds k z ∙ c.loop-column.invariant.long;
       made = λ h.
           let both = all_within c.loop-column.is_within is_beyond upper lower upper_fits lower_fits flag h in
           below_more _ _

@@ -6,12 +6,10 @@ use Rattle.reduce_fns.proofs.reduce.Reduce.folded_at.Goals as goal
 
 pub returns-clause-is : goal.returns-clause-is
 returns-clause-is c =
-    let b = c.args.array.now in
-    let f = c.args.self.function in
     let axis = c.axis_at-axis.result in
     let count = ap (λ xs. get_or xs axis 0) (c.deref.ensures ∙ c.shape-axes.ensures.is) in
-    let there : axis < length b.shape = search rules in
-    let meant : axis ≡ axis_at (length b.shape) c.args.self.along = search rules in
+    let there : axis < length c.args.array.now.shape = search rules in
+    let meant : axis ≡ axis_at (length c.args.array.now.shape) c.args.self.along = search rules in
     c.fold_line.ensures.is
-    ∙ ap (fold_right f) (all_of_line b axis _ c.args.index.now there count)
-    ∙ ap (λ a. fold_right f (line b a c.args.index.now)) meant
+    ∙ ap (fold_right c.args.self.function) (all_of_line c.args.array.now axis _ c.args.index.now there count)
+    ∙ ap (λ a. fold_right c.args.self.function (line c.args.array.now a c.args.index.now)) meant

@@ -8,14 +8,13 @@ use Rattle.reduce_fns.proofs.reduce.Reduce.form.Goals as goal
 pub returns : goal.returns
 returns c =
     let b = c.args.array.now in
-    let along = c.args.self.along in
-    let axis = axis_at (length b.shape) along in
+    let axis = axis_at (length b.shape) c.args.self.along in
     let axes : c.as_slice-axes.result.now ≡ b.shape = c.as_slice-axes.ensures ∙ c.shape-shape.ensures.is in
-    let meant : c.axis_at-axis.result ≡ axis = c.axis_at-axis.ensures.is ∙ ap (λ xs. axis_at (length xs) along) axes in
+    let meant : c.axis_at-axis.result ≡ axis = c.axis_at-axis.ensures.is ∙ ap (λ xs. axis_at (length xs) c.args.self.along) axes in
     let shape : c.without_axis.result.items ≡ remove b.shape axis = c.without_axis.ensures.is ∙ ap (λ xs. remove xs c.axis_at-axis.result) axes ∙ ap (remove b.shape) meant in
     let item_type : c.if-axes-axis-eq1.item_type ≡ reduce_type b c.axis_at-axis.result = search rules in
-    let passed : is_axis (length b.shape) along ≡ true = search rules in
-    let form : limited c.without_axis.result.items c.if-axes-axis-eq1.item_type ≡ reduce_form along b =
+    let passed : is_axis (length b.shape) c.args.self.along ≡ true = search rules in
+    let form : limited c.without_axis.result.items c.if-axes-axis-eq1.item_type ≡ reduce_form c.args.self.along b =
     ap (λ s. limited s c.if-axes-axis-eq1.item_type) shape
     ∙ ap (limited (remove b.shape axis)) (item_type ∙ ap (reduce_type b) meant)
     ∙ sym (ap (λ p. check p Axis (limited (remove b.shape axis) (reduce_type b axis))) passed) in

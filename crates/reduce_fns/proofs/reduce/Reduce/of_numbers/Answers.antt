@@ -6,11 +6,9 @@ use Rattle.reduce_fns.proofs.reduce.Reduce.of_numbers.Goals as goal
 
 pub folds-requires-clause-shaped : goal.folds-requires-clause-shaped
 folds-requires-clause-shaped c =
-    let b = c.args.array.now in
-    let axis = c.axis_at-axis.result in
-    let meant : axis ≡ axis_at (length b.shape) c.args.self.along = search rules in
-    let facts = reduce_facts c.args.self.along b c.in_ok-shape.shape.items c.in_ok-shape.field-0-1 c.in_ok-shape.ensures.0 in
-    ap size (facts.shaped ∙ ap (remove b.shape) (sym meant)) ∙ sym c.along-lines.ensures.places
+    let meant : c.axis_at-axis.result ≡ axis_at (length c.args.array.now.shape) c.args.self.along = search rules in
+    let facts = reduce_facts c.args.self.along c.args.array.now c.in_ok-shape.shape.items c.in_ok-shape.field-0-1 c.in_ok-shape.ensures.0 in
+    ap size (facts.shaped ∙ ap (remove c.args.array.now.shape) (sym meant)) ∙ sym c.along-lines.ensures.places
 
 pub returns : goal.returns
 returns c =

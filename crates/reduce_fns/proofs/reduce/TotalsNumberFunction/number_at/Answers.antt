@@ -16,11 +16,10 @@ returns c =
     let same : p / 1 ≡ p = omega arith in
     let nothing : p % 1 ≡ 0 = omega arith in
     let start : first ≡ line_start 1 n p = rw (same, nothing) (omega arith) in
-    let beside = c.args.self.now.beside in
     let e : first + n - first ≡ n = omega arith in
     let high : first + n ≤ length xs = whole_line p t.places n (length xs) c.requires t.whole in
     c.sum_list.ensures
     ∙ ap (λ m. folded (dyadic_on_numbers Plus) (take m (drop first xs))) e
     ∙ ap (folded (dyadic_on_numbers Plus)) (strided_run (pos 0) xs first n high)
     ∙ ap (λ m. folded (dyadic_on_numbers Plus) (strided (pos 0) xs m 1 n)) start
-    ∙ ap (λ s. folded (dyadic_on_numbers Plus) (strided (pos 0) xs (line_start s n p) s n)) (sym beside)
+    ∙ ap (λ s. folded (dyadic_on_numbers Plus) (strided (pos 0) xs (line_start s n p) s n)) (sym c.args.self.now.beside)

@@ -1,5 +1,4 @@
-use Rattle.std.{proofs.Common.{◌≡◌, sym, ◌≤ℤ◌, ◌+ℤ◌, ◌-ℤ◌, if◌then◌else◌, Ok, arith, to_z, of_z, w64, SFits, rules}, specs.Int.{saturate_signed}}
-use Rattle.std.proofs.lemmas.Int.{ints, to_z-of_z}
+use Rattle.std.{proofs.Common.{◌≡◌, sym, ◌≤ℤ◌, ◌+ℤ◌, ◌-ℤ◌, if◌then◌else◌, Ok, arith, to_z, of_z, w64, SFits, rules}, specs.Int.{saturate_signed}, proofs.lemmas.Int.{ints, to_z-of_z}}
 use Rattle.item_fns.{specs.Numbers.{number_or_limit}, proofs.Within.{within_of, held_ok}}
 use Rattle.scan_fns.proofs.NextDifferences.{next_difference}
 use Rattle.scan_fns.proofs.differences.DifferencesPrefix.push.Goals as goal

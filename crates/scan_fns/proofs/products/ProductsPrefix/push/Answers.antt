@@ -14,8 +14,7 @@ returns-clause-next c =
     let s_same : to_z w64 (of_z w64 s.total) ≡ s.total = to_z-of_z w64 s.total s_fits in
     let x_same : to_z w64 (of_z w64 x) ≡ x = to_z-of_z w64 x number_fits in
     let held : number_or_limit (s.total *ℤ x) ≡ Ok z = sym (rw (s_same, x_same) at c.in_ok-total.ensures) in
-    let is = held_ok (s.total *ℤ x) z held in
-    rw (to_z-of_z w64 z total_fits, is.same)
+    rw (to_z-of_z w64 z total_fits, (held_ok (s.total *ℤ x) z held).same)
     (record {
       is = λ v fits. next_product s.total x v s.margin.below s.margin.above c.divided.result.below c.divided.result.above s.margin.low s.margin.high (rw x_same at (c.divided.ensures v fits));
     })

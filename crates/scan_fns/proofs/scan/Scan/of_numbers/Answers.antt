@@ -6,9 +6,7 @@ use Rattle.scan_fns.proofs.scan.Scan.of_numbers.Goals as goal
 
 pub scans-requires-2-clause-long : goal.scans-requires-2-clause-long
 scans-requires-2-clause-long c =
-    let b = c.args.array.now in
-    let lines = c.along-lines.result in
-    let facts = scan_facts c.args.self.along b c.in_ok-shape.shape.items c.in_ok-shape.field-0-1 c.in_ok-shape.ensures.0 in
+    let facts = scan_facts c.args.self.along c.args.array.now c.in_ok-shape.shape.items c.in_ok-shape.field-0-1 c.in_ok-shape.ensures.0 in
     ap size facts.shaped ∙ sym c.shape-axes.ensures.sound.one_item_a_place ∙ ap length c.requires.numbers ∙ length-map c.args.numbers.now (λ z. Num z)
     ∙ sym (ap length c.along-lines.ensures.numbers)
 

@@ -8,81 +8,57 @@ use Rattle.scan_fns.proofs.scan.Scan.scanned_at.Goals as goal
 
 pub without_axis-others-requires-clause-rank : goal.without_axis-others-requires-clause-rank
 without_axis-others-requires-clause-rank c =
-    let b = c.args.array.now in
-    let index = c.args.index.now in
-    let axis = c.axis_at-axis.result in
-    let inside = (scan_place c.args.self.along b index c.requires).inside in
-    let long : length index ≡ length b.shape = as_long b.shape index inside in
+    let inside = (scan_place c.args.self.along c.args.array.now c.args.index.now c.requires).inside in
+    let long : length c.args.index.now ≡ length c.args.array.now.shape = as_long c.args.array.now.shape c.args.index.now inside in
     omega (arith, c.shape-axes.ensures.sound.within.rank)
 
 pub without_axis-others-requires-clause-there : goal.without_axis-others-requires-clause-there
 without_axis-others-requires-clause-there c =
-    let b = c.args.array.now in
-    let index = c.args.index.now in
-    let axis = c.axis_at-axis.result in
-    let inside = (scan_place c.args.self.along b index c.requires).inside in
-    let long : length index ≡ length b.shape = as_long b.shape index inside in
-    let there : axis < length b.shape = search rules in
+    let inside = (scan_place c.args.self.along c.args.array.now c.args.index.now c.requires).inside in
+    let long : length c.args.index.now ≡ length c.args.array.now.shape = as_long c.args.array.now.shape c.args.index.now inside in
+    let there : c.axis_at-axis.result < length c.args.array.now.shape = search rules in
     omega arith
 
 pub bounds-index-axis : goal.bounds-index-axis
 bounds-index-axis c =
-    let b = c.args.array.now in
-    let index = c.args.index.now in
-    let axis = c.axis_at-axis.result in
-    let inside = (scan_place c.args.self.along b index c.requires).inside in
-    let long : length index ≡ length b.shape = as_long b.shape index inside in
-    let there : axis < length b.shape = search rules in
+    let inside = (scan_place c.args.self.along c.args.array.now c.args.index.now c.requires).inside in
+    let long : length c.args.index.now ≡ length c.args.array.now.shape = as_long c.args.array.now.shape c.args.index.now inside in
+    let there : c.axis_at-axis.result < length c.args.array.now.shape = search rules in
     omega arith
 
 pub fold_line-requires-clause-inside : goal.fold_line-requires-clause-inside
 fold_line-requires-clause-inside c =
-    let b = c.args.array.now in
-    let index = c.args.index.now in
-    let axis = c.axis_at-axis.result in
-    let inside = (scan_place c.args.self.along b index c.requires).inside in
-    let long : length index ≡ length b.shape = as_long b.shape index inside in
-    let there : axis < length b.shape = search rules in
-    let at = at_axis b.shape index axis there inside in
+    let inside = (scan_place c.args.self.along c.args.array.now c.args.index.now c.requires).inside in
+    let at = at_axis c.args.array.now.shape c.args.index.now c.axis_at-axis.result (search rules) inside in
     rw (c.as_slice.ensures, c.without_axis-others.ensures.is) at.others
 
 pub fold_line-requires-clause-some : goal.fold_line-requires-clause-some
 fold_line-requires-clause-some c =
-    let b = c.args.array.now in
-    let index = c.args.index.now in
-    let axis = c.axis_at-axis.result in
-    let inside = (scan_place c.args.self.along b index c.requires).inside in
-    let long : length index ≡ length b.shape = as_long b.shape index inside in
-    let there : axis < length b.shape = search rules in
-    let at = at_axis b.shape index axis there inside in
-    let index_at = get_or_default index axis 1 0 (omega arith) in
-    omega (arith, at.low)
+    let inside = (scan_place c.args.self.along c.args.array.now c.args.index.now c.requires).inside in
+    let long : length c.args.index.now ≡ length c.args.array.now.shape = as_long c.args.array.now.shape c.args.index.now inside in
+    let there : c.axis_at-axis.result < length c.args.array.now.shape = search rules in
+    let index_at = get_or_default c.args.index.now c.axis_at-axis.result 1 0 (omega arith) in
+    omega (arith, (at_axis c.args.array.now.shape c.args.index.now c.axis_at-axis.result there inside).low)
 
 pub fold_line-requires-clause-few : goal.fold_line-requires-clause-few
 fold_line-requires-clause-few c =
-    let b = c.args.array.now in
-    let index = c.args.index.now in
-    let axis = c.axis_at-axis.result in
-    let inside = (scan_place c.args.self.along b index c.requires).inside in
-    let long : length index ≡ length b.shape = as_long b.shape index inside in
-    let there : axis < length b.shape = search rules in
-    let at = at_axis b.shape index axis there inside in
-    let index_at = get_or_default index axis 1 0 (omega arith) in
-    omega (arith, at.high)
+    let inside = (scan_place c.args.self.along c.args.array.now c.args.index.now c.requires).inside in
+    let long : length c.args.index.now ≡ length c.args.array.now.shape = as_long c.args.array.now.shape c.args.index.now inside in
+    let there : c.axis_at-axis.result < length c.args.array.now.shape = search rules in
+    let index_at = get_or_default c.args.index.now c.axis_at-axis.result 1 0 (omega arith) in
+    omega (arith, (at_axis c.args.array.now.shape c.args.index.now c.axis_at-axis.result there inside).high)
 
 pub returns-clause-is : goal.returns-clause-is
 returns-clause-is c =
     let b = c.args.array.now in
     let index = c.args.index.now in
     let axis = c.axis_at-axis.result in
-    let inside = (scan_place c.args.self.along b index c.requires).inside in
-    let long : length index ≡ length b.shape = as_long b.shape index inside in
+    let long : length index ≡ length b.shape = as_long b.shape index ((scan_place c.args.self.along b index c.requires).inside) in
     let there : axis < length b.shape = search rules in
     let meant : axis ≡ axis_at (length b.shape) c.args.self.along = search rules in
     let index_at : get_or index axis 1 ≡ get_or index axis 0 = get_or_default index axis 1 0 (omega arith) in
-    let others = c.as_slice.ensures ∙ c.without_axis-others.ensures.is in
     c.fold_line.ensures.is
-    ∙ ap (λ xs. fold_right c.args.self.function (take (get_or index axis 0) (line b axis xs))) others
+    ∙ ap (λ xs. fold_right c.args.self.function (take (get_or index axis 0) (line b axis xs))) (c.as_slice.ensures ∙ c.without_axis-others.ensures.is)
     ∙ ap (λ i. fold_right c.args.self.function (take i (line b axis (remove index axis)))) (sym index_at)
     ∙ ap (λ k. fold_right c.args.self.function (take (get_or index k 1) (line b k (remove index k)))) meant
 
@@ -91,8 +67,7 @@ returns-clause-typed c =
     let b = c.args.array.now in
     let index = c.args.index.now in
     let axis = c.axis_at-axis.result in
-    let inside = (scan_place c.args.self.along b index c.requires).inside in
-    let long : length index ≡ length b.shape = as_long b.shape index inside in
+    let long : length index ≡ length b.shape = as_long b.shape index ((scan_place c.args.self.along b index c.requires).inside) in
     let there : axis < length b.shape = search rules in
     let meant : axis ≡ axis_at (length b.shape) c.args.self.along = search rules in
     let index_at : get_or index axis 1 ≡ get_or index axis 0 = get_or_default index axis 1 0 (omega arith) in

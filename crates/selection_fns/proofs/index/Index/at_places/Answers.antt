@@ -1,18 +1,14 @@
 use Rattle.std.proofs.Common.{◌≡◌, ℕ, List, ◌∙◌, Ok, ap, sym, subst, replicate, map, get_or, arith}
-use Rattle.arrays_core.{specs.declared.item.Item.{Item}, specs.declared.item.ItemType.{ItemType}, specs.Arrays.{ArrayValue}, specs.Items.{fill}}
-use Rattle.arrays_core.specs.Shapes.{size}
-use Rattle.selection_fns.{specs.Index.{written_positions}, specs.IndexPlaces.{all_places, ArePlacesOf}}
-use Rattle.selection_fns.proofs.IndexPlaces.{index_gives, no_places, picked_places, places_inside}
+use Rattle.arrays_core.{specs.declared.item.Item.{Item}, specs.declared.item.ItemType.{ItemType}, specs.Arrays.{ArrayValue}, specs.Items.{fill}, specs.Shapes.{size}}
+use Rattle.selection_fns.{specs.Index.{written_positions}, specs.IndexPlaces.{all_places, ArePlacesOf}, proofs.IndexPlaces.{index_gives, no_places, picked_places, places_inside}}
 use Rattle.selection_fns.proofs.index.Index.at_places.Goals as goal
 
 pub returns-then-size-eq0 : goal.returns-then-size-eq0
 returns-then-size-eq0 c =
-    let a = c.args.array.now in
-    let positions = written_positions c.args.self.now.written.now c.args.positions.now in
     let shape = c.in_ok-shape.shape.items in
     let item_type = c.in_ok-shape.item_type in
     let none : size shape ≡ 0 = ap size (sym c.as_slice.ensures) ∙ sym c.size.ensures ∙ c.if-size-eq0.true in
-    no_places a positions shape item_type c.in_ok-shape.ensures.0 none
+    no_places c.args.array.now (written_positions c.args.self.now.written.now c.args.positions.now) shape item_type c.in_ok-shape.ensures.0 none
     ∙ ap (λ (x : ArrayValue). Ok x) (sym (c.in_ok-filled.ensures ∙ ap (λ n. record { item_type = item_type; shape = shape; items = replicate n (fill item_type) }) none))
 
 pub places_of-requires-clause-one_an_axis : goal.places_of-requires-clause-one_an_axis
@@ -28,7 +24,6 @@ items-requires-clause-inside c =
     let found : ArePlacesOf a.shape positions places = subst (λ s. ArePlacesOf s positions places) (c.as_slice-2.ensures ∙ c.shape-axes.ensures.is) c.in_ok-places.ensures in
     λ k h.
     let below = places_inside a.shape positions places found k h in
-    let one = c.shape-axes.ensures.sound.one_item_a_place in
     omega arith
 
 pub returns : goal.returns

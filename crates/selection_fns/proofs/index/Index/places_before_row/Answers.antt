@@ -5,18 +5,15 @@ use Rattle.selection_fns.proofs.index.Index.places_before_row.Goals as goal
 
 pub overflow_sub-result-2 : goal.overflow_sub-result-2
 overflow_sub-result-2 c =
-    let a = c.args.array.now in
     let at = c.index_of-at.result.items in
-    let place : c.position.result ≡ places_before a.shape at + 1 = rw (c.shape-axes.ensures.is, c.as_slice-2.ensures) at c.position.ensures.is in
-    let below = last_index_below a.shape at c.index_of-at.ensures.inside in
+    let place : c.position.result ≡ places_before c.args.array.now.shape at + 1 = rw (c.shape-axes.ensures.is, c.as_slice-2.ensures) at c.position.ensures.is in
+    let below = last_index_below c.args.array.now.shape at c.index_of-at.ensures.inside in
     rw (c.deref.ensures, c.len.ensures.value) (omega arith)
 
 pub returns-clause-is : goal.returns-clause-is
 returns-clause-is c =
-    let a = c.args.array.now in
     let at = c.index_of-at.result.items in
     let is : at ≡ source_index (written_positions c.args.self.now.written.now c.args.positions.now) (c.args.row.now ++ 1 ∷ []) = rw (c.as_slice.ensures, c.index_in_row-first.ensures.is) at c.index_of-at.ensures.is in
-    let place : c.position.result ≡ places_before a.shape at + 1 = rw (c.shape-axes.ensures.is, c.as_slice-2.ensures) at c.position.ensures.is in
-    let below = last_index_below a.shape at c.index_of-at.ensures.inside in
-    let long = as_long a.shape at c.index_of-at.ensures.inside in
-    rw (← is, ← long, c.deref.ensures, c.len.ensures.value) (omega arith)
+    let place : c.position.result ≡ places_before c.args.array.now.shape at + 1 = rw (c.shape-axes.ensures.is, c.as_slice-2.ensures) at c.position.ensures.is in
+    let below = last_index_below c.args.array.now.shape at c.index_of-at.ensures.inside in
+    rw (← is, ← (as_long c.args.array.now.shape at c.index_of-at.ensures.inside), c.deref.ensures, c.len.ensures.value) (omega arith)

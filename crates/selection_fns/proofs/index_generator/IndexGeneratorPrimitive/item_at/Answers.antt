@@ -1,4 +1,4 @@
-use Rattle.std.{proofs.Common.{rules, ◌≡◌, pos}, specs.Prelude.{get_or}}
+use Rattle.std.proofs.Common.{rules}
 use Rattle.selection_fns.proofs.Generated.{has_index}
 use Rattle.selection_fns.proofs.index_generator.IndexGeneratorPrimitive.item_at.Goals as goal
 
@@ -7,5 +7,4 @@ bounds-index-0 c = has_index c.args._args.now c.args.index.now c.requires.place
 
 pub returns-clause-is : goal.returns-clause-is
 returns-clause-is c =
-    let own : c.from.result ≡ pos (get_or c.args.index.now 0 0) = c.from.ensures in
-    search (rules, own)
+    search (rules, c.from.ensures)

@@ -23,16 +23,12 @@ extend-requires-clause-inside c =
 
 pub loop-head-preserved : goal.loop-head-preserved
 loop-head-preserved c =
-    let a = c.args.array.now in
-    let heads = c.args.self.now.heads.items in
     let row = row_places c.args.self.now.row in
     let k = c.loop-head.head-index in
-    let item = λ (j : ℕ). get_or a.items j (fill a.item_type) in
-    let long = ap length c.deref-head-items.ensures.value in
-    let below : k < length heads = omega arith in
+    let item = λ (j : ℕ). get_or c.args.array.now.items j (fill c.args.array.now.item_type) in
     let new = c.extend.new.items.items in
     let put = subst (λ hs. new ≡ c.loop-head.items.items ++ map (λ j. item (get_or hs k 0 + j)) row) c.deref-head-items.ensures.value c.in_ok-extend.ensures.items in
     record {
-      made = picked_more item c.args.items.now.items c.loop-head.items.items new heads row k below c.loop-head.invariant.made put;
+      made = picked_more item c.args.items.now.items c.loop-head.items.items new c.args.self.now.heads.items row k (omega arith) c.loop-head.invariant.made put;
       typed = c.in_ok-extend.ensures.typed ∙ c.loop-head.invariant.typed;
     }

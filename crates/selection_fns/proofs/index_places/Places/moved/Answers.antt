@@ -1,6 +1,5 @@
 use Rattle.std.{proofs.Common.{◌≡◌, ℕ, ◌+◌, ◌<◌, ◌∙◌, ap, sym, subst, length, get_or, rules}, specs.List.{range_with_len}}
-use Rattle.selection_fns.specs.IndexPlaces.{sums, row_places, all_places}
-use Rattle.selection_fns.proofs.PlaceSums.{sums_first, sums_sums, sums_turned, heads_few, heads_fit, first_alone}
+use Rattle.selection_fns.{specs.IndexPlaces.{sums, row_places, all_places}, proofs.PlaceSums.{sums_first, sums_sums, sums_turned, heads_few, heads_fit, first_alone}}
 use Rattle.selection_fns.proofs.index_places.Places.moved.Goals as goal
 
 pub sums-requires-clause-fit : goal.sums-requires-clause-fit
@@ -16,23 +15,19 @@ sums-requires-clause-fit c =
 pub returns-then-len-ge-LEAST_ROW : goal.returns-then-len-ge-LEAST_ROW
 returns-then-len-ge-LEAST_ROW c =
     let heads = c.args.self.heads.items in
-    let offsets = c.args.offsets.items in
     let places = c.in-Listed.places.items in
     let one : length heads ≡ 1 = search rules in
     let zero : 0 ≡ get_or heads 0 0 = subst (λ z. z ≡ get_or heads 0 z) c.if-index-eq0.true c.index.ensures in
-    let alone : length places ≡ 1 = search rules in
     let same : all_places c.args.self ≡ places =
     ap (λ hs. sums hs (row_places c.args.self.row)) (first_alone heads one zero) ∙ sums_first (row_places c.args.self.row) ∙ ap row_places c.in-Listed.is in
-    sums_turned offsets places alone ∙ ap (sums offsets) (sym same)
+    sums_turned c.args.offsets.items places (search rules) ∙ ap (sums c.args.offsets.items) (sym same)
 
 pub returns-then-len-lt-LEAST_ROW : goal.returns-then-len-lt-LEAST_ROW
 returns-then-len-lt-LEAST_ROW c =
-    let heads = c.args.self.heads.items in
     let offsets = c.args.offsets.items in
     let made = c.in_ok-sums-in-Listed.field-0.items in
-    let one : length heads ≡ 1 = search rules in
-    let zero : 0 ≡ get_or heads 0 0 = subst (λ z. z ≡ get_or heads 0 z) c.if-index-eq0.true c.index.ensures in
-    let alone = first_alone heads one zero in
+    let zero : 0 ≡ get_or c.args.self.heads.items 0 0 = subst (λ z. z ≡ get_or c.args.self.heads.items 0 z) c.if-index-eq0.true c.index.ensures in
+    let alone = first_alone c.args.self.heads.items (search rules) zero in
     let same : all_places c.args.self ≡ c.deref-then-len-lt-LEAST_ROW.result.now =
     ap (λ hs. sums hs (row_places c.args.self.row)) alone ∙ sums_first (row_places c.args.self.row) ∙ ap row_places c.in-Listed.is ∙ sym c.deref-then-len-lt-LEAST_ROW.ensures.value in
     ap (λ hs. sums hs made) alone ∙ sums_first made ∙ c.in_ok-sums-in-Listed.ensures ∙ ap (λ os. sums os c.deref-then-len-lt-LEAST_ROW.result.now) c.deref.ensures.value ∙ ap (sums offsets) (sym same)
@@ -47,11 +42,10 @@ sums-requires-in-Listed-clause-fit c =
 
 pub returns-in-Listed : goal.returns-in-Listed
 returns-in-Listed c =
-    let heads = c.args.self.heads.items in
     let offsets = c.args.offsets.items in
     let places = c.in-Listed.places.items in
     ap (λ hs. sums hs places) (c.in_ok-heads-in-Listed.ensures ∙ ap (λ os. sums os c.deref-in-Listed-2.result.now) c.deref-in-Listed.ensures.value ∙ ap (sums offsets) c.deref-in-Listed-2.ensures.value)
-    ∙ sums_sums offsets heads places ∙ ap (λ r. sums offsets (sums heads (row_places r))) (sym c.in-Listed.is)
+    ∙ sums_sums offsets c.args.self.heads.items places ∙ ap (λ r. sums offsets (sums c.args.self.heads.items (row_places r))) (sym c.in-Listed.is)
 
 pub sums-requires-in-Run-clause-few : goal.sums-requires-in-Run-clause-few
 sums-requires-in-Run-clause-few c =

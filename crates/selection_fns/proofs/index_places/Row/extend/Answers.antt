@@ -11,8 +11,7 @@ extend_run-requires-clause-inside c =
 
 pub returns-in-Listed-clause-items : goal.returns-in-Listed-clause-items
 returns-in-Listed-clause-items c =
-    let a = c.args.array.now in
-    let item = λ (k : ℕ). get_or a.items (c.args.head + k) (fill a.item_type) in
+    let item = λ (k : ℕ). get_or c.args.array.now.items (c.args.head + k) (fill c.args.array.now.item_type) in
     subst (λ xs. OnOk c.extend_places.result (c.extend_places.new.items.items ≡ c.args.items.now.items ++ xs))
     (listed_map item c.deref.result.now ∙ ap (map item) (c.deref.ensures.value ∙ sym (ap row_places c.in-Listed.is)))
     c.extend_places.ensures.items

@@ -4,8 +4,7 @@ use Rattle.selection_fns.proofs.index_rule.IndexAnnounced.box_of.Goals as goal
 pub indexed_box-requires-clause-one_an_axis : goal.indexed_box-requires-clause-one_an_axis
 indexed_box-requires-clause-one_an_axis c =
     let known = has_axes c.args.self.now.written.now c.args.args.now c.args.shape.now c.requires.count c.requires.checked in
-    let first = rw c.if-which-eq0.true at c.requires.fit in
-    rw c.as_slice.ensures.is (known.one_an_axis c.args.region.now first)
+    rw c.as_slice.ensures.is (known.one_an_axis c.args.region.now (rw c.if-which-eq0.true at c.requires.fit))
 
 pub indexed_box-requires-clause-few : goal.indexed_box-requires-clause-few
 indexed_box-requires-clause-few c =
@@ -14,5 +13,4 @@ indexed_box-requires-clause-few c =
 
 pub position_box-requires-clause-axes : goal.position_box-requires-clause-axes
 position_box-requires-clause-axes c =
-    let known = has_axes c.args.self.now.written.now c.args.args.now c.args.shape.now c.requires.count c.requires.checked in
-    rw (tail_of c.args.args.now) known.axes
+    rw (tail_of c.args.args.now) (has_axes c.args.self.now.written.now c.args.args.now c.args.shape.now c.requires.count c.requires.checked).axes

@@ -2,8 +2,7 @@ use Rattle.std.{proofs.Common.{rules, ℕ, List, All, Ok, map, ◌≡◌, ◌+�
 use Rattle.arrays_core.{specs.declared.item.ItemType.{ItemType}, specs.Items.{fill}, specs.Arrays.{ArrayValue}}
 use Rattle.function_names.specs.Axes.{axis_at}
 use Rattle.index_region.{specs.Axes.{places_along}, specs.Checks.{form_of}}
-use Rattle.selection_fns.{specs.Replicate.{times, copied_place, replicate_form}, proofs.Picked.{picked_long, picked_copies}}
-use Rattle.selection_fns.{specs.Laws.CopiedPlaces.{replicate_gives, exchanged_there}, proofs.Copies.{copies_within}}
+use Rattle.selection_fns.{specs.Replicate.{times, copied_place, replicate_form}, proofs.Picked.{picked_long, picked_copies}, specs.Laws.CopiedPlaces.{replicate_gives, exchanged_there}, proofs.Copies.{copies_within}}
 use Rattle.selection_fns.proofs.replicate.Replicate.copied.Goals as goal
 
 pub bounds-deref-axis : goal.bounds-deref-axis

@@ -18,8 +18,6 @@ from_numbers-requires-clause-one_item_a_place c =
     let kept = c.in_ok-kept.kept.items in
     let vector : length b.shape ≡ 1 = search rules in
     let as_many = c.shape-axes.ensures.sound.one_item_a_place in
-    let is = c.places.ensures.is in
-    let other = c.if-places-eq1.false in
     let several : nat_eq (length a.items) 1 ≡ false = grind (arith, nat_tests) in
     let even : length a.items ≡ length b.items = search rules in
     let read = c.in-Some-numbers-2.ensures.is in
@@ -30,17 +28,14 @@ from_numbers-requires-clause-one_item_a_place c =
 pub returns : goal.returns
 returns c =
     let a = c.args.counts.now in
-    let b = c.args.array.now in
     let list = c.in-Some-numbers.list.now in
     let ns = c.in-Some-numbers-2.numbers.now in
     let kept = c.in_ok-kept.kept.items in
-    let vector : length b.shape ≡ 1 = search rules in
+    let vector : length c.args.array.now.shape ≡ 1 = search rules in
     let as_many = c.shape-axes.ensures.sound.one_item_a_place in
-    let is = c.places.ensures.is in
-    let other = c.if-places-eq1.false in
     let several : nat_eq (length a.items) 1 ≡ false = grind (arith, nat_tests) in
-    let even : length a.items ≡ length b.items = search rules in
+    let even : length a.items ≡ length c.args.array.now.items = search rules in
     let read = c.in-Some-numbers-2.ensures.is in
     let are : AreKept (numbers a) ns kept = subst (λ zs. AreKept zs ns kept) (sym (numbers_read a list c.in-Some-numbers.ensures.is.1)) c.in_ok-kept.ensures in
-    kept_copies c.args.self.along a b c.args.shape.now.items ns kept vector as_many c.requires.form several even read.0 read.1 are
+    kept_copies c.args.self.along a c.args.array.now c.args.shape.now.items ns kept vector as_many c.requires.form several even read.0 read.1 are
     ∙ sym (ap (λ (r : ArrayValue). Ok r) c.in_ok-from_numbers.ensures)

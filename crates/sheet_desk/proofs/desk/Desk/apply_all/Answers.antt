@@ -1,5 +1,4 @@
-use Rattle.std.{proofs.Common.{◌≡◌, ◌<◌, [], ◌∷◌, List, ◌++◌, map, length, refl, sym, subst, arith}, proofs.lemmas.List.{append-nil}}
-use Rattle.std.proofs.lemmas.Bool.{false≢true}
+use Rattle.std.{proofs.Common.{◌≡◌, ◌<◌, [], ◌∷◌, List, ◌++◌, map, length, refl, sym, subst, arith}, proofs.lemmas.List.{append-nil}, proofs.lemmas.Bool.{false≢true}}
 use Rattle.sheet_desk.{specs.declared.event.Event.{Event}, specs.Desk.{Answer, AreEvents}, specs.Asked.{event_of, answer_of}}
 use Rattle.sheet_desk.specs.declared.event.Answer as told
 use Rattle.sheet_desk.proofs.desk.Desk.apply_all.Goals as goal

@@ -1,9 +1,6 @@
-use Rattle.std.{proofs.Common.{◌≡◌, ℤ, length, false, List, map, Option, None, Some, Result, Err, inl, sym, subst, ap, ◌∙◌}, specs.Option.{option_map}}
-use Rattle.std.{proofs.lemmas.Int.{to_z-of_z}, proofs.lemmas.Result.{err_from_is_err_and}}
-use Rattle.sheet_recalc.{specs.Names.{SheetValue}, specs.Changes.{Accepts}, specs.Costs.{HasCost, HasTicks}, specs.History.{change_of}}
-use Rattle.sheet_recalc.{specs.Pending.{IsPendingOn}, specs.declared.refusal.Refusal.{Refusal}}
-use Rattle.sheet_desk.{specs.Slots.{slot_in, with_slot}, specs.Desk.{DeskValue, Commit, IsEvent, stale, commit_refusal}, specs.Asked.{done_answer}}
-use Rattle.sheet_desk.{specs.Held.{slot_value_of, slot_values_of, marked, IsOpenOn, AreOpenOn}, proofs.Slotted.{seen, seen_in_desk, put_in_desk}}
+use Rattle.std.{proofs.Common.{◌≡◌, ℤ, length, false, List, map, Option, None, Some, Result, Err, inl, sym, subst, ap, ◌∙◌}, specs.Option.{option_map}, proofs.lemmas.Int.{to_z-of_z}, proofs.lemmas.Result.{err_from_is_err_and}}
+use Rattle.sheet_recalc.{specs.Names.{SheetValue}, specs.Changes.{Accepts}, specs.Costs.{HasCost, HasTicks}, specs.History.{change_of}, specs.Pending.{IsPendingOn}, specs.declared.refusal.Refusal.{Refusal}}
+use Rattle.sheet_desk.{specs.Slots.{slot_in, with_slot}, specs.Desk.{DeskValue, Commit, IsEvent, stale, commit_refusal}, specs.Asked.{done_answer}, specs.Held.{slot_value_of, slot_values_of, marked, IsOpenOn, AreOpenOn}, proofs.Slotted.{seen, seen_in_desk, put_in_desk}}
 use Rattle.sheet_desk.{proofs.Staling.{all_in, length-with_slot, marked_seen, open_marked}, proofs.Spent.{spent_within}, specs.declared.slot.Slot.{Slot}}
 use mir.Syntax.{w64}
 use mir.Val.{to_z, of_z, SFits}

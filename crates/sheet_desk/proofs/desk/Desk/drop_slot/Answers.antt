@@ -1,6 +1,5 @@
 use Rattle.std.proofs.Common.{None, Some, not, inl, refl, ap, ◌∙◌}
-use Rattle.sheet_desk.{specs.Desk.{drop_refusal}, specs.Held.{slot_value_of}, proofs.Slotted.{IsPlaced, none_seen, held_seen, put_seen, is_there, is_not_there}}
-use Rattle.sheet_desk.{proofs.Staling.{open_put}, proofs.desk.Desk.drop_slot.Goals.{In-Some}}
+use Rattle.sheet_desk.{specs.Desk.{drop_refusal}, specs.Held.{slot_value_of}, proofs.Slotted.{IsPlaced, none_seen, held_seen, put_seen, is_there, is_not_there}, proofs.Staling.{open_put}, proofs.desk.Desk.drop_slot.Goals.{In-Some}}
 use Rattle.sheet_desk.proofs.desk.Desk.drop_slot.Goals as goal
 
 -- the place of the number

@@ -1,9 +1,6 @@
 use Rattle.std.{proofs.Common.{◌≤◌, ℕ, false, Option, None, Some, Result, Err, inl, inr, refl, sym, subst, ap, ◌∙◌}, proofs.lemmas.Result.{err_from_is_err_and}}
-use Rattle.sheet_recalc.{specs.Changes.{Accepts, Refuses}, specs.Costs.{expression_cost}, specs.History.{change_of}, specs.Pending.{steps_left}}
-use Rattle.sheet_recalc.specs.declared.refusal.Refusal.{Refusal}
-use Rattle.sheet_desk.{specs.Desk.{DeskValue, Open, IsEvent, open_refusal}, specs.declared.slot.Slot.{Slot}, specs.Asked.{count_answer}}
-use Rattle.sheet_desk.{proofs.Slotted.{IsPlaced, none_seen, held_seen, put_seen, is_there, is_not_there}, proofs.Staling.{open_put}}
-use Rattle.sheet_desk.proofs.desk.Desk.open.Goals.{In-Some}
+use Rattle.sheet_recalc.{specs.Changes.{Accepts, Refuses}, specs.Costs.{expression_cost}, specs.History.{change_of}, specs.Pending.{steps_left}, specs.declared.refusal.Refusal.{Refusal}}
+use Rattle.sheet_desk.{specs.Desk.{DeskValue, Open, IsEvent, open_refusal}, specs.declared.slot.Slot.{Slot}, specs.Asked.{count_answer}, proofs.Slotted.{IsPlaced, none_seen, held_seen, put_seen, is_there, is_not_there}, proofs.Staling.{open_put}, proofs.desk.Desk.open.Goals.{In-Some}}
 use Rattle.sheet_desk.proofs.desk.Desk.open.Goals as goal
 
 -- the place of the number

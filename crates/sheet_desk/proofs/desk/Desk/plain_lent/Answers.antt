@@ -1,8 +1,6 @@
 use Rattle.std.{proofs.Common.{◌≡◌, map, Result, Err, inr, refl, sym, subst, ap, ◌∙◌}, specs.Option.{option_map}, proofs.lemmas.Result.{err_from_is_err_and}}
-use Rattle.sheet_recalc.{specs.Names.{SheetValue}, specs.Changes.{Accepts, Refuses}, specs.Costs.{HasCost, HasTicks}, specs.History.{change_of}}
-use Rattle.sheet_recalc.specs.declared.refusal.Refusal.{Refusal}
-use Rattle.sheet_desk.{specs.Desk.{DeskValue, Plain, IsEvent, stale}, specs.Asked.{done_answer}, specs.Held.{slot_values_of, AreOpenOn}, proofs.Slotted.{seen}}
-use Rattle.sheet_desk.proofs.Staling.{marked_seen, open_marked}
+use Rattle.sheet_recalc.{specs.Names.{SheetValue}, specs.Changes.{Accepts, Refuses}, specs.Costs.{HasCost, HasTicks}, specs.History.{change_of}, specs.declared.refusal.Refusal.{Refusal}}
+use Rattle.sheet_desk.{specs.Desk.{DeskValue, Plain, IsEvent, stale}, specs.Asked.{done_answer}, specs.Held.{slot_values_of, AreOpenOn}, proofs.Slotted.{seen}, proofs.Staling.{marked_seen, open_marked}}
 use Rattle.sheet_desk.proofs.desk.Desk.plain_lent.Goals as goal
 
 pub returns-in_err-apply_lent : goal.returns-in_err-apply_lent

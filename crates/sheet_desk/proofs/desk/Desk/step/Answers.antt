@@ -1,11 +1,7 @@
-use Rattle.std.proofs.Common.{set, ◌≡◌, ◌<◌, ◌-◌, ℕ, Bool, None, Some, Result, Err, inl, inr, refl, sym, subst, ap, ◌∙◌, if◌then◌else◌, arith}
-use Rattle.std.{specs.Option.{option_map}, proofs.lemmas.List.Elements.{All-get_or}, proofs.lemmas.Result.{err_from_is_err_and}}
-use Rattle.sheet_recalc.{specs.Costs.{IsStepCost}, specs.History.{change_of}, specs.Pending.{steps_left}, specs.declared.refusal.Refusal.{Refusal}}
-use Rattle.sheet_recalc.specs.declared.refusal.Refusal.TheVariants.{Stale}
-use Rattle.sheet_desk.{specs.Desk.{DeskValue, SlotValue, Step, IsEvent, held_in, with_held, step_refusal, steps_told}, specs.Held.{slot_value_of, IsOpenOn}}
-use Rattle.sheet_desk.{specs.declared.slot.Slot.{Slot}, specs.Asked.{count_answer}}
-use Rattle.sheet_desk.{proofs.Slotted.{IsPlaced, seen, none_seen, held_seen, put_seen, put_same, slot_after}, proofs.Staling.{open_put}}
-use Rattle.sheet_desk.proofs.desk.Desk.step.Goals.{In-Some, Else-slot}
+use Rattle.std.{proofs.Common.{set, ◌≡◌, ◌<◌, ◌-◌, ℕ, Bool, None, Some, Result, Err, inl, inr, refl, sym, subst, ap, ◌∙◌, if◌then◌else◌, arith}, specs.Option.{option_map}, proofs.lemmas.List.Elements.{All-get_or}, proofs.lemmas.Result.{err_from_is_err_and}}
+use Rattle.sheet_recalc.{specs.Costs.{IsStepCost}, specs.History.{change_of}, specs.Pending.{steps_left}, specs.declared.refusal.Refusal.{Refusal}, specs.declared.refusal.Refusal.TheVariants.{Stale}}
+use Rattle.sheet_desk.{specs.Desk.{DeskValue, SlotValue, Step, IsEvent, held_in, with_held, step_refusal, steps_told}, specs.Held.{slot_value_of, IsOpenOn}, specs.declared.slot.Slot.{Slot}, specs.Asked.{count_answer}, proofs.Slotted.{IsPlaced, seen, none_seen, held_seen, put_seen, put_same, slot_after}}
+use Rattle.sheet_desk.{proofs.Staling.{open_put}, proofs.desk.Desk.step.Goals.{In-Some, Else-slot}}
 use Rattle.sheet_desk.proofs.desk.Desk.step.Goals as goal
 
 -- the place of the number

@@ -3,8 +3,7 @@ use Rattle.index_region.specs.declared.delta.Delta.{Delta}
 use Rattle.change_rules.specs.Currency.{applied}
 use Rattle.arrays_core.{specs.Arrays.{IsArray}, specs.Outcomes.{Outcome}}
 use Rattle.formula_core.{specs.Outcomes.{read}, specs.Formulas.{root_result}, specs.Plans.{root_change}, specs.Changes.{FitsIn}, specs.Inputs.{IsInput}}
-use Rattle.sheet_recalc.{specs.ProposedSheet.{outline_of}, specs.Costs.{origin_delta}, specs.Meaning.{with_origin}}
-use Rattle.sheet_recalc.proofs.PlannedNames.{root_fits, planned_input, planned_changed, planned_sound, plan_now}
+use Rattle.sheet_recalc.{specs.ProposedSheet.{outline_of}, specs.Costs.{origin_delta}, specs.Meaning.{with_origin}, proofs.PlannedNames.{root_fits, planned_input, planned_changed, planned_sound, plan_now}}
 use Rattle.sheet_recalc.proofs.ahead.Ahead.by_plan.Goals as goal
 
 pub of-requires : goal.of-requires

@@ -1,6 +1,5 @@
 use Rattle.std.proofs.Common.{◌≡◌, ◌∙◌, List, ℕ, sym, subst}
-use Rattle.sheet_recalc.{specs.Live.{plan_in}, specs.ProposedSheet.{outline_of}, specs.Planning.{HasItsPlan}, proofs.NameEquality.{equal-true}}
-use Rattle.sheet_recalc.proofs.PlannedNames.{data_needs_none}
+use Rattle.sheet_recalc.{specs.Live.{plan_in}, specs.ProposedSheet.{outline_of}, specs.Planning.{HasItsPlan}, proofs.NameEquality.{equal-true}, proofs.PlannedNames.{data_needs_none}}
 use Rattle.sheet_recalc.proofs.ahead.Ahead.input_of.Goals as goal
 
 pub own-requires-clause-done : goal.own-requires-clause-done

@@ -2,8 +2,7 @@ use Rattle.std.proofs.Common.{sym, subst, IfOk}
 use Rattle.arrays_core.{specs.Arrays.{IsArray}, specs.Outcomes.{Outcome}}
 use Rattle.change_rules.specs.Currency.{applied}
 use Rattle.formula_core.{specs.Changes.{FitsIn}, specs.Inputs.{IsInput}}
-use Rattle.sheet_recalc.specs.ProposedSheet.{outline_of}
-use Rattle.sheet_recalc.proofs.PlannedNames.{own_formula, data_fits, data_input, data_changed, data_sound, none_input, none_changed, none_sound}
+use Rattle.sheet_recalc.{specs.ProposedSheet.{outline_of}, proofs.PlannedNames.{own_formula, data_fits, data_input, data_changed, data_sound, none_input, none_changed, none_sound}}
 use Rattle.sheet_recalc.proofs.ahead.Ahead.own.Goals as goal
 
 pub unreachable-requires : goal.unreachable-requires

@@ -1,6 +1,5 @@
 use Rattle.std.{proofs.Common.{◌∙◌, sym, ap, [], Option, Some, None}, specs.Option.{option_map, option_map_or}}
-use Rattle.sheet_recalc.{specs.Names.{Binding, referred}, specs.Entries.{names_of, binding_of}, specs.Meaning.{val}}
-use Rattle.sheet_recalc.{specs.ProposedSheet.{outline_of, own_entry}, proofs.Proposed.{bound_own, bound_other}, proofs.Readied.{references_made}}
+use Rattle.sheet_recalc.{specs.Names.{Binding, referred}, specs.Entries.{names_of, binding_of}, specs.Meaning.{val}, specs.ProposedSheet.{outline_of, own_entry}, proofs.Proposed.{bound_own, bound_other}, proofs.Readied.{references_made}}
 use Rattle.sheet_recalc.proofs.proposed_sheet.ProposedSheet.references_of.Goals as goal
 
 pub returns-then-eq : goal.returns-then-eq

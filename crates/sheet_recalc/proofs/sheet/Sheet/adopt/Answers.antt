@@ -1,6 +1,5 @@
 use Rattle.std.{proofs.Common.{◌≡◌, ◌∙◌, sym, ap, subst}, proofs.lemmas.Bool.{false≢true}}
-use Rattle.sheet_recalc.{specs.Names.{Names, SheetValue}, specs.Entries.{names_of}, specs.Tables.{Tables}, specs.Pending.{names_after}, specs.Changes.{Accepts}}
-use Rattle.sheet_recalc.{specs.Costs.{HasCost, HasTicks}, proofs.Rebound.{live_after}, proofs.Stepped.{is_ready, whole_cost, whole_ticks, IsAllReady}}
+use Rattle.sheet_recalc.{specs.Names.{Names, SheetValue}, specs.Entries.{names_of}, specs.Tables.{Tables}, specs.Pending.{names_after}, specs.Changes.{Accepts}, specs.Costs.{HasCost, HasTicks}, proofs.Rebound.{live_after}, proofs.Stepped.{is_ready, whole_cost, whole_ticks, IsAllReady}}
 use Rattle.sheet_recalc.proofs.sheet.Sheet.adopt.Goals as goal
 
 pub make-requires-clause-ready : goal.make-requires-clause-ready

@@ -1,5 +1,4 @@
-use Rattle.std.{proofs.Common.{◌≡◌, ◌<◌, [], ◌∷◌, List, ◌++◌, Result, map, length, refl, sym, subst, arith}, proofs.lemmas.List.{append-nil}}
-use Rattle.std.proofs.lemmas.Bool.{false≢true}
+use Rattle.std.{proofs.Common.{◌≡◌, ◌<◌, [], ◌∷◌, List, ◌++◌, Result, map, length, refl, sym, subst, arith}, proofs.lemmas.List.{append-nil}, proofs.lemmas.Bool.{false≢true}}
 use Rattle.apl_expr.specs.declared.command.Change.{Change}
 use Rattle.sheet_recalc.{specs.declared.refusal.Refusal.{Refusal}, specs.History.{Run, change_of, sheet_state_of}}
 use Rattle.sheet_recalc.proofs.sheet.Sheet.apply_all.Goals as goal

@@ -1,7 +1,5 @@
 use Rattle.std.{proofs.Common.{◌≡◌, ◌+◌, ◌≤◌, ℕ, sym, ap, subst, arith, not, true, false}, proofs.lemmas.Bool.{false≢true}}
-use Rattle.sheet_recalc.{specs.Names.{SheetValue}, specs.Tables.{Tables}, specs.Planning.{IsProposed, IsOnTheWay}, specs.Costs.{IsNodeCost}}
-use Rattle.sheet_recalc.{specs.ProposedSheet.{proposed_change}, specs.Pending.{outline_for, names_after, IsPendingOn}, specs.declared.pending.Pending.{Pending}}
-use Rattle.sheet_recalc.proofs.Stepped.{pending_on}
+use Rattle.sheet_recalc.{specs.Names.{SheetValue}, specs.Tables.{Tables}, specs.Planning.{IsProposed, IsOnTheWay}, specs.Costs.{IsNodeCost}, specs.ProposedSheet.{proposed_change}, specs.Pending.{outline_for, names_after, IsPendingOn}, specs.declared.pending.Pending.{Pending}, proofs.Stepped.{pending_on}}
 use Rattle.sheet_recalc.proofs.sheet.Sheet.apply_function.Goals as goal
 
 pub apply_next-requires-clause-proposed : goal.apply_next-requires-clause-proposed

@@ -1,8 +1,7 @@
 use Rattle.std.{proofs.Common.{ap, subst}, proofs.lemmas.Result.{IfErr-weaker}}
 use Rattle.apl_expr.specs.Trees.{Tree, tree_of}
 use Rattle.formula_core.specs.Formulas.{FormulaValue}
-use Rattle.sheet_recalc.{specs.Names.{Formula}, specs.Changes.{CannotPut}, proofs.Refused.{refused_define}}
-use Rattle.sheet_recalc.proofs.Asked.{if_ok_map, few_at_first, free, define_pending}
+use Rattle.sheet_recalc.{specs.Names.{Formula}, specs.Changes.{CannotPut}, proofs.Refused.{refused_define}, proofs.Asked.{if_ok_map, few_at_first, free, define_pending}}
 use Rattle.sheet_recalc.proofs.sheet.Sheet.begin_define.Goals as goal
 
 pub returns-clause-ok : goal.returns-clause-ok

@@ -1,7 +1,5 @@
 use Rattle.std.{proofs.Common.{sym, subst}, proofs.lemmas.Result.{IfErr-weaker}}
-use Rattle.sheet_recalc.{specs.Changes.{CannotBecome}, specs.Pending.{IsProposedOn}, specs.Planning.{IsProposalAt}, specs.ProposedSheet.{names_with}}
-use Rattle.sheet_recalc.{specs.declared.proposal.Proposal.{Proposal}, proofs.Refused.{refused_erase}}
-use Rattle.sheet_recalc.proofs.Asked.{if_ok_map, few_at_first, free, erase_pending}
+use Rattle.sheet_recalc.{specs.Changes.{CannotBecome}, specs.Pending.{IsProposedOn}, specs.Planning.{IsProposalAt}, specs.ProposedSheet.{names_with}, specs.declared.proposal.Proposal.{Proposal}, proofs.Refused.{refused_erase}, proofs.Asked.{if_ok_map, few_at_first, free, erase_pending}}
 use Rattle.sheet_recalc.proofs.sheet.Sheet.begin_erase.Goals as goal
 
 pub propose-requires-clause-proposal : goal.propose-requires-clause-proposal

@@ -1,6 +1,5 @@
 use Rattle.std.{proofs.Common.{◌≡◌, ◌∙◌, ◌+◌, sym, ap, subst, false, true, arith}, specs.Prelude.{if◌then◌else◌}, specs.List.{sum_by}, specs.Map.{keys_of}}
-use Rattle.sheet_recalc.{specs.Names.{SheetValue}, specs.Tables.{Tables}, specs.Planning.{IsOnTheWay, functions_at}, specs.Costs.{AreAllThatReach}}
-use Rattle.sheet_recalc.{specs.Pending.{outline_for, names_after}, proofs.Forward.{counted_way}, proofs.Stepped.{of_laid_out}}
+use Rattle.sheet_recalc.{specs.Names.{SheetValue}, specs.Tables.{Tables}, specs.Planning.{IsOnTheWay, functions_at}, specs.Costs.{AreAllThatReach}, specs.Pending.{outline_for, names_after}, proofs.Forward.{counted_way}, proofs.Stepped.{of_laid_out}}
 use Rattle.sheet_recalc.proofs.sheet.Sheet.count.Goals as goal
 
 pub settle-requires-clause-way : goal.settle-requires-clause-way

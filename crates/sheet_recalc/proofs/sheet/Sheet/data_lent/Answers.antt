@@ -3,9 +3,7 @@ use Rattle.apl_expr.specs.Trees.{tree_of}
 use Rattle.change_core.specs.Meters.{ticked, MeterValue}
 use Rattle.index_region.specs.declared.delta.Delta.{Delta}
 use Rattle.formula_core.specs.Plans.{tree_cost}
-use Rattle.sheet_recalc.{specs.Costs.{names_at_rest}, specs.ProposedSheet.{names_with}, specs.Changes.{Store, CannotBecome}, specs.Pending.{IsProposedOn}}
-use Rattle.sheet_recalc.{specs.declared.proposal.Proposal.TheVariants.{Data}, proofs.Asked.{on_ok_map, data_pending}}
-use Rattle.sheet_recalc.proofs.Refused.{refused_put, refused_data}
+use Rattle.sheet_recalc.{specs.Costs.{names_at_rest}, specs.ProposedSheet.{names_with}, specs.Changes.{Store, CannotBecome}, specs.Pending.{IsProposedOn}, specs.declared.proposal.Proposal.TheVariants.{Data}, proofs.Asked.{on_ok_map, data_pending}, proofs.Refused.{refused_put, refused_data}}
 use Rattle.sheet_recalc.proofs.sheet.Sheet.data_lent.Goals as goal
 
 pub returns-clause-ok : goal.returns-clause-ok

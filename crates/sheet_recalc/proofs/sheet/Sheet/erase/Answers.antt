@@ -1,6 +1,5 @@
 use Rattle.std.{proofs.Common.{sym, subst}, proofs.lemmas.Result.{IfErr-weaker}}
-use Rattle.sheet_recalc.{specs.Changes.{Erase, CannotBecome}, specs.Pending.{IsProposedOn}, specs.Planning.{IsProposalAt}, specs.ProposedSheet.{names_with}}
-use Rattle.sheet_recalc.{specs.declared.proposal.Proposal.{Proposal}, proofs.Refused.{refused_erase}, proofs.Asked.{on_ok_map, erase_pending}}
+use Rattle.sheet_recalc.{specs.Changes.{Erase, CannotBecome}, specs.Pending.{IsProposedOn}, specs.Planning.{IsProposalAt}, specs.ProposedSheet.{names_with}, specs.declared.proposal.Proposal.{Proposal}, proofs.Refused.{refused_erase}, proofs.Asked.{on_ok_map, erase_pending}}
 use Rattle.sheet_recalc.proofs.sheet.Sheet.erase.Goals as goal
 
 pub make_change-requires-clause-proposal : goal.make_change-requires-clause-proposal

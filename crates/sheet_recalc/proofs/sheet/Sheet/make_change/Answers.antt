@@ -1,9 +1,6 @@
 use Rattle.std.{proofs.Common.{◌≡◌, ◌∙◌, ◌<◌, refl, sym, ap, subst, false, arith}, proofs.lemmas.Result.{err_from_is_err_and}}
-use Rattle.sheet_recalc.{specs.Names.{Names, SheetValue}, specs.Tables.{Tables}, specs.Entries.{names_of}, specs.Changes.{Accepts, CannotBecome}}
-use Rattle.sheet_recalc.{specs.Costs.{HasCost, HasTicks}, specs.Planning.{IsProposalAt}, specs.ProposedSheet.{names_with}}
-use Rattle.sheet_recalc.{specs.Pending.{IsLaidOut, IsProposedOn, names_after}, specs.declared.pending.Pending.{Pending}}
-use Rattle.sheet_recalc.{proofs.Making.{laid_out, none_left, all_ready, still_pending}, proofs.Live.{reach_kept, reached_after}, proofs.Rebound.{live_after}}
-use Rattle.sheet_recalc.proofs.Stepped.{whole_cost, whole_ticks}
+use Rattle.sheet_recalc.{specs.Names.{Names, SheetValue}, specs.Tables.{Tables}, specs.Entries.{names_of}, specs.Changes.{Accepts, CannotBecome}, specs.Costs.{HasCost, HasTicks}, specs.Planning.{IsProposalAt}, specs.ProposedSheet.{names_with}, specs.Pending.{IsLaidOut, IsProposedOn, names_after}}
+use Rattle.sheet_recalc.{specs.declared.pending.Pending.{Pending}, proofs.Making.{laid_out, none_left, all_ready, still_pending}, proofs.Live.{reach_kept, reached_after}, proofs.Rebound.{live_after}, proofs.Stepped.{whole_cost, whole_ticks}}
 use Rattle.sheet_recalc.proofs.sheet.Sheet.make_change.Goals as goal
 
 pub begun-requires-clause-proposal : goal.begun-requires-clause-proposal

@@ -1,6 +1,5 @@
 use Rattle.std.{proofs.Common.{◌+◌, ◌≤◌, sym, ap, subst, arith, not, true, false}, proofs.lemmas.Bool.{false≢true}}
-use Rattle.sheet_recalc.{specs.Names.{SheetValue}, specs.Tables.{Tables}, specs.Planning.{IsProposed, IsOnTheWay}, specs.Pending.{outline_for}}
-use Rattle.sheet_recalc.proofs.Stepped.{pending_on, step_cost}
+use Rattle.sheet_recalc.{specs.Names.{SheetValue}, specs.Tables.{Tables}, specs.Planning.{IsProposed, IsOnTheWay}, specs.Pending.{outline_for}, proofs.Stepped.{pending_on, step_cost}}
 use Rattle.sheet_recalc.proofs.sheet.Sheet.plan_ahead.Goals as goal
 
 pub settle-requires-clause-proposed : goal.settle-requires-clause-proposed

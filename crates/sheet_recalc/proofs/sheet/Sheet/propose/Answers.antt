@@ -1,6 +1,5 @@
 use Rattle.std.{proofs.Common.{◌∙◌, refl, sym, ap, subst, false}, proofs.lemmas.Result.{err_from_is_err_and}}
-use Rattle.sheet_recalc.{specs.Names.{SheetValue}, specs.Tables.{Tables}, specs.Changes.{CannotBecome}, specs.Planning.{IsProposalAt}}
-use Rattle.sheet_recalc.{specs.ProposedSheet.{names_with}, specs.Pending.{IsProposedOn}, specs.declared.pending.Pending.{Pending}, proofs.Making.{laid_out}}
+use Rattle.sheet_recalc.{specs.Names.{SheetValue}, specs.Tables.{Tables}, specs.Changes.{CannotBecome}, specs.Planning.{IsProposalAt}, specs.ProposedSheet.{names_with}, specs.Pending.{IsProposedOn}, specs.declared.pending.Pending.{Pending}, proofs.Making.{laid_out}}
 use Rattle.sheet_recalc.proofs.sheet.Sheet.propose.Goals as goal
 
 pub begun-requires-clause-proposal : goal.begun-requires-clause-proposal

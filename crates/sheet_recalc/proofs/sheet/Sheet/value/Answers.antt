@@ -1,6 +1,5 @@
 use Rattle.std.proofs.Common.{◌∙◌, ap, subst, Some, None, is_some, if◌then◌else◌}
-use Rattle.sheet_recalc.{specs.Names.{binding, SheetValue}, specs.Meaning.{val, IsOnlySolution}, specs.Entries.{names_of}, proofs.Live.{value_is}}
-use Rattle.sheet_recalc.proofs.Solution.{only_solution}
+use Rattle.sheet_recalc.{specs.Names.{binding, SheetValue}, specs.Meaning.{val, IsOnlySolution}, specs.Entries.{names_of}, proofs.Live.{value_is}, proofs.Solution.{only_solution}}
 use Rattle.sheet_recalc.proofs.sheet.Sheet.value.Goals as goal
 
 pub returns-in-Some-clause-is : goal.returns-in-Some-clause-is

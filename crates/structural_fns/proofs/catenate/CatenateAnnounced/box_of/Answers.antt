@@ -3,8 +3,7 @@ use Rattle.arrays_core.specs.Arrays.{ArrayValue}
 use Rattle.function_names.{specs.declared.along.Along.{Along}, specs.Axes.{axis_at}}
 use Rattle.index_region.{specs.ArgumentLists.{of_two_arguments}, proofs.Passing.{two_arguments}}
 use Rattle.change_core.{specs.RuleModels.{HasShape}, specs.Sourced.{left_used, right_used}}
-use Rattle.structural_fns.specs.Catenate.{joined_places, catenate_form, catenate_source, side_box, catenate_left_box, catenate_right_box}
-use Rattle.structural_fns.{specs.Laws.JoinedAxes.{JoinedFacts, joined_facts}, proofs.Calls.{form_of_two, box_of_right}}
+use Rattle.structural_fns.{specs.Catenate.{joined_places, catenate_form, catenate_source, side_box, catenate_left_box, catenate_right_box}, specs.Laws.JoinedAxes.{JoinedFacts, joined_facts}, proofs.Calls.{form_of_two, box_of_right}}
 use Rattle.structural_fns.proofs.catenate.CatenateAnnounced.box_of.Goals as goal
 
 facts : (along : Along) (args : List ArrayValue) (a b : ArrayValue) (shape : List ℕ) → length args ≡ 2 → a ≡ get_or args 0 a → b ≡ get_or args 1 b
@@ -57,14 +56,11 @@ pub returns : goal.returns
 returns c =
     let along = c.args.self.now.along in
     let a = c.index-args-0.result in
-    let b = c.index-args-1.result in
-    let shape = c.args.shape.now in
-    let rank = length shape in
+    let rank = length c.args.shape.now in
     let axis = axis_at rank along in
-    let region = c.args.region.now in
-    let two = two_arguments c.args.args.now a b c.requires.count c.index-args-0.is c.index-args-1.is in
+    let two = two_arguments c.args.args.now a c.index-args-1.result c.requires.count c.index-args-0.is c.index-args-1.is in
     let on : c.axis_at-axis.result ≡ axis = c.axis_at-axis.ensures.is in
     let before : c.joined_places-before.result ≡ joined_places rank axis a = c.joined_places-before.ensures.is ∙ ap (λ (k : ℕ). joined_places rank k a) on in
-    c.side_box-2.ensures ∙ (λ i. side_box shape (on i) (before i) b region)
+    c.side_box-2.ensures ∙ (λ i. side_box c.args.shape.now (on i) (before i) c.index-args-1.result c.args.region.now)
     ∙ sym (box_of_right (λ s l r. left_used (catenate_source along l r) (catenate_left_box along s l r)) (λ s l r. right_used (catenate_source along l r) (catenate_right_box along s l r))
-    shape c.args.args.now a b c.args.which region two c.requires.below (omega arith))
+    c.args.shape.now c.args.args.now a c.index-args-1.result c.args.which c.args.region.now two c.requires.below (omega arith))

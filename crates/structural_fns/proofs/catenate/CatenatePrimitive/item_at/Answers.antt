@@ -6,19 +6,14 @@ use Rattle.structural_fns.proofs.catenate.CatenatePrimitive.item_at.Goals as goa
 pub item_from-requires-clause-right_typed : goal.item_from-requires-clause-right_typed
 item_from-requires-clause-right_typed c =
     λ some.
-    let along = c.args.self.now.along in
-    let a = c.index-args-0.result in
     let b = c.index-args-1.result in
-    let two = two_arguments c.args.args.now a b c.requires.count c.index-args-0.is c.index-args-1.is in
-    let place = subst (λ args. IsPlaceOf (of_two_arguments (catenate_form along) args) c.args.index.now) two c.requires.place in
-    right_typed a b (join_types along a b c.args.index.now place) some ∙ sym c.joined_type.ensures
+    let two = two_arguments c.args.args.now c.index-args-0.result b c.requires.count c.index-args-0.is c.index-args-1.is in
+    let place = subst (λ args. IsPlaceOf (of_two_arguments (catenate_form c.args.self.now.along) args) c.args.index.now) two c.requires.place in
+    right_typed c.index-args-0.result b (join_types c.args.self.now.along c.index-args-0.result b c.args.index.now place) some ∙ sym c.joined_type.ensures
 
 pub returns-clause-typed : goal.returns-clause-typed
 returns-clause-typed c =
-    let along = c.args.self.now.along in
-    let a = c.index-args-0.result in
-    let b = c.index-args-1.result in
-    let two = two_arguments c.args.args.now a b c.requires.count c.index-args-0.is c.index-args-1.is in
+    let two = two_arguments c.args.args.now c.index-args-0.result c.index-args-1.result c.requires.count c.index-args-0.is c.index-args-1.is in
     let item = c.item_from.result in
-    let typed = join_typed along a b item (c.item_from.ensures.typed ∙ c.joined_type.ensures) in
-    subst (λ args. HasTypeOf (of_two_arguments (catenate_form along) args) item) (sym two) typed
+    let typed = join_typed c.args.self.now.along c.index-args-0.result c.index-args-1.result item (c.item_from.ensures.typed ∙ c.joined_type.ensures) in
+    subst (λ args. HasTypeOf (of_two_arguments (catenate_form c.args.self.now.along) args) item) (sym two) typed

@@ -6,10 +6,8 @@ use Rattle.structural_fns.proofs.drop_places.DropPlacesPrimitive.shape_of.Goals 
 pub returns-then-places-gt-MOST_AXES : goal.returns-then-places-gt-MOST_AXES
 returns-then-places-gt-MOST_AXES c =
     let a = c.index-args-0.result in
-    let b = c.index-args-1.result in
     let long = numbers_long a in
-    let shape = dropped_shape (counted_shape a b) (numbers a) in
-    let same = dropped_long (counted_shape a b) (numbers a) (grind arith) in
+    let shape = dropped_shape (counted_shape a c.index-args-1.result) (numbers a) in
+    let same = dropped_long (counted_shape a c.index-args-1.result) (numbers a) (grind arith) in
     let many : 4 < length shape = grind arith in
-    let beyond = too_many shape b.item_type many in
-    grind (arith, beyond)
+    grind (arith, too_many shape c.index-args-1.result.item_type many)

@@ -6,13 +6,12 @@ use Rattle.structural_fns.proofs.drop_places.DropPlacesRowPrimitive.extend_row.G
 
 pub extend_run-requires-clause-inside : goal.extend_run-requires-clause-inside
 extend_run-requires-clause-inside c =
-    let a = c.index-args-0.result in
     let b = c.index-args-1.result in
     let row = c.args.row.now in
-    let two = two_arguments c.args.args.now a b c.requires.arguments c.index-args-0.is c.index-args-1.is in
-    let place : c.places_before.result ≡ places_before b.shape (uncounted b (kept_places (numbers a) (row ++ 1 ∷ []))) =
+    let two = two_arguments c.args.args.now c.index-args-0.result b c.requires.arguments c.index-args-0.is c.index-args-1.is in
+    let place : c.places_before.result ≡ places_before b.shape (uncounted b (kept_places (numbers c.index-args-0.result) (row ++ 1 ∷ []))) =
     rw (c.shape-shape.ensures.is, c.as_slice-2.ensures, c.place_of-at.ensures.is, c.as_slice.ensures, c.index_in_row-first.ensures.is) at c.places_before.ensures.is in
-    let fits = left_fits a b row c.args.count c.args.items.now.item_type (rw two at c.requires.row) c.shape-shape.ensures.sound in
+    let fits = left_fits c.index-args-0.result b row c.args.count c.args.items.now.item_type (rw two at c.requires.row) c.shape-shape.ensures.sound in
     omega arith
 
 pub returns-clause-items : goal.returns-clause-items

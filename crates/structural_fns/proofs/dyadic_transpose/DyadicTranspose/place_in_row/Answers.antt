@@ -5,8 +5,7 @@ use Rattle.structural_fns.proofs.dyadic_transpose.DyadicTranspose.place_in_row.G
 
 pub gathered-at-requires : goal.gathered-at-requires
 gathered-at-requires c =
-    let long = entries_long c.args.axes.now c.args.array.now (c.args.row.now ++ c.args.index ∷ []) c.requires.place in
-    omega (arith, long, c.shape-shape.ensures.sound.within.rank)
+    omega (arith, entries_long c.args.axes.now c.args.array.now (c.args.row.now ++ c.args.index ∷ []) c.requires.place, c.shape-shape.ensures.sound.within.rank)
 
 pub places_before-requires-clause-in_range : goal.places_before-requires-clause-in_range
 places_before-requires-clause-in_range c =

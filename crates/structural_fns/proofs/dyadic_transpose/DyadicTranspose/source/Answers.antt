@@ -4,8 +4,7 @@ use Rattle.structural_fns.proofs.dyadic_transpose.DyadicTranspose.source.Goals a
 
 pub gathered-at-requires : goal.gathered-at-requires
 gathered-at-requires c =
-    let long = entries_long c.args.axes.now c.args.array.now c.args.index.now c.requires in
-    omega (arith, long, c.shape.ensures.sound.within.rank)
+    omega (arith, entries_long c.args.axes.now c.args.array.now c.args.index.now c.requires, c.shape.ensures.sound.within.rank)
 
 pub returns-clause-inside : goal.returns-clause-inside
 returns-clause-inside c =

@@ -1,15 +1,13 @@
 use Rattle.std.{proofs.Common.{◌≡◌, ap, sym, subst, ◌∙◌, Ok, ◌++◌, ◌∷◌, []}, proofs.lemmas.Result.{on_ok_weaker}}
 use Rattle.arrays_core.specs.Building.{with_row}
 use Rattle.index_region.{specs.ArgumentLists.{of_two_arguments}, proofs.Passing.{two_arguments}}
-use Rattle.structural_fns.specs.DyadicTranspose.{axes_to, transpose_by_form, transpose_by_item}
-use Rattle.structural_fns.proofs.SteppedRows.{row_some, first_before, transposed_by_steps, transposed_by_items}
+use Rattle.structural_fns.{specs.DyadicTranspose.{axes_to, transpose_by_form, transpose_by_item}, proofs.SteppedRows.{row_some, first_before, transposed_by_steps, transposed_by_items}}
 use Rattle.structural_fns.proofs.dyadic_transpose.DyadicTransposeRowPrimitive.extend_row.Goals as goal
 
 pub overflow_sub-second : goal.overflow_sub-second
 overflow_sub-second c =
-    let a = c.index-args-0.result in
     let b = c.index-args-1.result in
-    rw (c.place_in_row-first.ensures.is, c.place_in_row-second.ensures.is) (first_before b.shape (axes_to a) c.args.row.now c.min.result)
+    rw (c.place_in_row-first.ensures.is, c.place_in_row-second.ensures.is) (first_before b.shape (axes_to c.index-args-0.result) c.args.row.now c.min.result)
 
 pub extend_evenly-requires-clause-inside : goal.extend_evenly-requires-clause-inside
 extend_evenly-requires-clause-inside c =

@@ -1,7 +1,6 @@
 use Rattle.std.proofs.Common.{◌≡◌, ℕ, ◌+◌, ◌-◌, ◌<◌, ap, sym, ◌∙◌, get_or, length, arith, Ok, ◌++◌, ◌∷◌, []}
 use Rattle.arrays_core.{specs.Building.{with_row}, specs.Items.{fill}, specs.Shapes.{places_before}, proofs.Rows.{row_put_more, with_row_none, with_row_more}}
-use Rattle.structural_fns.specs.Rotate.{rotate_item}
-use Rattle.structural_fns.proofs.RotatedRows.{passed_row, at_index, at_last, from, from_low, from_high, end_item, end_fits, begin_item, begin_there}
+use Rattle.structural_fns.{specs.Rotate.{rotate_item}, proofs.RotatedRows.{passed_row, at_index, at_last, from, from_low, from_high, end_item, end_fits, begin_item, begin_there}}
 use Rattle.index_region.proofs.RowIndices.{get_last}
 use Rattle.structural_fns.proofs.rotate.Rotate.extend_turned.Goals as goal
 
@@ -22,18 +21,7 @@ overflow_sub-count c =
 
 pub extend_run-requires-clause-typed : goal.extend_run-requires-clause-typed
 extend_run-requires-clause-typed c =
-    let along = c.args.self.along in
-    let a = c.args.amounts.now in
-    let b = c.args.array.now in
-    let row = c.args.row.now in
-    let place : c.places_before-place.result ≡ places_before b.shape (at_index along a b row c.args.count c.args.items.now.item_type c.requires.row 1) =
-    rw (c.shape-shape.ensures.is, c.as_slice-2.ensures, c.place_of-at.ensures.is, c.as_slice.ensures, c.index_in_row-first.ensures.is) at c.places_before-place.ensures.is in
-    let turn : get_or c.deref.result.now (length row) 0 ≡ from along a b row c.args.count c.args.items.now.item_type c.requires.row c.requires.last =
-    ap (λ xs. get_or xs (length row) 0) (c.deref.ensures ∙ rw (c.as_slice.ensures, c.index_in_row-first.ensures.is) at c.place_of-at.ensures.is ∙ at_last along a b row c.args.count c.args.items.now.item_type c.requires.row c.requires.last 1) ∙ get_last row (from along a b row c.args.count c.args.items.now.item_type c.requires.row c.requires.last) 0 in
-    let low = from_low along a b row c.args.count c.args.items.now.item_type c.requires.row c.requires.last in
-    let high = from_high along a b row c.args.count c.args.items.now.item_type c.requires.row c.requires.last in
-    let there = begin_there along a b row c.args.count c.args.items.now.item_type c.requires.row c.requires.last in
-    (passed_row along a b row c.args.count c.args.items.now.item_type c.requires.row).typed
+    (passed_row c.args.self.along c.args.amounts.now c.args.array.now c.args.row.now c.args.count c.args.items.now.item_type c.requires.row).typed
 
 pub extend_run-requires-clause-inside : goal.extend_run-requires-clause-inside
 extend_run-requires-clause-inside c =
@@ -68,18 +56,9 @@ overflow_sub-place c =
 
 pub extend_run-requires-2-clause-typed : goal.extend_run-requires-2-clause-typed
 extend_run-requires-2-clause-typed c =
-    let along = c.args.self.along in
-    let a = c.args.amounts.now in
     let b = c.args.array.now in
     let row = c.args.row.now in
-    let place : c.places_before-place.result ≡ places_before b.shape (at_index along a b row c.args.count c.args.items.now.item_type c.requires.row 1) =
-    rw (c.shape-shape.ensures.is, c.as_slice-2.ensures, c.place_of-at.ensures.is, c.as_slice.ensures, c.index_in_row-first.ensures.is) at c.places_before-place.ensures.is in
-    let turn : get_or c.deref.result.now (length row) 0 ≡ from along a b row c.args.count c.args.items.now.item_type c.requires.row c.requires.last =
-    ap (λ xs. get_or xs (length row) 0) (c.deref.ensures ∙ rw (c.as_slice.ensures, c.index_in_row-first.ensures.is) at c.place_of-at.ensures.is ∙ at_last along a b row c.args.count c.args.items.now.item_type c.requires.row c.requires.last 1) ∙ get_last row (from along a b row c.args.count c.args.items.now.item_type c.requires.row c.requires.last) 0 in
-    let low = from_low along a b row c.args.count c.args.items.now.item_type c.requires.row c.requires.last in
-    let high = from_high along a b row c.args.count c.args.items.now.item_type c.requires.row c.requires.last in
-    let there = begin_there along a b row c.args.count c.args.items.now.item_type c.requires.row c.requires.last in
-    (passed_row along a b row c.args.count c.args.items.now.item_type c.requires.row).typed ∙ sym c.in_ok-extend_run.ensures.typed
+    (passed_row c.args.self.along c.args.amounts.now b row c.args.count c.args.items.now.item_type c.requires.row).typed ∙ sym c.in_ok-extend_run.ensures.typed
 
 pub extend_run-requires-2-clause-inside : goal.extend_run-requires-2-clause-inside
 extend_run-requires-2-clause-inside c =

@@ -1,9 +1,7 @@
-use Rattle.std.proofs.Common.{◌≡◌, ◌+◌, ◌-◌, ◌<◌, ap, sym, subst, ◌∙◌, length, get_or, pos, arith, Ok, ◌++◌, ◌∷◌, [], min, w64, to_z, of_z}
-use Rattle.std.{proofs.lemmas.Result.{on_ok_weaker}, proofs.lemmas.Int.{ints}}
+use Rattle.std.{proofs.Common.{◌≡◌, ◌+◌, ◌-◌, ◌<◌, ap, sym, subst, ◌∙◌, length, get_or, pos, arith, Ok, ◌++◌, ◌∷◌, [], min, w64, to_z, of_z}, proofs.lemmas.Result.{on_ok_weaker}, proofs.lemmas.Int.{ints}}
 use Rattle.arrays_core.{specs.Building.{listed, with_row}, specs.Items.{fill}}
 use Rattle.index_region.{specs.ArgumentLists.{of_two_arguments}, specs.Arguments.{numbers}, proofs.Passing.{two_arguments}}
-use Rattle.structural_fns.{specs.AxisCounts.{counted_shape}, specs.Take.{take_item}}
-use Rattle.structural_fns.proofs.TakenRows.{taken_row, fill_row, row_of_first, row_of_last, last_on_axis}
+use Rattle.structural_fns.{specs.AxisCounts.{counted_shape}, specs.Take.{take_item}, proofs.TakenRows.{taken_row, fill_row, row_of_first, row_of_last, last_on_axis}}
 use Rattle.structural_fns.proofs.take.TakeRowPrimitive.extend_row.Goals as goal
 
 pub returns-then-kept-eq0-clause-items : goal.returns-then-kept-eq0-clause-items

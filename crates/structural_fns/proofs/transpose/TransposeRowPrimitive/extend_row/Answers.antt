@@ -1,17 +1,13 @@
-use Rattle.std.proofs.Common.{◌≡◌, ℕ, ◌+◌, ◌-◌, ◌*◌, List, ap, sym, subst, ◌∙◌, length, length-drop, get_or, take, drop, reverse, arith, Ok, ◌++◌, ◌∷◌, []}
-use Rattle.std.{proofs.lemmas.Result.{on_ok_weaker}, proofs.lemmas.List.{take_all}}
+use Rattle.std.{proofs.Common.{◌≡◌, ℕ, ◌+◌, ◌-◌, ◌*◌, List, ap, sym, subst, ◌∙◌, length, length-drop, get_or, take, drop, reverse, arith, Ok, ◌++◌, ◌∷◌, []}, proofs.lemmas.Result.{on_ok_weaker}, proofs.lemmas.List.{take_all}}
 use Rattle.arrays_core.{specs.Building.{listed, with_row}, specs.Items.{fill}, specs.Shapes.{size, places_before}}
 use Rattle.index_region.specs.ArgumentLists.{of_one_argument}
-use Rattle.structural_fns.specs.Transpose.{transpose_form, transpose_item}
-use Rattle.structural_fns.proofs.SteppedRows.{row_some, one_argument, transposed_row, transposed_steps, transposed_items, fewer_axes}
+use Rattle.structural_fns.{specs.Transpose.{transpose_form, transpose_item}, proofs.SteppedRows.{row_some, one_argument, transposed_row, transposed_steps, transposed_items, fewer_axes}}
 use Rattle.structural_fns.proofs.transpose.TransposeRowPrimitive.extend_row.Goals as goal
 
 pub places_before-first-requires-clause-in_range : goal.places_before-first-requires-clause-in_range
 places_before-first-requires-clause-in_range c =
-    let b = c.index-args-0.result in
-    let one = one_argument c.args.args.now b c.requires.arguments c.index-args-0.is in
-    let axes = transposed_row b c.args.row.now c.args.count c.args.items.now.item_type (rw one at c.requires.row) in
-    let some = axes.some in
+    let one = one_argument c.args.args.now c.index-args-0.result c.requires.arguments c.index-args-0.is in
+    let axes = transposed_row c.index-args-0.result c.args.row.now c.args.count c.args.items.now.item_type (rw one at c.requires.row) in
     rw (c.shape-shape.ensures.is, c.as_slice-2.ensures, c.from_last-at.ensures.is, c.as_slice.ensures, c.index_in_row-index.ensures.is) (axes.inside 1 (omega arith) (omega arith))
 
 from_second : (s : List ℕ) → take (length s - 1) (drop 1 s) ≡ drop 1 s
@@ -22,7 +18,6 @@ size-step-requires c =
     let b = c.index-args-0.result in
     let one = one_argument c.args.args.now b c.requires.arguments c.index-args-0.is in
     let axes = transposed_row b c.args.row.now c.args.count c.args.items.now.item_type (rw one at c.requires.row) in
-    let some = axes.some in
     let shape : c.as_slice-3.result.now ≡ b.shape = c.as_slice-3.ensures ∙ c.shape-shape.ensures.is in
     rw (from_second, shape) (fewer_axes b.shape (reverse (c.args.row.now ++ 1 ∷ [])) (axes.inside 1 (omega arith) (omega arith)) (omega (arith, axes.axes)) c.shape-shape.ensures.sound.within)
 

@@ -1,6 +1,5 @@
 use Rattle.std.proofs.Common.{◌≡◌, true, subst}
-use Rattle.sum_rules.{specs.declared.joined_patch.JoinedPatch.{JoinedPatch}, specs.declared.line_sums.Lines.{Lines}, specs.LineSums.{SummedValue}}
-use Rattle.sum_rules.{specs.JoinedPatches.{IsJoinedIn, IsJoinedWith}, proofs.JoinedPatches.{joined_with}}
+use Rattle.sum_rules.{specs.declared.joined_patch.JoinedPatch.{JoinedPatch}, specs.declared.line_sums.Lines.{Lines}, specs.LineSums.{SummedValue}, specs.JoinedPatches.{IsJoinedIn, IsJoinedWith}, proofs.JoinedPatches.{joined_with}}
 use Rattle.sum_rules.proofs.line_sums.LineSums.joined.Goals as goal
 
 pub returns-clause-joined : goal.returns-clause-joined

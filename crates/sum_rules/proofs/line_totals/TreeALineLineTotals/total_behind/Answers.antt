@@ -1,5 +1,4 @@
-use Rattle.std.{proofs.Common.{◌≡◌, ◌++◌, ◌∷◌, [], ℤ, List, get_or, sym, subst, arith, of_z, to_z, w64}, proofs.lemmas.Int.{to_z-of_z}}
-use Rattle.std.proofs.lemmas.List.{get_or_default}
+use Rattle.std.{proofs.Common.{◌≡◌, ◌++◌, ◌∷◌, [], ℤ, List, get_or, sym, subst, arith, of_z, to_z, w64}, proofs.lemmas.Int.{to_z-of_z}, proofs.lemmas.List.{get_or_default}}
 use Rattle.fold_trees.specs.FoldTrees.{IsReductionBy}
 use Rattle.function_names.specs.declared.scalar.Scalar2.TheVariants.{Plus}
 use Rattle.sum_rules.proofs.TreeLines.{line_below, line_told}
@@ -11,8 +10,7 @@ bounds-self-line c = line_below c.args.self.now.count c.args.self.now.trees.now 
 pub offset_bounds-self-line : goal.offset_bounds-self-line
 offset_bounds-self-line c =
     let there = line_below c.args.self.now.count c.args.self.now.trees.now c.args.line c.args.self.now.each c.args.self.now.some c.requires in
-    let small = c.type_inv.self.1.0.0.1.1 in
-    record { fits = omega (arith, there, small) }
+    record { fits = omega (arith, there, c.type_inv.self.1.0.0.1.1) }
 
 pub returns : goal.returns
 returns c =

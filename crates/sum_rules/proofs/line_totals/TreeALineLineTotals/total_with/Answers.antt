@@ -1,5 +1,4 @@
-use Rattle.std.{proofs.Common.{◌≡◌, ◌-◌, ◌/◌, ◌%◌, ◌<◌, ℤ, List, [], length, get_or, set, sym, subst, arith, of_z, to_z, w64}, proofs.lemmas.Int.{to_z-of_z}}
-use Rattle.std.{proofs.lemmas.List.{get_or_default}, proofs.lemmas.List.Elements.{All-get_or}, proofs.lemmas.Nat.{mod_below}}
+use Rattle.std.{proofs.Common.{◌≡◌, ◌-◌, ◌/◌, ◌%◌, ◌<◌, ℤ, List, [], length, get_or, set, sym, subst, arith, of_z, to_z, w64}, proofs.lemmas.Int.{to_z-of_z}, proofs.lemmas.List.{get_or_default}, proofs.lemmas.List.Elements.{All-get_or}, proofs.lemmas.Nat.{mod_below}}
 use Rattle.fold_trees.specs.FoldTrees.{IsReductionBy, IsWithinDigitsOf}
 use Rattle.function_names.specs.declared.scalar.Scalar2.TheVariants.{Plus}
 use Rattle.sum_rules.proofs.TreeLines.{line_there, through_line}
@@ -11,17 +10,15 @@ bounds-self-place c = line_there c.args.self.now.count c.args.self.now.trees.now
 pub offset_bounds-self-place : goal.offset_bounds-self-place
 offset_bounds-self-place c =
     let there = line_there c.args.self.now.count c.args.self.now.trees.now c.args.place c.args.number c.args.self.now.each c.args.self.now.some c.requires in
-    let small = c.type_inv.self.1.0.0.1.1 in
-    record { fits = omega (arith, there, small) }
+    record { fits = omega (arith, there, c.type_inv.self.1.0.0.1.1) }
 
 pub result_with-requires : goal.result_with-requires
 result_with-requires c =
     let count = c.args.self.now.count in
     let trees = c.args.self.now.trees.now in
     let there = line_there count trees c.args.place c.args.number c.args.self.now.each c.args.self.now.some c.requires in
-    let long : length (get_or trees (c.args.place / count) c.index-self-place.result) ≡ count = All-get_or (λ (l : List ℤ). length l ≡ count) trees (c.args.place / count) c.index-self-place.result there c.args.self.now.each in
     let below = mod_below c.args.place count c.args.self.now.some in
-    omega (arith, long, below)
+    omega (arith, All-get_or (λ (l : List ℤ). length l ≡ count) trees (c.args.place / count) c.index-self-place.result there c.args.self.now.each, below)
 
 pub returns-clause-total : goal.returns-clause-total
 returns-clause-total c =
