@@ -90,8 +90,7 @@ module _ (ts : List Lexeme) (sound : Sound ts) where
       bracket : (b : Bool) → (c == 0x5d) ≡ b → edits ts (cond b (Some (Closed before)) None) ≡ Some (Write ps l) → Explains (Sign c ∷ ts) (Position before) ps l
       bracket true is h =
           let x = sound (Closed before) ps l h in
-          let same : Sign c ∷ ts ≡ Sign 0x5d ∷ Sign 0x2190 ∷ x.0 = let e = eqb-true c 0x5d is in let e' = x.1 in cc in
-          ([], x.0, subst (λ (xs : List Lexeme). IsRest xs [] x.0) (sym same) ends, x.2, append-nil before ∙ x.3)
+          ([], x.0, subst (λ (xs : List Lexeme). IsRest xs [] x.0) (sym (let e = eqb-true c 0x5d is in let e' = x.1 in cc)) ends, x.2, append-nil before ∙ x.3)
       bracket false is h = absurd (edits_none ts (Write ps l) h)
 
       semicolon : (b : Bool) → (c == 0x3b) ≡ b → edits ts (cond b (Some (Open before)) (cond (c == 0x5d) (Some (Closed before)) None)) ≡ Some (Write ps l) → Explains (Sign c ∷ ts) (Position before) ps l
@@ -116,9 +115,7 @@ sound_of [] (Position before) ps l h = let no : ⊥ = cc in absurd no
 sound_of [] (Closed before) ps l h = let no : ⊥ = cc in absurd no
 sound_of [] (Items before []) ps l h = let no : ⊥ = cc in absurd no
 sound_of [] (Items before (n ∷ items)) ps l h =
-    let same : Numbers (n ∷ items) ≡ l = cc in
-    let same_positions : before ≡ ps = cc in
-    (subst (λ (k : Literal). IsRestOf (n ∷ items) [] k) (ap (λ (ms : List ℤ). Numbers ms) (append-nil (n ∷ items)) ∙ same) (rest_of_nums none), same_positions)
+    (subst (λ (k : Literal). IsRestOf (n ∷ items) [] k) (ap (λ (ms : List ℤ). Numbers ms) (append-nil (n ∷ items)) ∙ cc) (rest_of_nums none), cc)
 sound_of [] (Quoted before cs) ps l h = (refl, cc, cc)
 sound_of (Number n ∷ ts) (Open before) ps l h = number_explains ts (sound_of ts) n before ps l h
 sound_of (Number n ∷ ts) (Position before) ps l h = absurd (edits_none ts (Write ps l) h)

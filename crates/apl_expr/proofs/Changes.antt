@@ -1,7 +1,6 @@
 -- A change from its front and what comes after it.
 use Rattle.std.{proofs.Common.{◌≡◌, ℕ, false, ◌≤◌, Some, None, Result, Ok, Err, List, [], ◌∷◌, length, refl, sym, ap, ◌∙◌, subst, arith, inl, inr}, specs.Prelude.{ℤ}}
-use Rattle.smallvec.specs.SmallVec.{SmallVec}
-use Rattle.apl_tokens.{specs.Lexemes.{Lexeme, Named, Sign}, specs.declared.name.Name.{Name}}
+use Rattle.{smallvec.specs.SmallVec.{SmallVec}, apl_tokens.{specs.Lexemes.{Lexeme, Named, Sign}, specs.declared.name.Name.{Name}}}
 use Rattle.apl_expr.{specs.Limits.{most_tokens, most_height, most_nodes}, specs.declared.expr.Expr.{Expr}, specs.declared.fault.ParseFault.{ParseFault}, specs.declared.fault.ParseFault.TheVariants.{Syntax, Limit, NoMemory}, specs.Trees.{Tree, Literal, tree_of, literal_of, height, nodes}}
 use Rattle.apl_expr.{specs.Grammar.{IsTreeOf, IsTooLarge}, specs.Parsing.{IsParsed}, specs.Edits.{Open, Items, Write, edits, EditGives, LiteralGives}, specs.Lines.{Meaning, Define, Data, Cell, Row, Erase, data_word, row_word, erase_word, IsCellPositions, IsLit, IsChange, define, keep, cell, row, erase}}
 use Rattle.apl_expr.{specs.Fronts.{name_before, name_first, only_name, command_word}, specs.Changes.{IsNoChange, IsChangeOf}, proofs.Parsed.{one_tree_of}, proofs.CellEdits.{edit_read, edit_correct, literal_read, literal_correct}}
@@ -27,18 +26,16 @@ same_sign_of h = cc
 
 change_define : {ts : List Lexeme} {m : Meaning} → Changed ts m → (n : List ℕ) (us : List Lexeme) → ts ≡ Named n ∷ Sign 0x2190 ∷ us → (e : Tree) × IsTreeOf us e × (m ≡ Define n e)
 change_define (formula {n = k} {ts = ts} {e = e} is) n us h =
-    let same_name : k ≡ n = cc in
     let same_rest : ts ≡ us = cc in
-    (e, subst (λ (xs : List Lexeme). IsTreeOf xs e) same_rest is, ap (λ (x : List ℕ). Define x e) same_name)
+    (e, subst (λ (xs : List Lexeme). IsTreeOf xs e) same_rest is, ap (λ (x : List ℕ). Define x e) cc)
 change_define (edit p is) n us h = let signs = same_sign_of h in absurd (omega arith)
 change_define (worded is) n us h = let no : ⊥ = cc in absurd no
 
 change_cell : {ts : List Lexeme} {m : Meaning} → Changed ts m → (n : List ℕ) (us : List Lexeme) → ts ≡ Named n ∷ Sign 0x5b ∷ us → (ps : List ℤ) × (l : Literal) × (edits us (Some (Open [])) ≡ Some (Write ps l)) × (m ≡ Cell n ps l)
 change_cell (formula is) n us h = let signs = same_sign_of h in absurd (omega arith)
 change_cell (edit {n = k} {ts = ts} {ps = ps} {l = l} p is) n us h =
-    let same_name : k ≡ n = cc in
     let same_rest : ts ≡ us = cc in
-    (ps, l, subst (λ (xs : List Lexeme). edits xs (Some (Open [])) ≡ Some (Write ps l)) same_rest (edit_read p is), ap (λ (x : List ℕ). Cell x ps l) same_name)
+    (ps, l, subst (λ (xs : List Lexeme). edits xs (Some (Open [])) ≡ Some (Write ps l)) same_rest (edit_read p is), ap (λ (x : List ℕ). Cell x ps l) cc)
 change_cell (worded is) n us h = let no : ⊥ = cc in absurd no
 
 change_worded : {ts : List Lexeme} {m : Meaning} → Changed ts m → (w : List ℕ) (us : List Lexeme) → ts ≡ Sign 0x29 ∷ Named w ∷ us → ChangeAfter w us m

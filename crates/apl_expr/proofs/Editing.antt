@@ -1,7 +1,6 @@
 -- One lexeme more of an edit.
 use Rattle.std.{proofs.Common.{◌≡◌, ℕ, ◌+◌, ◌<◌, ◌≤◌, subst, Option, Some, None, Result, Err, List, [], ◌∷◌, length, drop, get_or, sym, ap, ◌∙◌, refl, drop-cons, add-one, arith, Bool, true, false}, specs.Prelude.{ℤ, ◌==◌}, proofs.Math.ListN.{drop_of_length-le}}
-use Rattle.smallvec.specs.SmallVec.{SmallVec}
-use Rattle.apl_tokens.{specs.declared.token.Spanned.{Spanned}, specs.Lexemes.{Lexeme, lexeme, lexemes}}
+use Rattle.{smallvec.specs.SmallVec.{SmallVec}, apl_tokens.{specs.declared.token.Spanned.{Spanned}, specs.Lexemes.{Lexeme, lexeme, lexemes}}}
 use Rattle.apl_expr.{specs.declared.fault.ParseFault.{ParseFault}, specs.declared.fault.ParseFault.TheVariants.{Syntax, Limit, NoMemory}, specs.Trees.{Literal, Numbers}, specs.Edits.{Edit, Items, Written, Write, edit_step, edit_end, edits, EditSteps, EditGives}}
 use Rattle.apl_expr.specs.declared.expr.Literal as code
 

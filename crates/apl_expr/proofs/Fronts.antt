@@ -16,11 +16,8 @@ name_before_is c (Named k ∷ Sign d ∷ ts) n us h = same_sign (d == c) refl h
   where
     same_sign : (b : Bool) → (d == c) ≡ b → cond {A = Option (List ℕ × List Lexeme)} b (Some (k, ts)) None ≡ Some (n, us) → Named k ∷ Sign d ∷ ts ≡ Named n ∷ Sign c ∷ us
     same_sign true is h =
-        let wanted : List ℕ × List Lexeme = (n, us) in
-        let same : (k, ts) ≡ wanted = cc in
-        let same_name : k ≡ n = ap (λ (p : List ℕ × List Lexeme). p.0) same in
-        let same_rest : ts ≡ us = ap (λ (p : List ℕ × List Lexeme). p.1) same in
-        λ i. Named (same_name i) ∷ Sign ((eqb-true d c is) i) ∷ same_rest i
+        let same : (k, ts) ≡ (n, us) = cc in
+        λ i. Named ((ap (λ (p : List ℕ × List Lexeme). p.0) same) i) ∷ Sign ((eqb-true d c is) i) ∷ (ap (λ (p : List ℕ × List Lexeme). p.1) same) i
     same_sign false is h = cc
 
 pub command_word_is : (ts : List Lexeme) (w : List ℕ) (us : List Lexeme) → command_word ts ≡ Some (w, us) → ts ≡ Sign 0x29 ∷ Named w ∷ us
@@ -36,11 +33,8 @@ command_word_is (Sign k ∷ Named v ∷ ts) w us h = closing (k == 0x29) refl h
   where
     closing : (b : Bool) → (k == 0x29) ≡ b → cond {A = Option (List ℕ × List Lexeme)} b (Some (v, ts)) None ≡ Some (w, us) → Sign k ∷ Named v ∷ ts ≡ Sign 0x29 ∷ Named w ∷ us
     closing true is h =
-        let wanted : List ℕ × List Lexeme = (w, us) in
-        let same : (v, ts) ≡ wanted = cc in
-        let same_word : v ≡ w = ap (λ (p : List ℕ × List Lexeme). p.0) same in
-        let same_rest : ts ≡ us = ap (λ (p : List ℕ × List Lexeme). p.1) same in
-        λ i. Sign ((eqb-true k 0x29 is) i) ∷ Named (same_word i) ∷ same_rest i
+        let same : (v, ts) ≡ (w, us) = cc in
+        λ i. Sign ((eqb-true k 0x29 is) i) ∷ Named ((ap (λ (p : List ℕ × List Lexeme). p.0) same) i) ∷ (ap (λ (p : List ℕ × List Lexeme). p.1) same) i
     closing false is h = cc
 
 pub name_first_is : (ts : List Lexeme) (n : List ℕ) (us : List Lexeme) → name_first ts ≡ Some (n, us) → ts ≡ Named n ∷ us
@@ -49,11 +43,8 @@ name_first_is (Number k ∷ ts) n us h = cc
 name_first_is (Characters k ∷ ts) n us h = cc
 name_first_is (Sign k ∷ ts) n us h = cc
 name_first_is (Named k ∷ ts) n us h =
-    let wanted : List ℕ × List Lexeme = (n, us) in
-    let same : (k, ts) ≡ wanted = cc in
-    let same_name : k ≡ n = ap (λ (p : List ℕ × List Lexeme). p.0) same in
-    let same_rest : ts ≡ us = ap (λ (p : List ℕ × List Lexeme). p.1) same in
-    λ i. Named (same_name i) ∷ same_rest i
+    let same : (k, ts) ≡ (n, us) = cc in
+    λ i. Named ((ap (λ (p : List ℕ × List Lexeme). p.0) same) i) ∷ (ap (λ (p : List ℕ × List Lexeme). p.1) same) i
 
 pub only_name_is : (ts : List Lexeme) (n : List ℕ) → only_name ts ≡ Some n → ts ≡ Named n ∷ []
 only_name_is [] n h = cc
@@ -69,11 +60,8 @@ number_first_is (Named n ∷ ts) k us h = cc
 number_first_is (Characters n ∷ ts) k us h = cc
 number_first_is (Sign n ∷ ts) k us h = cc
 number_first_is (Number n ∷ ts) k us h =
-    let wanted : ℤ × List Lexeme = (k, us) in
-    let same : (n, ts) ≡ wanted = cc in
-    let same_number : n ≡ k = ap (λ (p : ℤ × List Lexeme). p.0) same in
-    let same_rest : ts ≡ us = ap (λ (p : ℤ × List Lexeme). p.1) same in
-    λ i. Number (same_number i) ∷ same_rest i
+    let same : (n, ts) ≡ (k, us) = cc in
+    λ i. Number ((ap (λ (p : ℤ × List Lexeme). p.0) same) i) ∷ (ap (λ (p : ℤ × List Lexeme). p.1) same) i
 
 pub only_number_is : (ts : List Lexeme) (k : ℤ) → only_number ts ≡ Some k → ts ≡ Number k ∷ []
 only_number_is [] k h = cc
@@ -86,9 +74,7 @@ only_number_is (Number n ∷ t ∷ ts) k h = cc
 -- none stands there
 pub no_name_before : {c : ℕ} {ts : List Lexeme} → name_before c ts ≡ None → (n : List ℕ) (us : List Lexeme) → ts ≡ Named n ∷ Sign c ∷ us → ⊥
 no_name_before {c = c} none n us is =
-    let same = eq-eqb c c refl in
-    let found = ap (λ (b : Bool). cond {A = Option (List ℕ × List Lexeme)} b (Some (n, us)) None) same in
-    let computed = ap (λ (xs : List Lexeme). name_before c xs) is in
+    let found = ap (λ (b : Bool). cond {A = Option (List ℕ × List Lexeme)} b (Some (n, us)) None) (eq-eqb c c refl) in
     cc
 
 pub no_name_first : {ts : List Lexeme} → name_first ts ≡ None → (n : List ℕ) (us : List Lexeme) → ts ≡ Named n ∷ us → ⊥

@@ -28,8 +28,7 @@ byte_of_eight name from (suc (suc (suc (suc (suc (suc (suc (suc d)))))))) h = ab
 
 -- a byte of a name, from its word
 byte_of_word : (name : List ℕ) (i : ℕ) → i < longest_name → ◌≡◌ {A = ℕ} (get_or name i 0) (get_or (word_at name (i / 8)) (i - word_start (i / 8)) 0)
-byte_of_word name i h =
-    sym (byte_of_eight name (word_start (i / 8)) (i - word_start (i / 8)) (omega arith) ∙ ap (λ j. get_or name j 0) (omega arith))
+byte_of_word name i h = sym (byte_of_eight name (word_start (i / 8)) (i - word_start (i / 8)) (omega arith) ∙ ap (λ j. get_or name j 0) (omega arith))
 
 pub same_words : (a b : List ℕ) → length a ≡ length b → length a ≤ longest_name → ((k : ℕ) → k < count_of_words a → word_at a k ≡ word_at b k) → a ≡ b
 same_words a b len short same =

@@ -1,7 +1,6 @@
 -- A few digits spell less than a power of ten.
 use Rattle.std.{proofs.Common.{◌≡◌, ℕ, ◌^◌, ◌<◌, ◌≤◌, nat_lt, Bool, true, false, List, length, Some, refl, arith}, specs.List.{prefix_len}, specs.Char.{is_ascii_digit}, proofs.Math.Nat.{pow-le-pow_right}, proofs.lemmas.Bool.Decides.{nat_tests}, proofs.lemmas.List.{drop_all, take_all}}
-use Rattle.apl_tokens.specs.Characters.{decimal_from, fits_number, signed}
-use Rattle.array_text.specs.Tables.{digits_number, unsigned_number}
+use Rattle.{apl_tokens.specs.Characters.{decimal_from, fits_number, signed}, array_text.specs.Tables.{digits_number, unsigned_number}}
 
 -- so many digits spell less than the power of ten
 pub below_power : (m i n : ℕ) → m < 10 ^ i → i ≤ n → m < 10 ^ n

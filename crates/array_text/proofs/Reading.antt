@@ -115,9 +115,8 @@ read_on {R} known a b found fields rest first flexible read left = record { none
     at_some e =
         let more = rows-more known a b fields default_config a.state left.bytes left.bytes [] left.config left.source (refl, refl) (rw e at read) in
         let taken = more.2 in
-        let p = taken.0 in
-        let next = next_left left.most a.state left.bytes p taken.1 left.enough left.between in
-        let later = records_from default_config next.0 p.1 p.2 in (
+        let next = next_left left.most a.state left.bytes taken.0 taken.1 left.enough left.between in
+        let later = records_from default_config next.0 taken.0.1 taken.0.2 in (
           later,
           left.are ∙ next.3 ∙ ap (λ (f : Fields). f ∷ later) (sym taken.2),
           record {
@@ -130,6 +129,6 @@ read_on {R} known a b found fields rest first flexible read left = record { none
             source = more.1;
             most = next.0;
             enough = subst (λ (ys : List ℕ). length ys < next.0) taken.3.1 next.1;
-            are = ap (λ (s : State). records_from default_config next.0 s p.2) taken.3.0 ∙ ap (records_from default_config next.0 b.state) taken.3.1;
+            are = ap (λ (s : State). records_from default_config next.0 s taken.0.2) taken.3.0 ∙ ap (records_from default_config next.0 b.state) taken.3.1;
           },
         )

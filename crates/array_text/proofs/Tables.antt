@@ -1,7 +1,6 @@
 -- Tables that are read record by record.
 use Rattle.std.{proofs.Common.{◌≡◌, ℕ, zero, suc, ℤ, ◌+◌, ◌-◌, ◌*◌, ◌<◌, ◌≤◌, Bool, true, false, not, cond, eqb, List, [], ◌∷◌, ◌++◌, length, drop, get_or, map, Option, Some, None, is_some, refl, sym, ap, ◌∙◌, subst, arith, rules, append_assoc}, proofs.lemmas.Bool.{eqb-true, false_from_ne_true}}
-use Rattle.std.{proofs.lemmas.Option.{none-some}, proofs.lemmas.List.{append-nil, drop_more, length-append, length-map}}
-use Rattle.csv.specs.Records.{field_at}
+use Rattle.{std.{proofs.lemmas.Option.{none-some}, proofs.lemmas.List.{append-nil, drop_more, length-append, length-map}}, csv.specs.Records.{field_at}}
 use Rattle.arrays_core.{specs.Arrays.{ArrayValue}, specs.declared.item.Item.TheVariants.{Num}, specs.declared.item.ItemType.TheVariants.{Nums}}
 use Rattle.array_text.{specs.declared.table_fault.TableFault.{TableFault}, specs.Reading.{AreRead}}
 use Rattle.array_text.specs.Tables.{AnswersFault, Field, Fields, bad_field_fault, columns_of, field_number, fields_read, first_bad, first_fault, is_matrix_within, number_or_zero, numbers_from, numbers_of, or_else, record_fault, rows_of, table_of}
@@ -100,11 +99,10 @@ as_many false columns count fields e = let long = length-map fields (λ (f : Fie
 as_many true columns zero fields e = let none : (0 - 1) * columns + 0 ≡ (0 + 1 - 1) * columns = omega arith in none
 as_many true columns (suc count) fields e =
     let later : eqb (suc count + 1) 1 ≡ false = false_from_ne_true _ (λ t. absurd (let same = eqb-true (suc count + 1) 1 t in omega arith)) in
-    let long = length-map fields (λ (f : Field). number_or_zero (field_number f)) in
     let before : suc count - 1 ≡ count = omega arith in
     let after : suc count + 1 - 1 ≡ suc count = omega arith in
     let more : count * columns + length fields ≡ suc count * columns = omega (arith, e) in
-    rw (later, before, after) (ap (λ (n : ℕ). count * columns + n) long ∙ more)
+    rw (later, before, after) (ap (λ (n : ℕ). count * columns + n) (length-map fields (λ (f : Field). number_or_zero (field_number f))) ∙ more)
 
 pub stands_on : (header : Bool) (all : List Fields) (columns count : ℕ) (numbers new : List ℤ) (fields : Fields) (later : List Fields)
     → Stands header all columns count numbers (fields ∷ later) → record_fault header columns (count + 1) fields ≡ None

@@ -10,13 +10,17 @@ grown new old start sofar more all e f g = rw (e, f, g) (append_assoc start sofa
 -- the same by two writes
 pub grown_twice : (new mid old start sofar first second all : List ℕ) → new ≡ mid ++ second → mid ≡ old ++ first → old ≡ start ++ sofar
     → all ≡ sofar ++ (first ++ second) → new ≡ start ++ all
-grown_twice new mid old start sofar first second all e f g h =
-    grown new old start sofar (first ++ second) all (rw (e, f) (append_assoc old first second)) g h
+grown_twice new mid old start sofar first second all e f g h = grown new old start sofar (first ++ second) all (rw (e, f) (append_assoc old first second)) g h
 
 -- the last write
 pub pushed : {T E : Type 0} (r : Result T E) (new base more full : List ℕ) → new ≡ cond (is_ok r) (base ++ more) base → base ++ more ≡ full → OnOk r (new ≡ full)
 pushed (Ok x) new base more full e f = e ∙ f
 pushed (Err d) new base more full e f = tt
+
+-- the same behind all that a loop has written
+pub pushed_behind : {T E : Type 0} (r : Result T E) (new out start sofar all more : List ℕ) → new ≡ cond (is_ok r) (out ++ more) out → out ≡ start ++ sofar → sofar ≡ all
+    → OnOk r (new ≡ start ++ (all ++ more))
+pushed_behind r new out start sofar all more e f g = pushed r new out more _ e (rw (f, g) (append_assoc start all more))
 
 -- a loop that has come to its end
 pub all_done : (text : ℕ → List ℕ) (n m : ℕ) (out start : List ℕ) → out ≡ start ++ text n → n ≡ m → out ≡ start ++ text m

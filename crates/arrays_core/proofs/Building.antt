@@ -1,6 +1,6 @@
 -- Items that are put behind others.
 use Rattle.std.{proofs.Common.{◌≡◌, ℕ, zero, suc, ◌+◌, ◌/◌, ◌%◌, ◌<◌, ◌≤◌, List, [], ◌∷◌, ◌++◌, length, map, get_or, take, drop, replicate, refl, ap, sym, ◌∙◌, arith, append_assoc, length-drop, Result, Ok, Err}, specs.List.{range_with_len}, specs.Prelude.{OnOk}}
-use Rattle.std.{proofs.lemmas.List.{get_or-take, get_or-drop, length-take, length-map, map-append}, proofs.lemmas.List.FromFn.{fill_by_all, map-range_with_len_more, take-map-range_with_len}, proofs.Math.Nat.{add-mul-mod_self_left, mod-eq_of_lt}, proofs.Math.ListN.{get_or-map}}
+use Rattle.std.{proofs.lemmas.List.{get_or-take, get_or-drop, length-take, length-map, map-append}, proofs.lemmas.List.FromFn.{fill_by_all, map-range_with_len_more, take-map-range_with_len}, proofs.Math.Nat.{add-mul-mod_self_left, mod-eq_of_lt}, proofs.lemmas.Simd.{map-map}, proofs.Math.ListN.{get_or-map}}
 use Rattle.arrays_core.specs.Building.{listed}
 
 listed_same_from : {A : Type 0} (x : A) (a n : ℕ) → replicate n x ≡ map (λ (k : ℕ). x) (range_with_len a n)
@@ -24,12 +24,8 @@ run_listed xs first n m d h same =
     (λ k below. get_or-take m (drop first xs) k d (omega arith) ∙ get_or-drop first xs k d)
 
 -- what a function gives, item by item
-map_listed_from : {A B : Type 0} (F : A → B) (f : ℕ → A) (a n : ℕ) → map F (map f (range_with_len a n)) ≡ map (λ k. F (f k)) (range_with_len a n)
-map_listed_from F f a zero = refl
-map_listed_from F f a (suc n) = ap (λ xs. F (f a) ∷ xs) (map_listed_from F f (a + 1) n)
-
 pub map_listed : {A B : Type 0} (F : A → B) (f : ℕ → A) (n : ℕ) → map F (listed n f) ≡ listed n (λ k. F (f k))
-map_listed F f n = map_listed_from F f 0 n
+map_listed F f n = map-map F f (range_with_len 0 n)
 
 picked_listed_from : {A B : Type 0} (F : A → B) (xs : List A) (place : ℕ → ℕ) (d : A) (a n : ℕ)
     → map F (map (λ k. get_or xs (place k) d) (range_with_len a n)) ≡ map (λ k. get_or (map F xs) (place k) (F d)) (range_with_len a n)
@@ -57,7 +53,7 @@ put_picked F (Err t) r' now before xs after was items n place d y put e f g i h 
 
 -- ---- items again and again
 
-range_more : {A : Type 0} (f : ℕ → A) (a k n : ℕ) → map f (range_with_len a (k + n)) ≡ map f (range_with_len a k) ++ map f (range_with_len (a + k) n)
+pub range_more : {A : Type 0} (f : ℕ → A) (a k n : ℕ) → map f (range_with_len a (k + n)) ≡ map f (range_with_len a k) ++ map f (range_with_len (a + k) n)
 range_more f a zero n =
     let same : zero + n ≡ n = omega arith in
     let there : a + zero ≡ a = omega arith in
@@ -76,8 +72,7 @@ range_shifted f a b (suc n) h =
     ap f (let e : a + 1 + k ≡ a + (k + 1) = omega arith in e) ∙ h (k + 1) (omega arith) ∙ ap f (let e : b + (k + 1) ≡ b + 1 + k = omega arith in e)))
 
 round_again : (n l k : ℕ) → l % n ≡ 0 → (l + k) % n ≡ (0 + k) % n
-round_again n l k e =
-    ap (λ m. m % n) (omega arith) ∙ add-mul-mod_self_left k n (l / n) ∙ ap (λ m. m % n) (omega arith)
+round_again n l k e = ap (λ m. m % n) (omega arith) ∙ add-mul-mod_self_left k n (l / n) ∙ ap (λ m. m % n) (omega arith)
 
 -- the first of them behind all, where these are whole rounds
 pub again_listed : {A : Type 0} (xs old : List A) (d : A) (n m l total : ℕ) → length xs ≡ l → total ≡ l + m → m ≤ l → l % n ≡ 0
@@ -91,8 +86,7 @@ again_listed xs old d n m l total long whole few round made =
 
 -- one round is the list itself
 pub first_round : {A : Type 0} (old : List A) (d : A) → old ≡ listed (length old) (λ k. get_or old (k % length old) d)
-first_round old d =
-    fill_by_all (λ k. get_or old (k % length old) d) old (length old) d refl (λ k below. ap (λ j. get_or old j d) (sym (mod-eq_of_lt below)))
+first_round old d = fill_by_all (λ k. get_or old (k % length old) d) old (length old) d refl (λ k below. ap (λ j. get_or old j d) (sym (mod-eq_of_lt below)))
 
 pub two_rounds : (l n : ℕ) → l % n ≡ 0 → (l + l) % n ≡ 0
 two_rounds l n e = round_again n l l e ∙ ap (λ m. m % n) (omega arith) ∙ e

@@ -46,16 +46,13 @@ pub fits_growth : (a n : ArrayValue) (xs : List Item) → IsArray a → IsArray 
 fits_growth a n xs h k e axis =
     let shape : n.shape ≡ one_longer a.shape = ap (λ (v : ArrayValue). v.shape) (sym e) in
     let items : n.items ≡ a.items ++ xs = ap (λ (v : ArrayValue). v.items) (sym e) in
-    let type : n.item_type ≡ a.item_type = ap (λ (v : ArrayValue). v.item_type) (sym e) in
-    let long : length n.shape ≡ length a.shape = ap (λ (s : List ℕ). length s) shape ∙ rank_longer a.shape in
-    let some : 0 < length a.shape = omega (arith, long, axis) in
+    let some : 0 < length a.shape = omega (arith, ap (λ (s : List ℕ). length s) shape ∙ rank_longer a.shape, axis) in
     let count : length n.items ≡ length a.items + length xs = ap (λ (l : List Item). length l) items ∙ length-append a.items xs in
-    let places : size n.shape ≡ size a.shape + size (drop 1 a.shape) = ap size shape ∙ size_longer a.shape some in
     record {
       some_axis = some;
       within = subst IsWithinLimits shape k.within;
-      one_place = omega (arith, count, places, h.one_item_a_place, k.one_item_a_place);
+      one_place = omega (arith, count, ap size shape ∙ size_longer a.shape some, h.one_item_a_place, k.one_item_a_place);
       typed = λ i d b.
           let at : get_or n.items (length a.items + i) d ≡ get_or xs i d = ap (λ (l : List Item). get_or l (length a.items + i) d) items ∙ get_or-append-add a.items xs i d in
-          ap type_of (sym at) ∙ k.one_type (length a.items + i) d (omega (arith, count)) ∙ type;
+          ap type_of (sym at) ∙ k.one_type (length a.items + i) d (omega (arith, count)) ∙ (ap (λ (v : ArrayValue). v.item_type) (sym e));
     }

@@ -22,8 +22,7 @@ roomy_of n p next some q other = least n q p other next.0 next.1
 
 -- where more lie as well, the next power of two of the fewer is that of the more
 pub same_next : (held items p : ℕ) → IsSameRoom held items → held ≤ items → IsNextPowerOfTwo items p → IsNextPowerOfTwo held p
-same_next held items p same fewer next =
-    (next.0, omega (arith, fewer, next.1), omega (arith, same.some, same.same p next))
+same_next held items p same fewer next = (next.0, omega (arith, fewer, next.1), omega (arith, same.some, same.same p next))
 
 -- so there is room for the more where the fewer lie, or else in the piece that is brought
 pub brought : (held items p lies capacity : ℕ) → IsRoomy held lies → HasRoom held items capacity → held ≤ items → IsNextPowerOfTwo items p → 0 < items → lies < p → p ≤ capacity

@@ -1,8 +1,8 @@
 -- The rows of a shape: what stands along its last axis.
-use Rattle.std.{proofs.Common.{◌≡◌, ℕ, zero, suc, ◌+◌, ◌-◌, ◌*◌, ◌<◌, ◌≤◌, true, List, [], ◌∷◌, ◌++◌, length, get_or, take, map, refl, ap, sym, ◌∙◌, arith, append_assoc, Result, Ok, Err}, specs.List.{range_with_len}, specs.Prelude.{OnOk}, proofs.lemmas.Result.{on_ok_weaker}, proofs.lemmas.Bool.{and_from, le-leb}}
-use Rattle.std.{proofs.lemmas.List.{take_more, map-append, append-nil, length-map, length_push, get_or_append_left}, proofs.lemmas.List.FromFn.{map-range_with_len_more}}
-use Rattle.arrays_core.{specs.Items.{after, all_or_first_error}, specs.Shapes.{size, indices, is_index_of, places_before, IsWithinLimits}, specs.Building.{listed, with_row, IsRowOf}, proofs.Shapes.{as_long, head_of, places_below, factor_le}}
-use Rattle.arrays_core.proofs.Order.{length-indices, at_place, ok_more, all_given, given, CollectedTo}
+use Rattle.std.{proofs.Common.{◌≡◌, ℕ, zero, suc, ◌+◌, ◌-◌, ◌*◌, ◌<◌, ◌≤◌, true, List, [], ◌∷◌, ◌++◌, length, get_or, take, map, refl, ap, sym, ◌∙◌, arith, append_assoc, Result, Ok}, specs.List.{range_with_len}, specs.Prelude.{OnOk}, proofs.lemmas.Result.{on_ok_weaker}, proofs.lemmas.Bool.{and_from, le-leb}}
+use Rattle.std.{proofs.lemmas.List.{take_more, map-append, append-nil, length-map, length_push, get_or_append_left, get_or_push}, proofs.lemmas.List.FromFn.{map-range_with_len_more}, proofs.lemmas.Simd.{map-map}}
+use Rattle.arrays_core.{specs.Items.{all_or_first_error}, specs.Shapes.{size, indices, is_index_of, places_before, IsWithinLimits}, specs.Building.{listed, with_row, IsRowOf}, proofs.Shapes.{as_long, head_of, places_below, factor_le}, proofs.Building.{range_more}}
+use Rattle.arrays_core.proofs.Order.{length-indices, at_place, ok_more, all_given, all_ok, given, CollectedTo}
 
 -- ---- one more axis at the end
 
@@ -15,10 +15,7 @@ pub places_before_row : (rows row : List ℕ) (n i : ℕ) → is_index_of rows r
 places_before_row [] [] n i h = omega arith
 places_before_row [] (j ∷ row) n i h = cc
 places_before_row (m ∷ rows) [] n i h = cc
-places_before_row (m ∷ rows) (j ∷ row) n i h =
-    let whole : (j - 1) * size (rows ++ n ∷ []) + places_before (rows ++ n ∷ []) (row ++ i ∷ []) ≡ ((j - 1) * size rows + places_before rows row) * n + (i - 1) =
-    rw (size_row rows n, places_before_row rows row n i (head_of m j rows row h).rest) (omega arith) in
-    whole
+places_before_row (m ∷ rows) (j ∷ row) n i h = rw (size_row rows n, places_before_row rows row n i (head_of m j rows row h).rest) (omega arith)
 
 pub index_of_row : (rows row : List ℕ) (n i : ℕ) → is_index_of rows row ≡ true → 1 ≤ i → i ≤ n → is_index_of (rows ++ n ∷ []) (row ++ i ∷ []) ≡ true
 index_of_row [] [] n i h low high = and_from _ _ (and_from _ _ (le-leb 1 i low) (le-leb i n high)) refl
@@ -31,15 +28,8 @@ index_of_row (m ∷ rows) (j ∷ row) n i h low high =
 pub row_of : (rows row : List ℕ) (n : ℕ) → is_index_of rows row ≡ true → length rows < 4 → 0 < n → IsRowOf (rows ++ n ∷ []) row n
 row_of rows row n h few some =
     let long = as_long rows row h in
-    let last : get_or (rows ++ n ∷ []) (length row) 0 ≡ n = get_or_append_at rows n (length row) long in
     let one : length (rows ++ n ∷ []) ≡ length rows + 1 = length_push rows n in
-    record { rank = omega arith; long = omega arith; some = some; whole = last; places = λ i low high. index_of_row rows row n i h low high }
-  where
-    get_or_append_at : (xs : List ℕ) (x k : ℕ) → k ≡ length xs → get_or (xs ++ x ∷ []) k 0 ≡ x
-    get_or_append_at [] x zero e = refl
-    get_or_append_at [] x (suc k) e = absurd (omega arith)
-    get_or_append_at (y ∷ xs) x zero e = absurd (omega arith)
-    get_or_append_at (y ∷ xs) x (suc k) e = get_or_append_at xs x k (omega arith)
+    record { rank = omega arith; long = omega arith; some = some; whole = get_or_push rows n 0 (length row) (sym long); places = λ i low high. index_of_row rows row n i h low high }
 
 -- ---- index lists that differ in the last index
 
@@ -65,8 +55,7 @@ pub same_row : (shape row : List ℕ) (i j : ℕ) → is_index_of shape (row ++ 
     → is_index_of shape (row ++ j ∷ []) ≡ true
 same_row [] [] i j h low high = cc
 same_row [] (k ∷ row) i j h low high = cc
-same_row (n ∷ shape) [] i j h low high =
-    and_from _ _ (and_from _ _ (le-leb 1 j low) (le-leb j n high)) (head_of n i shape [] h).rest
+same_row (n ∷ shape) [] i j h low high = and_from _ _ (and_from _ _ (le-leb 1 j low) (le-leb j n high)) (head_of n i shape [] h).rest
 same_row (n ∷ shape) (k ∷ row) i j h low high =
     let head = head_of n k shape (row ++ i ∷ []) h in
     and_from _ _ (and_from _ _ (le-leb 1 k head.low) (le-leb k n head.high)) (same_row shape row i j head.rest low high)
@@ -83,23 +72,9 @@ places_in_row (n ∷ m ∷ shape) [] i j h low = absurd (no_more (head_of n i (m
     no_more e = cc
 places_in_row (n ∷ shape) (k ∷ row) i j h low =
     let rest = places_in_row shape row i j (head_of n k shape (row ++ i ∷ []) h).rest low in
-    let whole : (k - 1) * size shape + places_before shape (row ++ j ∷ []) + i ≡ (k - 1) * size shape + places_before shape (row ++ i ∷ []) + j = omega arith in
-    whole
+    omega arith
 
 -- ---- items of rows, one row after another
-
--- results without an error are their items
-all_ok : {A E : Type 0} (rs : List (Result A E)) (xs : List A) → all_or_first_error rs ≡ Ok xs → rs ≡ map (given A E) xs
-all_ok [] xs h = let e : xs ≡ [] = cc in rw e refl
-all_ok (Err e ∷ rs) xs h = cc
-all_ok (Ok y ∷ rs) xs h = all_ok_after rs xs y (all_or_first_error rs) refl h (λ ys e. all_ok rs ys e)
-  where
-    all_ok_after : {A E : Type 0} (rs : List (Result A E)) (xs : List A) (y : A) (r : Result (List A) E) → all_or_first_error rs ≡ r → after y r ≡ Ok xs
-        → ((ys : List A) → all_or_first_error rs ≡ Ok ys → rs ≡ map (given A E) ys) → Ok y ∷ rs ≡ map (given A E) xs
-    all_ok_after rs xs y (Ok ys) e h f =
-        let same : xs ≡ y ∷ ys = cc in
-        rw same (ap (λ zs. Ok y ∷ zs) (f ys e))
-    all_ok_after rs xs y (Err k) e h f = cc
 
 pub with_row_none : {A E : Type 0} (items : List A) (function : ℕ → Result A E) → with_row items function 0 ≡ Ok items
 with_row_none {A = A} {E = E} items function = ap all_or_first_error (append-nil (map (given A E) items)) ∙ all_given A E items
@@ -115,11 +90,9 @@ with_row_more {A = A} {E = E} items now function f k (suc n) m e each so_far =
     let start = map (given A E) items in
     let row = map function (range_with_len 1 (k + n)) in
     let same : m ≡ k + n + 1 = omega arith in
-    let split : map function (range_with_len 1 (k + n + 1)) ≡ row ++ Ok (f n) ∷ [] =
-    map-range_with_len_more function 1 (k + n) (k + n + 1) (omega arith) ∙ ap (λ r. row ++ r ∷ []) (each n (omega arith)) in
     let more : listed (suc n) f ≡ listed n f ++ f n ∷ [] =
     ap (λ j. listed j f) (let one : suc n ≡ n + 1 = omega arith in one) ∙ map-range_with_len_more f 0 n n (omega arith) in
-    rw (same, split, ← append_assoc start row (Ok (f n) ∷ []))
+    rw (same, map-range_with_len_more function 1 (k + n) (k + n + 1) (omega arith) ∙ ap (λ r. row ++ r ∷ []) (each n (omega arith)), ← append_assoc start row (Ok (f n) ∷ []))
     (ok_more (start ++ row) (now ++ listed n f) (f n) before ∙ ap (λ xs. Ok xs) (append_assoc now (listed n f) (f n ∷ []) ∙ ap (λ xs. now ++ xs) (sym more)))
 
 -- a call that puts a run behind the items has put a row there, or the rest of one
@@ -150,21 +123,7 @@ with_row_then {A = A} {E = E} items now new function k n m e so_far rest =
     range_shift f a b k (suc n) e =
         ap (λ xs. f b ∷ xs) (range_shift f (a + 1) (b + 1) k n (omega arith)) ∙ ap (λ j. f j ∷ map (λ i. f (k + i)) (range_with_len (a + 1) n)) e
 
-    range_more : {B : Type 0} (f : ℕ → B) (a k n : ℕ) → map f (range_with_len a (k + n)) ≡ map f (range_with_len a k) ++ map f (range_with_len (a + k) n)
-    range_more f a zero n =
-        let same : zero + n ≡ n = omega arith in
-        let there : a + zero ≡ a = omega arith in
-        rw (same, there) refl
-    range_more f a (suc k) n =
-        let same : suc k + n ≡ suc (k + n) = omega arith in
-        let there : a + suc k ≡ a + 1 + k = omega arith in
-        rw (same, there) (ap (λ xs. f a ∷ xs) (range_more f (a + 1) k n))
-
 -- ---- a row of a shape behind those before it
-
-map_map : {A B C : Type 0} (f : B → C) (g : A → B) (xs : List A) → map f (map g xs) ≡ map (λ x. f (g x)) xs
-map_map f g [] = refl
-map_map f g (x ∷ xs) = ap (λ ys. f (g x) ∷ ys) (map_map f g xs)
 
 -- the first index lists of a row stand behind those of the rows before it
 row_taken : (rows row : List ℕ) (n : ℕ) → is_index_of rows row ≡ true → (j : ℕ) → j ≤ n
@@ -177,16 +136,14 @@ row_taken rows row n inside (suc j) h =
     let is = indices shape in
     let long = length-indices shape in
     let sized = size_row rows n in
-    let rest : take (b + j) is ≡ take b is ++ map (λ i. row ++ i ∷ []) (range_with_len 1 j) = row_taken rows row n inside j (omega arith) in
     let place : places_before shape (row ++ (j + 1) ∷ []) ≡ b + j = places_before_row rows row n (j + 1) inside ∙ omega arith in
     let there = index_of_row rows row n (j + 1) inside (omega arith) (omega arith) in
     let below : b + j < size shape = rw place at (places_below shape (row ++ (j + 1) ∷ []) there) in
     let here : get_or is (b + j) [] ≡ row ++ (j + 1) ∷ [] = ap (λ m. get_or is m []) (sym place) ∙ at_place shape (row ++ (j + 1) ∷ []) there in
-    let one : b + suc j ≡ b + j + 1 = omega arith in
     let same : suc j ≡ j + 1 = omega arith in
     let more : map (λ i. row ++ i ∷ []) (range_with_len 1 (suc j)) ≡ map (λ i. row ++ i ∷ []) (range_with_len 1 j) ++ (row ++ (j + 1) ∷ []) ∷ [] =
     ap (λ m. map (λ i. row ++ i ∷ []) (range_with_len 1 m)) same ∙ map-range_with_len_more (λ i. row ++ i ∷ []) 1 j (j + 1) (omega arith) in
-    ap (λ m. take m is) one ∙ take_more is (b + j) [] (omega arith) ∙ ap (λ xs. xs ++ get_or is (b + j) [] ∷ []) rest
+    ap (λ m. take m is) (omega arith) ∙ take_more is (b + j) [] (omega arith) ∙ ap (λ xs. xs ++ get_or is (b + j) [] ∷ []) (row_taken rows row n inside j (omega arith))
     ∙ ap (λ y. (take b is ++ map (λ i. row ++ i ∷ []) (range_with_len 1 j)) ++ y ∷ []) here
     ∙ append_assoc (take b is) (map (λ i. row ++ i ∷ []) (range_with_len 1 j)) ((row ++ (j + 1) ∷ []) ∷ [])
     ∙ ap (λ xs. take b is ++ xs) (sym more)
@@ -199,14 +156,13 @@ row_collected {A = A} {E = E} rows row n r function items now inside here made c
     let is = indices (rows ++ n ∷ []) in
     let b = places_before rows row * n in
     let index = λ (i : ℕ). row ++ i ∷ [] in
-    let long : (r + 1) * n ≡ b + n = rw here (omega arith) in
     let before : map function (take b is) ≡ map (given A E) items = all_ok (map function (take b is)) items (rw (ap (λ m. m * n) here) c.so_far) in
     record {
-      so_far = ap (λ m. all_or_first_error (map function (take m is))) long
+      so_far = ap (λ m. all_or_first_error (map function (take m is))) (rw here (omega arith))
           ∙ ap (λ xs. all_or_first_error (map function xs)) (row_taken rows row n inside n (omega arith))
           ∙ ap all_or_first_error (map-append function (take b is) (map index (range_with_len 1 n))
           ∙ ap (λ xs. xs ++ map function (map index (range_with_len 1 n))) before
-          ∙ ap (λ xs. map (given A E) items ++ xs) (map_map function index (range_with_len 1 n)))
+          ∙ ap (λ xs. map (given A E) items ++ xs) (map-map function index (range_with_len 1 n)))
           ∙ made;
     }
 
@@ -216,11 +172,7 @@ pub rows_within : (rows : List ℕ) (n : ℕ) → IsWithinLimits (rows ++ n ∷ 
 rows_within rows n w positive =
     let long : length (rows ++ n ∷ []) ≡ length rows + 1 = length_push rows n in
     let few = factor_le (size rows) n (size (rows ++ n ∷ [])) (sym (size_row rows n)) positive in
-    record {
-      rank = omega (arith, w.rank);
-      axes = λ k d h. rw get_or_append_left at (w.axes k d (omega arith));
-      size_within = omega (arith, w.size_within);
-    }
+    record { rank = omega (arith, w.rank); axes = λ k d h. rw get_or_append_left at (w.axes k d (omega arith)); size_within = omega (arith, w.size_within) }
 
 first_positive : (s n : ℕ) → 0 < s * n → 0 < s
 first_positive zero n h = absurd (omega arith)

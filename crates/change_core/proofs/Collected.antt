@@ -1,8 +1,7 @@
 -- Items that are collected one after the other.
 use Rattle.std.{proofs.Common.{◌≡◌, ℕ, List, [], ◌∷◌, map, refl, ap, ◌∙◌, Result, Ok, Err}, specs.List.{range_with_len}}
 use Rattle.arrays_core.{specs.declared.item.Item.{Item}, specs.declared.item.Kind.{Kind}, specs.Items.{after, all_or_first_error}}
-use Rattle.index_region.specs.Boxes.{Interval, box_size, walk_at}
-use Rattle.change_core.specs.Parts.{items_in}
+use Rattle.{index_region.specs.Boxes.{Interval, box_size, walk_at}, change_core.specs.Parts.{items_in}}
 
 -- an item or an error, and then those that follow
 abbrev pub put_first : Result Item Kind → Result (List Item) Kind → Result (List Item) Kind

@@ -80,8 +80,7 @@ frame_same c h = λ i. record { item_type = h.kind i; shape = h.shape i; items =
 frames_same : (selectors : List Bool) (changes : List ArgumentChange) → AllAgree changes → is_anew selectors (moves changes) ≡ false → frames selectors (olds changes) ≡ frames selectors (news changes)
 frames_same [] changes h u = refl
 frames_same (s ∷ selectors) [] h u = refl
-frames_same (false ∷ selectors) (c ∷ changes) h u =
-    λ i. (frame_same c h.0) i ∷ (frames_same selectors changes h.1 u) i
+frames_same (false ∷ selectors) (c ∷ changes) h u = λ i. (frame_same c h.0) i ∷ (frames_same selectors changes h.1 u) i
 frames_same (true ∷ selectors) (c ∷ changes) h u = selector c.moved refl u (frames_same selectors changes h.1)
   where
     selector : (m : Option (List Interval)) → c.moved ≡ m → is_anew (true ∷ selectors) (m ∷ moves changes) ≡ false → (is_anew selectors (moves changes) ≡ false → frames selectors (olds changes) ≡ frames selectors (news changes)) → frames (true ∷ selectors) (olds (c ∷ changes)) ≡ frames (true ∷ selectors) (news (c ∷ changes))

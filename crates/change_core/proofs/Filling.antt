@@ -1,13 +1,11 @@
 -- A list of items filled from the front.
 use Rattle.index_region.{proofs.Walks.{walk_within}, proofs.Patched.{box_within_size, fits_within}, specs.Answers.{HasTypeOf, IsPlaceOf}, specs.Checks.{Form, form_of}, specs.Boxes.{Interval, box_size, walk_at, fits}}
-use Rattle.std.{proofs.Common.{◌≡◌, ℕ, zero, suc, ◌+◌, ◌-◌, ◌*◌, ◌<◌, ◌≤◌, List, [], ◌∷◌, length, map, get_or, take, set, replicate, refl, ap, ◌∙◌, sym, subst, arith, IsTrue, Result, Ok}, specs.List.{range_with_len}, proofs.lemmas.List.{take_more_set, take_all, length-set, length-replicate}}
+use Rattle.std.{proofs.Common.{◌≡◌, ℕ, zero, suc, ◌+◌, ◌-◌, ◌<◌, ◌≤◌, List, [], ◌∷◌, length, map, get_or, take, set, replicate, refl, ap, ◌∙◌, sym, subst, arith, IsTrue, Result, Ok}, specs.List.{range_with_len}, proofs.lemmas.List.{take_more_set, take_all, length-set, length-replicate}}
 use Rattle.arrays_core.{specs.declared.item.Item.{Item}, specs.declared.item.ItemType.{ItemType}, specs.declared.item.Kind.{Kind}, specs.Items.{fill, type_of}, specs.Arrays.{ArrayValue}, specs.Shapes.{size, IsWithinLimits, is_index_of}}
 use Rattle.change_core.{proofs.Collected.{collected}, proofs.Walking.{prepend, prepend-nil, rest_end, rest_from, rest_ok}, specs.Meters.{ticked}}
 
 pub filled_many : (values : ArrayValue) (t : ItemType) (shape : List ℕ) (n m : ℕ) → values ≡ record { item_type = t; shape = shape; items = replicate (size shape) (fill t) } → shape ≡ n ∷ [] → n ≡ m → length values.items ≡ m
-filled_many values t shape n m v s e =
-    let one : n * 1 ≡ n = omega arith in
-    ap (λ (x : ArrayValue). length x.items) v ∙ length-replicate (size shape) (fill t) ∙ ap size s ∙ one ∙ e
+filled_many values t shape n m v s e = ap (λ (x : ArrayValue). length x.items) v ∙ length-replicate (size shape) (fill t) ∙ ap size s ∙ (omega arith) ∙ e
 
 pub nothing_filled : (f : ℕ → Result Item Kind) (n : ℕ) (xs : List Item) → prepend (take 0 xs) (rest_from f n 0) ≡ collected (map f (range_with_len 0 n))
 nothing_filled f n xs = let same : n - 0 ≡ n = omega arith in prepend-nil (rest_from f n 0) ∙ ap (λ (m : ℕ). collected (map f (range_with_len 0 m))) same
@@ -16,9 +14,8 @@ pub one_filled : (values new : ArrayValue) (f : ℕ → Result Item Kind) (n p :
     → new ≡ record { item_type = values.item_type; shape = values.shape; items = set values.items (p + 1 - 1) x } → prepend (take p values.items) (rest_from f n p) ≡ all
     → prepend (take (p + 1) new.items) (rest_from f n (p + 1)) ≡ all
 one_filled values new f n p x all long below given is rest =
-    let at : p + 1 - 1 ≡ p = omega arith in
     ap (λ (a : ArrayValue). prepend (take (p + 1) a.items) (rest_from f n (p + 1))) is
-    ∙ ap (λ (k : ℕ). prepend (take (p + 1) (set values.items k x)) (rest_from f n (p + 1))) at
+    ∙ ap (λ (k : ℕ). prepend (take (p + 1) (set values.items k x)) (rest_from f n (p + 1))) (omega arith)
     ∙ ap (λ (xs : List Item). prepend xs (rest_from f n (p + 1))) (take_more_set values.items p x (omega arith))
     ∙ sym (rest_ok f n p (take p values.items) x below given)
     ∙ rest

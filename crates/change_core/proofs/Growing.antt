@@ -4,10 +4,7 @@ use Rattle.std.proofs.lemmas.List.{get_or_append_left}
 use Rattle.arrays_core.{specs.declared.item.Item.{Item}, specs.declared.item.Kind.{Kind}, specs.declared.item.ItemType.{ItemType}, specs.Arrays.{ArrayValue, IsArray, item_of}, specs.Items.{fill}, specs.Shapes.{is_index_of, places_before}, proofs.Shapes.{places_below}, specs.Growth.{one_longer}}
 use Rattle.index_region.{specs.Checks.{Form, form_of}, specs.Axes.{places_along}}
 use Rattle.change_core.{specs.Growth.{IsGrown, AllGrew, Extends, IsGrowing, one_grows, two_grow, never, growing}, specs.Tightness.{IsTight}, specs.RuleModels.{Growth, RuleModel, Use}, specs.Sourced.{one_rule, two_rule}}
-
-pub length-longer : (shape : List ℕ) → length (one_longer shape) ≡ length shape
-length-longer [] = refl
-length-longer (n ∷ shape) = refl
+pub use Rattle.arrays_core.proofs.Growing.{rank_longer as length-longer}
 
 -- old places are places, and come after as many others
 pub still_inside : (shape index : List ℕ) → is_index_of shape index ≡ true → is_index_of (one_longer shape) index ≡ true
@@ -67,8 +64,7 @@ longer_form p olds news f g s t e k some kept = record {
 -- what is alike at each number of a range
 pub range_same : (u v : ℕ → Item) (from n : ℕ) → ((j : ℕ) → from ≤ j → j < from + n → u j ≡ v j) → map u (range_with_len from n) ≡ map v (range_with_len from n)
 range_same u v from zero h = refl
-range_same u v from (suc n) h =
-    λ i. (h from (omega arith) (omega arith)) i ∷ (range_same u v (from + 1) n (λ j low high. h j (omega arith) (omega arith))) i
+range_same u v from (suc n) h = λ i. (h from (omega arith) (omega arith)) i ∷ (range_same u v (from + 1) n (λ j low high. h j (omega arith) (omega arith))) i
 
 -- ---- laws of one argument, and of two
 

@@ -1,7 +1,6 @@
 -- Boxes met with a result, and hulls of them.
 use Rattle.std.{proofs.Common.{◌≡◌, ℕ, ◌≤◌, List, [], ◌∷◌, length, refl, ap, ◌∙◌, sym, subst, arith, true, false, Option, Some, None, inl, inr, min, max}, proofs.lemmas.Bool.{and_parts, leb-true, false≢true, cases_Bool, cond-true, cond-false, both_ways, or_from, and_from, le-leb, le-ltb}}
-use Rattle.arrays_core.specs.Shapes.{is_index_of}
-use Rattle.change_core.specs.Reaches.{bounded, is_moved}
+use Rattle.{arrays_core.specs.Shapes.{is_index_of}, change_core.specs.Reaches.{bounded, is_moved}}
 use Rattle.index_region.{proofs.Boxes.{within-hull_left, within-hull_right, fits-met, fits_length}, specs.Boxes.{Interval, fits, hull_of, is_empty, is_within, join_boxes, met, unless_empty}}
 
 -- a place of the result that lies in the box lies in the part of it that is in the result
@@ -15,9 +14,8 @@ within-met (n ∷ axes) (s ∷ intervals) (i ∷ index) h k =
     let kp = and_parts _ _ k in
     let h1 = and_parts _ _ hp.0 in
     let k1 = and_parts _ _ kp.0 in
-    let low : max 1 s.0 ≤ i = omega (arith, leb-true 1 i h1.0, leb-true s.0 i k1.0) in
     let high : i ≤ min s.1 n = omega (arith, leb-true i n h1.1, leb-true i s.1 k1.1) in
-    and_from _ _ (and_from _ _ (le-leb _ _ low) (le-leb _ _ high)) (within-met axes intervals index hp.1 kp.1)
+    and_from _ _ (and_from _ _ (le-leb _ _ (omega (arith, leb-true 1 i h1.0, leb-true s.0 i k1.0))) (le-leb _ _ high)) (within-met axes intervals index hp.1 kp.1)
 
 -- a box with a place is not empty
 pub within-some : (intervals : List Interval) (index : List ℕ) → is_within intervals index ≡ true → is_empty intervals ≡ false
@@ -26,8 +24,7 @@ within-some (s ∷ intervals) [] h = absurd (false≢true h)
 within-some (s ∷ intervals) (i ∷ index) h =
     let hp = and_parts _ _ h in
     let h1 = and_parts _ _ hp.0 in
-    let order : s.0 ≤ s.1 = omega (arith, leb-true s.0 i h1.0, leb-true i s.1 h1.1) in
-    or_from _ _ (le-ltb _ _ order) (within-some intervals index hp.1)
+    or_from _ _ (le-ltb _ _ (omega (arith, leb-true s.0 i h1.0, leb-true i s.1 h1.1))) (within-some intervals index hp.1)
 
 lower : (i : ℕ) → 1 ≤ i → max 1 i ≡ i
 lower i h = omega arith
@@ -63,11 +60,9 @@ hull_fits (s ∷ a) (t ∷ b) (n ∷ shape) h k =
     let h1 = and_parts _ _ hp.0 in
     let k1 = and_parts _ _ kp.0 in
     let h2 = and_parts _ _ h1.0 in
-    let k2 = and_parts _ _ k1.0 in
-    let low : 1 ≤ min s.0 t.0 = omega (arith, leb-true 1 s.0 h2.0, leb-true 1 t.0 k2.0) in
-    let order : min s.0 t.0 ≤ max s.1 t.1 = omega (arith, leb-true s.0 s.1 h2.1) in
+    let low : 1 ≤ min s.0 t.0 = omega (arith, leb-true 1 s.0 h2.0, leb-true 1 t.0 (and_parts _ _ k1.0).0) in
     let high : max s.1 t.1 ≤ n = omega (arith, leb-true s.1 n h1.1, leb-true t.1 n k1.1) in
-    and_from _ _ (and_from _ _ (and_from _ _ (le-leb _ _ low) (le-leb _ _ order)) (le-leb _ _ high)) (hull_fits a b shape hp.1 kp.1)
+    and_from _ _ (and_from _ _ (and_from _ _ (le-leb _ _ low) (le-leb _ _ (omega (arith, leb-true s.0 s.1 h2.1)))) (le-leb _ _ high)) (hull_fits a b shape hp.1 kp.1)
 hull_fits (s ∷ a) (t ∷ b) [] h k = absurd (false≢true h)
 hull_fits [] (t ∷ b) [] h k = absurd (false≢true k)
 hull_fits [] (t ∷ b) (n ∷ shape) h k = absurd (false≢true h)

@@ -66,9 +66,8 @@ one_tight form item use_of h = record { settled = settled; determined = determin
         → items_read old (uses_of_one use_of f.shape new) index ≡ items_read new (uses_of_one use_of f.shape new) index → of_one_argument (λ b. item b index) old ≡ of_one_argument (λ b. item b index) new
     determined (a ∷ []) (b ∷ []) f index m n sound same e place read =
         let r = reframed a b (head_same (blank a) (blank b) [] [] same) in
-        let reads = (use_of f.shape b).reads index in
         ap (λ (x : ArrayValue). item x index) r.is
-        ∙ h.settled b a.items f index r.count e place (sym (ap (λ (x : ArrayValue). map (item_if_there x) reads) r.is) ∙ head_same _ _ [] [] read)
+        ∙ h.settled b a.items f index r.count e place (sym (ap (λ (x : ArrayValue). map (item_if_there x) ((use_of f.shape b).reads index)) r.is) ∙ head_same _ _ [] [] read)
     determined [] new f index m n sound same e place read = absurd (omega arith)
     determined (a ∷ x ∷ rest) new f index m n sound same e place read = absurd (omega arith)
     determined (a ∷ []) [] f index m n sound same e place read = absurd (omega arith)

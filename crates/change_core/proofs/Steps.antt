@@ -46,8 +46,7 @@ pub anew_there : (selectors : List Bool) (ms : List (Option (List Interval))) (w
     → m ≡ get_or ms which m → m ≡ Some region → get_or selectors which false ≡ true → is_anew selectors ms ≡ true
 anew_there selectors [] which m region l count e f h = absurd (omega arith)
 anew_there [] (n ∷ ms) which m region l count e f h = absurd (omega arith)
-anew_there (s ∷ selectors) (n ∷ ms) zero m region l count e f h =
-    λ i. is_anew (h i ∷ selectors) ((sym e ∙ f) i ∷ ms)
+anew_there (s ∷ selectors) (n ∷ ms) zero m region l count e f h = λ i. is_anew (h i ∷ selectors) ((sym e ∙ f) i ∷ ms)
 anew_there (s ∷ selectors) (n ∷ ms) (suc which) m region l count e f h = later s n (anew_there selectors ms which m region (omega arith) (omega arith) e f h)
   where
     later : (s : Bool) (n : Option (List Interval)) → is_anew selectors ms ≡ true → is_anew (s ∷ selectors) (n ∷ ms) ≡ true
@@ -88,8 +87,7 @@ pub changed_past : (shape : List ℕ) (uses : List Use) (ms : List (Option (List
 changed_past shape uses ms which e = changed_nothing shape (drop which uses) ∙ sym (ap (changed shape (drop which uses)) (drop_all which ms (omega arith)))
 
 pub same_rank : (shape : List ℕ) (p q : Option (List Interval)) → HasFit shape p → HasFit shape q → (a b : List Interval) → p ≡ Some a → q ≡ Some b → length a ≡ length b
-same_rank shape p q hp hq a b ea eb =
-    fits_length a shape (subst (HasFit shape) ea hp) ∙ sym (fits_length b shape (subst (HasFit shape) eb hq))
+same_rank shape p q hp hq a b ea eb = fits_length a shape (subst (HasFit shape) ea hp) ∙ sym (fits_length b shape (subst (HasFit shape) eb hq))
 
 -- one more argument
 pub changed_step : (shape : List ℕ) (uses : List Use) (ms : List (Option (List Interval))) (which from next : ℕ) (m rest : Option (List Interval)) → from ≡ which → next ≡ suc which → which < length ms

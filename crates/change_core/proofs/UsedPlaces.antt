@@ -29,16 +29,13 @@ by_place-within from shape region index place few inside =
     let at = places_before shape index in
     let below : at < size shape = places_below shape index place in
     let within_from : at < size from = omega arith in
-    let same : at % size from ≡ at = mod-eq_of_lt within_from in
-    let here : is_within region (index_after from at) ≡ true = subst (λ (p : ℕ). is_within region (index_after from p) ≡ true) same inside in
+    let here : is_within region (index_after from at) ≡ true = subst (λ (p : ℕ). is_within region (index_after from p) ≡ true) (mod-eq_of_lt within_from) inside in
     let between = offset_between from region (index_after from at) here in
     let back : places_before from (index_after from at) ≡ at = places_before-index_after from at within_from in
     let low : lo ≤ at = subst (λ (p : ℕ). lo ≤ p) back between.0 in
     let high : at ≤ hi = subst (λ (p : ℕ). p ≤ hi) back between.1 in
     let there : nat_lt lo (size shape) ≡ true = lt-ltb lo (size shape) (omega arith) in
-    let least : at ≤ min hi (size shape - 1) = omega arith in
-    let last : min hi (size shape - 1) < size shape = omega arith in
-    ap (λ (o : Option (List Interval)). is_moved o index) (cond-true _ _ _ there) ∙ cover-within shape index lo (min hi (size shape - 1)) place low least last
+    ap (λ (o : Option (List Interval)). is_moved o index) (cond-true _ _ _ there) ∙ cover-within shape index lo (min hi (size shape - 1)) place low (omega arith) (omega arith)
 
 -- reshape and ravel
 pub by_place-covered : (from shape : List ℕ) → Covered from shape (by_place from shape)

@@ -1,7 +1,7 @@
 -- Each way to use an argument is covered.
 use Rattle.std.{proofs.Common.{◌≡◌, ℕ, suc, zero, ◌+◌, ◌≤◌, ◌<◌, List, [], ◌∷◌, ◌++◌, length, map, take, drop, set, get_or, insert, remove, refl, ap, ◌∙◌, sym, subst, arith, true, ◌&&◌, Some, inl, inr, nat_le, nat_lt, nat_eq, if◌then◌else◌}, specs.List.{range_with_len}}
 use Rattle.std.proofs.lemmas.Bool.{and_parts, leb-true, ltb-true, ltb-false, eqb-true, false≢true, cases_Bool, cond-true, cond-false, and_from, le-leb}
-use Rattle.arrays_core.specs.Shapes.{is_index_of}
+use Rattle.arrays_core.{specs.Shapes.{is_index_of}, proofs.Shapes.{as_long}}
 use Rattle.change_core.{specs.Tightness.{Covered, Each}, specs.Reaches.{is_moved}, specs.RuleModels.{Use}, specs.Ways.{Axis, IsSoundAxis, alike, along, back, everywhere, front, images, lengths, lines, meet_at, meets, sources, unread}}
 use Rattle.index_region.specs.Boxes.{Interval, fits, is_within, whole_of}
 pub use Rattle.index_region.proofs.Least.{within-whole}
@@ -55,12 +55,6 @@ images-within (x ∷ axes) (m ∷ from) (s ∷ region) (i ∷ index) h fit place
     let high = h.0.high s i (leb-true 1 i p1.0) (leb-true i x.len p1.1) (leb-true 1 s.0 f1.0) (leb-true s.0 (x.source i) i1.0) (leb-true (x.source i) s.1 i1.1) in
     and_from _ _ (and_from _ _ (le-leb _ _ low) (le-leb _ _ high)) (images-within axes from region index h.1 fp.1 pp.1 ip.1)
 
-index-length : (shape index : List ℕ) → is_index_of shape index ≡ true → length index ≡ length shape
-index-length [] [] h = refl
-index-length (n ∷ shape) (i ∷ index) h = let k = index-length shape index (and_parts _ _ h).1 in omega (arith, k)
-index-length [] (i ∷ index) h = absurd (false≢true h)
-index-length (n ∷ shape) [] h = absurd (false≢true h)
-
 within-insert : (axis j : ℕ) (region : List Interval) (index : List ℕ) → axis ≤ length index → is_within region (insert index axis j) ≡ true → is_within (remove region axis) index ≡ true
 within-insert zero j [] index l h = absurd (false≢true h)
 within-insert zero j (s ∷ region) index l h = (and_parts _ _ h).1
@@ -73,7 +67,7 @@ within-insert (suc axis) j (s ∷ region) (i ∷ index) l h =
 -- reduction
 pub lines-covered : (from shape : List ℕ) (axis len : ℕ) → axis ≤ length shape → Covered from shape (lines axis len)
 lines-covered from shape axis len l region index fit place =
-    let few : axis ≤ length index = omega (arith, index-length shape index place) in
+    let few : axis ≤ length index = omega (arith, as_long shape index place) in
     each_map _ (insert index axis) (range_with_len 1 len) (each_all _ (range_with_len 1 len) (λ j. within-insert axis j region index few))
 
 -- what an interval changes on an item's own line
@@ -124,7 +118,7 @@ within-remove (suc axis) place (s ∷ region) (i ∷ index) l low high h =
 -- an argument that lacks an axis
 pub across-covered : (from shape : List ℕ) (axis : ℕ) (place : Interval) → axis < length shape → Covered from shape (across axis place)
 across-covered from shape axis place l region index fit here =
-    let few : axis < length index = omega (arith, index-length shape index here) in
+    let few : axis < length index = omega (arith, as_long shape index here) in
     let there = λ (p : List ℕ). is_within region p ≡ true → is_within (insert region axis place) index ≡ true in
     elim (cases_Bool (nat_le place.0 (get_or index axis 0) && nat_le (get_or index axis 0) place.1)) [
       | inl t ↦
@@ -189,8 +183,6 @@ meet_at-within (to ∷ axes) (s ∷ region) index axis n low high h =
     let parts = and_parts _ _ h in
     let first = and_parts _ _ parts.0 in
     let rest = meet_at-within axes region index axis n low high parts.1 in
-    let r0 : (meet_at axis n axes region).0 ≤ get_or index axis 0 = rest.0 in
-    let r1 : get_or index axis 0 ≤ (meet_at axis n axes region).1 = rest.1 in
     let There = λ (t : Interval). (t.0 ≤ get_or index axis 0) × (get_or index axis 0 ≤ t.1) in
     elim (cases_Bool (nat_eq to axis)) [
       | inl t ↦
@@ -198,7 +190,7 @@ meet_at-within (to ∷ axes) (s ∷ region) index axis n low high h =
           let l0 : s.0 ≤ get_or index to 0 = leb-true _ _ first.0 in
           let l1 : get_or index to 0 ≤ s.1 = leb-true _ _ first.1 in
           subst There (sym (cond-true _ _ _ t)) (omega arith, omega arith)
-      | inr f ↦ subst There (sym (cond-false _ _ _ f)) (r0, r1)
+      | inr f ↦ subst There (sym (cond-false _ _ _ f)) (rest.0, rest.1)
     ]
 
 meets-within : (axes : List ℕ) (region : List Interval) (index : List ℕ) (axis : ℕ) (shape rest : List ℕ) → ((k : ℕ) → get_or rest k 0 ≡ get_or index (axis + k) 0) → is_index_of shape rest ≡ true → is_within region (map (λ to. get_or index to 0) axes) ≡ true → is_within (meets axes region axis shape) rest ≡ true
@@ -208,17 +200,15 @@ meets-within axes region index axis (n ∷ shape) [] at place h = absurd (false�
 meets-within axes region index axis (n ∷ shape) (i ∷ rest) at place h =
     let parts = and_parts _ _ place in
     let first = and_parts _ _ parts.0 in
-    let zero_more : axis + 0 ≡ axis = omega arith in
-    let here : i ≡ get_or index axis 0 = at 0 ∙ ap (λ (k : ℕ). get_or index k 0) zero_more in
+    let here : i ≡ get_or index axis 0 = at 0 ∙ ap (λ (k : ℕ). get_or index k 0) (omega arith) in
     let l0 : 1 ≤ i = leb-true 1 i first.0 in
     let l1 : i ≤ n = leb-true i n first.1 in
     let there = meet_at-within axes region index axis n (omega arith) (omega arith) h in
     let t0 : (meet_at axis n axes region).0 ≤ get_or index axis 0 = there.0 in
     let t1 : get_or index axis 0 ≤ (meet_at axis n axes region).1 = there.1 in
     let next : (k : ℕ) → get_or rest k 0 ≡ get_or index (axis + 1 + k) 0 = λ k. let e : axis + suc k ≡ axis + 1 + k = omega arith in at (suc k) ∙ ap (λ (m : ℕ). get_or index m 0) e in
-    let f0 : (meet_at axis n axes region).0 ≤ i = omega arith in
     let f1 : i ≤ (meet_at axis n axes region).1 = omega arith in
-    and_from _ _ (and_from _ _ (le-leb _ _ f0) (le-leb _ _ f1)) (meets-within axes region index (axis + 1) shape rest next parts.1 h)
+    and_from _ _ (and_from _ _ (le-leb _ _ (omega arith)) (le-leb _ _ f1)) (meets-within axes region index (axis + 1) shape rest next parts.1 h)
 
 -- transpositions
 pub permuted-covered : (from axes shape : List ℕ) → Covered from shape (permuted axes shape)

@@ -1,9 +1,7 @@
 -- The items along the walk of a box.
-use Rattle.std.{proofs.Common.{◌≡◌, ℕ, suc, zero, ◌+◌, ◌-◌, ◌/◌, ◌%◌, ◌<◌, ◌≤◌, List, [], ◌∷◌, ◌++◌, length, map, refl, ap, ◌∙◌, sym, arith, Result, Ok, Err}, specs.List.{range_with_len}, proofs.lemmas.List.{append_assoc, append-nil, ext_get_or, length-map}}
-use Rattle.std.{proofs.lemmas.List.FromFn.{get_or-map-range_with_len, length-map-range_with_len}, proofs.Math.ListN.{get_or-map}}
+use Rattle.std.{proofs.Common.{◌≡◌, ℕ, suc, zero, ◌+◌, ◌-◌, ◌/◌, ◌%◌, ◌<◌, ◌≤◌, List, [], ◌∷◌, ◌++◌, length, map, refl, ap, ◌∙◌, sym, arith, Result, Ok, Err}, specs.List.{range_with_len}, proofs.lemmas.List.{append_assoc, append-nil, length-map}, proofs.lemmas.List.FromFn.{fill_by_all}, proofs.Math.ListN.{get_or-map}}
 use Rattle.arrays_core.{proofs.Order.{length-indices, get_or-indices}, specs.declared.item.Item.{Item}, specs.declared.item.Kind.{Kind}, specs.Shapes.{size, indices, index_after}}
-use Rattle.change_core.proofs.Collected.{put_first, collected, along}
-use Rattle.index_region.specs.Boxes.{Interval, box_size, walk_at, whole_of}
+use Rattle.{change_core.proofs.Collected.{put_first, collected, along}, index_region.specs.Boxes.{Interval, box_size, walk_at, whole_of}}
 
 pub box_size-whole : (axes : List ℕ) → box_size (whole_of axes) ≡ size axes
 box_size-whole [] = refl
@@ -21,17 +19,9 @@ walk-whole (n ∷ axes) p =
 -- so the items of that box are those of all index lists in their order
 pub walk_is : (shape : List ℕ) (item : List ℕ → Result Item Kind) → along item (whole_of shape) ≡ map item (indices shape)
 walk_is shape item =
-    let f = λ (p : ℕ). item (walk_at (whole_of shape) p) in
-    let n = box_size (whole_of shape) in
-    let many : n ≡ size shape = box_size-whole shape in
-    let long : length (map f (range_with_len 0 n)) ≡ n = length-map-range_with_len f 0 n in
-    let wide : length (map item (indices shape)) ≡ size shape = length-map (indices shape) item ∙ length-indices shape in
-    ext_get_or (item []) (map f (range_with_len 0 n)) (map item (indices shape)) (omega arith) (λ i h.
-    let below : i < n = omega arith in
-    let under : i < size shape = omega arith in
-    get_or-map-range_with_len f 0 n i i (item []) below (omega arith)
-    ∙ ap item (walk-whole shape i)
-    ∙ sym (get_or-map item (indices shape) i [] ∙ ap item (get_or-indices shape i under)))
+    sym (fill_by_all (λ p. item (walk_at (whole_of shape) p)) (map item (indices shape)) (box_size (whole_of shape)) (item [])
+    (length-map (indices shape) item ∙ length-indices shape ∙ sym (box_size-whole shape)) (λ i h.
+    get_or-map item (indices shape) i [] ∙ ap item (get_or-indices shape i (omega (arith, h, box_size-whole shape)) ∙ sym (walk-whole shape i))))
 
 -- items before a list of items or an error
 abbrev pub prepend : List Item → Result (List Item) Kind → Result (List Item) Kind

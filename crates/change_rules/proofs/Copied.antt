@@ -1,7 +1,6 @@
 -- Arrays that stand for arguments.
 use Rattle.std.{proofs.Common.{◌≡◌, ℕ, zero, suc, ◌+◌, ◌<◌, List, [], ◌∷◌, ◌++◌, length, take, get_or, ap, sym, subst, ◌∙◌, Option, Some, None, IfSome, arith, true, nat_lt}, proofs.lemmas.Bool.{ltb-true}, proofs.lemmas.List.{get_or_default, take_more}}
-use Rattle.arrays_core.specs.Arrays.{ArrayValue}
-use Rattle.change_rules.specs.Copies.{AreCopies}
+use Rattle.{arrays_core.specs.Arrays.{ArrayValue}, change_rules.specs.Copies.{AreCopies}}
 
 -- one more argument
 pub push_copy : (k : ℕ) (args : List ArrayValue) (copies : List (Option ArrayValue)) (x : Option ArrayValue) → k < length args → AreCopies (take k args) copies → IfSome x (λ b. b ≡ get_or args k b)
@@ -41,5 +40,4 @@ view_in k args copies copy b arg h there at e below is = view_is k args copies b
 
 -- one more view
 pub one_more_view : (k : ℕ) (args views items : List ArrayValue) (view arg : ArrayValue) → k < length args → views ≡ take k args → items ≡ views ++ view ∷ [] → view ≡ arg → arg ≡ get_or args k arg → items ≡ take (k + 1) args
-one_more_view k args views items view arg below h e same is =
-    e ∙ (λ i. h i ++ same i ∷ []) ∙ (λ i. take k args ++ is i ∷ []) ∙ sym (take_more args k arg below)
+one_more_view k args views items view arg below h e same is = e ∙ (λ i. h i ++ same i ∷ []) ∙ (λ i. take k args ++ is i ∷ []) ∙ sym (take_more args k arg below)

@@ -4,7 +4,7 @@ use Rattle.std.{proofs.lemmas.Bool.{cases_Bool, cond-true, cond-false, false≢t
 use Rattle.arrays_core.{specs.declared.item.Item.{Item}, specs.declared.item.ItemType.{ItemType}, specs.declared.item.Kind.{Kind}, specs.Arrays.{ArrayValue, IsArray, with_items}, specs.Items.{after, all_or_first_error}, proofs.Growing.{fits_growth}, specs.Shapes.{indices, is_index_of}}
 use Rattle.arrays_core.{specs.Growth.{grown_by, one_longer}, specs.Outcomes.{Outcome, fault, given}}
 use Rattle.index_region.{specs.declared.delta.Delta.{Delta}, specs.declared.delta.Delta.TheVariants.{Same, Patch, Grown, Whole}, specs.Boxes.{Interval, box_size, fits, interval_length, is_empty, met, unless_empty, walk_at, whole_of}, specs.Checks.{Form, form_of, whole}, specs.Tails.{TailValue}}
-use Rattle.change_core.{specs.Growth.{AllGrew, IsGrowing, last_interval, last_place}, specs.Tightness.{Each}, specs.Parts.{items_in}, specs.RuleModels.{RuleModel}, proofs.Regions.{HasFit, bounded-fits}, proofs.Walking.{walk_is}}
+use Rattle.change_core.{specs.Growth.{AllGrew, IsGrowing, last_interval, last_place}, specs.Tightness.{Each}, specs.Parts.{items_in}, specs.RuleModels.{RuleModel}, proofs.Regions.{HasFit, bounded-fits}, proofs.Walking.{prepend, prepend-nil, walk_is}}
 use Rattle.change_rules.{specs.Currency.{applied}, specs.Nodes.{grown_in, items_at, tail_delta, is_grown, is_grown_at_most}, specs.Evaluation.{evaluation}, proofs.Walked.{walked_is}, proofs.Refreshed.{ShowsAll, same_whole}}
 
 -- ---- the places of a shape that is one longer
@@ -22,32 +22,23 @@ blocks rest a (suc n) =
 indices_longer : (n : ℕ) (s : List ℕ) → indices ((n + 1) ∷ s) ≡ indices (n ∷ s) ++ block (indices s) (n + 1)
 indices_longer n s =
     let e : n + 1 ≡ suc n = omega arith in
-    let i : 1 + n ≡ n + 1 = omega arith in
-    ap (λ (m : ℕ). flat_map (block (indices s)) (range_with_len 1 m)) e ∙ blocks (indices s) 1 n ∙ ap (λ (k : ℕ). indices (n ∷ s) ++ block (indices s) k) i
+    ap (λ (m : ℕ). flat_map (block (indices s)) (range_with_len 1 m)) e ∙ blocks (indices s) 1 n ∙ ap (λ (k : ℕ). indices (n ∷ s) ++ block (indices s) k) (omega arith)
 
 -- ---- the items of the old places, and then those of the new one
 
-abbrev joined : List Item → Result (List Item) Kind → Result (List Item) Kind
-joined xs (Ok ys) = Ok (xs ++ ys)
-joined xs (Err k) = Err k
-
-nil_joined : (r : Result (List Item) Kind) → r ≡ joined [] r
-nil_joined (Ok ys) = refl
-nil_joined (Err k) = refl
-
-put_joined : (x : Item) (ys : List Item) (r : Result (List Item) Kind) → after x (joined ys r) ≡ joined (x ∷ ys) r
+put_joined : (x : Item) (ys : List Item) (r : Result (List Item) Kind) → after x (prepend ys r) ≡ prepend (x ∷ ys) r
 put_joined x ys (Ok zs) = refl
 put_joined x ys (Err k) = refl
 
-all_joined : (rs ss : List (Result Item Kind)) (xs : List Item) → all_or_first_error rs ≡ Ok xs → all_or_first_error (rs ++ ss) ≡ joined xs (all_or_first_error ss)
-all_joined [] ss xs e = let none : [] ≡ xs = cc in nil_joined (all_or_first_error ss) ∙ ap (λ (l : List Item). joined l (all_or_first_error ss)) none
+all_joined : (rs ss : List (Result Item Kind)) (xs : List Item) → all_or_first_error rs ≡ Ok xs → all_or_first_error (rs ++ ss) ≡ prepend xs (all_or_first_error ss)
+all_joined [] ss xs e = let none : [] ≡ xs = cc in sym (prepend-nil (all_or_first_error ss)) ∙ ap (λ (l : List Item). prepend l (all_or_first_error ss)) none
 all_joined (Err k ∷ rs) ss xs e = absurd (let no : ⊥ = cc in no)
 all_joined (Ok x ∷ rs) ss xs e = step (all_or_first_error rs) refl e (λ ys q. all_joined rs ss ys q)
   where
-    step : (r : Result (List Item) Kind) → all_or_first_error rs ≡ r → after x r ≡ Ok xs → ((ys : List Item) → all_or_first_error rs ≡ Ok ys → all_or_first_error (rs ++ ss) ≡ joined ys (all_or_first_error ss)) → after x (all_or_first_error (rs ++ ss)) ≡ joined xs (all_or_first_error ss)
+    step : (r : Result (List Item) Kind) → all_or_first_error rs ≡ r → after x r ≡ Ok xs → ((ys : List Item) → all_or_first_error rs ≡ Ok ys → all_or_first_error (rs ++ ss) ≡ prepend ys (all_or_first_error ss)) → after x (all_or_first_error (rs ++ ss)) ≡ prepend xs (all_or_first_error ss)
     step (Ok ys) q h rest =
         let same : x ∷ ys ≡ xs = cc in
-        ap (after x) (rest ys q) ∙ put_joined x ys (all_or_first_error ss) ∙ ap (λ (l : List Item). joined l (all_or_first_error ss)) same
+        ap (after x) (rest ys q) ∙ put_joined x ys (all_or_first_error ss) ∙ ap (λ (l : List Item). prepend l (all_or_first_error ss)) same
     step (Err k) q h rest = absurd (let no : ⊥ = cc in no)
 
 map_block : (item : List ℕ → Result Item Kind) (k : ℕ) (rest : List (List ℕ)) → map item (block rest k) ≡ map (λ index. item (k ∷ index)) rest
@@ -64,8 +55,7 @@ empty_size (s ∷ region) h = elim (cases_Bool (nat_lt s.1 s.0)) [
       let none : interval_length s ≡ 0 = omega arith in
       ap (λ (k : ℕ). k * box_size region) none ∙ omega arith
   | inr f ↦
-      let rest : box_size region ≡ 0 = empty_size region (rw f at h) in
-      ap (λ (k : ℕ). interval_length s * k) rest ∙ omega arith
+      ap (λ (k : ℕ). interval_length s * k) (empty_size region (rw f at h)) ∙ omega arith
 ]
 
 unless_items : (item : List ℕ → Result Item Kind) (region : List Interval) → items_at item (unless_empty region) ≡ items_in item region
@@ -95,8 +85,7 @@ last_items item m s =
     let region = whole_of s in
     let b = box_size region in
     let one : interval_length (m, m) ≡ 1 = omega arith in
-    let many : interval_length (m, m) * b ≡ b = ap (λ (k : ℕ). k * b) one ∙ omega arith in
-    ap (λ (n : ℕ). all_or_first_error (map (λ before. item (walk_at ((m, m) ∷ region) before)) (range_with_len 0 n))) many
+    ap (λ (n : ℕ). all_or_first_error (map (λ before. item (walk_at ((m, m) ∷ region) before)) (range_with_len 0 n))) (ap (λ (k : ℕ). k * b) one ∙ omega arith)
     ∙ ap all_or_first_error (results_same (λ p. item (walk_at ((m, m) ∷ region) p)) (λ p. item (m ∷ walk_at region p)) 0 b (λ p low high.
     let q : 0 * b + p ≡ p = omega arith in
     let row : p / b ≡ 0 = ap (λ (k : ℕ). k / b) (sym q) ∙ div-mul-add 0 b p (omega arith) in
@@ -118,12 +107,12 @@ last_fit shape region e = subst (HasFit shape) (sym e) (bounded-fits shape (Some
 -- ---- the whole evaluation
 
 whole_longer : (item : List ℕ → Result Item Kind) (n : ℕ) (s : List ℕ) (xs : List Item) → all_or_first_error (map item (indices (n ∷ s))) ≡ Ok xs
-    → all_or_first_error (map item (indices ((n + 1) ∷ s))) ≡ joined xs (all_or_first_error (map (λ index. item ((n + 1) ∷ index)) (indices s)))
+    → all_or_first_error (map item (indices ((n + 1) ∷ s))) ≡ prepend xs (all_or_first_error (map (λ index. item ((n + 1) ∷ index)) (indices s)))
 whole_longer item n s xs e =
     ap (λ (l : List (List ℕ)). all_or_first_error (map item l)) (indices_longer n s)
     ∙ ap all_or_first_error (map-append item (indices (n ∷ s)) (block (indices s) (n + 1)))
     ∙ all_joined (map item (indices (n ∷ s))) (map item (block (indices s) (n + 1))) xs e
-    ∙ ap (λ (l : List (Result Item Kind)). joined xs (all_or_first_error l)) (map_block item (n + 1) (indices s))
+    ∙ ap (λ (l : List (Result Item Kind)). prepend xs (all_or_first_error l)) (map_block item (n + 1) (indices s))
 
 abbrev array : ItemType → List ℕ → List Item → ArrayValue
 array t shape xs = record { item_type = t; shape = shape; items = xs }
@@ -139,7 +128,7 @@ tail_right t n s item old (Ok xs) e h ok =
     ∙ put ss
     ∙ ap (λ (r : Result (List Item) Kind). given (with_items t ((n + 1) ∷ s) r)) (sym (whole_longer item n s xs e))
   where
-    put : (r : Result (List Item) Kind) → applied (tail_delta t ((n + 1) ∷ s) r) (Ok (array t (n ∷ s) xs)) ≡ given (with_items t ((n + 1) ∷ s) (joined xs r))
+    put : (r : Result (List Item) Kind) → applied (tail_delta t ((n + 1) ∷ s) r) (Ok (array t (n ∷ s) xs)) ≡ given (with_items t ((n + 1) ∷ s) (prepend xs r))
     put (Ok ys) = refl
     put (Err k) = refl
 

@@ -1,9 +1,9 @@
 -- The items of a box that is all of a result.
 use Rattle.std.{proofs.Common.{◌≡◌, ℕ, ◌+◌, ◌-◌, ◌*◌, ◌<◌, ◌≤◌, List, [], ◌∷◌, length, map, Result, Ok, Err, IsTrue, refl, ap, ◌∙◌, sym, subst, arith, inl, inr}, specs.List.{range_with_len}, proofs.lemmas.Bool.{and_parts, leb-true, false≢true, cases_order}, proofs.lemmas.Nat.{mul-le}}
 use Rattle.arrays_core.{specs.declared.fault.ApplyFault.{ApplyFault}, specs.declared.fault.ApplyFault.TheVariants.{Kind as KindFault, NoMemory}, specs.declared.item.Item.{Item}, specs.declared.item.ItemType.{ItemType}, specs.declared.item.Kind.{Kind}, specs.Arrays.{ArrayValue, IsAnswerTo, with_items}}
-use Rattle.arrays_core.{specs.Outcomes.{Outcome, IsOutcomeOf}, specs.Items.{all_or_first_error}, specs.Shapes.{IsWithinLimits, size, indices}}
+use Rattle.arrays_core.{specs.Outcomes.{Outcome, IsOutcomeOf}, specs.Items.{all_or_first_error}, specs.Shapes.{size, indices}}
 use Rattle.index_region.{specs.Boxes.{Interval, interval_length, box_size, fits, walk_at, whole_of}, specs.Checks.{Form, form_of, whole}, proofs.Patched.{box_within_size}, proofs.Walks.{some_place}}
-use Rattle.change_core.{specs.declared.reach.Reach.{Reach}, specs.declared.reach.Reach.TheVariants.{Inside}, specs.Parts.{HoldsItems, items_in}, specs.Reaches.{LiesInResult}, proofs.Collected.{items_are}, proofs.Filling.{few_places}, proofs.Walking.{walk_is, length-along}}
+use Rattle.change_core.{specs.declared.reach.Reach.{Reach}, specs.declared.reach.Reach.TheVariants.{Inside}, specs.Parts.{HoldsItems, items_in}, specs.Reaches.{LiesInResult}, proofs.Collected.{items_are}, proofs.Walking.{walk_is, length-along}}
 
 -- the items that a call answered, where it gave an array
 pub given_items : (t : ItemType) (wanted : Result (List Item) Kind) (applied : Result ArrayValue ApplyFault) (o : Outcome) (a : ArrayValue)
@@ -38,8 +38,7 @@ all_places (s ∷ region) (n ∷ shape) fit e =
     let long : s.1 + 1 - s.0 ≡ n = both.0 in
     let from : s.0 ≡ 1 = omega arith in
     let to : s.1 ≡ n = omega arith in
-    let rest = all_places region shape parts.1 both.1 in
-    λ i. (from i, to i) ∷ rest i
+    λ i. (from i, to i) ∷ (all_places region shape parts.1 both.1) i
 all_places [] (n ∷ shape) fit e = absurd (false≢true fit)
 all_places (s ∷ region) [] fit e = absurd (false≢true fit)
 
@@ -70,7 +69,3 @@ one_item item region r one is =
 -- what may change lies in the result
 pub inside_fit : (form : Result Form Kind) (shape : List ℕ) (t : ItemType) (reach : Reach) (region : List Interval) → form ≡ Ok (form_of shape t) → Inside region ≡ reach → LiesInResult form reach → IsTrue (fits region shape)
 inside_fit form shape t reach region e w lies = subst (λ (r : Reach). LiesInResult (Ok (form_of shape t)) r) (sym w) (subst (λ (x : Result Form Kind). LiesInResult x reach) e lies)
-
--- so it has no more places than an array can have
-pub few_inside : (form : Result Form Kind) (shape : List ℕ) (t : ItemType) (reach : Reach) (region : List Interval) → form ≡ Ok (form_of shape t) → Inside region ≡ reach → LiesInResult form reach → IsWithinLimits shape → box_size region ≤ 1048576
-few_inside form shape t reach region e w lies limits = few_places region shape (inside_fit form shape t reach region e w lies) limits

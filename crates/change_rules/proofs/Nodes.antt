@@ -1,31 +1,16 @@
 -- The change of a node by cases of what changed of its arguments.
-use Rattle.std.{proofs.Common.{◌≡◌, List, [], ◌∷◌, Bool, true, false, ◌&&◌, ◌||◌, not, is_ok, refl, ap, sym, ◌∙◌}, specs.List.{list_all, list_any}, proofs.lemmas.Bool.{cond-true, cond-false, false≢true, or_parts}}
-use Rattle.index_region.{specs.declared.delta.Delta.{Delta}, specs.declared.delta.Delta.TheVariants.{Same, Patch, Grown, Whole}}
-use Rattle.change_core.specs.RuleModels.{RuleModel}
-use Rattle.arrays_core.specs.Outcomes.{Outcome}
-use Rattle.change_rules.{specs.Nodes.{Argument, views, all_same, any_grown, all_patched_at_most, is_grown, is_whole, is_patched_at_most, grown_delta, grown_cost, starts_anew, node_delta, node_cost, moved, reached_delta, reached_cost}, proofs.Refreshed.{deltas, whole_deltas}}
+use Rattle.std.{proofs.Common.{◌≡◌, List, [], ◌∷◌, Bool, true, false, ◌||◌, not, is_ok, refl, ap, sym, ◌∙◌}, specs.List.{list_all, list_any}, proofs.lemmas.Bool.{cond-true, cond-false, false≢true, or_parts}, proofs.lemmas.List.Folds.{list_all-map}}
+use Rattle.index_region.{specs.Patches.{PatchValue}, specs.declared.delta.Delta.{Delta}, specs.declared.delta.Delta.TheVariants.{Same, Patch, Grown, Whole}}
+use Rattle.{change_core.specs.RuleModels.{RuleModel}, arrays_core.specs.Outcomes.{Outcome}}
+use Rattle.change_rules.{specs.Nodes.{Argument, views, all_same, any_grown, all_patched_at_most, is_grown, is_whole, is_patched_at_most, grown_delta, grown_cost, starts_anew, node_delta, node_cost, moved, reached_delta, reached_cost}, proofs.Refreshed.{deltas, any_delta}}
 
-grown_deltas : (args : List Argument) → list_any is_grown (deltas args) ≡ any_grown args
-grown_deltas [] = refl
-grown_deltas (a ∷ args) = ap (λ (b : Bool). is_grown a.1.now || b) (grown_deltas args)
-
-patched_deltas : (args : List Argument) → list_all is_patched_at_most (deltas args) ≡ all_patched_at_most args
-patched_deltas [] = refl
-patched_deltas (a ∷ args) = ap (λ (b : Bool). is_patched_at_most a.1.now && b) (patched_deltas args)
-
-none_whole : (ds : List Delta) → list_all is_patched_at_most ds ≡ true → list_any is_whole ds ≡ false
-none_whole [] h = refl
-none_whole (Same ∷ ds) h = none_whole ds h
-none_whole (Patch p ∷ ds) h = none_whole ds h
-none_whole (Grown t ∷ ds) h = absurd (false≢true h)
-none_whole (Whole r ∷ ds) h = absurd (false≢true h)
-
-none_grown : (ds : List Delta) → list_all is_patched_at_most ds ≡ true → list_any is_grown ds ≡ false
-none_grown [] h = refl
-none_grown (Same ∷ ds) h = none_grown ds h
-none_grown (Patch p ∷ ds) h = none_grown ds h
-none_grown (Grown t ∷ ds) h = absurd (false≢true h)
-none_grown (Whole r ∷ ds) h = absurd (false≢true h)
+-- where arguments were patched at most, none changed in another way
+none_else : (is_else : Delta → Bool) → is_else Same ≡ false → ((p : PatchValue) → is_else (Patch p) ≡ false) → (ds : List Delta) → list_all is_patched_at_most ds ≡ true → list_any is_else ds ≡ false
+none_else is_else same patch [] h = refl
+none_else is_else same patch (Same ∷ ds) h = rw same (none_else is_else same patch ds h)
+none_else is_else same patch (Patch p ∷ ds) h = rw (patch p) (none_else is_else same patch ds h)
+none_else is_else same patch (Grown t ∷ ds) h = absurd (false≢true h)
+none_else is_else same patch (Whole r ∷ ds) h = absurd (false≢true h)
 
 some_grown : (ds : List Delta) → list_all is_patched_at_most ds ≡ false → list_any is_whole ds ≡ false → list_any is_grown ds ≡ true
 some_grown [] h k = absurd (false≢true (sym h))
@@ -37,22 +22,22 @@ some_grown (Whole r ∷ ds) h k = absurd (false≢true (sym k))
 -- where arguments were patched at most and the node held an array, nothing starts anew
 not_anew : (args : List Argument) (old : Outcome) → is_ok old ≡ true → all_patched_at_most args ≡ true → starts_anew args old ≡ false
 not_anew args old ok h =
-    ap (λ (b : Bool). b || not (is_ok old)) (sym (whole_deltas args) ∙ none_whole (deltas args) (patched_deltas args ∙ h)) ∙ ap (λ (b : Bool). not b) ok
+    ap (λ (b : Bool). b || not (is_ok old)) (sym (any_delta is_whole args) ∙ none_else is_whole refl (λ p. refl) (deltas args) (list_all-map is_patched_at_most _ args ∙ h)) ∙ ap (λ (b : Bool). not b) ok
 
 -- where none starts anew and one changed otherwise, one grew
 one_grew : (args : List Argument) (old : Outcome) → all_patched_at_most args ≡ false → starts_anew args old ≡ false → any_grown args ≡ true
 one_grew args old h k =
     let parts = or_parts (list_any (λ (a : Argument). is_whole a.1.now) args) (not (is_ok old)) k in
-    sym (grown_deltas args) ∙ some_grown (deltas args) (patched_deltas args ∙ h) (whole_deltas args ∙ parts.0)
+    sym (any_delta is_grown args) ∙ some_grown (deltas args) (list_all-map is_patched_at_most _ args ∙ h) (any_delta is_whole args ∙ parts.0)
 
 pub delta_reached : (p : RuleModel) (args : List Argument) (old : Outcome) → all_same args ≡ false → is_ok old ≡ true → all_patched_at_most args ≡ true → reached_delta p (views args) (moved args) ≡ node_delta p args old
 delta_reached p args old some ok h =
-    let none = sym (grown_deltas args) ∙ none_grown (deltas args) (patched_deltas args ∙ h) in
+    let none = sym (any_delta is_grown args) ∙ none_else is_grown refl (λ p. refl) (deltas args) (list_all-map is_patched_at_most _ args ∙ h) in
     sym (cond-false _ _ _ some ∙ cond-false _ _ _ (not_anew args old ok h) ∙ cond-false _ _ _ none)
 
 pub cost_reached : (p : RuleModel) (args : List Argument) (old : Outcome) → all_same args ≡ false → is_ok old ≡ true → all_patched_at_most args ≡ true → reached_cost p (views args) (moved args) ≡ node_cost p args old
 cost_reached p args old some ok h =
-    let none = sym (grown_deltas args) ∙ none_grown (deltas args) (patched_deltas args ∙ h) in
+    let none = sym (any_delta is_grown args) ∙ none_else is_grown refl (λ p. refl) (deltas args) (list_all-map is_patched_at_most _ args ∙ h) in
     sym (cond-false _ _ _ some ∙ cond-false _ _ _ (not_anew args old ok h) ∙ cond-false _ _ _ none)
 
 pub delta_grown : (p : RuleModel) (args : List Argument) (old : Outcome) → all_same args ≡ false → all_patched_at_most args ≡ false → starts_anew args old ≡ false → grown_delta p args ≡ node_delta p args old

@@ -101,8 +101,7 @@ from_first h (suc n) a k (suc p) l e f =
     let i : a + 1 + p ≡ a + suc p = omega arith in
     let x = f 0 (omega arith) in
     let later = from_first h n (a + 1) k p (omega arith) (ap h i ∙ e) (λ q m. let j : a + 1 + q ≡ a + suc q = omega arith in let y = f (suc q) (omega arith) in (y.0, ap h j ∙ y.1)) in
-    let here : h a ≡ Ok x.0 = ap h (sym (add-zero a)) ∙ x.1 in
-    λ t. put_first (here t) (later t)
+    λ t. put_first ((ap h (sym (add-zero a)) ∙ x.1) t) (later t)
 
 -- a row before another row is wholly before it
 rows_apart : (i j w a b : ℕ) → i < j → a < w → i * w + a < j * w + b
@@ -126,8 +125,7 @@ offset_order (n ∷ axes) (s ∷ intervals) (i ∷ is) (j ∷ js) hi hj wi wj l 
     elim (cases_order i j) [
       | inl e ↦
           let tail : places_before axes is < places_before axes js = same_row i j (size axes) (places_before axes is) (places_before axes js) e l in
-          let later = offset_order axes intervals is js pi.1 pj.1 qi.1 qj.1 tail in
-          same_box i j s.0 (box_size intervals) (box_offset intervals is) (box_offset intervals js) e later
+          same_box i j s.0 (box_size intervals) (box_offset intervals is) (box_offset intervals js) e (offset_order axes intervals is js pi.1 pj.1 qi.1 qj.1 tail)
       | inr o ↦ elim o [
         | inl m ↦ rows_apart (i - s.0) (j - s.0) (box_size intervals) (box_offset intervals is) (box_offset intervals js) (omega arith) (offset_below intervals is qi.1)
         | inr m ↦
@@ -163,7 +161,6 @@ error_right f old new region a k outside fit e c =
     let there : walk_at (whole_of f.shape) p ≡ index = walk-whole f.shape p ∙ index_after-places_before f.shape index is_place in
     let before : (r : ℕ) → r < p → (x : Item) × (new (walk_at (whole_of f.shape) (0 + r)) ≡ Ok x) = λ r l.
     let low : r < n = omega arith in
-    let low_size : r < size f.shape = omega arith in
     let zero_r : 0 + r ≡ r = omega arith in
     let at = walk-whole f.shape r in
     let i = index_after f.shape r in
@@ -171,12 +168,11 @@ error_right f old new region a k outside fit e c =
     let here : new (walk_at (whole_of f.shape) (0 + r)) ≡ new i = ap (λ (m : ℕ). new (walk_at (whole_of f.shape) m)) zero_r ∙ ap new at in
     elim (cases_Bool (is_within region i)) [
       | inl t ↦
-          let order : places_before f.shape i < places_before f.shape index = subst (λ (m : ℕ). m < p) (sym (places_before-index_after f.shape r low_size)) l in
+          let order : places_before f.shape i < places_before f.shape index = subst (λ (m : ℕ). m < p) (sym (places_before-index_after f.shape r (omega arith))) l in
           let earlier : box_offset region i < box_offset region index = offset_order f.shape region i index i_place is_place t inside order in
           let least : box_offset region i < q = subst (λ (m : ℕ). box_offset region i < m) (offset_of_walk region q first.below) earlier in
           let y = first.before (box_offset region i) least in
-          let zero_b : box_offset region i ≡ 0 + box_offset region i = omega arith in
-          (y.0, here ∙ ap new (sym (walk_of_offset region i t)) ∙ ap (λ (m : ℕ). new (walk_at region m)) zero_b ∙ y.1)
+          (y.0, here ∙ ap new (sym (walk_of_offset region i t)) ∙ ap (λ (m : ℕ). new (walk_at region m)) (omega arith) ∙ y.1)
       | inr o ↦
           let kept = collected_at (fill f.item_type) (λ m. old (walk_at (whole_of f.shape) m)) n 0 parts.0 parts.1 r low in
           (get_or parts.0 r (fill f.item_type), here ∙ sym (outside i i_place o) ∙ ap old (sym at) ∙ ap (λ (m : ℕ). old (walk_at (whole_of f.shape) m)) (sym zero_r) ∙ kept)

@@ -1,13 +1,12 @@
 -- Where arguments changed in boxes, the change of a node makes the whole evaluation of the new ones.
 use Rattle.index_region.{proofs.Walks.{walk_within}, specs.declared.delta.Delta.{Delta}, specs.declared.delta.Delta.TheVariants.{Same, Patch, Grown, Whole}, specs.Answers.{IsPlaceOf}, proofs.Patched.{patched_at}, specs.Boxes.{Interval, box_size, walk_at, whole_of}, specs.Checks.{Form}}
 use Rattle.index_region.specs.Patches.{PatchValue, patched, patched_item}
-use Rattle.std.{proofs.Common.{◌≡◌, ◌≢◌, ℕ, zero, suc, ◌+◌, ◌<◌, List, [], ◌∷◌, length, map, refl, ap, ◌∙◌, sym, subst, arith, IsTrue, true, false, Bool, ◌&&◌, ◌||◌, Option, Some, None, Result, Ok, Err, is_ok, IsOk, IfOk}, proofs.lemmas.List.{length-map}, proofs.lemmas.List.FromFn.{length-map-range_with_len}}
+use Rattle.std.{proofs.Common.{◌≡◌, ◌≢◌, ℕ, zero, suc, ◌+◌, ◌<◌, List, [], ◌∷◌, length, map, refl, ap, ◌∙◌, sym, subst, arith, IsTrue, true, false, Bool, ◌||◌, Option, Some, None, Result, Ok, Err, is_ok, IsOk, IfOk}, proofs.lemmas.List.{length-map}, proofs.lemmas.List.FromFn.{length-map-range_with_len}}
 use Rattle.std.{specs.List.{range_with_len, list_all, list_any}, proofs.lemmas.Bool.{false≢true, true≢false, cond-false}}
 use Rattle.arrays_core.{specs.Shapes.{index_after, is_index_of, size}, specs.declared.item.Item.{Item}, specs.declared.item.Kind.{Kind}, specs.Arrays.{ArrayValue, IsArray, item_of}, specs.Outcomes.{Outcome}}
 use Rattle.change_core.{specs.declared.reach.Reach.{Reach}, specs.declared.reach.Reach.TheVariants.{Unmoved, Inside, Anew}, proofs.Collected.{along, collected}, proofs.UsedWays.{within-whole}, specs.Tightness.{Each, ReachCovers, AllAgree, ArgumentChange, Covers, moves, news, olds}}
 use Rattle.change_core.{specs.Reaches.{AllFit, LiesInResult, reach_of, is_moved, is_reached}, specs.RuleModels.{RuleModel}}
-use Rattle.change_rules.{proofs.PatchRight.{error_right, patch_right}, proofs.Walked.{array_of, walked, walked_is, walked_delta, walked_delta_is}, specs.Currency.{IsEvaluation, Shows, applied}, specs.Nodes.{Argument, all_same, is_same, is_whole, moved, moved_by, patch_delta, delta_in, is_grown, views}}
-use Rattle.change_rules.specs.Evaluation.{evaluation}
+use Rattle.change_rules.{proofs.PatchRight.{error_right, patch_right}, proofs.Walked.{array_of, walked, walked_is, walked_delta, walked_delta_is}, specs.Currency.{IsEvaluation, Shows, applied}, specs.Nodes.{Argument, is_same, is_whole, moved_by, patch_delta, delta_in, is_grown, views}, specs.Evaluation.{evaluation}}
 
 -- an argument is what its change makes of what it was
 pub record BecameThis (o : Outcome) (d : Delta) (n : ArrayValue) : Type 0 where
@@ -28,17 +27,9 @@ shows_all (o ∷ olds) (a ∷ args) h = (record { becomes = h.0.becomes; sound =
 shows_all [] (a ∷ args) h = absurd h
 shows_all (o ∷ olds) [] h = absurd h
 
-pub same_deltas : (args : List Argument) → list_all is_same (deltas args) ≡ all_same args
-same_deltas [] = refl
-same_deltas (a ∷ args) = ap (λ (b : Bool). is_same a.1.now && b) (same_deltas args)
-
-pub whole_deltas : (args : List Argument) → list_any is_whole (deltas args) ≡ list_any (λ (a : Argument). is_whole a.1.now) args
-whole_deltas [] = refl
-whole_deltas (a ∷ args) = ap (λ (b : Bool). is_whole a.1.now || b) (whole_deltas args)
-
-pub moved_deltas : (args : List Argument) → moved args ≡ map moved_by (deltas args)
-moved_deltas [] = refl
-moved_deltas (a ∷ args) = ap (λ (m : List (Option (List Interval))). moved_by a.1.now ∷ m) (moved_deltas args)
+pub any_delta : (p : Delta → Bool) (args : List Argument) → list_any p (deltas args) ≡ list_any (λ (a : Argument). p a.1.now) args
+any_delta p [] = refl
+any_delta p (a ∷ args) = ap (λ (b : Bool). p a.1.now || b) (any_delta p args)
 
 pub same_olds : (os : List Outcome) (ds : List Delta) (ns : List ArrayValue) → ShowsAll os ds ns → list_all is_same ds ≡ true → os ≡ map (λ a. Ok a) ns
 same_olds [] [] [] h k = refl
@@ -65,8 +56,7 @@ part_of (Err f) p n e = absurd cc
 
 outside_patch : (a n : ArrayValue) (p : PatchValue) → patched a p ≡ n → (index : List ℕ) → IsTrue (is_index_of n.shape index) → is_moved (Some p.region) index ≡ false → item_of a index ≡ item_of n index
 outside_patch a n p e index place out =
-    let shape : n.shape ≡ a.shape = ap (λ (v : ArrayValue). v.shape) (sym e) in
-    let there : IsTrue (is_index_of a.shape index) = subst (λ (s : List ℕ). IsTrue (is_index_of s index)) shape place in
+    let there : IsTrue (is_index_of a.shape index) = subst (λ (s : List ℕ). IsTrue (is_index_of s index)) (ap (λ (v : ArrayValue). v.shape) (sym e)) place in
     sym (cond-false _ _ _ out) ∙ sym (patched_at a p index there) ∙ ap (λ (v : ArrayValue). item_of v index) e
 
 as_many : (o : Outcome) (a : ArrayValue) (p : PatchValue) (n : ArrayValue) → o ≡ Ok a → patched a p ≡ n → IfOk o IsArray → length a.items ≡ length n.items
@@ -108,8 +98,7 @@ same_whole f old new h = ap (λ (rs : List (Result Item Kind)). array_of f (coll
   where
     same_map : (f g : ℕ → Result Item Kind) (n a : ℕ) → ((p : ℕ) → p < a + n → f p ≡ g p) → map f (range_with_len a n) ≡ map g (range_with_len a n)
     same_map f g zero a h = refl
-    same_map f g (suc n) a h =
-        λ i. (h a (omega arith)) i ∷ (same_map f g n (a + 1) (λ p l. h p (omega arith))) i
+    same_map f g (suc n) a h = λ i. (h a (omega arith)) i ∷ (same_map f g n (a + 1) (λ p l. h p (omega arith))) i
 
     same_along : (axes : List ℕ) (old new : List ℕ → Result Item Kind) → ((index : List ℕ) → IsTrue (is_index_of axes index) → old index ≡ new index) → along old (whole_of axes) ≡ along new (whole_of axes)
     same_along axes old new h = same_map (λ p. old (walk_at (whole_of axes) p)) (λ p. new (walk_at (whole_of axes) p)) (box_size (whole_of axes)) 0 (λ p l. h (walk_at (whole_of axes) p) (sym (within-whole axes (walk_at (whole_of axes) p)) ∙ walk_within (whole_of axes) p (omega arith)))

@@ -1,7 +1,6 @@
 -- Lists in which each entry comes after all that it needs.
 use Rattle.std.{proofs.Common.{◌≡◌, ℕ, zero, suc, ◌<◌, ◌⊎◌, inl, inr, Bool, true, false, List, [], ◌∷◌, ◌++◌, take, length, slice_index_or, filter, refl, sym, ap, ◌∙◌, subst, arith, ⊎_elim}, specs.List.{Contains}, proofs.lemmas.Bool.{false≢true}}
-use Rattle.std.proofs.lemmas.List.Elements.{Contains-append_left, Contains-append_right, Contains-append_cases}
-use Rattle.dep_order.specs.Follows.{Follows, IsOnce}
+use Rattle.{std.proofs.lemmas.List.Elements.{Contains-append_left, Contains-append_right, Contains-append_cases}, dep_order.specs.Follows.{Follows, IsOnce}}
 
 pub contains_here : {A : Type 0} (x : A) (xs : List A) → Contains (x ∷ xs) x
 contains_here x xs = (0, omega arith, refl)

@@ -49,9 +49,7 @@ module _ {N V : Type 0} (eq : N → N → Bool) where
     where
       by : (t : Bool) → eq k e.0 ≡ t → keys_of (insert_entry eq es k v) ≡ insert_key eq (keys_of es) k → keys_of (insert_entry eq (e ∷ es) k v) ≡ insert_key eq (keys_of (e ∷ es)) k
       by true is rest = rw is refl
-      by false is rest =
-          let here : keys_of (insert_entry eq (e ∷ es) k v) ≡ e.0 ∷ keys_of (insert_entry eq es k v) = rw is refl in
-          here ∙ (ap (λ ks. e.0 ∷ ks) rest ∙ in_front eq e.0 (keys_of es) k is)
+      by false is rest = (rw is refl) ∙ (ap (λ ks. e.0 ∷ ks) rest ∙ in_front eq e.0 (keys_of es) k is)
 
 -- a node is put behind with nothing beside it
 pub nothing_more : {N V : Type 0} (eq : N → N → Bool) (es new : List (N × Option V)) (k : N) → ((q : N) → lookup (eq q) new ≡ cond (eq k q) (Some None) (lookup (eq q) es)) → HasNothing eq es → HasNothing eq new

@@ -1,6 +1,6 @@
 -- One list of the table is written.
 use Rattle.std.{proofs.Common.{◌≡◌, ◌≢◌, ℕ, ◌+◌, ◌<◌, ◌⊎◌, ◌↔◌, inl, inr, Bool, true, false, cond, List, [], ◌∷◌, ◌++◌, take, length, get_or, Option, Some, IsSome, refl, sym, ap, ◌∙◌, subst, ⊎_elim}, specs.Prelude.{Vec, filter, not}, specs.Cmp.{IsEquivalence}, specs.Map.{lookup}, specs.List.{Contains}}
-use Rattle.std.{specs.Option.{unwrap_or, option_map}, proofs.lemmas.Bool.{false≢true}, proofs.lemmas.List.{take_more}, proofs.lemmas.List.Elements.{Contains-append_left, Contains-append_right, Contains-append_cases}}
+use Rattle.std.{specs.Option.{unwrap_or, option_map}, proofs.lemmas.Bool.{false≢true, false_from_ne_true, cond-false}, proofs.lemmas.List.{take_more}, proofs.lemmas.List.Elements.{Contains-append_left, Contains-append_right, Contains-append_cases}}
 use Rattle.dep_order.{specs.Users.{Uses, users_of, IsExact, HasRoomFor, IsReady, IsReadyFor, EndsWith, HasNoEmptyBut, TakesOneMore}, proofs.Following.{contains_here, contains_there, contains_one, contains_cases, contains_none}}
 
 -- a list that is written over a table is written over its equal
@@ -46,11 +46,7 @@ module _ {N : Type 0} (eq : N → N → Bool) (laws : IsEquivalence eq) (exact :
     own b e = change b ∙ rw (same_eq reference b (sym e)) refl
 
     other : (b : N) → b ≢ reference → lookup (eq b) after ≡ lookup (eq b) before
-    other b apart = change b ∙ by (eq reference b) refl
-      where
-        by : (t : Bool) → eq reference b ≡ t → cond (eq reference b) (Some list) (lookup (eq b) before) ≡ lookup (eq b) before
-        by true e = absurd (apart (sym (exact reference b e)))
-        by false e = rw e refl
+    other b apart = change b ∙ cond-false _ _ _ (false_from_ne_true _ (λ e. apart (sym (exact reference b e))))
 
     abbrev keys_in : Option (Vec N S) → List N
     keys_in o = unwrap_or (option_map (λ (s : Vec N S). s.items) o) []

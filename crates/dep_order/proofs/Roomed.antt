@@ -1,6 +1,6 @@
 -- The lists that a table lacks are given to it one by one.
 use Rattle.std.{proofs.Common.{◌≡◌, ◌≢◌, ◌<◌, ◌⊎◌, inl, inr, ⊎_elim, Bool, true, false, cond, List, [], ◌∷◌, ◌++◌, Option, Some, None, IsSome, is_some, refl, sym, ap, ◌∙◌, subst, length, arith}, specs.Cmp.{IsEquivalence}, specs.Map.{lookup}, specs.List.{Contains}, specs.Option.{unwrap_or, option_map}}
-use Rattle.std.{proofs.lemmas.Bool.{false≢true}, proofs.lemmas.List.Elements.{Contains-append_left, Contains-append_right, Contains-append_cases}, specs.Prelude.{Vec}}
+use Rattle.std.{proofs.lemmas.Bool.{false≢true, false_from_ne_true, cond-false}, proofs.lemmas.List.Elements.{Contains-append_left, Contains-append_right, Contains-append_cases}, specs.Prelude.{Vec}}
 use Rattle.dep_order.{specs.Users.{users_of, IsExact, HasRoomFor}, specs.Room.{HasRoomAt, IsLarger, AreListsFor}, proofs.Noting.{cases_node, same_eq}, proofs.Following.{contains_here, contains_one}}
 
 -- the last entry is found by its key, where no other has it
@@ -30,11 +30,7 @@ module _ {N S : Type 0} (eq : N → N → Bool) (laws : IsEquivalence eq) (exact
     gone = change node ∙ rw (laws.refl node) refl
 
     stays : (b : N) → b ≢ node → lookup (eq b) left ≡ lookup (eq b) lists
-    stays b apart = change b ∙ by (eq node b) refl
-      where
-        by : (t : Bool) → eq node b ≡ t → cond (eq node b) None (lookup (eq b) lists) ≡ lookup (eq b) lists
-        by true e = absurd (apart (sym (exact node b e)))
-        by false e = rw e refl
+    stays b apart = change b ∙ cond-false _ _ _ (false_from_ne_true _ (λ e. apart (sym (exact node b e))))
 
     pub was_last : lookup (eq node) lists ≡ Some s
     was_last = subst (λ (es : List (N × Vec N S)). lookup (eq node) es ≡ Some s) (sym popped) (found_last eq laws left node s gone)
@@ -98,11 +94,7 @@ module _ {N S : Type 0} (eq : N → N → Bool) (laws : IsEquivalence eq) (exact
         here b e = change b ∙ rw (same_eq eq laws exact node b (sym e)) refl
 
         there : (b : N) → b ≢ node → lookup (eq b) now ≡ lookup (eq b) lists
-        there b apart = change b ∙ by (eq node b) refl
-          where
-            by : (t : Bool) → eq node b ≡ t → cond (eq node b) (Some s) (lookup (eq b) lists) ≡ lookup (eq b) lists
-            by true e = absurd (apart (sym (exact node b e)))
-            by false e = rw e refl
+        there b apart = change b ∙ cond-false _ _ _ (false_from_ne_true _ (λ e. apart (sym (exact node b e))))
 
 -- one more of these nodes has its list
 pub room_more : {N S : Type 0} (eq : N → N → Bool) (table : List (N × Vec N S)) (node : N) (references : List N) → HasRoomFor eq table references → HasRoomAt eq table node → HasRoomFor eq table (references ++ node ∷ [])

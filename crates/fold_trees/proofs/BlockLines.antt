@@ -1,6 +1,7 @@
 -- The blocks of lines among all lines.
 use Rattle.std.{proofs.Common.{◌≡◌, ◌∙◌, ℕ, ◌+◌, ◌-◌, ◌*◌, ◌/◌, ◌%◌, ◌^◌, ◌<◌, ◌≤◌, ◌⊎◌, List, get_or, ap, sym, subst, arith, inl, inr, ℤ, refl}, proofs.lemmas.Nat.{div-mul-add, mod-mul-add, div_below, mod_below, mul-le}, proofs.lemmas.Bool.{cases_lt}}
-use Rattle.fold_trees.{specs.LineTrees.{nth_node, slot_of, node_of, ArePartsKept, nodes_in_line}, specs.LineBlocks.{line_of, HaveSlots, nodes_end, block_at, line_at, HaveNodes}, specs.PartTrees.{AreLines}, proofs.LineSpots.{blocks, slots_are, lines_are, nodes_are, fewer_nodes}, proofs.LineNodes.{kept_alike}}
+use Rattle.fold_trees.{specs.LineTrees.{nth_node, slot_of, node_of, ArePartsKept, nodes_in_line}, specs.LineBlocks.{line_of, HaveSlots, nodes_end, block_at, line_at, HaveNodes}, specs.PartTrees.{AreLines}, proofs.LineSpots.{short_lines, blocks, slots_are, lines_are, nodes_are, fewer_nodes}}
+use Rattle.fold_trees.proofs.LineNodes.{kept_alike}
 
 -- ---- a line and its block
 
@@ -18,34 +19,19 @@ units_before unit a b less =
 
 module _ (count step slots : ℕ) (are : AreLines count step slots) where
   pub block_count : slots / count / step ≡ blocks count step slots are
-  block_count =
-      ap (λ n. n / step) (lines_are count step slots are ∙ grind arith) ∙ div-mul-add (blocks count step slots are) step 0 are.apart
+  block_count = ap (λ n. n / step) (lines_are count step slots are ∙ grind arith) ∙ div-mul-add (blocks count step slots are) step 0 are.apart
 
   module _ (block : ℕ) (h : block < slots / count / step) where
     pub block_ends : block * (count * step) + count * step ≤ slots
-    block_ends =
-        let before = units_before (count * step) block (blocks count step slots are) (omega (arith, h, block_count)) in
-        omega (arith, before, slots_are count step slots are)
+    block_ends = omega (arith, units_before (count * step) block (blocks count step slots are) (omega (arith, h, block_count)), slots_are count step slots are)
 
     pub have_slots : slots < 2 ^ 62 → HaveSlots (block_at count step block) slots
-    have_slots few = record {
-      few = count_few;
-      apart = are.apart;
-      fit = few;
-      end = block_ends;
-    }
-      where
-        count_few : count < 2 ^ 62
-        count_few =
-            let some = are.apart in
-            let wide : count * 1 ≤ count * step = mul-le count 1 count step (omega arith) (omega (arith, some)) in
-            omega (arith, block_ends, wide, few)
+    have_slots few = record { few = short_lines count step slots _ are.apart block_ends few; apart = are.apart; fit = few; end = block_ends }
 
     -- so do its nodes, which each line has in equal number
     pub nodes_ends : (unit nodes : ℕ) → nodes ≡ slots / count * unit → block * (unit * step) + unit * step ≤ nodes
     nodes_ends unit nodes sized =
-        let before = units_before (unit * step) block (blocks count step slots are) (omega (arith, h, block_count)) in
-        omega (arith, before, nodes_are count step slots are unit nodes sized)
+        omega (arith, units_before (unit * step) block (blocks count step slots are) (omega (arith, h, block_count)), nodes_are count step slots are unit nodes sized)
 
     pub have_nodes : (nodes : ℕ) → nodes ≡ slots / count * nodes_in_line count → slots < 2 ^ 62 → HaveNodes (block_at count step block) nodes
     have_nodes nodes sized few = record {

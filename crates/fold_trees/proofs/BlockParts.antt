@@ -1,7 +1,7 @@
 -- What is kept of the parts of each line of a block, from the last parts to the first.
 use Rattle.std.{proofs.Common.{◌≡◌, ◌≢◌, ◌∙◌, ℕ, zero, suc, ◌+◌, ◌-◌, ◌*◌, ◌/◌, ◌%◌, ◌^◌, ◌<◌, ◌≤◌, ◌⊎◌, min, List, get_or, ap, sym, subst, arith, inl, inr, ℤ}, proofs.lemmas.Nat.{pow_pos, mod-mul-add}, proofs.lemmas.Bool.{cases_lt}}
-use Rattle.fold_trees.{specs.declared.line.Line.{Line}, specs.LineTrees.{nth_node, slot_of, node_of, segment, IsKept, ArePartsKeptIn}, specs.LineBlocks.{line_of, nodes_end, ArePartsKeptBehind, ArePartsKeptFrom}, proofs.Halves.{half_up, half_grows, half_doubled, half_or_same, half_times, meetings_apart, meeting_some}}
-use Rattle.fold_trees.proofs.BlockRows.{row_away, nodes_within}
+use Rattle.fold_trees.{specs.declared.line.Line.{Line}, specs.LineTrees.{nth_node, slot_of, node_of, segment, ArePartsKeptIn}, specs.LineBlocks.{line_of, nodes_end, ArePartsKeptBehind, ArePartsKeptFrom}, proofs.Halves.{half_up, half_grows, half_doubled, half_or_same, half_times, meetings_apart, meeting_some}}
+use Rattle.fold_trees.{proofs.BlockRows.{row_away, nodes_within}, proofs.LineNodes.{told_at}}
 
 -- ---- one more part that begins at a place
 
@@ -45,9 +45,7 @@ module _ {P : Type 0} (blank : P) (tells : P → List ℤ → Type 0) (first : L
       old : place * (2 * 2 ^ level) + 2 ^ level ≢ from + half → (from < place * (2 * 2 ^ level) ⊎ place * (2 * 2 ^ level) ≡ from × 2 * 2 ^ level ≤ half)
           → tells (node_of blank (line_of first column) after (place * (2 * 2 ^ level) + 2 ^ level))
           (segment (slot_of (line_of first column) slots) (place * (2 * 2 ^ level)) (min (2 * 2 ^ level) (first.count - place * (2 * 2 ^ level))))
-      old apart one =
-          subst (λ s. tells s (segment (slot_of (line_of first column) slots) (place * (2 * 2 ^ level)) (min (2 * 2 ^ level) (first.count - place * (2 * 2 ^ level)))))
-          (sym (stays column level place below apart)) (kept column below level place one inside)
+      old apart one = rw (stays column level place below apart) (kept column below level place one inside)
 
 -- a row of nodes of the block
 pub rows_outside : {P : Type 0} (blank : P) (first : Line) (meeting : ℕ) (nodes after : List P) → 1 ≤ meeting → meeting < first.count
@@ -101,8 +99,7 @@ module _ {P : Type 0} (blank : P) (tells : P → List ℤ → Type 0) (from : �
 pub kept_in_still : {P : Type 0} (tells : P → List ℤ → Type 0) (from width count : ℕ) (x : ℕ → ℤ) (m n : ℕ → P) → ((meeting : ℕ) → n meeting ≡ m meeting)
     → ArePartsKeptIn tells from width count x m → ArePartsKeptIn tells from width count x n
 kept_in_still tells from width count x m n same kept level place low high inside =
-    subst (λ s. tells s (segment x (place * (2 * 2 ^ level)) (min (2 * 2 ^ level) (count - place * (2 * 2 ^ level))))) (sym (same (place * (2 * 2 ^ level) + 2 ^ level)))
-    (kept level place low high inside)
+    rw (same (place * (2 * 2 ^ level) + 2 ^ level)) (kept level place low high inside)
 
 -- ---- the two halves of a part whose halves have nodes
 
@@ -114,23 +111,12 @@ quarter half (suc low) is other = (low, is ∙ half_up low)
 module _ {P : Type 0} (blank : P) (tells : P → List ℤ → Type 0) (from half low part : ℕ) (first : Line) (slots : List ℤ) (nodes : List P)
     (half_is : half ≡ 2 * 2 ^ low) (from_is : from ≡ part * (2 * half)) (full : from + 2 * half ≤ first.count) (kept : ArePartsKeptBehind blank tells from half first slots nodes)
     (column : ℕ) (below : column < first.step) where
-  -- the node of a full part tells its numbers
-  told_at : (start place : ℕ) → start ≡ place * (2 * 2 ^ low) → start + half ≤ first.count
-      → IsKept tells first.count (slot_of (line_of first column) slots) (node_of blank (line_of first column) nodes) (place * (2 * 2 ^ low)) (2 ^ low)
-      → tells (node_of blank (line_of first column) nodes (start + half / 2)) (segment (slot_of (line_of first column) slots) start half)
-  told_at start place is ends this =
-      let long : min (2 * 2 ^ low) (first.count - place * (2 * 2 ^ low)) ≡ half = omega (arith, is, half_is, ends) in
-      subst (λ m. tells (node_of blank (line_of first column) nodes m) (segment (slot_of (line_of first column) slots) start half)) (omega (arith, is, half_is))
-      (subst (tells (node_of blank (line_of first column) nodes (place * (2 * 2 ^ low) + 2 ^ low)))
-      (λ i. segment (slot_of (line_of first column) slots) (sym is i) (long i))
-      (this (omega (arith, is, half_is, ends, pow_pos low))))
-
   pub half_told : tells (node_of blank (line_of first column) nodes (from + half / 2)) (segment (slot_of (line_of first column) slots) from half)
   half_told =
       let start : from ≡ 2 * part * (2 * 2 ^ low) = from_is ∙ ap (λ n. part * (2 * n)) half_is ∙ grind arith in
-      told_at from (2 * part) start (omega (arith, full)) (kept column below low (2 * part) (inr (sym start, omega (arith, half_is))))
+      told_at tells first.count half low _ (node_of blank (line_of first column) nodes) half_is from (2 * part) start (omega (arith, full)) (kept column below low (2 * part) (inr (sym start, omega (arith, half_is))))
 
   pub later_told : tells (node_of blank (line_of first column) nodes (from + half + half / 2)) (segment (slot_of (line_of first column) slots) (from + half) half)
   later_told =
       let start : from + half ≡ (2 * part + 1) * (2 * 2 ^ low) = (λ i. from_is i + half) ∙ (λ i. part * (2 * half_is i) + half_is i) ∙ grind arith in
-      told_at (from + half) (2 * part + 1) start (omega (arith, full)) (kept column below low (2 * part + 1) (inl (omega (arith, sym start, half_is, pow_pos low))))
+      told_at tells first.count half low _ (node_of blank (line_of first column) nodes) half_is (from + half) (2 * part + 1) start (omega (arith, full)) (kept column below low (2 * part + 1) (inl (omega (arith, sym start, half_is, pow_pos low))))

@@ -27,8 +27,7 @@ next_slot first place more = let e : (place + more) * first.step ≡ place * fir
 
 -- the nodes of a meeting
 pub nodes_within : (first : Line) (meeting : ℕ) → 1 ≤ meeting → meeting < first.count → nth_node first meeting + first.step ≤ nodes_end first
-nodes_within first meeting low high =
-    omega (arith, rows_end (meeting - 1) (first.count - 1) first.step (omega (arith, low, high)))
+nodes_within first meeting low high = omega (arith, rows_end (meeting - 1) (first.count - 1) first.step (omega (arith, low, high)))
 
 pub node_row : (first : Line) (nodes meeting : ℕ) → HaveNodes first nodes → 1 ≤ meeting → meeting < first.count → nth_node first meeting + first.step ≤ nodes
 node_row first nodes meeting has low high = omega (arith, nodes_within first meeting low high, has.end)

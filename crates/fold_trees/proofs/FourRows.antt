@@ -2,18 +2,12 @@
 use Rattle.std.{proofs.Common.{◌≡◌, ◌≢◌, ◌∙◌, ℕ, ℤ, List, ◌+◌, ◌-◌, ◌*◌, ◌<◌, ◌≤◌, ◌⊎◌, length, get_or, set, ap, sym, subst, arith, inl, inr}, proofs.lemmas.Bool.{cases_eq}, proofs.lemmas.List.{length-set, get_or-set_same, get_or-set_other}, proofs.lemmas.Nat.{same_from_place}}
 use Rattle.fold_trees.{specs.declared.line.Line.{Line}, specs.LineTrees.{nth_node, slot_of, segment, node_of, AreFourKept}, specs.LineBlocks.{line_of}, proofs.BlockRows.{line_node}}
 
-module _ (first : Line) (from : ℕ) where
-  pub second_row : nth_node first (from + 2) ≡ nth_node first (from + 1) + first.step
-  second_row =
-      let here = ap (λ n. n * first.step) (let e : from + 1 - 1 ≡ from = omega arith in e) in
-      let sum : (from + 1) * first.step ≡ from * first.step + first.step = grind arith in
-      omega (arith, here, ap (λ n. n * first.step) (let e : from + 2 - 1 ≡ from + 1 = omega arith in e), sum)
-
-  pub third_row : nth_node first (from + 3) ≡ nth_node first (from + 1) + 2 * first.step
-  third_row =
-      let here = ap (λ n. n * first.step) (let e : from + 1 - 1 ≡ from = omega arith in e) in
-      let sum : (from + 2) * first.step ≡ from * first.step + 2 * first.step = grind arith in
-      omega (arith, here, ap (λ n. n * first.step) (let e : from + 3 - 1 ≡ from + 2 = omega arith in e), sum)
+-- the node of a row that follows by a number of rows
+pub later_row : (first : Line) (from more : ℕ) → nth_node first (from + (more + 1)) ≡ nth_node first (from + 1) + more * first.step
+later_row first from more =
+    let here = ap (λ n. n * first.step) (let e : from + 1 - 1 ≡ from = omega arith in e) in
+    let sum : (from + more) * first.step ≡ from * first.step + more * first.step = grind arith in
+    omega (arith, here, ap (λ n. n * first.step) (let e : from + (more + 1) - 1 ≡ from + more = omega arith in e), sum)
 
 module _ {P : Type 0} (blank : P) (first : Line) (from k here : ℕ) (nodes : List P) (a b d : P) (below : k < first.step) (here_is : here ≡ nth_node first (from + 1) + k)
     (fits : here + 2 * first.step < length nodes) where
@@ -39,7 +33,7 @@ module _ {P : Type 0} (blank : P) (first : Line) (from k here : ℕ) (nodes : Li
       outside : (more : ℕ) → more ≤ 2 → (q : ℕ) → (nth_node first (from + 1) ≤ q) × (q < nth_node first (from + 1) + 3 * first.step) → p ≢ q
       outside more few q within e = elim away [
         | inl low ↦ omega (arith, low, within.0, e)
-        | inr high ↦ omega (arith, high, third_row first from, within.1, e)
+        | inr high ↦ omega (arith, high, later_row first from 2, within.1, e)
       ]
 
   -- those of this line
@@ -52,13 +46,13 @@ module _ {P : Type 0} (blank : P) (first : Line) (from k here : ℕ) (nodes : Li
 
   second_set : node_of blank (line_of first k) with_four (from + 2) ≡ b
   second_set =
-      ap (λ p. get_or with_four p blank) (let e : nth_node (line_of first k) (from + 2) ≡ here + first.step = omega (arith, line_node first k (from + 2), second_row first from, here_is) in e)
+      ap (λ p. get_or with_four p blank) (let e : nth_node (line_of first k) (from + 2) ≡ here + first.step = omega (arith, line_node first k (from + 2), later_row first from 1, here_is) in e)
       ∙ get_or-set_other (set (set nodes here a) (here + first.step) b) (here + 2 * first.step) (here + first.step) d blank (λ e. let no : ⊥ = omega (arith, e, below) in no)
       ∙ get_or-set_same (set nodes here a) (here + first.step) b blank (omega (arith, fits, length-set nodes here a))
 
   third_set : node_of blank (line_of first k) with_four (from + 3) ≡ d
   third_set =
-      ap (λ p. get_or with_four p blank) (let e : nth_node (line_of first k) (from + 3) ≡ here + 2 * first.step = omega (arith, line_node first k (from + 3), third_row first from, here_is) in e)
+      ap (λ p. get_or with_four p blank) (let e : nth_node (line_of first k) (from + 3) ≡ here + 2 * first.step = omega (arith, line_node first k (from + 3), later_row first from 2, here_is) in e)
       ∙ get_or-set_same (set (set nodes here a) (here + first.step) b) (here + 2 * first.step) d blank
       (omega (arith, fits, length-set nodes here a, length-set (set nodes here a) (here + first.step) b))
 

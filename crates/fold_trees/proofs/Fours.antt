@@ -38,8 +38,7 @@ four_more tells from count x m n four full same told kept level place which insi
   | inl behind ↦ four_within tells from count x n four full told level place (begins level behind which) (ends which) inside
   | inr before ↦
       let p = pow_pos level in
-      subst (λ s. tells s (segment x (place * (2 * 2 ^ level)) (min (2 * 2 ^ level) (count - place * (2 * 2 ^ level)))))
-      (sym (same (place * (2 * 2 ^ level) + 2 ^ level) (omega (arith, p)) (omega (arith, before, p)))) (kept level place (omega arith) (omega (arith, before)) inside)
+      rw (same (place * (2 * 2 ^ level) + 2 ^ level) (omega (arith, p)) (omega (arith, before, p))) (kept level place (omega arith) (omega (arith, before)) inside)
 ]
   where
     ends : (place * (2 * 2 ^ level) + 2 * 2 ^ level < from + 4 ⊎ place * (2 * 2 ^ level) + 2 * 2 ^ level ≡ from + 4 × 2 * 2 ^ level ≤ 4) → place * (2 * 2 ^ level) + 2 * 2 ^ level ≤ from + 4
@@ -79,8 +78,7 @@ module _ {P : Type 0} (blank : P) (tells : P → List ℤ → Type 0) (from : �
     | inl before ↦
         four_within tells from first.count (slot_of (line_of first column) slots) (node_of blank (line_of first column) after) four full (told column below) level place begins (ends level before which) inside
     | inr later ↦
-        subst (λ s. tells s (segment (slot_of (line_of first column) slots) (place * (2 * 2 ^ level)) (min (2 * 2 ^ level) (first.count - place * (2 * 2 ^ level)))))
-        (sym (stays (place * (2 * 2 ^ level) + 2 ^ level) (omega (arith, later, pow_pos level)))) (kept column below level place later inside)
+        rw (stays (place * (2 * 2 ^ level) + 2 ^ level) (omega (arith, later, pow_pos level))) (kept column below level place later inside)
   ]
     where
       begins : from ≤ place * (2 * 2 ^ level)
@@ -100,6 +98,5 @@ module _ {P : Type 0} (blank : P) (tells : P → List ℤ → Type 0) (from : �
       stays meeting high =
           let rows = mul-le (from + 3) first.step (meeting - 1) first.step (omega (arith, high)) (omega arith) in
           let less : from + 3 - 1 ≡ from + 2 = omega arith in
-          let two = ap (λ k. k * first.step) less in
           let sum : (from + 3) * first.step ≡ (from + 2) * first.step + first.step = grind arith in
-          others (nth_node (line_of first column) meeting) (inr (omega (arith, rows, sum, two, line_node first column meeting)))
+          others (nth_node (line_of first column) meeting) (inr (omega (arith, rows, sum, ap (λ k. k * first.step) less, line_node first column meeting)))

@@ -1,25 +1,9 @@
 -- How wide the halves of parts are, and where they meet.
-use Rattle.std.{proofs.Common.{◌≡◌, ◌∙◌, ℕ, suc, ◌+◌, ◌-◌, ◌*◌, ◌^◌, ◌<◌, ◌≤◌, ◌⊎◌, ap, sym, arith, inl, inr}, proofs.lemmas.Nat.{pow_pos, pow-add}, proofs.Math.Nat.{pow-le-pow_right}, proofs.lemmas.Bool.{cases_lt}}
+use Rattle.std.{proofs.Common.{◌≡◌, ◌∙◌, ℕ, suc, ◌+◌, ◌-◌, ◌*◌, ◌/◌, ◌^◌, ◌<◌, ◌≤◌, ◌⊎◌, ap, sym, arith, inl, inr}, proofs.lemmas.Nat.{pow_pos, pow-add}, proofs.Math.Nat.{mul-div_cancel, pow-le-pow_right}, proofs.lemmas.Bool.{cases_lt}}
 
 -- steps of a line that are apart
 pub steps_apart : (a b step : ℕ) → 0 < step → a * step ≡ b * step → a ≡ b
-steps_apart a b step some e = elim (cases_lt a b) [
-  | inl less ↦
-      let more = b - a - 1 in
-      let is : b ≡ a + 1 + more = omega (arith, less) in
-      let all : b * step ≡ a * step + step + more * step = ap (λ k. k * step) is ∙ grind arith in
-      let no : ⊥ = omega (arith, all, e, some) in
-      absurd no
-  | inr enough ↦ elim (cases_lt b a) [
-    | inl less ↦
-        let more = a - b - 1 in
-        let is : a ≡ b + 1 + more = omega (arith, less) in
-        let all : a * step ≡ b * step + step + more * step = ap (λ k. k * step) is ∙ grind arith in
-        let no : ⊥ = omega (arith, all, e, some) in
-        absurd no
-    | inr rest ↦ omega (arith, enough, rest)
-  ]
-]
+steps_apart a b step some e = sym (mul-div_cancel a some) ∙ ap (λ n. n / step) e ∙ mul-div_cancel b some
 
 -- an odd multiple of a power of two is one of no other
 pub odd_multiples : (a b i j : ℕ) → (2 * a + 1) * 2 ^ i ≡ (2 * b + 1) * 2 ^ j → i ≡ j
@@ -35,8 +19,7 @@ odd_multiples a b i j e = elim (cases_lt i j) [
     uneven a b i j less e =
         let more = j - i - 1 in
         let power : 2 ^ j ≡ 2 * 2 ^ more * 2 ^ i = ap (λ k. 2 ^ k) (omega (arith, less)) ∙ pow-add 2 (suc more) i ∙ ap (λ p. p * 2 ^ i) (grind arith) in
-        let all : (2 * b + 1) * 2 ^ j ≡ 2 * ((2 * b + 1) * 2 ^ more) * 2 ^ i = ap (λ p. (2 * b + 1) * p) power ∙ grind arith in
-        omega (arith, steps_apart (2 * a + 1) (2 * ((2 * b + 1) * 2 ^ more)) (2 ^ i) (pow_pos i) (e ∙ all))
+        omega (arith, steps_apart (2 * a + 1) (2 * ((2 * b + 1) * 2 ^ more)) (2 ^ i) (pow_pos i) (e ∙ (ap (λ p. (2 * b + 1) * p) power ∙ grind arith)))
 
 -- ---- how wide they are
 

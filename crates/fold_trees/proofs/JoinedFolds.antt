@@ -1,7 +1,6 @@
 -- The fold of a list and of a later one after it, by an associative function.
 use Rattle.std.proofs.Common.{◌≡◌, ◌<◌, List, [], ◌∷◌, ◌++◌, length, refl, ap, ◌∙◌, arith, ℤ, Result, Ok, Err}
-use Rattle.arrays_core.{specs.declared.item.Kind.{Kind}, specs.Items.{and_then}}
-use Rattle.item_fns.specs.Folds.{folded, IsAssociative}
+use Rattle.{arrays_core.{specs.declared.item.Kind.{Kind}, specs.Items.{and_then}}, item_fns.specs.Folds.{folded, IsAssociative}}
 
 module _ (f : ℤ → ℤ → Result ℤ Kind) (law : IsAssociative f) where
   -- what the folds of both give

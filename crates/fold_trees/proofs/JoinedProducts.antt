@@ -1,10 +1,17 @@
 -- The products of endings join as their lists do, and so does what is kept of them.
-use Rattle.std.{proofs.Common.{◌≡◌, ap, sym, subst, ◌∙◌, arith, inl, inr, List, [], ◌∷◌, ◌++◌, ◌^◌, ℤ, pos, ◌*ℤ◌, ◌⊎◌}, specs.Int.{int_min, int_max}, proofs.lemmas.Int.{ints, clamps, by_lt_z}}
+use Rattle.std.{proofs.Common.{◌≡◌, ap, sym, subst, ◌∙◌, arith, inl, inr, List, [], ◌∷◌, ◌++◌, ◌^◌, ◌≤◌, ℤ, pos, ◌*ℤ◌, ◌⊎◌}, specs.Int.{int_min, int_max}, proofs.lemmas.Int.{ints, clamps, by_lt_z}}
 use Rattle.item_fns.proofs.Products.{times_assoc}
 use Rattle.fold_trees.{specs.declared.product.Product.{Product}, specs.Products.{Products, products_of_none, before, products_of, joined_products, AreOrdered, AreFar, kept_products, TellsProducts}, proofs.Multiples.{between, bounds_times, stretched}}
 
 pub products_eq : (a b : Products) → a.total ≡ b.total → a.least ≡ b.least → a.greatest ≡ b.greatest → a ≡ b
 products_eq a b e f g = λ i. record { total = e i; least = f i; greatest = g i }
+
+-- a part tells the products that it keeps
+pub tells_same : (s : Product) (m : Products) → AreOrdered m → (kept_products s).total ≡ m.total → (kept_products s).least ≡ m.least → (kept_products s).greatest ≡ m.greatest
+    → s.below ≤ 2 ^ 63 → s.above ≤ 2 ^ 63 → TellsProducts s m
+tells_same s m ordered e f g below above =
+    let same = products_eq (kept_products s) m e f g in
+    record { ordered = ordered; sound = subst AreOrdered (sym same) ordered; below = below; above = above; is = inl same }
 
 pub ordered_none : AreOrdered products_of_none
 ordered_none = record { least_total = omega (arith, ints); total_greatest = omega (arith, ints); least_zero = omega (arith, ints); zero_greatest = omega (arith, ints) }
@@ -33,8 +40,7 @@ ordered_join a b h k =
     }
 
 none_join : (s : Products) → AreOrdered s → joined_products products_of_none s ≡ s
-none_join s h =
-    products_eq _ _ (omega (arith, ints)) (omega (arith, ints, clamps)) (omega (arith, ints, clamps))
+none_join s h = products_eq _ _ (omega (arith, ints)) (omega (arith, ints, clamps)) (omega (arith, ints, clamps))
 
 before_join : (z : ℤ) (a b : Products) → AreOrdered a → before z (joined_products a b) ≡ joined_products (before z a) b
 before_join z a b h =

@@ -9,12 +9,10 @@ pub join_assoc : (a b c : Sums) → join (join a b) c ≡ join a (join b c)
 join_assoc a b c = sums_eq _ _ (omega (arith, ints)) (omega (arith, ints, clamps)) (omega (arith, ints, clamps))
 
 pub join_none : (s : Sums) → IsOrdered s → join s sums_of_none ≡ s
-join_none s h =
-    sums_eq _ _ (omega (arith, ints)) (omega (arith, ints, clamps)) (omega (arith, ints, clamps))
+join_none s h = sums_eq _ _ (omega (arith, ints)) (omega (arith, ints, clamps)) (omega (arith, ints, clamps))
 
 pub none_join : (s : Sums) → IsOrdered s → join sums_of_none s ≡ s
-none_join s h =
-    sums_eq _ _ (omega (arith, ints)) (omega (arith, ints, clamps)) (omega (arith, ints, clamps))
+none_join s h = sums_eq _ _ (omega (arith, ints)) (omega (arith, ints, clamps)) (omega (arith, ints, clamps))
 
 pub ordered_join : (a b : Sums) → IsOrdered a → IsOrdered b → IsOrdered (join a b)
 ordered_join a b h k =

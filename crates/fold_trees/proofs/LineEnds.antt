@@ -1,7 +1,7 @@
 -- What is kept of the parts of a line, from the first parts to the last.
 use Rattle.std.{proofs.Common.{◌≡◌, ◌≢◌, ◌∙◌, ℕ, zero, suc, ◌+◌, ◌-◌, ◌*◌, ◌/◌, ◌%◌, ◌^◌, ◌<◌, ◌≤◌, ◌⊎◌, ◌++◌, min, List, length, set, ap, sym, subst, arith, inl, inr, ℤ}, proofs.lemmas.Nat.{pow_pos, mod-mul-add, div-add-mod'}, proofs.lemmas.Bool.{cases_lt}}
 use Rattle.fold_trees.{specs.declared.line.Line.{Line}, specs.LineTrees.{slot_at, nth_node, node_of, segment, IsKept, ArePartsKeptIn, ArePartsKeptBeside, ArePartsKeptUpTo}, proofs.Segments.{segment_split}, proofs.Halves.{half_up, half_grows, half_or_same, half_times, meetings_apart, meeting_some}}
-use Rattle.fold_trees.proofs.LineNodes.{node_here, node_other}
+use Rattle.fold_trees.proofs.LineNodes.{node_here, node_other, told_at}
 
 -- ---- where the slots and the nodes of a line lie whose numbers are neighbours
 
@@ -13,6 +13,16 @@ near_node l k near = ap (λ s. l.node + (k - 1) * s) near ∙ omega arith
 
 -- ---- one more part that ends at a place
 
+pub end_is : (end half : ℕ) → end % (2 * half) ≡ 0 → 0 < end → end ≡ (end / (2 * half) - 1) * (2 * half) + 2 * half
+end_is end half whole some = pick (end / (2 * half)) (sym (div-add-mod' end (2 * half)))
+  where
+    pick : (k : ℕ) → end ≡ k * (2 * half) + end % (2 * half) → end ≡ (k - 1) * (2 * half) + 2 * half
+    pick zero is = let no : ⊥ = omega (arith, is, whole, some) in absurd no
+    pick (suc k) is =
+        let more : suc k * (2 * half) ≡ k * (2 * half) + 2 * half = grind arith in
+        let less : (suc k - 1) * (2 * half) ≡ k * (2 * half) = ap (λ j. j * (2 * half)) (omega arith) in
+        omega (arith, is, whole, more, less)
+
 module _ {P : Type 0} (blank : P) (tells : P → List ℤ → Type 0) (l : Line) (nodes : List P) (x : ℕ → ℤ) (end half low : ℕ) (half_is : half ≡ 2 * 2 ^ low)
     (whole : end % (2 * half) ≡ 0) (some : 0 < end) (below : end < l.count) (kept : ArePartsKeptUpTo tells end half l.count x (node_of blank l nodes)) where
   abbrev pub part : ℕ
@@ -21,41 +31,24 @@ module _ {P : Type 0} (blank : P) (tells : P → List ℤ → Type 0) (l : Line)
   abbrev pub from : ℕ
   from = part * (2 * half)
 
-  pub end_is : end ≡ part * (2 * half) + 2 * half
-  end_is = pick (end / (2 * half)) (sym (div-add-mod' end (2 * half)))
-    where
-      pick : (k : ℕ) → end ≡ k * (2 * half) + end % (2 * half) → end ≡ (k - 1) * (2 * half) + 2 * half
-      pick zero is = let no : ⊥ = omega (arith, is, whole, some) in absurd no
-      pick (suc k) is =
-          let more : suc k * (2 * half) ≡ k * (2 * half) + 2 * half = grind arith in
-          let less : (suc k - 1) * (2 * half) ≡ k * (2 * half) = ap (λ j. j * (2 * half)) (omega arith) in
-          omega (arith, is, whole, more, less)
-
-  -- the node of a half tells its numbers
-  told_at : (start place : ℕ) → start ≡ place * (2 * 2 ^ low) → start + half ≤ end → IsKept tells l.count x (node_of blank l nodes) (place * (2 * 2 ^ low)) (2 ^ low)
-      → tells (node_of blank l nodes (start + half / 2)) (segment x start half)
-  told_at start place is ends this =
-      let long : min (2 * 2 ^ low) (l.count - place * (2 * 2 ^ low)) ≡ half = omega (arith, is, half_is, ends, below) in
-      subst (λ m. tells (node_of blank l nodes m) (segment x start half)) (omega (arith, is, half_is))
-      (subst (tells (node_of blank l nodes (place * (2 * 2 ^ low) + 2 ^ low))) (λ i. segment x (sym is i) (long i))
-      (this (omega (arith, is, half_is, ends, below, pow_pos low))))
+  ends : end ≡ part * (2 * half) + 2 * half
+  ends = end_is end half whole some
 
   pub first_told : tells (node_of blank l nodes (from + half / 2)) (segment x from half)
   first_told =
       let start : from ≡ 2 * part * (2 * 2 ^ low) = ap (λ n. part * (2 * n)) half_is ∙ grind arith in
-      told_at from (2 * part) start (omega (arith, end_is)) (kept low (2 * part) (inl (omega (arith, sym start, end_is, half_is, pow_pos low))))
+      told_at tells l.count half low x (node_of blank l nodes) half_is from (2 * part) start (omega (arith, ends, below)) (kept low (2 * part) (inl (omega (arith, sym start, ends, half_is, pow_pos low))))
 
   pub second_told : tells (node_of blank l nodes (from + half + half / 2)) (segment x (from + half) half)
   second_told =
       let start : from + half ≡ (2 * part + 1) * (2 * 2 ^ low) = (λ i. part * (2 * half_is i) + half_is i) ∙ grind arith in
-      told_at (from + half) (2 * part + 1) start (omega (arith, end_is)) (kept low (2 * part + 1) (inr (omega (arith, sym start, end_is, half_is), omega (arith, half_is))))
+      told_at tells l.count half low x (node_of blank l nodes) half_is (from + half) (2 * part + 1) start (omega (arith, ends, below)) (kept low (2 * part + 1) (inr (omega (arith, sym start, ends, half_is), omega (arith, half_is))))
 
   module _ (s : P) (apart : 0 < l.step) (inside : nth_node l (end - half) < length nodes) (told : tells s (segment x from half ++ segment x (from + half) half)) where
     meets : end - half ≡ part * (2 * 2 ^ suc low) + 2 ^ suc low
     meets =
         let up = half_up low in
-        let place : part * (2 * half) ≡ part * (2 * 2 ^ suc low) = ap (λ n. part * (2 * n)) (half_is ∙ sym up) in
-        omega (arith, end_is, place, up, half_is)
+        omega (arith, ends, ap (λ n. part * (2 * n)) (half_is ∙ sym up), up, half_is)
 
     after : ℕ → P
     after = node_of blank l (set nodes (nth_node l (end - half)) s)
@@ -74,8 +67,7 @@ module _ {P : Type 0} (blank : P) (tells : P → List ℤ → Type 0) (l : Line)
     old : (level place : ℕ) → place * (2 * 2 ^ level) + 2 ^ level ≢ end - half
         → (place * (2 * 2 ^ level) + 2 * 2 ^ level < end ⊎ place * (2 * 2 ^ level) + 2 * 2 ^ level ≡ end × 2 * 2 ^ level ≤ half)
         → IsKept tells l.count x after (place * (2 * 2 ^ level)) (2 ^ level)
-    old level place other one inside_line =
-        subst (λ t. tells t (segment x (place * (2 * 2 ^ level)) (min (2 * 2 ^ level) (l.count - place * (2 * 2 ^ level))))) (sym (stays level place other)) (kept level place one inside_line)
+    old level place other one inside_line = rw (stays level place other) (kept level place one inside_line)
 
     all_told : tells s (segment x from (half + half))
     all_told = subst (tells s) (sym (segment_split x from half half)) told
@@ -94,7 +86,7 @@ module _ {P : Type 0} (blank : P) (tells : P → List ℤ → Type 0) (l : Line)
                 old level place (differ level place (λ same. let no : ⊥ = omega (arith, same, less, pow_pos level) in no)) (inr (here.0, omega (arith, less, half_is, up))) inside_line
             | inr same ↦
                 let meeting : place * (2 * 2 ^ level) + 2 ^ level ≡ end - half = omega (arith, here.0, same, half_is, up) in
-                let start : place * (2 * 2 ^ level) ≡ from = omega (arith, here.0, same, half_is, up, end_is) in
+                let start : place * (2 * 2 ^ level) ≡ from = omega (arith, here.0, same, half_is, up, ends) in
                 let long : min (2 * 2 ^ level) (l.count - place * (2 * 2 ^ level)) ≡ half + half = omega (arith, here.0, same, half_is, up, below) in
                 subst (λ t. tells t (segment x (place * (2 * 2 ^ level)) (min (2 * 2 ^ level) (l.count - place * (2 * 2 ^ level)))))
                 (sym (ap after meeting ∙ node_here blank l nodes (end - half) s inside))
@@ -137,9 +129,7 @@ module _ {P : Type 0} (tells : P → List ℤ → Type 0) where
   least_more from count x m n whole full same told kept level place which inside = elim which [
     | inl before ↦
         let ends = ends_within level place from whole (omega (arith, before)) in
-        subst (λ s. tells s (segment x (place * (2 * 2 ^ level)) (min (2 * 2 ^ level) (count - place * (2 * 2 ^ level)))))
-        (sym (same (place * (2 * 2 ^ level) + 2 ^ level) (omega (arith, pow_pos level)) (omega (arith, ends, pow_pos level))))
-        (kept level place (omega arith) (omega (arith, ends)) inside)
+        rw (same (place * (2 * 2 ^ level) + 2 ^ level) (omega (arith, pow_pos level)) (omega (arith, ends, pow_pos level))) (kept level place (omega arith) (omega (arith, ends)) inside)
     | inr here ↦ pick level here.0 here.1
   ]
     where
@@ -162,7 +152,5 @@ module _ {P : Type 0} (tells : P → List ℤ → Type 0) where
     | inl behind ↦ let no : ⊥ = omega (arith, behind, inside, some) in absurd no
     | inr before ↦
         let ends = ends_within level place done whole (omega (arith, before, last)) in
-        subst (λ s. tells s (segment x (place * (2 * 2 ^ level)) (min (2 * 2 ^ level) (count - place * (2 * 2 ^ level)))))
-        (sym (same (place * (2 * 2 ^ level) + 2 ^ level) (omega (arith, pow_pos level)) (omega (arith, ends, pow_pos level))))
-        (kept level place (omega arith) (omega (arith, ends)) inside)
+        rw (same (place * (2 * 2 ^ level) + 2 ^ level) (omega (arith, pow_pos level)) (omega (arith, ends, pow_pos level))) (kept level place (omega arith) (omega (arith, ends)) inside)
   ]

@@ -1,6 +1,6 @@
 -- The parts that are joined for a place of a line, one for each width.
-use Rattle.std.{proofs.Common.{◌≡◌, ℕ, suc, ◌+◌, ◌*◌, ◌/◌, ◌%◌, ◌^◌, ◌<◌, ◌≤◌, ◌++◌, ◌∷◌, [], ℤ, List, length, get_or, sym, subst, arith, inl, inr}, proofs.Math.Nat.{pow-le-pow_right}, proofs.lemmas.Bool.{cases_lt, cases_eq}, proofs.lemmas.List.{length-append, get_or_append_left, get_or_push}}
-use Rattle.fold_trees.{specs.LineTrees.{numbers_of_block, block_up}, proofs.LineParts.{IsClimb, odd_block, even_block}}
+use Rattle.std.{proofs.Common.{◌≡◌, ℕ, suc, ◌+◌, ◌*◌, ◌/◌, ◌%◌, ◌^◌, ◌<◌, ◌≤◌, ◌++◌, ◌∷◌, [], ℤ, List, length, get_or, sym, subst, arith, inl, inr}, proofs.lemmas.Bool.{cases_lt, cases_eq}, proofs.lemmas.List.{length-append, get_or_append_left, get_or_push}}
+use Rattle.fold_trees.{specs.LineTrees.{numbers_of_block, block_up}, proofs.Halves.{half_below}, proofs.LineParts.{IsClimb, odd_block, even_block}}
 
 -- each part tells the numbers of its block
 abbrev pub AreTold : {P : Type 0} → (P → List ℤ → Type 0) → (count : ℕ) → (ℕ → ℤ) → (place : ℕ) → List P → Type 0
@@ -21,14 +21,7 @@ told_more tells count x place parts s each told level blank below = elim (cases_
 
 -- a width below the count is that of a part
 pub level_below : (level digits count : ℕ) → 2 ^ level < count → count ≤ 2 ^ digits → level < digits
-level_below level digits count more enough = elim (cases_lt level digits) [
-  | inl below ↦ below
-  | inr above ↦
-      let two : 0 < 2 = omega arith in
-      let grows : 2 ^ digits ≤ 2 ^ level = pow-le-pow_right two above in
-      let no : ⊥ = omega (arith, grows, more, enough) in
-      absurd no
-]
+level_below level digits count more enough = half_below level digits (omega (arith, more, enough))
 
 -- where the halves of the part twice as wide as a block meet: within the block or at its end
 module _ (place block width : ℕ) (climb : IsClimb place block width) where

@@ -23,23 +23,25 @@ module _ {P : Type 0} (blank : P) (l : Line) (nodes : List P) where
 -- what is kept after a step: that of the wider part where the two halves of it meet, or nothing new where there is no second half
 abbrev pub IsStepUp : {P : Type 0} → (l : Line) (nodes after : List P) (block width : ℕ) → P → Type 0
 IsStepUp l nodes after block width s =
-    (after ≡ set nodes (nth_node l ((block / 2 * 2 + 1) * width)) s × nth_node l ((block / 2 * 2 + 1) * width) < length nodes)
+    (after ≡ set nodes (nth_node l ((block / 2 * 2 + 1) * width)) s × nth_node l ((block / 2 * 2 + 1) * width) < length nodes × (block / 2 * 2 + 1) * width < l.count)
     ⊎ (after ≡ nodes × block % 2 ≡ 0 × l.count ≤ block * width + width)
+
+-- the halves meet at no first place
+pub some_meeting : (block width level : ℕ) → width ≡ 2 ^ level → 1 ≤ (block / 2 * 2 + 1) * width
+some_meeting block width level is =
+    let all : (block / 2 * 2 + 1) * width ≡ 2 * (block / 2 * width) + width = grind arith in
+    omega (arith, all, pow_pos level, is)
 
 -- another node takes the place of one, or none does
 pub others_stay : {P : Type 0} (blank : P) (l : Line) (nodes after before : List P) (block width : ℕ) (s : P) → IsStepUp l nodes after block width s → 1 ≤ (block / 2 * 2 + 1) * width
-    → (after ≡ nodes ⊎ (block / 2 * 2 + 1) * width < l.count)
     → ((p : ℕ) → ((meeting : ℕ) → 1 ≤ meeting → meeting < l.count → p ≢ nth_node l meeting) → get_or nodes p blank ≡ get_or before p blank)
     → (p : ℕ) → ((meeting : ℕ) → 1 ≤ meeting → meeting < l.count → p ≢ nth_node l meeting) → get_or after p blank ≡ get_or before p blank
-others_stay {P = P} blank l nodes after before block width s new some within stayed p apart = elim within [
-  | inl none ↦ ap (λ (ns : List P). get_or ns p blank) none ∙ stayed p apart
-  | inr below ↦ elim new [
-    | inl set_so ↦
-        ap (λ (ns : List P). get_or ns p blank) set_so.0
-        ∙ get_or-set_other nodes (nth_node l ((block / 2 * 2 + 1) * width)) p s blank (apart ((block / 2 * 2 + 1) * width) some below)
-        ∙ stayed p apart
-    | inr none ↦ ap (λ (ns : List P). get_or ns p blank) none.0 ∙ stayed p apart
-  ]
+others_stay {P = P} blank l nodes after before block width s new some stayed p apart = elim new [
+  | inl set_so ↦
+      ap (λ (ns : List P). get_or ns p blank) set_so.0
+      ∙ get_or-set_other nodes (nth_node l ((block / 2 * 2 + 1) * width)) p s blank (apart ((block / 2 * 2 + 1) * width) some set_so.2)
+      ∙ stayed p apart
+  | inr none ↦ ap (λ (ns : List P). get_or ns p blank) none.0 ∙ stayed p apart
 ]
 
 module _ {P : Type 0} (blank : P) (tells : P → List ℤ → Type 0) (l : Line) (nodes after : List P) (x : ℕ → ℤ) (at block width top : ℕ) (s : P)
@@ -136,11 +138,8 @@ module _ {P : Type 0} (blank : P) (tells : P → List ℤ → Type 0) (l : Line)
           let unit = 2 ^ level in
           let w : 2 ^ top ≡ unit = ap (λ k. 2 ^ k) (sym e) in
           let apart : place * (2 * unit) + unit ≢ block / 2 * (2 * 2 ^ top) + 2 ^ top = λ same.
-          let there : block / 2 * (2 * 2 ^ top) ≡ block / 2 * (2 * unit) = ap (λ k. block / 2 * (2 * k)) w in
-          let positive : 0 < 2 * unit = omega (arith, pow_pos level) in
-          other (steps_apart place (block / 2) (2 * unit) positive (omega (arith, same, there, w))) in
-          subst (λ n. tells n (segment x (place * (2 * unit)) (min (2 * unit) (l.count - place * (2 * unit))))) (sym (stays level place apart))
-          (kept level place (inr (elsewhere level place e other)) inside)
+          other (steps_apart place (block / 2) (2 * unit) (omega (arith, pow_pos level)) (omega (arith, same, ap (λ k. block / 2 * (2 * k)) w, w))) in
+          rw (stays level place apart) (kept level place (inr (elsewhere level place e other)) inside)
     ]
     | inr differ ↦ λ inside.
         let unit = 2 ^ level in
@@ -149,11 +148,18 @@ module _ {P : Type 0} (blank : P) (tells : P → List ℤ → Type 0) (l : Line)
           | inl few ↦ inl (narrower level differ few)
           | inr beside ↦ inr beside
         ] in
-        subst (λ n. tells n (segment x (place * (2 * unit)) (min (2 * unit) (l.count - place * (2 * unit))))) (sym (stays level place apart))
-        (kept level place old inside)
+        rw (stays level place apart) (kept level place old inside)
   ]
 
 module _ {P : Type 0} (tells : P → List ℤ → Type 0) where
+  -- the node of a part that the line holds whole tells its numbers
+  pub told_at : (count half low : ℕ) (x : ℕ → ℤ) (node : ℕ → P) → half ≡ 2 * 2 ^ low → (start place : ℕ) → start ≡ place * (2 * 2 ^ low) → start + half ≤ count
+      → IsKept tells count x node (place * (2 * 2 ^ low)) (2 ^ low) → tells (node (start + half / 2)) (segment x start half)
+  told_at count half low x node half_is start place is ends this =
+      let long : min (2 * 2 ^ low) (count - place * (2 * 2 ^ low)) ≡ half = omega (arith, is, half_is, ends) in
+      subst (λ m. tells (node m) (segment x start half)) (omega (arith, is, half_is))
+      (subst (tells (node (place * (2 * 2 ^ low) + 2 ^ low))) (λ i. segment x (sym is i) (long i)) (this (omega (arith, is, half_is, ends, pow_pos low))))
+
   -- before the way up
   pub kept_first : (at count : ℕ) (x : ℕ → ℤ) (node : ℕ → P) → ArePartsKeptBeside tells at count x node → AreKeptTo tells 1 at count x node
   kept_first at count x node kept level place where_it_is = kept level place (elim where_it_is [
@@ -184,12 +190,11 @@ module _ {P : Type 0} (tells : P → List ℤ → Type 0) where
       let from = place * (2 * 2 ^ level) in
       let half = 2 ^ level in
       let same = segment_same x y from (min (2 * half) (count - from)) (λ i low high.
-      let below : i < count = omega (arith, low, high) in
       let apart : i ≢ at = λ e. elim beside [
         | inl after ↦ omega (arith, after, low, e)
         | inr before ↦ omega (arith, before, high, e)
       ] in
-      sym (stays i below apart)) in
+      sym (stays i (omega (arith, low, high)) apart)) in
       subst (tells (node (from + half))) same (kept level place inside)
 
   -- where the numbers and the nodes of a line stay, what is kept of its parts does
@@ -197,7 +202,5 @@ module _ {P : Type 0} (tells : P → List ℤ → Type 0) where
       → ((meeting : ℕ) → 1 ≤ meeting → meeting < count → n meeting ≡ m meeting) → ArePartsKept tells count x m → ArePartsKept tells count y n
   kept_alike count x y m n same nodes kept level place inside =
       let from = place * (2 * 2 ^ level) in
-      let half = 2 ^ level in
-      let long = min (2 * half) (count - from) in
-      subst (λ s. tells s (segment y from long)) (sym (nodes (from + half) (omega (arith, half_grows 0 level (omega arith))) inside))
-      (subst (tells (m (from + half))) (segment_same x y from long (λ i low high. sym (same i (omega (arith, low, high))))) (kept level place inside))
+      rw (nodes (from + 2 ^ level) (omega (arith, half_grows 0 level (omega arith))) inside)
+      (subst (tells (m (from + 2 ^ level))) (segment_same x y from (min (2 * 2 ^ level) (count - from)) (λ i low high. sym (same i (omega (arith, low, high))))) (kept level place inside))

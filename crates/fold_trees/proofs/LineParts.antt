@@ -1,7 +1,6 @@
 -- Parts of a line of numbers: where they begin, and the way up from a place.
-use Rattle.std.{proofs.Common.{◌≡◌, ◌≢◌, ◌∙◌, ℕ, ℤ, zero, suc, ◌+◌, ◌-◌, ◌*◌, ◌/◌, ◌%◌, ◌^◌, ◌<◌, ◌≤◌, ◌++◌, min, refl, ap, sym, arith, inl, inr}, specs.Int.{IsNextPowerOfTwo}, proofs.lemmas.Nat.{pow_pos, pow-add}, proofs.Math.Nat.{pow-le-pow_right}}
-use Rattle.std.proofs.lemmas.Bool.{cases_lt, cases_eq, eq-eqb, ne_eqb, cond-true, cond-false}
-use Rattle.fold_trees.{specs.LineTrees.{IsPart, other_half, AreSameIn, replaced, segment, numbers_of_block}, proofs.Segments.{segment_split}}
+use Rattle.std.{proofs.Common.{◌≡◌, ◌≢◌, ◌∙◌, ℕ, ℤ, zero, suc, ◌+◌, ◌-◌, ◌*◌, ◌/◌, ◌%◌, ◌^◌, ◌<◌, ◌≤◌, ◌++◌, ◌∷◌, [], List, ◌⊎◌, min, refl, ap, sym, subst, arith, inl, inr}, specs.Int.{IsNextPowerOfTwo}, proofs.lemmas.Bool.{cases_lt, cases_eq, eq-eqb, ne_eqb, cond-true, cond-false}}
+use Rattle.fold_trees.{specs.LineTrees.{IsPart, other_half, AreSameIn, replaced, segment, numbers_of_block}, proofs.Halves.{half_up, half_grows, half_doubled, half_below, half_times}, proofs.Segments.{segment_split}}
 
 -- ---- where a part begins
 
@@ -15,35 +14,17 @@ pub record IsLeast (from width long p : ℕ) : Type 0 where
   pub within : p ≤ width
 
 pub least_part : (from width long p : ℕ) → IsPart from width → 1 ≤ long → long ≤ width → IsNextPowerOfTwo long p → IsLeast from width long p
-least_part from width long p part some few next = elim (cases_lt part.level e) [
-  | inl above ↦
-      let below = e - 1 in
-      let up : e ≡ suc below = omega arith in
-      let double : 2 ^ suc below ≡ 2 * 2 ^ below = grind arith in
-      let p_is : p ≡ 2 * 2 ^ below = next.0.1 ∙ ap (λ k. 2 ^ k) up ∙ double in
-      let two : 0 < 2 = omega arith in
-      let more : 2 ^ part.level ≤ 2 ^ below = pow-le-pow_right two (omega arith) in
-      let positive = pow_pos below in
-      let no : ⊥ = omega (arith, next.2, few) in
-      absurd no
-  | inr within ↦
-      let rest = part.level - e in
-      let all : part.level ≡ rest + e = omega arith in
-      let pieces : 2 ^ part.level ≡ 2 ^ rest * 2 ^ e = ap (λ k. 2 ^ k) all ∙ pow-add 2 rest e in
-      let two : 0 < 2 = omega arith in
-      let less : 2 ^ e ≤ 2 ^ part.level = pow-le-pow_right two within in
-      record {
-        level = e;
-        place = part.place * 2 ^ rest;
-        power = next.0.1;
-        from_is = part.from_is ∙ ap (λ k. part.place * k) pieces ∙ grind arith;
-        enough = next.1;
-        within = omega arith;
-      }
+least_part from width long p part some few next = elim (cases_lt part.level next.0.0) [
+  | inl above ↦ let no : ⊥ = omega (arith, half_doubled part.level next.0.0 above, next.0.1, next.2, few, part.width_is) in absurd no
+  | inr within ↦ record {
+    level = next.0.0;
+    place = part.place * 2 ^ (part.level - next.0.0);
+    power = next.0.1;
+    from_is = part.from_is ∙ ap (λ k. part.place * k) (half_times next.0.0 part.level within) ∙ grind arith;
+    enough = next.1;
+    within = omega (arith, half_grows next.0.0 part.level within, next.0.1, part.width_is);
+  }
 ]
-  where
-    e : ℕ
-    e = next.0.0
 
 -- a power of two that has a half
 pub half_level : (level p : ℕ) → p ≡ 2 ^ level → 2 ≤ p → (less : ℕ) × (p ≡ 2 * 2 ^ less)
@@ -115,12 +96,7 @@ pub climb_start : (place : ℕ) → IsClimb place place 1
 climb_start place = record { level = 0; width_is = refl; low = grind arith; high = grind arith }
 
 pub climb_up : (place block width : ℕ) → IsClimb place block width → IsClimb place (block / 2) (2 * width)
-climb_up place block width climb = record {
-  level = suc climb.level;
-  width_is = ap (λ w. 2 * w) climb.width_is ∙ grind arith;
-  low = within.0;
-  high = within.1;
-}
+climb_up place block width climb = record { level = suc climb.level; width_is = ap (λ w. 2 * w) climb.width_is ∙ grind arith; low = within.0; high = within.1 }
   where
     within : (block / 2 * (2 * width) ≤ place) × (place < block / 2 * (2 * width) + 2 * width)
     within = elim (cases_eq (block % 2) 0) [
@@ -144,15 +120,35 @@ climb_end count place (suc block) width climb h wide =
 
 -- as many levels as the count less one has binary digits
 pub levels_within : (level digits count : ℕ) → 2 ^ level < 2 * count → count - 1 < 2 ^ digits → level ≤ digits
-levels_within level digits count few enough = elim (cases_lt digits level) [
-  | inl above ↦
-      let two : 0 < 2 = omega arith in
-      let more : 2 ^ suc digits ≤ 2 ^ level = pow-le-pow_right two above in
-      let double : 2 ^ suc digits ≡ 2 * 2 ^ digits = grind arith in
-      let no : ⊥ = omega (arith, more, double, few, enough) in
-      absurd no
-  | inr within ↦ within
-]
+levels_within level digits count few enough = omega (arith, half_below level (suc digits) (omega (arith, few, enough, half_up digits)))
+
+-- the block of a place alone
+pub told_place : {P : Type 0} (tells : P → List ℤ → Type 0) (count place : ℕ) (x : ℕ → ℤ) (s : P) (z : ℤ) → place < count → z ≡ x place → tells s (z ∷ [])
+    → tells s (numbers_of_block count x place 1)
+told_place tells count place x s z inside is told =
+    let start : place * 1 ≡ place = omega arith in
+    let one : min 1 (count - place * 1) ≡ 1 = omega (arith, inside) in
+    subst (tells s) (ap (λ y. y ∷ []) is ∙ sym (λ i. segment x (start i) (one i))) told
+
+-- at the end of the way the block has all numbers
+pub told_all : {P : Type 0} (tells : P → List ℤ → Type 0) (count place block width : ℕ) (x : ℕ → ℤ) (s : P) → IsClimb place block width → place < count → count ≤ width
+    → tells s (numbers_of_block count x block width) → tells s (segment x 0 count)
+told_all tells count place block width x s climb inside wide told =
+    let start : block * width ≡ 0 = ap (λ b. b * width) (climb_end count place block width climb inside wide) ∙ grind arith in
+    let all : min width (count - block * width) ≡ count = omega (arith, start, wide) in
+    subst (tells s) (λ i. segment x (start i) (all i)) told
+
+-- a block that no join made is that of the place alone, or the line ends with it
+pub alone_up : (count place block width : ℕ) → (block * width ≡ place) × (width ≡ 1 ⊎ count ≤ place + 1) → (block % 2 ≡ 0) × (count ≤ block * width + width)
+    → (block / 2 * (2 * width) ≡ place) × (2 * width ≡ 1 ⊎ count ≤ place + 1)
+alone_up count place block width nothing alone =
+    let at = even_block block width alone.0 in (
+      omega (arith, at.0, at.2, nothing.0),
+      inr (elim nothing.1 [
+        | inl one ↦ omega (arith, one, alone.1, nothing.0)
+        | inr last ↦ last
+      ]),
+    )
 
 -- the number at the place, and those at others
 pub replaced_here : (x : ℕ → ℤ) (place : ℕ) (z : ℤ) → replaced x place z place ≡ z

@@ -9,8 +9,7 @@ some_places count step some apart = let wide = mul-le 1 1 count step (omega (ari
 module _ (count step : ℕ) (some : 0 < count) (apart : 0 < step) where
   -- how many blocks of lines come before a place
   blocks_before : (block place first : ℕ) → place < count → first < step → (block * (count * step) + (place * step + first)) / (count * step) ≡ block
-  blocks_before block place first p f =
-      div-mul-add block (count * step) (place * step + first) (omega (arith, mul-add-lt place step first count p f))
+  blocks_before block place first p f = div-mul-add block (count * step) (place * step + first) (omega (arith, mul-add-lt place step first count p f))
 
   -- at its place
   pub spot_place : (line place : ℕ) → place < count → spot count step line place / step % count ≡ place
@@ -52,5 +51,4 @@ module _ (count step : ℕ) (some : 0 < count) (apart : 0 < step) where
 pub line_within : (count step slots : ℕ) → AreLines count step slots → (k : ℕ) → k < slots → line_through count step k < slots / count
 line_within count step slots are k h =
     let block = div_below k (count * step) (blocks count step slots are) (some_places count step are.some are.apart) (omega (arith, h, slots_are count step slots are)) in
-    let line = mul-add-lt (k / (count * step)) step (k % step) (blocks count step slots are) block (mod_below k step are.apart) in
-    omega (arith, line, lines_are count step slots are)
+    omega (arith, mul-add-lt (k / (count * step)) step (k % step) (blocks count step slots are) block (mod_below k step are.apart), lines_are count step slots are)

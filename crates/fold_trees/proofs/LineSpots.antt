@@ -21,9 +21,13 @@ same_line unit step a b i j some p q e =
 pub spot_inside : (unit step blocks line place : ℕ) → 0 < step → line < blocks * step → place < unit → spot unit step line place < blocks * (unit * step)
 spot_inside unit step blocks line place some h p =
     let row = mul-add-lt (line / step) unit place blocks (div_below line step blocks some h) p in
-    let all = mul-add-lt (line / step * unit + place) step (line % step) (unit * blocks) row (mod_below line step some) in
     let order : step * (unit * blocks) ≡ blocks * (unit * step) = grind arith in
-    omega (arith, all, order, spot_is unit step line place)
+    omega (arith, mul-add-lt (line / step * unit + place) step (line % step) (unit * blocks) row (mod_below line step some), order, spot_is unit step line place)
+
+-- lines of which some lie within so few slots are as short
+pub short_lines : (count step slots before : ℕ) → 0 < step → before + count * step ≤ slots → slots < 2 ^ 62 → count < 2 ^ 62
+short_lines count step slots before apart ends few =
+    omega (arith, ends, mul-le count 1 count step (omega arith) (omega (arith, apart)), few)
 
 module _ (count step slots : ℕ) (are : AreLines count step slots) where
   -- how many blocks of as many lines as the step there are
@@ -35,8 +39,7 @@ module _ (count step slots : ℕ) (are : AreLines count step slots) where
   slots_are = let parts = div-add-mod' slots (count * step) in omega (arith, parts, are.whole)
 
   pub lines_are : slots / count ≡ blocks * step
-  lines_are =
-      ap (λ n. n / count) (slots_are ∙ grind arith) ∙ div-mul-add (blocks * step) count 0 are.some
+  lines_are = ap (λ n. n / count) (slots_are ∙ grind arith) ∙ div-mul-add (blocks * step) count 0 are.some
 
   pub all_slots : slots ≡ slots / count * count
   all_slots = slots_are ∙ grind arith ∙ ap (λ n. n * count) (sym lines_are)
@@ -46,8 +49,7 @@ module _ (count step slots : ℕ) (are : AreLines count step slots) where
   nodes_are unit nodes sized = sized ∙ ap (λ n. n * unit) lines_are ∙ grind arith
 
   pub fewer_nodes : (unit nodes : ℕ) → unit ≤ count → nodes ≡ slots / count * unit → nodes ≤ slots
-  fewer_nodes unit nodes few sized =
-      omega (arith, mul-le (slots / count) unit (slots / count) count (omega arith) few, sized, all_slots)
+  fewer_nodes unit nodes few sized = omega (arith, mul-le (slots / count) unit (slots / count) count (omega arith) few, sized, all_slots)
 
   module _ (line : ℕ) (h : line < slots / count) where
     pub line_below : line < blocks * step
@@ -57,41 +59,29 @@ module _ (count step slots : ℕ) (are : AreLines count step slots) where
     pub line_fits : line / step * (count * step) + count * step ≤ slots
     line_fits =
         let row = div_below line step blocks are.apart line_below in
-        let most : (line / step + 1) * (count * step) ≤ blocks * (count * step) = mul-le (line / step + 1) (count * step) blocks (count * step) (omega (arith, row)) (omega arith) in
         let sum : (line / step + 1) * (count * step) ≡ line / step * (count * step) + count * step = grind arith in
-        omega (arith, most, sum, slots_are)
+        omega (arith, mul-le (line / step + 1) (count * step) blocks (count * step) (omega (arith, row)) (omega arith), sum, slots_are)
 
     pub slot_within : (place : ℕ) → place < count → spot count step line place < slots
     slot_within place p = let inside = spot_inside count step blocks line place are.apart line_below p in omega (arith, inside, slots_are)
 
     pub nth_within : (unit nodes : ℕ) → nodes ≡ slots / count * unit → (k : ℕ) → 1 ≤ k → k ≤ unit → spot unit step line (k - 1) < nodes
     nth_within unit nodes sized k low high =
-        let within = spot_inside unit step blocks line (k - 1) are.apart line_below (omega (arith, low, high)) in
-        omega (arith, within, nodes_are unit nodes sized)
+        omega (arith, spot_inside unit step blocks line (k - 1) are.apart line_below (omega (arith, low, high)), nodes_are unit nodes sized)
 
     pub in_slots : slots < 2 ^ 62 → HasSlots (line_at count step line) slots
-    in_slots few = record { few = count_few; apart = are.apart; fit = omega (arith, few); slot = slot_within }
-      where
-        count_few : count < 2 ^ 62
-        count_few =
-            let some = are.apart in
-            let wide : count * 1 ≤ count * step = mul-le count 1 count step (omega arith) (omega (arith, some)) in
-            omega (arith, line_fits, wide, few)
+    in_slots few = record { few = short_lines count step slots _ are.apart line_fits few; apart = are.apart; fit = omega (arith, few); slot = slot_within }
 
 -- both lists are long enough for a line
 module _ (count step slots : ℕ) (are : AreLines count step slots) (line : ℕ) (h : line < slots / count)
     (nodes : ℕ) (sized : nodes ≡ slots / count * nodes_in_line count) where
   pub node_within : (meeting : ℕ) → 1 ≤ meeting → meeting < count → nth_node (line_at count step line) meeting < nodes
-  node_within meeting low high =
-      nth_within count step slots are line h (nodes_in_line count) nodes sized meeting low (omega (arith, high))
+  node_within meeting low high = nth_within count step slots are line h (nodes_in_line count) nodes sized meeting low (omega (arith, high))
 
   pub in_both : slots < 2 ^ 62 → IsIn (line_at count step line) slots nodes
   in_both few = record {
     slots = in_slots count step slots are line h few;
-    nodes = record {
-      fit = omega (arith, few, fewer_nodes count step slots are (nodes_in_line count) nodes (omega arith) sized);
-      node = node_within;
-    };
+    nodes = record { fit = omega (arith, few, fewer_nodes count step slots are (nodes_in_line count) nodes (omega arith) sized); node = node_within };
   }
 
 -- a slot of one line is none of another

@@ -12,8 +12,7 @@ in_first step line apart h = let below = div_below line step 1 apart (omega (ari
 pub first_spot : (unit other step line place : ℕ) → 0 < step → line < step → spot unit step line place ≡ spot other step line place
 first_spot unit other step line place apart h =
     let first = in_first step line apart h in
-    let same : 0 * (unit * step) + line % step + place * step ≡ 0 * (other * step) + line % step + place * step = grind arith in
-    (λ i. first i * (unit * step) + line % step + place * step) ∙ same ∙ sym (λ i. first i * (other * step) + line % step + place * step)
+    (λ i. first i * (unit * step) + line % step + place * step) ∙ (grind arith) ∙ sym (λ i. first i * (other * step) + line % step + place * step)
 
 -- all slots of one block of lines
 pub one_block : (count step slots : ℕ) → 0 < count → 0 < step → slots ≡ count * step → AreLines count step slots
@@ -28,8 +27,7 @@ one_block count step slots some apart is = record {
 
 -- are those of as many lines as the step
 pub lines_in_block : (count step slots : ℕ) → 0 < count → slots ≡ count * step → slots / count ≡ step
-lines_in_block count step slots some is =
-    ap (λ n. n / count) (is ∙ grind arith) ∙ div-mul-add step count 0 some
+lines_in_block count step slots some is = ap (λ n. n / count) (is ∙ grind arith) ∙ div-mul-add step count 0 some
 
 -- both lists are long enough for each of them
 pub in_block : (count step numbers nodes line : ℕ) → 0 < count → 0 < step → numbers ≡ count * step → nodes ≡ nodes_in_line count * step → line < step → numbers < 2 ^ 62

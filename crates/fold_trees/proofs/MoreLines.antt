@@ -31,10 +31,9 @@ pub spot_after : (count step slots : ℕ) → AreLines count step slots → (uni
     → spot unit step (slots / count + line) place ≡ slots / count * unit + spot unit step line place
 spot_after count step slots are unit line place =
     let lines = lines_are count step slots are in
-    let order : blocks count step slots are * (unit * step) ≡ blocks count step slots are * step * unit = grind arith in
     ap (λ n. spot unit step (n + line) place) lines
     ∙ spot_behind unit step (blocks count step slots are) line place are.apart
-    ∙ ap (λ n. n + spot unit step line place) (order ∙ ap (λ n. n * unit) (sym lines))
+    ∙ ap (λ n. n + spot unit step line place) ((grind arith) ∙ ap (λ n. n * unit) (sym lines))
 
 -- ---- how many slots and nodes there are in all
 

@@ -6,14 +6,12 @@ use Rattle.std.{proofs.Common.{◌≡◌, refl, ◌∙◌, ℕ, zero, suc, ◌+�
 up_by : (a b : ℤ) (n : ℕ) → a ≤ℤ b → (a *ℤ pos n) ≤ℤ (b *ℤ pos n)
 up_by a b n h =
     let sides : up a + down b ≤ up b + down a = omega (arith, ints) in
-    let more = mul-le-mul_right n sides in
-    omega (arith, ints)
+    omega (arith, mul-le-mul_right n sides, ints)
 
 down_by : (a b : ℤ) (n : ℕ) → a ≤ℤ b → (b *ℤ negsuc n) ≤ℤ (a *ℤ negsuc n)
 down_by a b n h =
     let sides : up a + down b ≤ up b + down a = omega (arith, ints) in
-    let more = mul-le-mul_right (suc n) sides in
-    omega (arith, ints)
+    omega (arith, mul-le-mul_right (suc n) sides, ints)
 
 -- a number between two, many times
 pub between : (a z b t : ℤ) → a ≤ℤ z → z ≤ℤ b → (int_min (a *ℤ t) (b *ℤ t) ≤ℤ (z *ℤ t)) × ((z *ℤ t) ≤ℤ int_max (a *ℤ t) (b *ℤ t))
@@ -59,10 +57,7 @@ bounds_times a b z t h = elim (either_way a z) [
         → int_min (low *ℤ t) (high *ℤ t) ≡ int_min (int_min (a *ℤ t) (b *ℤ t)) (z *ℤ t)
         → int_max (low *ℤ t) (high *ℤ t) ≡ int_max (int_max (a *ℤ t) (b *ℤ t)) (z *ℤ t)
         → AreBoundsTimes (int_min a z) (int_max b z) a b z t
-    at low high e f l g = record {
-      least = (λ i. int_min (e i *ℤ t) (f i *ℤ t)) ∙ l;
-      greatest = (λ i. int_max (e i *ℤ t) (f i *ℤ t)) ∙ g;
-    }
+    at low high e f l g = record { least = (λ i. int_min (e i *ℤ t) (f i *ℤ t)) ∙ l; greatest = (λ i. int_max (e i *ℤ t) (f i *ℤ t)) ∙ g }
 
 -- a number that is not 0 brings none nearer to 0: two numbers around 0 go further out, or so with the other sign
 pub stretched : (a b t : ℤ) → (t ≡ pos 0 → ⊥) → a ≤ℤ pos 0 → pos 0 ≤ℤ b

@@ -36,14 +36,8 @@ narrow_fits x y h k = let most = narrow_times x y h k in fits_signed_from_abs w6
 
 pub narrow_least : (a b : Products) → unsigned_abs a.least ≤ 2147483647 → unsigned_abs a.greatest ≤ 2147483647 → unsigned_abs b.total ≤ 2147483647 → unsigned_abs b.least ≤ 2147483647
     → neg_ℤ (pos 4611686014132420609) ≤ℤ (joined_products a b).least
-narrow_least a b h k t l =
-    let one = narrow_times a.least b.total h t in
-    let other = narrow_times a.greatest b.total k t in
-    omega (arith, ints, clamps)
+narrow_least a b h k t l = omega (arith, narrow_times a.least b.total h t, narrow_times a.greatest b.total k t, ints, clamps)
 
 pub narrow_greatest : (a b : Products) → unsigned_abs a.least ≤ 2147483647 → unsigned_abs a.greatest ≤ 2147483647 → unsigned_abs b.total ≤ 2147483647 → unsigned_abs b.greatest ≤ 2147483647
     → (joined_products a b).greatest ≤ℤ pos 4611686014132420609
-narrow_greatest a b h k t g =
-    let one = narrow_times a.least b.total h t in
-    let other = narrow_times a.greatest b.total k t in
-    omega (arith, ints, clamps)
+narrow_greatest a b h k t g = omega (arith, narrow_times a.least b.total h t, narrow_times a.greatest b.total k t, ints, clamps)

@@ -18,8 +18,7 @@ segment_split x from (suc a) b =
 pub segment_same : (x y : ℕ → ℤ) (from count : ℕ) → ((i : ℕ) → from ≤ i → i < from + count → x i ≡ y i) → segment x from count ≡ segment y from count
 segment_same x y from zero same = refl
 segment_same x y from (suc count) same =
-    let later = segment_same x y (from + 1) count (λ i low high. same i (omega (arith, low)) (omega (arith, high))) in
-    λ i. (same from (omega arith) (omega arith)) i ∷ later i
+    λ i. (same from (omega arith) (omega arith)) i ∷ (segment_same x y (from + 1) count (λ i low high. same i (omega (arith, low)) (omega (arith, high)))) i
 
 -- as a list by its places
 pub listed_segment : (x : ℕ → ℤ) (from count : ℕ) → segment x from count ≡ map x (range_with_len from count)

@@ -1,7 +1,6 @@
 -- The sums of the endings of a list tell its sum from the right.
 use Rattle.std.{proofs.Common.{◌≡◌, ◌<◌, length, List, [], ◌∷◌, refl, ap, sym, ◌∙◌, arith, Bool, true, false, ◌&&◌, if◌then◌else◌, ℤ, ◌+ℤ◌, Ok, Err}, specs.Int.{int_max, int_min}, specs.List.{All}, proofs.lemmas.Int.{ints, clamps}, proofs.lemmas.List.Elements.{All-head, All-tail}}
-use Rattle.std.proofs.lemmas.Bool.{and_from, cond-true}
-use Rattle.arrays_core.{specs.declared.item.Kind.TheVariants.{Limit}, specs.Items.{and_then}}
+use Rattle.{std.proofs.lemmas.Bool.{and_from, cond-true}, arrays_core.{specs.declared.item.Kind.TheVariants.{Limit}, specs.Items.{and_then}}}
 use Rattle.function_names.specs.declared.scalar.Scalar2.TheVariants.{Plus}
 use Rattle.item_fns.{specs.Numbers.{dyadic_on_numbers, number_or_limit, is_number}, specs.Folds.{folded}, proofs.Within.{in_64_bits, is_in_64_bits}}
 use Rattle.fold_trees.{specs.Sums.{sums_of, sum_told}, proofs.Bounds.{one_more}, proofs.JoinedSums.{ordered_of}}

@@ -70,9 +70,8 @@ module _ {P : Type 0} (blank : P) (tells : P → List ℤ → Type 0) (count ste
       | inl e ↦ subst (λ j. ArePartsKept tells count (slot_of (line_at count step j) after) (node_of blank (line_at count step j) nodes_after)) (sym e) new.kept
       | inr other ↦
           let l = line_at count step k in
-          let within = mod_below (place / step) count trees.lines.some in
           kept_alike tells count (slot_of l numbers) (slot_of l after) (node_of blank l nodes) (node_of blank l nodes_after)
-          (λ i p. new.other_slots (slot_at l i) (slots_apart count step k line i at trees.lines.apart p within other))
+          (λ i p. new.other_slots (slot_at l i) (slots_apart count step k line i at trees.lines.apart p (mod_below (place / step) count trees.lines.some) other))
           (λ m low high. new.other_nodes (nth_node l m) (λ n low2 high2. nodes_apart count step k line m n trees.lines.apart low high low2 high2 other))
           (trees.kept k (omega (arith, h, ap (λ n. n / count) new.slot_count)))
     ];

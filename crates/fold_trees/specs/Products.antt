@@ -17,11 +17,7 @@ products_of_none = record { total = pos 1; least = pos 0; greatest = pos 1 }
 
 -- of a number and a list after it
 abbrev pub before : ℤ → Products → Products
-before z s = record {
-  total = z *ℤ s.total;
-  least = int_min s.least (z *ℤ s.total);
-  greatest = int_max s.greatest (z *ℤ s.total);
-}
+before z s = record { total = z *ℤ s.total; least = int_min s.least (z *ℤ s.total); greatest = int_max s.greatest (z *ℤ s.total) }
 
 -- of a list
 abbrev pub products_of : List ℤ → Products

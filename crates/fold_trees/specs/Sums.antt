@@ -21,11 +21,7 @@ single z = record { total = z; least = int_min z (pos 0); greatest = int_max z (
 
 -- of one list after another
 abbrev pub join : (earlier later : Sums) → Sums
-join a b = record {
-  total = a.total +ℤ b.total;
-  least = int_min b.least (a.least +ℤ b.total);
-  greatest = int_max b.greatest (a.greatest +ℤ b.total);
-}
+join a b = record { total = a.total +ℤ b.total; least = int_min b.least (a.least +ℤ b.total); greatest = int_max b.greatest (a.greatest +ℤ b.total) }
 
 -- of a list
 abbrev pub sums_of : List ℤ → Sums

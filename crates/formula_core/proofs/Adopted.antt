@@ -1,7 +1,7 @@
 -- A list takes its changes one after another, from the last to the first.
-use Rattle.std.{proofs.Common.{◌≡◌, ◌≢◌, ℕ, ◌<◌, ◌≤◌, List, [], ◌∷◌, ◌++◌, None, Err, length, set, get_or, refl, sym, ap, ◌∙◌, subst, arith}, proofs.lemmas.List.{length-append, length-set, get_or-set_other, get_or_append_left, get_or_default, get_or-map}, proofs.Math.Seq.{get_or-append_seam}}
+use Rattle.std.{proofs.Common.{◌≡◌, ◌≢◌, ℕ, ◌<◌, ◌≤◌, List, [], ◌∷◌, ◌++◌, None, Err, length, set, get_or, refl, sym, ap, ◌∙◌, subst, arith}, proofs.lemmas.List.{length-append, length-set, get_or-set_other, get_or_append_left, get_or_default}, proofs.Math.Seq.{get_or-append_seam}}
 use Rattle.arrays_core.{specs.declared.item.Kind.TheVariants.{Value}, specs.Outcomes.{fault}}
-use Rattle.formula_core.{specs.declared.kept.Kept.{Kept}, specs.declared.kept.NodeChange.{NodeChange}, specs.declared.table.Node.{Node}, specs.Changes.{each_with}, specs.Holdings.{Holding, holding, holdings_of, nodes_of, not_worked_out, no_change, taking, node_taking, adopted, IsFit, AllChangesFit}}
+use Rattle.formula_core.{specs.declared.kept.Kept.{Kept}, specs.declared.kept.NodeChange.{NodeChange}, specs.declared.table.Node.{Node}, specs.Changes.{each_with}, specs.Holdings.{Holding, holding, holdings_of, nodes_of, no_change, taking, node_taking, adopted}}
 use Rattle.formula_core.specs.declared.table.Node.TheVariants as node
 
 -- changes of elements, what they make of these, that they fit, and what is said where there is none

@@ -1,14 +1,12 @@
 -- Only what the names in a tree show matters to what it gives, to its change and to what that costs.
-use Rattle.std.{proofs.Common.{◌≡◌, ℕ, ◌+◌, List, [], ◌∷◌, ◌++◌, Bool, true, false, Result, Ok, Err, refl, ap, ◌∙◌, subst, sym}, specs.List.{Contains, list_all, sum_by}, proofs.lemmas.Bool.{cond-true}, proofs.lemmas.List.Elements.{Contains-append_left, Contains-append_right, Contains-push}}
+use Rattle.std.{proofs.Common.{◌≡◌, ℕ, ◌+◌, List, [], ◌∷◌, ◌++◌, true, false, Result, Ok, Err, refl, ap, ◌∙◌, subst, sym}, specs.List.{Contains, list_all, sum_by}, proofs.lemmas.Bool.{cond-true}, proofs.lemmas.List.Elements.{Contains-append_left, Contains-append_right, Contains-push}}
 use Rattle.std.proofs.lemmas.List.Sums.{sum_by-append, sum_by_push}
 use Rattle.apl_expr.{specs.Trees.{Tree, Const, Name, Monad, Dyad, Index, Reduce, Scan, Outer, Inner, Positions, NoPositions, Empty, Filled}, specs.declared.functions.Function1.{Function1}, specs.declared.functions.Function2.{Function2}}
 use Rattle.arrays_core.{specs.Arrays.{ArrayValue}, specs.declared.fault.Fault.{Fault}, specs.Outcomes.{Outcome}}
-use Rattle.index_region.{specs.declared.delta.Delta.{Delta}, specs.declared.delta.Delta.TheVariants.{Same}}
-use Rattle.change_core.specs.RuleModels.{RuleModel}
-use Rattle.change_rules.specs.Nodes.{is_same}
-use Rattle.selection_fns.specs.Index.{index_rule}
-use Rattle.formula_core.{specs.Meaning.{eval, eval_positions, applied1, applied2, indexed, in_front, empty_in_front, names_in, names_in_positions}, specs.Tables.{inside, inside_positions, subtrees}, specs.Rules.{right_rule, both_rule}}
-use Rattle.formula_core.{specs.Changes.{NamesChange, arguments, operation_delta, operation_cost, written, values_of, change, changes, cost_at, operation_size, tree_size}, specs.Plans.{node_cost_at, tree_cost}}
+use Rattle.{index_region.{specs.declared.delta.Delta.{Delta}, specs.declared.delta.Delta.TheVariants.{Same}}, change_core.specs.RuleModels.{RuleModel}}
+use Rattle.{change_rules.specs.Nodes.{is_same}, selection_fns.specs.Index.{index_rule}}
+use Rattle.formula_core.{specs.Meaning.{eval, eval_positions, applied1, applied2, indexed, in_front, empty_in_front, names_in, names_in_positions}, specs.Tables.{inside, inside_positions}, specs.Rules.{right_rule, both_rule}}
+use Rattle.formula_core.{specs.Changes.{NamesChange, arguments, operation_delta, operation_cost, written, values_of, change, changes, cost_at}, specs.Plans.{tree_cost}}
 use Rattle.apl_expr.specs.declared.functions.Function1.TheVariants as function1
 use Rattle.apl_expr.specs.declared.functions.Function2.TheVariants as function2
 

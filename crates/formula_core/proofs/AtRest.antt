@@ -1,9 +1,7 @@
 -- A formula is worked out anew where nothing changed of the names.
 use Rattle.std.{proofs.Common.{◌≡◌, ◌∙◌, ◌-◌, ℕ, zero, suc, List, [], ◌∷◌, ◌++◌, length, map, get_or, true, refl, sym, ap, subst, arith, Result, Ok, Err, IfOk, ⊎_elim}, specs.List.{Contains}, specs.declared.alloc.AllocError.{AllocError}, proofs.lemmas.Bool.{false≢true}, proofs.lemmas.List.{length-append, map-append}}
-use Rattle.std.{proofs.lemmas.List.Elements.{Contains-append_cases}, proofs.Math.Seq.{get_or-append_seam}}
-use Rattle.apl_expr.specs.Trees.{Tree}
-use Rattle.index_region.{specs.declared.delta.Delta.{Delta}, specs.declared.delta.Delta.TheVariants.{Same}}
-use Rattle.change_rules.specs.Currency.{applied}
+use Rattle.{std.{proofs.lemmas.List.Elements.{Contains-append_cases}, proofs.Math.Seq.{get_or-append_seam}}, apl_expr.specs.Trees.{Tree}}
+use Rattle.{index_region.{specs.declared.delta.Delta.{Delta}, specs.declared.delta.Delta.TheVariants.{Same}}, change_rules.specs.Currency.{applied}}
 use Rattle.formula_core.{specs.declared.input.Input.{Input}, specs.Meaning.{eval, names_in}, specs.Tables.{subtrees}, specs.Changes.{NamesChange, at_rest}, specs.Inputs.{IsInput}, specs.Formulas.{FormulaValue, root_result}, specs.Holdings.{Holding, holding_at, not_worked_out, adopted}}
 use Rattle.formula_core.{specs.Plans.{PlanValue, AreInputs, IsNameSound, IsTold, IsPlanned}, proofs.Rooted.{before_root, root_last}}
 use Rattle.arrays_core.specs.Outcomes.{Outcome}

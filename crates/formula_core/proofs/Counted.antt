@@ -1,14 +1,13 @@
 -- What is counted where an expression is worked out once is what its functions cost.
-use Rattle.std.{proofs.Common.{◌≡◌, ◌∙◌, ◌+◌, ◌<◌, ◌≤◌, ℕ, zero, suc, List, [], ◌∷◌, ◌++◌, length, map, drop, get_or, true, is_ok, Option, Some, None, Result, Ok, Err, IsOk, refl, sym, ap, subst, arith, IfOk}, specs.Prelude.{OnErr}, specs.declared.alloc.AllocError.{AllocError}, specs.List.{sum_by}}
-use Rattle.std.{proofs.lemmas.Bool.{false≢true}, proofs.lemmas.List.{drop_more}, proofs.lemmas.List.Sums.{sum_by-append, sum_by_push}}
+use Rattle.std.{proofs.Common.{◌≡◌, ◌∙◌, ◌+◌, ◌<◌, ◌≤◌, ℕ, zero, suc, List, [], ◌∷◌, ◌++◌, length, map, drop, get_or, true, is_ok, Option, Some, None, Result, Ok, Err, IsOk, refl, sym, ap, subst, arith}, specs.List.{sum_by}, proofs.lemmas.Bool.{false≢true}, proofs.lemmas.List.{drop_more}}
+use Rattle.std.proofs.lemmas.List.Sums.{sum_by-append, sum_by_push}
 use Rattle.apl_expr.{specs.declared.expr.Expr.{Expr}, specs.declared.functions.Function1.{Function1}, specs.declared.functions.Function2.{Function2}}
 use Rattle.apl_expr.specs.Trees.{Tree, Const, Name, Monad, Dyad, Index, Reduce, Scan, Outer, Inner, before_argument, between_arguments, Literal, Positions, tree_of, position_of, positions_of}
 use Rattle.arrays_core.{specs.Arrays.{ArrayValue, with_items}, specs.Items.{and_then, all_or_first_error}, specs.Shapes.{size, indices}, specs.declared.fault.Fault.{Fault}, specs.declared.item.Item.{Item}, specs.declared.item.Kind.{Kind}, specs.Outcomes.{given, Outcome}}
-use Rattle.index_region.specs.Checks.{Form, whole}
-use Rattle.change_core.{specs.Meters.{ticked}, specs.RuleModels.{RuleModel, form_size}}
+use Rattle.{index_region.specs.Checks.{Form, whole}, change_core.{specs.Meters.{ticked}, specs.RuleModels.{RuleModel, form_size}}}
 use Rattle.selection_fns.specs.Index.{Position, index_rule}
 use Rattle.formula_core.{specs.declared.evaluation.Evaluated.{Evaluated}, specs.Changes.{at_rest, arguments, operation_size, result_of, tree_size, values_of, written}, specs.Counts.{cost_in, cost_in_positions, AreItemsCounted, ArePositionsCounted, IsCounted, IsTreeCounted}}
-use Rattle.formula_core.{specs.Meaning.{applied1, applied2, eval, eval_positions, in_front, of_right, of_both}, specs.Evaluated.{array_in, outcome_of}, specs.Plans.{tree_cost}, specs.Rules.{right_rule, both_rule}, specs.Tables.{inside, inside_positions}}
+use Rattle.formula_core.{specs.Meaning.{applied2, eval, eval_positions, in_front, of_right, of_both}, specs.Evaluated.{array_in, outcome_of}, specs.Plans.{tree_cost}, specs.Rules.{right_rule, both_rule}, specs.Tables.{inside, inside_positions}}
 use Rattle.formula_core.{proofs.Applied.{eval_before, eval_between, inside_before, inside_between, size_before, size_between}, proofs.Changed.{monad_meant, dyad_meant, indexing_meant}, proofs.Indexing.{error_stands, value_written}}
 
 -- what two steps give, the first gives, and the second

@@ -9,8 +9,7 @@ use Rattle.search_fns.{specs.Laws.IndexOf.{index_of_tight}, specs.Laws.Member.{m
 use Rattle.reduce_fns.{specs.Laws.Reduce.{reduce_tight}, specs.Laws.LinesGrowth.{reduce_growing}}
 use Rattle.scan_fns.{specs.Laws.Scan.{scan_tight}, specs.Laws.ScanGrowth.{scan_growing}}
 use Rattle.operator_fns.{specs.Laws.OuterProduct.{outer_tight}, specs.Laws.OuterProductGrowth.{outer_growing}, specs.Laws.InnerProduct.{inner_tight}}
-use Rattle.formula_core.specs.Rules.{right_rule, both_rule}
-use Rattle.std.specs.Prelude.{List, Bool}
+use Rattle.{formula_core.specs.Rules.{right_rule, both_rule}, std.specs.Prelude.{List, Bool}}
 use Rattle.apl_expr.specs.declared.expr.Monadic.TheVariants as monadic
 use Rattle.apl_expr.specs.declared.functions.Function1.TheVariants as function1
 use Rattle.apl_expr.specs.declared.expr.Dyadic.TheVariants as dyadic
@@ -90,8 +89,4 @@ both_growing (function2.Inner f g) = never_grows _
 
 -- where the rule of each function says that its node grows, the result does
 pub rules_grow : RulesGrow
-rules_grow = record {
-  of_right = right_growing;
-  of_both = both_growing;
-  of_positions = index_growing;
-}
+rules_grow = record { of_right = right_growing; of_both = both_growing; of_positions = index_growing }

@@ -1,9 +1,8 @@
 -- The positions of an index, one after another.
-use Rattle.std.{proofs.Common.{◌≡◌, ℕ, zero, suc, ◌+◌, ◌<◌, List, [], ◌∷◌, ◌++◌, length, map, drop, get_or, Option, Some, None, is_some, Err, refl, ap, sym, arith}, proofs.lemmas.List.{drop_more}}
+use Rattle.std.{proofs.Common.{◌≡◌, ℕ, zero, suc, ◌+◌, ◌<◌, List, [], ◌∷◌, length, map, drop, get_or, Option, Some, None, is_some, Err, refl, ap, sym, arith}, proofs.lemmas.List.{drop_more}}
 use Rattle.apl_expr.{specs.declared.expr.Expr.{Expr}, specs.Trees.{tree_of, position_of, positions_of}}
-use Rattle.arrays_core.{specs.declared.fault.Fault.{Fault}, specs.Outcomes.{Outcome}}
-use Rattle.selection_fns.specs.Index.{Position, count_written, written_positions}
-use Rattle.formula_core.{specs.declared.evaluation.Evaluated.{Evaluated}, specs.Evaluated.{array_in, position_in, written_arrays}, specs.Meaning.{eval, eval_positions, in_front, empty_in_front, names_in, names_in_positions}}
+use Rattle.{arrays_core.{specs.declared.fault.Fault.{Fault}, specs.Outcomes.{Outcome}}, selection_fns.specs.Index.{Position, count_written, written_positions}}
+use Rattle.formula_core.{specs.declared.evaluation.Evaluated.{Evaluated}, specs.Evaluated.{array_in, position_in, written_arrays}, specs.Meaning.{eval, eval_positions, in_front, empty_in_front}}
 
 -- the value of one more position
 pub value_written : (names : List ℕ → Outcome) (ps : List (Option Expr)) (k : ℕ) (e : Expr) → k < length ps → get_or ps k None ≡ Some e

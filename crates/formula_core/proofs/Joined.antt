@@ -4,10 +4,8 @@ use Rattle.std.proofs.lemmas.Bool.{cases_Bool, cond-false, cond-true, false≢tr
 use Rattle.apl_expr.{specs.Trees.{Tree, before_argument}, specs.declared.functions.Function1.{Function1}}
 use Rattle.arrays_core.{specs.Arrays.{ArrayValue}, specs.Growth.{grown_by}, specs.declared.fault.Fault.{Fault}, specs.Outcomes.{Outcome}}
 use Rattle.index_region.{specs.Arguments.{is_of_numbers}, specs.declared.delta.Delta.{Delta}, specs.declared.delta.Delta.TheVariants.{Same, Patch, Grown, Whole}, specs.Patches.{PatchValue, patched}, specs.Tails.{TailValue}}
-use Rattle.function_names.specs.Axes.{axis_at}
-use Rattle.reduce_fns.specs.declared.reduce.Reduce.{Reduce}
-use Rattle.change_core.{specs.Meters.{ticked}, specs.RuleModels.{RuleModel}}
-use Rattle.change_rules.{specs.Currency.{applied}, specs.Nodes.{is_error, is_whole}}
+use Rattle.{function_names.specs.Axes.{axis_at}, reduce_fns.specs.declared.reduce.Reduce.{Reduce}}
+use Rattle.{change_core.{specs.Meters.{ticked}, specs.RuleModels.{RuleModel}}, change_rules.{specs.Currency.{applied}, specs.Nodes.{is_error, is_whole}}}
 use Rattle.sum_rules.{specs.LineSums.{SummedValue, keeps_sums, length_along}, specs.Totals.{is_narrow, total_rule}}
 use Rattle.formula_core.{specs.declared.input.Input.{Input}, specs.declared.stage.Stage.{Stage}, specs.declared.table.Operand.{Operand}, specs.Changes.{NamesChange, FitsIn, arguments, change, cost_at, operation_cost, operation_size}, specs.Inputs.{IsInput, delta_of, shown}}
 use Rattle.formula_core.{specs.Joins.{had_trees, has_trees_for, least_joins, least_joins_of, most_joins, most_joins_of}, specs.Meaning.{eval}, specs.Plans.{node_change, node_cost_at}, specs.Rules.{right_rule}, specs.Stages.{AreTotalsJoined, IsJoined, IsKeptBy, GivesItsTree, IsStaged}}

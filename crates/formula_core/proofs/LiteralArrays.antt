@@ -3,8 +3,7 @@ use Rattle.std.{proofs.Common.{◌≡◌, ℕ, ℤ, ◌≤◌, List, [], ◌∷�
 use Rattle.apl_expr.specs.Trees.{Literal, Numbers, Text}
 use Rattle.arrays_core.{specs.declared.item.Item.{Item}, specs.declared.item.Item.TheVariants.{Num, Char}, specs.declared.item.ItemType.TheVariants.{Nums, Chars}, specs.declared.item.Kind.{Kind}, specs.declared.item.Kind.TheVariants.{Limit}}
 use Rattle.arrays_core.{specs.Arrays.{ArrayValue, IsArray, scalar_of, vector_of, character_scalar_of, text_of}, specs.Items.{type_of}, specs.Limits.{longest_axis}, specs.Outcomes.{given}}
-use Rattle.index_region.specs.Arguments.{number_of}
-use Rattle.formula_core.{specs.Constants.{character_of, literal_of_items}, specs.Meaning.{array_of}}
+use Rattle.{index_region.specs.Arguments.{number_of}, formula_core.{specs.Constants.{character_of, literal_of_items}, specs.Meaning.{array_of}}}
 
 numbers_back : (ns : List ℤ) → map number_of (map (λ z. Num z) ns) ≡ ns
 numbers_back [] = refl

@@ -2,10 +2,8 @@
 use Rattle.std.proofs.Common.{◌≡◌, ℕ, List, [], ◌∷◌, Result, Ok, Err, refl}
 use Rattle.apl_expr.{specs.declared.functions.Function1.{Function1}, specs.declared.functions.Function2.{Function2}}
 use Rattle.arrays_core.{specs.Arrays.{ArrayValue, collect}, specs.declared.item.Item.{Item}, specs.declared.item.ItemType.TheVariants.{Nums}, specs.declared.item.Kind.{Kind}, specs.Outcomes.{given}}
-use Rattle.scalar_fns.specs.ScalarExtension.{common, for_shape}
-use Rattle.index_region.specs.Checks.{form_of, whole}
-use Rattle.selection_fns.specs.Index.{index_whole, written_positions, index_rule}
-use Rattle.change_rules.specs.Evaluation.{evaluation}
+use Rattle.{scalar_fns.specs.ScalarExtension.{common, for_shape}, index_region.specs.Checks.{form_of, whole}}
+use Rattle.{selection_fns.specs.Index.{index_whole, written_positions, index_rule}, change_rules.specs.Evaluation.{evaluation}}
 use Rattle.formula_core.{specs.Meaning.{of_right, of_both}, specs.Rules.{right_rule, both_rule}}
 use Rattle.apl_expr.specs.declared.expr.Monadic.TheVariants as monadic
 use Rattle.apl_expr.specs.declared.functions.Function1.TheVariants as function1

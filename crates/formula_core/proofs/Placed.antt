@@ -1,7 +1,7 @@
 -- The node at a place of a table stands for the tree at that place.
-use Rattle.std.{proofs.Common.{◌≡◌, ℕ, zero, suc, ◌+◌, ◌<◌, ◌≤◌, Option, Some, None, List, [], ◌∷◌, ◌++◌, length, map, get_or, refl, sym, ap, ◌∙◌, subst, arith, append_assoc}, specs.Option.{option_map}, proofs.lemmas.List.{length-append, append-nil}}
+use Rattle.std.{proofs.Common.{◌≡◌, ℕ, zero, suc, ◌+◌, ◌<◌, List, [], ◌∷◌, ◌++◌, length, map, get_or, refl, sym, ap, ◌∙◌, subst, arith, append_assoc}, specs.Option.{option_map}, proofs.lemmas.List.{length-append, append-nil}}
 use Rattle.apl_expr.specs.Trees.{Tree, Index, before_argument, between_arguments, positions_of}
-use Rattle.formula_core.{specs.declared.table.Operand.{Operand}, specs.declared.table.Node.{Node}, specs.Tables.{tree_at, tree_of_operand, tree_of_node, trees_after, IsOperand, AreOperands, IsNode, IsTable}, proofs.Tabled.{at_last, operand_front, operands_front}}
+use Rattle.formula_core.{specs.declared.table.Node.{Node}, specs.Tables.{tree_at, tree_of_operand, tree_of_node, trees_after, IsNode, IsTable}, proofs.Tabled.{at_last, operand_front, operands_front}}
 use Rattle.formula_core.specs.declared.table.Operand.TheVariants as operand
 use Rattle.formula_core.specs.declared.table.Node.TheVariants as node
 

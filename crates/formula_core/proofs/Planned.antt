@@ -1,11 +1,8 @@
 -- A plan is made node by node.
 use Rattle.std.{proofs.Common.{◌≡◌, ℕ, suc, ◌+◌, ◌<◌, List, [], ◌∷◌, ◌++◌, length, map, take, get_or, Bool, true, false, IfOk, Ok, refl, sym, ap, ◌∙◌, subst, arith, inl, inr}, specs.List.{sum_by}, proofs.lemmas.Bool.{cases_lt}, proofs.lemmas.List.{length-append, length-map, get_or_append_left, get_or-map, take_all}}
-use Rattle.std.{proofs.lemmas.List.Sums.{sum_by_more}, proofs.Math.Seq.{get_or-append_seam}}
-use Rattle.apl_expr.specs.Trees.{Tree, Const, Numbers}
-use Rattle.arrays_core.{specs.Arrays.{IsArray}, specs.Outcomes.{Outcome}}
-use Rattle.index_region.specs.declared.delta.Delta.{Delta}
-use Rattle.change_core.specs.Meters.{ticked, MeterValue}
-use Rattle.change_rules.specs.Currency.{applied}
+use Rattle.{std.{proofs.lemmas.List.Sums.{sum_by_more}, proofs.Math.Seq.{get_or-append_seam}}, apl_expr.specs.Trees.{Tree, Const, Numbers}}
+use Rattle.{arrays_core.{specs.Arrays.{IsArray}, specs.Outcomes.{Outcome}}, index_region.specs.declared.delta.Delta.{Delta}}
+use Rattle.{change_core.specs.Meters.{ticked, MeterValue}, change_rules.specs.Currency.{applied}}
 use Rattle.formula_core.{specs.declared.input.Input.{Input}, specs.declared.kept.Kept.{Kept}, specs.declared.kept.NodeChange.{NodeChange}, specs.declared.stage.Stage.{Stage}, specs.declared.table.Node.{Node}, specs.Meaning.{eval, names_in}, specs.Tables.{subtrees, tree_at, tree_of_node, trees_after, IsNode, IsTable}}
 use Rattle.formula_core.{specs.Changes.{NamesChange, FitsIn}, specs.Holdings.{Holding, holding, holding_at, holdings_of, nodes_of, not_worked_out, no_change, taking, adopted}, specs.Formulas.{FormulaValue, IsTableOf, new_formula, root_of}, specs.Plans.{PlanValue, node_change, node_cost_at, IsPlanOf, IsTold, IsPlanned}}
 use Rattle.formula_core.{specs.Stages.{IsDone, IsStaged, IsSumsStep, IsBegun, IsNodeStep, IsStep, IsJoined}, proofs.Placed.{tree_next, node_at}, proofs.Steps.{inputs_long, change_fits}, proofs.Tabled.{trees_long}}

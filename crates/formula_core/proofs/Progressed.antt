@@ -2,9 +2,7 @@
 use Rattle.std.{proofs.Common.{◌≡◌, ◌<◌, ◌+◌, ◌≤◌, ℕ, zero, suc, All, List, [], ◌∷◌, ◌++◌, Bool, true, false, cond, refl, sym, ap, ◌∙◌, subst, length, take, get_or, arith, ◌⊎◌, inl, inr}, specs.List.{count_by, sum_by}, proofs.lemmas.Bool.{false≢true, cases_lt}, proofs.lemmas.List.{length-append, take_all, take-take}}
 use Rattle.std.{proofs.lemmas.List.Elements.{All-nil, All-append, All-push}, proofs.lemmas.List.Sums.{sum_by_more, sum_by_more_le, sum_by-take-le, count_by_more_yes, count_by_more_no}}
 use Rattle.apl_expr.specs.Trees.{Tree, Const, Name, Monad, Dyad, Index, Reduce, Scan, Outer, Inner, Numbers, Positions, NoPositions, Empty, Filled}
-use Rattle.change_core.specs.Meters.{ticked, MeterValue}
-use Rattle.change_rules.specs.Nodes.{is_error}
-use Rattle.index_region.specs.declared.delta.Delta.{Delta}
+use Rattle.{change_core.specs.Meters.{ticked, MeterValue}, change_rules.specs.Nodes.{is_error}, index_region.specs.declared.delta.Delta.{Delta}}
 use Rattle.formula_core.{specs.declared.input.Input.{Input}, specs.declared.kept.NodeChange.{NodeChange}, specs.declared.table.Node.{Node}, specs.Changes.{NamesChange}, specs.Formulas.{FormulaValue, is_operation, operations}, specs.Plans.{PlanValue, node_change, node_cost_at, tree_cost, IsComputed, IsTold}}
 use Rattle.formula_core.{specs.Progress.{operations_among, IsAtOperation, IsPlannedTo}, specs.Stages.{IsBegun, IsOneMore}, specs.Tables.{applies, inside, inside_positions, subtrees, tree_at, tree_of_node, tree_of_operand}, proofs.Applied.{operation_before, operation_between}, proofs.Planned.{begun_more}}
 use Rattle.formula_core.proofs.Rooted.{before_root, root_last}

@@ -3,9 +3,7 @@ use Rattle.std.{proofs.Common.{◌≡◌, ℕ, ◌+◌, ◌≤◌, List, [], ◌
 use Rattle.apl_expr.{specs.Trees.{Tree, Index, before_argument, between_arguments, positions_of}, specs.declared.functions.Function1.{Function1}, specs.declared.functions.Function2.{Function2}}
 use Rattle.arrays_core.{specs.Arrays.{ArrayValue}, specs.declared.fault.Fault.{Fault}, specs.Outcomes.{Outcome}}
 use Rattle.index_region.{specs.declared.delta.Delta.{Delta}, specs.declared.delta.Delta.TheVariants.{Same, Patch, Grown, Whole}}
-use Rattle.change_core.specs.RuleModels.{RuleModel}
-use Rattle.change_rules.specs.Nodes.{is_same, is_whole}
-use Rattle.selection_fns.specs.Index.{index_rule}
+use Rattle.{change_core.specs.RuleModels.{RuleModel}, change_rules.specs.Nodes.{is_same, is_whole}, selection_fns.specs.Index.{index_rule}}
 use Rattle.formula_core.{specs.declared.input.Input.{Input}, specs.declared.input.Input.TheVariants.{Good, Bad}, specs.Meaning.{eval}, specs.Rules.{right_rule, both_rule}}
 use Rattle.formula_core.{specs.Changes.{NamesChange, arguments, result_of, result_delta, result_cost, operation_delta, operation_cost, operation_size, written, values_of, change, changes, cost_at, tree_size}, specs.Inputs.{shown, stays, delta_of, written_inputs, AllHaveFit, IsInput, IsOperationChange}}
 use Rattle.formula_core.{specs.Stages.{GivesItsTree, GiveTheirTrees, IsStep}, proofs.Applied.{change_before, change_between, cost_before, cost_between, eval_before, eval_between, size_before, size_between}, proofs.Changed.{all_arrays, monad_meant, dyad_meant, indexing_meant}}

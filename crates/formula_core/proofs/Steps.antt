@@ -3,12 +3,11 @@ use Rattle.std.{proofs.Common.{◌≡◌, ℕ, zero, suc, ◌+◌, ◌<◌, List
 use Rattle.std.{proofs.lemmas.List.{get_or-map, get_or_default, map_more}, specs.declared.alloc.AllocError.{AllocError}}
 use Rattle.apl_expr.specs.Trees.{Tree, Const, Name, Monad, Dyad, Index, Reduce, Scan, Outer, Inner, Numbers, positions_of}
 use Rattle.arrays_core.{specs.Arrays.{IsArray}, specs.declared.item.Kind.TheVariants.{Value}, specs.Outcomes.{Outcome, fault}}
-use Rattle.index_region.{specs.declared.delta.Delta.{Delta}, specs.declared.delta.Delta.TheVariants.{Same, Patch, Grown, Whole}}
-use Rattle.change_rules.{specs.Currency.{applied}, specs.Nodes.{is_same}}
+use Rattle.{index_region.specs.declared.delta.Delta.{Delta}, change_rules.specs.Currency.{applied}}
 use Rattle.formula_core.{specs.declared.input.Input.{Input}, specs.declared.input.Input.TheVariants.{Good, Bad}, specs.declared.stage.Stage.{Stage}, specs.declared.table.Operand.{Operand}, specs.declared.table.Node.{Node}, specs.Meaning.{eval}}
-use Rattle.formula_core.{specs.Tables.{tree_at, tree_of_operand, tree_of_node, IsOperand, AreOperands, IsNode}, specs.Changes.{NamesChange, change, changes, values_of, FitsIn, FitsNow, IsNameChanged}, specs.Inputs.{shown, HasFit, IsAllOrNothing, IsInput}}
-use Rattle.formula_core.{specs.Holdings.{Holding, holding_at, holdings_of, not_worked_out, no_change}, specs.Plans.{node_change, AreInputs}, specs.Rules.{with_change}, specs.Stages.{IsStaged, IsTaken, IsLiteralChange, GiveTheirTrees, IsStep}, specs.Formulas.{is_operation}, proofs.Fitting.{fit_now}}
-use Rattle.formula_core.{proofs.LiteralArrays.{literal_is_array}, proofs.Changed.{AllChanged, monad_changed, dyad_changed, index_changed, IsChanged, IsTreeChanged}, proofs.Stepping.{ready_more}}
+use Rattle.formula_core.{specs.Tables.{tree_at, tree_of_operand, tree_of_node, IsOperand, AreOperands, IsNode}, specs.Changes.{NamesChange, change, changes, values_of, FitsIn, FitsNow, IsNameChanged}, specs.Inputs.{shown, HasFit, IsInput}, specs.Holdings.{Holding, holding_at, holdings_of, not_worked_out, no_change}}
+use Rattle.formula_core.{specs.Plans.{node_change, AreInputs}, specs.Rules.{with_change}, specs.Stages.{IsStaged, IsTaken, IsLiteralChange, GiveTheirTrees, IsStep}, specs.Formulas.{is_operation}, proofs.Fitting.{fit_now}, proofs.LiteralArrays.{literal_is_array}}
+use Rattle.formula_core.{proofs.Changed.{AllChanged, monad_changed, dyad_changed, index_changed, IsChanged, IsTreeChanged}, proofs.Stepping.{ready_more}}
 use Rattle.formula_core.specs.declared.table.Operand.TheVariants as operand
 use Rattle.formula_core.specs.declared.table.Node.TheVariants as node
 

@@ -1,13 +1,10 @@
 -- The sums that totals keep follow the changes of their arguments.
 use Rattle.std.{proofs.Common.{◌≡◌, ℕ, List, length, Box, Global, Bool, true, false, Option, Some, None, is_some, Result, Ok, Err, IfOk, refl, sym, ap, ◌∙◌, subst, inl, inr}, specs.declared.alloc.AllocError.{AllocError}, specs.Option.{option_map, option_map_or}}
-use Rattle.std.proofs.lemmas.Bool.{false≢true, cases_Bool, cond-true, cond-false}
-use Rattle.apl_expr.specs.Trees.{Tree}
+use Rattle.{std.proofs.lemmas.Bool.{false≢true, cases_Bool, cond-true, cond-false}, apl_expr.specs.Trees.{Tree}}
 use Rattle.arrays_core.{specs.Arrays.{ArrayValue}, specs.Growth.{grown_by}, proofs.Growing.{rank_longer}, specs.Outcomes.{Outcome}}
-use Rattle.function_names.{specs.Axes.{axis_at}, specs.declared.scalar.Scalar2.{Scalar2}}
-use Rattle.reduce_fns.specs.declared.reduce.Reduce.{Reduce}
+use Rattle.{function_names.{specs.Axes.{axis_at}, specs.declared.scalar.Scalar2.{Scalar2}}, reduce_fns.specs.declared.reduce.Reduce.{Reduce}}
 use Rattle.index_region.{specs.declared.delta.Delta.{Delta}, specs.declared.delta.Delta.TheVariants.{Same, Patch, Grown, Whole}, specs.Patches.{PatchValue, patched}, specs.Tails.{TailValue, FitsTail}}
-use Rattle.change_rules.{specs.Currency.{applied}, specs.Nodes.{is_same, is_whole}}
-use Rattle.fold_trees.specs.ArrayLines.{TreesValue}
+use Rattle.{change_rules.{specs.Currency.{applied}, specs.Nodes.{is_same, is_whole}}, fold_trees.specs.ArrayLines.{TreesValue}}
 use Rattle.sum_rules.{specs.LineSums.{StandFor, SummedValue, keeps_sums, grown_sums, summed}, specs.NewLines.{NewLinesValue, FitsSums as FitBehind}, specs.Totals.{StoodBefore, StoodFor}, proofs.KeptSums.{kept_parts}}
 use Rattle.formula_core.{specs.declared.input.Input.{Input}, specs.declared.input.Input.TheVariants.{Good, Bad}, specs.declared.stage.Stage.{Stage}, specs.declared.sums.SumsDelta.{SumsDelta}, specs.declared.table.Operand.{Operand}, specs.declared.table.Node.{Node}, specs.Meaning.{eval}}
 use Rattle.formula_core.{specs.Tables.{tree_of_operand, tree_of_node, IsOperand, IsNode}, specs.Changes.{NamesChange, change, FitsIn}, specs.Inputs.{shown, delta_of, IsInput}, specs.Stages.{IsStaged, GivesItsTree, IsKeptBy, IsMadeBy, IsSumsStep}}

@@ -1,9 +1,9 @@
 -- What a table stands for, as names and nodes are added.
-use Rattle.std.{proofs.Common.{◌≡◌, ℕ, suc, ◌+◌, ◌<◌, ◌≤◌, List, [], ◌∷◌, ◌++◌, length, map, take, get_or, add-one, Box, Global, Option, Some, None, refl, sym, ap, ◌∙◌, subst, arith, append_assoc}, specs.Prelude.{Result, Ok, Err, OnOk, IfOk}, specs.Option.{option_map}}
+use Rattle.std.{proofs.Common.{◌≡◌, ℕ, suc, ◌+◌, ◌<◌, ◌≤◌, List, [], ◌∷◌, ◌++◌, length, map, take, get_or, add-one, Option, Some, None, refl, sym, ap, ◌∙◌, subst, arith, append_assoc}, specs.Prelude.{Result, Ok, Err, OnOk, IfOk}, specs.Option.{option_map}}
 use Rattle.std.{proofs.lemmas.List.{length-append, map-append, get_or_append_left}, proofs.Math.Seq.{take-suc}, specs.Global.{Vec}}
 use Rattle.apl_expr.{specs.declared.expr.Expr.{Expr}, specs.Trees.{Tree, Const, Name, Index, before_argument, between_arguments, Numbers, position_of, positions_of, Literal}, specs.declared.functions.Function1.{Function1}, specs.declared.functions.Function2.{Function2}}
-use Rattle.formula_core.{specs.declared.constant.Constant.{Constant}, specs.declared.table.Operand.{Operand}, specs.declared.table.Node.{Node}, specs.Meaning.{names_in, names_in_positions}}
-use Rattle.formula_core.{specs.Tables.{inside, inside_positions, tree_at, tree_of_operand, tree_of_node, trees_after, IsOperand, AreOperands, IsNode, IsTable, IsLowered, ArePositionsLowered}, proofs.Applied.{inside_before, inside_between, names_before, names_between}}
+use Rattle.formula_core.{specs.declared.table.Operand.{Operand}, specs.declared.table.Node.{Node}, specs.Meaning.{names_in, names_in_positions}, specs.Tables.{inside, inside_positions, tree_at, tree_of_operand, tree_of_node, trees_after, IsOperand, AreOperands, IsNode, IsTable, IsLowered, ArePositionsLowered}}
+use Rattle.formula_core.proofs.Applied.{inside_before, inside_between, names_before, names_between}
 use Rattle.formula_core.specs.declared.table.Operand.TheVariants as operand
 use Rattle.formula_core.specs.declared.table.Node.TheVariants as node
 

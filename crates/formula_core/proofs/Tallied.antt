@@ -1,11 +1,8 @@
 -- How many sums the nodes so far have joined.
 use Rattle.std.{proofs.Common.{◌≡◌, ℕ, zero, suc, ◌+◌, ◌-◌, ◌*◌, ◌<◌, ◌≤◌, List, [], ◌∷◌, length, take, min, nat_lt, Bool, true, false, cond, Option, Some, None, Ok, Err, refl, sym, ap, ◌∙◌, subst, arith, inl, inr, if◌then◌else◌}, specs.List.{count_by, sum_by}, specs.Option.{option_map_or}}
 use Rattle.std.{proofs.lemmas.Bool.{cases_Bool, cond-false, cond-true, false≢true}, proofs.lemmas.List.{take_all}, proofs.lemmas.List.Sums.{count_by_more_yes, sum_by-cons, sum_by-take-le, sum_by_more}}
-use Rattle.apl_expr.specs.Trees.{Tree, Const, Name, Monad, Dyad, Index, Scan, Outer, Inner, Numbers}
-use Rattle.change_core.specs.Meters.{ticked}
-use Rattle.change_rules.specs.Nodes.{is_error}
-use Rattle.reduce_fns.specs.declared.reduce.Reduce.{Reduce}
-use Rattle.index_region.specs.declared.delta.Delta.{Delta}
+use Rattle.{apl_expr.specs.Trees.{Tree, Const, Name, Monad, Dyad, Index, Scan, Outer, Inner, Numbers}, change_core.specs.Meters.{ticked}}
+use Rattle.{change_rules.specs.Nodes.{is_error}, reduce_fns.specs.declared.reduce.Reduce.{Reduce}, index_region.specs.declared.delta.Delta.{Delta}}
 use Rattle.sum_rules.{specs.LineSums.{length_along}, specs.Totals.{new_items}}
 use Rattle.formula_core.{specs.declared.kept.NodeChange.{NodeChange}, specs.Changes.{NamesChange}, specs.Formulas.{FormulaValue, is_operation}, specs.Joins.{has_trees_for, least_joins, least_joins_of, most_joins, tree_joins, tree_least_joins}, specs.Meaning.{eval}, specs.Plans.{IsComputed, node_change, node_cost_at}}
 use Rattle.formula_core.{specs.Progress.{IsAtOperation, operations_among}, specs.Sums.{total_of}, specs.Tables.{subtrees, tree_at}, proofs.Progressed.{front_more, longer}}

@@ -4,11 +4,8 @@ use Rattle.std.{proofs.lemmas.Bool.{and_from, and_parts, cases_Bool, cond-false,
 use Rattle.apl_expr.specs.declared.functions.Function1.{Function1}
 use Rattle.arrays_core.{specs.Arrays.{ArrayValue}, specs.Growth.{grown_by, one_longer}, specs.Shapes.{size}, proofs.Growing.{rank_longer}, specs.Outcomes.{Outcome}}
 use Rattle.index_region.{specs.Arguments.{is_of_numbers}, specs.Tails.{TailValue}, specs.declared.delta.Delta.{Delta}, specs.declared.delta.Delta.TheVariants.{Same, Patch, Grown, Whole}, specs.Patches.{FitsPatch, PatchValue, patched}, proofs.Patched.{box_within_size}, proofs.Walks.{some_place}}
-use Rattle.function_names.{specs.Axes.{axis_at, is_axis}, specs.declared.along.Along.{Along}}
-use Rattle.reduce_fns.specs.declared.reduce.Reduce.{Reduce}
-use Rattle.fold_trees.specs.FoldTrees.{has_trees}
-use Rattle.change_core.specs.Meters.{ticked}
-use Rattle.change_rules.specs.Nodes.{is_error}
+use Rattle.{function_names.{specs.Axes.{axis_at, is_axis}, specs.declared.along.Along.{Along}}, reduce_fns.specs.declared.reduce.Reduce.{Reduce}}
+use Rattle.{fold_trees.specs.FoldTrees.{has_trees}, change_core.specs.Meters.{ticked}, change_rules.specs.Nodes.{is_error}}
 use Rattle.sum_rules.{specs.LineSums.{SummedValue, keeps_sums, length_along, line_length, line_step, most_without_tree}, specs.Totals.{AreFolds, AreFoldsWithin, HasAllJoins, HasJoins, is_narrow, new_items, total_rule}, proofs.KeptSums.{along_axis, kept_parts}, proofs.MorePlaces.{between, longer}}
 use Rattle.formula_core.{specs.declared.input.Input.TheVariants.{Good}, specs.Changes.{FitsNow, operation_cost}, specs.Joins.{binary_digits, had_trees, has_trees_for, least_joins_of}, specs.Rules.{right_rule}, specs.Stages.{AreTotalsJoined}, specs.Sums.{AreSumsKept, IsSummedFor, total_of}}
 use Rattle.formula_core.{proofs.Digits.{few_within_digits, within_digits}, proofs.Narrow.{grown_within, patch_within}, proofs.Summed.{kept_of}}

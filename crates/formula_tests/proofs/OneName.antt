@@ -1,8 +1,6 @@
 -- A formula of one name, which shows an array.
-use Rattle.std.proofs.Common.{◌≡◌, ℕ, List, [], ◌∷◌, length, false, Ok, arith}
-use Rattle.arrays_core.specs.Arrays.{ArrayValue, IsArray}
-use Rattle.index_region.specs.declared.delta.Delta.{Delta}
-use Rattle.change_rules.specs.Currency.{applied}
+use Rattle.{std.proofs.Common.{◌≡◌, ℕ, List, [], ◌∷◌, length, false, Ok, arith}, arrays_core.specs.Arrays.{ArrayValue, IsArray}}
+use Rattle.{index_region.specs.declared.delta.Delta.{Delta}, change_rules.specs.Currency.{applied}}
 use Rattle.formula_core.{specs.declared.input.Input.{Input}, specs.Changes.{NamesChange, FitsIn}, specs.Formulas.{FormulaValue, IsHeld}, specs.Inputs.{IsInput}, specs.Meaning.{names_in}, specs.Plans.{AreInputs, IsTold}}
 
 -- an array before and after, and what changed of it

@@ -31,18 +31,15 @@ front_more : (s : Interval) (region : List Interval) (a b : ℕ) → a < interva
 front_more s region a b below inside next h = elim (cases_order (b + 1) (box_size region)) [
   | inl e ↦
       let next_row : (a + 1) * box_size region ≡ a * box_size region + box_size region = grind arith in
-      let before : a * box_size region + b + 1 ≡ (a + 1) * box_size region + 0 = omega arith in
-      let one_on : s.0 + a + 1 ≡ s.0 + (a + 1) = omega arith in
       let more : a + 1 < interval_length s = rows_below (a + 1) (interval_length s) (box_size region) (omega arith) in
       ap (stepped s (s.0 + a)) (next.last e)
       ∙ stepped_more s (s.0 + a) (walk_at region 0) (omega arith)
-      ∙ ap (λ (i : ℕ). (i ∷ walk_at region 0, false)) one_on
-      ∙ sym (ap (λ (p : ℕ). (walk_at (s ∷ region) p, false)) before ∙ ap (λ (i : List ℕ). (i, false)) (row_of s region (a + 1) 0 (omega arith)))
+      ∙ ap (λ (i : ℕ). (i ∷ walk_at region 0, false)) (omega arith)
+      ∙ sym (ap (λ (p : ℕ). (walk_at (s ∷ region) p, false)) (omega arith) ∙ ap (λ (i : List ℕ). (i, false)) (row_of s region (a + 1) 0 (omega arith)))
   | inr o ↦ elim o [
     | inl l ↦
-        let before : a * box_size region + b + 1 ≡ a * box_size region + (b + 1) = omega arith in
         ap (stepped s (s.0 + a)) (next.more l)
-        ∙ sym (ap (λ (p : ℕ). (walk_at (s ∷ region) p, false)) before ∙ ap (λ (i : List ℕ). (i, false)) (row_of s region a (b + 1) l))
+        ∙ sym (ap (λ (p : ℕ). (walk_at (s ∷ region) p, false)) (omega arith) ∙ ap (λ (i : List ℕ). (i, false)) (row_of s region a (b + 1) l))
     | inr l ↦ absurd (omega arith)
   ]
 ]
@@ -52,7 +49,6 @@ front_last : (s : Interval) (region : List Interval) (a b : ℕ) → a < interva
 front_last s region a b below inside next h =
     let next_row : (a + 1) * box_size region ≡ a * box_size region + box_size region = grind arith in
     let rows : (a + 1) * box_size region ≤ interval_length s * box_size region = mul-le (a + 1) (box_size region) (interval_length s) (box_size region) (omega arith) (omega arith) in
-    let around : b + 1 ≡ box_size region = omega arith in
     let none_more : a + 1 < interval_length s → ⊥ = λ l.
     let more : (a + 1 + 1) * box_size region ≤ interval_length s * box_size region = mul-le (a + 1 + 1) (box_size region) (interval_length s) (box_size region) (omega arith) (omega arith) in
     let after : (a + 1 + 1) * box_size region ≡ a * box_size region + box_size region + box_size region = grind arith in
@@ -60,7 +56,7 @@ front_last s region a b below inside next h =
     let last : a + 1 ≡ interval_length s = elim (cases_order (a + 1) (interval_length s)) [ inl e ↦ e | inr o ↦ elim o [ inl l ↦ absurd (none_more l) | inr l ↦ absurd (omega arith) ] ] in
     let zero_first : s.0 + 0 ≡ s.0 = omega arith in
     let none : 0 ≡ 0 * box_size region + 0 = omega arith in
-    ap (stepped s (s.0 + a)) (next.last around)
+    ap (stepped s (s.0 + a)) (next.last (omega arith))
     ∙ stepped_last s (s.0 + a) (walk_at region 0) (omega arith)
     ∙ sym (ap (λ (p : ℕ). (walk_at (s ∷ region) p, true)) none ∙ ap (λ (i : List ℕ). (i, true)) (row_of s region 0 0 (omega arith) ∙ ap (λ (i : ℕ). i ∷ walk_at region 0) zero_first))
 
@@ -71,12 +67,11 @@ next_at (s ∷ region) before h =
     let positive : 0 < w = rest_positive before (interval_length s) w h in
     let a = before / w in
     let b = before % w in
-    let whole : a * w + b ≡ before = div-add-mod' before w in
     let inside : b < w = mod_below before w positive in
     let below : a < interval_length s = div_below before w (interval_length s) positive h in
     let rest = next_at region b inside in
     record {
-      more = λ l. front_more s region a b below inside rest (omega arith) ∙ ap (λ (p : ℕ). (walk_at (s ∷ region) (p + 1), false)) whole;
+      more = λ l. front_more s region a b below inside rest (omega arith) ∙ ap (λ (p : ℕ). (walk_at (s ∷ region) (p + 1), false)) (div-add-mod' before w);
       last = λ e. front_last s region a b below inside rest (omega arith);
     }
 

@@ -1,37 +1,49 @@
 -- Boxes made an axis at a time.
 use Rattle.std.{proofs.Common.{◌≡◌, ℕ, ◌+◌, ◌-◌, ◌*◌, ◌/◌, ◌%◌, ◌<◌, ◌≤◌, List, [], ◌∷◌, ◌++◌, length, take, drop, set, remove, get_or, arith, true, false, Bool, ◌&&◌, sym, ap, ◌∙◌, subst, refl, min, max, suc, zero, nat_le, nat_eq, length-take-le, inl, inr, add-one, append_assoc, if◌then◌else◌}, specs.List.{list_all}}
 use Rattle.std.{proofs.lemmas.Bool.{and_parts, and_from, or_parts, leb-true, le-leb, ltb-false, eqb-true, eq-eqb, ne_eqb, false≢true, cases_Bool, cond-true, cond-false}, proofs.lemmas.Nat.{div-add-mod', mod_below, le-div}, proofs.Math.Nat.{div-mul-le_self, div-lt_iff_lt-mul}}
-use Rattle.std.proofs.lemmas.List.{take_more, take_all, length-drop}
+use Rattle.std.{proofs.lemmas.List.{take_more, take_all, length-drop, length-take}, proofs.Math.Seq.{take-set-lt}}
 use Rattle.arrays_core.specs.Shapes.{size, index_after}
 use Rattle.index_region.specs.Boxes.{Interval, is_within, is_box, fits, hull_of, meet_of, whole_of, met, is_empty, cover, cover_between}
+
+-- an index on an interval
+pub record On (s : Interval) (i : ℕ) (region : List Interval) (index : List ℕ) : Type 0 where
+  pub low : s.0 ≤ i
+  pub high : i ≤ s.1
+  pub rest : is_within region index ≡ true
+
+pub on_parts : (s : Interval) (i : ℕ) (region : List Interval) (index : List ℕ) → is_within (s ∷ region) (i ∷ index) ≡ true → On s i region index
+on_parts s i region index h =
+    let parts = and_parts _ _ h in
+    let here = and_parts _ _ parts.0 in
+    record { low = leb-true s.0 i here.0; high = leb-true i s.1 here.1; rest = parts.1 }
+
+pub on_from : (s : Interval) (i : ℕ) (region : List Interval) (index : List ℕ) → s.0 ≤ i → i ≤ s.1 → is_within region index ≡ true → is_within (s ∷ region) (i ∷ index) ≡ true
+on_from s i region index l u rest = and_from _ _ (and_from _ _ (le-leb s.0 i l) (le-leb i s.1 u)) rest
 
 -- what lies in one box lies in the hull
 pub within-hull_left : (a b : List Interval) (index : List ℕ) → length a ≡ length b → is_within a index ≡ true → is_within (hull_of a b) index ≡ true
 within-hull_left [] [] index e h = h
 within-hull_left (s ∷ a) (t ∷ b) (i ∷ index) e h =
-    let parts = and_parts _ _ h in
-    let first = and_parts _ _ parts.0 in
-    let low : min s.0 t.0 ≤ i = omega (arith, leb-true s.0 i first.0) in
-    let high : i ≤ max s.1 t.1 = omega (arith, leb-true i s.1 first.1) in
-    and_from _ _ (and_from _ _ (le-leb _ _ low) (le-leb _ _ high)) (within-hull_left a b index (omega arith) parts.1)
+    let here = on_parts s i a index h in
+    on_from (min s.0 t.0, max s.1 t.1) i (hull_of a b) index (omega (arith, here.low)) (omega (arith, here.high)) (within-hull_left a b index (omega arith) here.rest)
 within-hull_left (s ∷ a) (t ∷ b) [] e h = absurd (false≢true h)
 within-hull_left [] (t ∷ b) index e h = absurd (omega arith)
 within-hull_left (s ∷ a) [] index e h = absurd (omega arith)
 
+hull_turned : (a b : List Interval) → hull_of a b ≡ hull_of b a
+hull_turned [] [] = refl
+hull_turned [] (t ∷ b) = refl
+hull_turned (s ∷ a) [] = refl
+hull_turned (s ∷ a) (t ∷ b) =
+    let low : min s.0 t.0 ≡ min t.0 s.0 = omega arith in
+    let high : max s.1 t.1 ≡ max t.1 s.1 = omega arith in
+    λ i. (low i, high i) ∷ hull_turned a b i
+
 pub within-hull_right : (a b : List Interval) (index : List ℕ) → length a ≡ length b → is_within b index ≡ true → is_within (hull_of a b) index ≡ true
-within-hull_right [] [] index e h = h
-within-hull_right (s ∷ a) (t ∷ b) (i ∷ index) e h =
-    let parts = and_parts _ _ h in
-    let first = and_parts _ _ parts.0 in
-    let low : min s.0 t.0 ≤ i = omega (arith, leb-true t.0 i first.0) in
-    let high : i ≤ max s.1 t.1 = omega (arith, leb-true i t.1 first.1) in
-    and_from _ _ (and_from _ _ (le-leb _ _ low) (le-leb _ _ high)) (within-hull_right a b index (omega arith) parts.1)
-within-hull_right (s ∷ a) (t ∷ b) [] e h = absurd (false≢true h)
-within-hull_right [] (t ∷ b) index e h = absurd (omega arith)
-within-hull_right (s ∷ a) [] index e h = absurd (omega arith)
+within-hull_right a b index e h = subst (λ r. is_within r index ≡ true) (hull_turned b a) (within-hull_left b a index (sym e) h)
 
 -- each interval has a place
-abbrev filled : List Interval → Bool
+abbrev pub filled : List Interval → Bool
 filled region = list_all (λ s. nat_le 1 s.0 && nat_le s.0 s.1) region
 
 is_box_from : (region : List Interval) → length region ≤ 4 → filled region ≡ true → is_box region ≡ true
@@ -86,8 +98,7 @@ met_box axes region few h = fits_box (met axes region) axes few (fits-met axes r
 -- all of a shape with places lies in it
 pub fits-whole : (axes : List ℕ) → 0 < size axes → fits (whole_of axes) axes ≡ true
 fits-whole [] h = refl
-fits-whole (n ∷ axes) h =
-    and_from _ _ (and_from _ _ (le-leb 1 n (grind arith)) (le-leb n n (omega arith))) (fits-whole axes (grind arith))
+fits-whole (n ∷ axes) h = and_from _ _ (and_from _ _ (le-leb 1 n (grind arith)) (le-leb n n (omega arith))) (fits-whole axes (grind arith))
 
 -- the box that covers places of a shape lies in it
 pub fits-cover : (axes : List ℕ) (p q : ℕ) → p ≤ q → q < size axes → fits (cover axes p q) axes ≡ true
@@ -98,9 +109,8 @@ fits-cover (n ∷ axes) p q h b =
     let start : p / w * w ≤ p = div-mul-le_self p w in
     let order : p / w ≤ q / w = le-div (p / w) q w positive (omega arith) in
     let row : q / w < n = (div-lt_iff_lt-mul positive).1 b in
-    let high : q / w + 1 ≤ n = omega arith in
     let here : (nat_le 1 (p / w + 1) && nat_le (p / w + 1) (q / w + 1) && nat_le (q / w + 1) n) ≡ true
-    = and_from _ _ (and_from _ _ (le-leb 1 (p / w + 1) (omega arith)) (le-leb (p / w + 1) (q / w + 1) (omega arith))) (le-leb (q / w + 1) n high) in
+    = and_from _ _ (and_from _ _ (le-leb 1 (p / w + 1) (omega arith)) (le-leb (p / w + 1) (q / w + 1) (omega arith))) (le-leb (q / w + 1) n (omega arith)) in
     elim (cases_Bool (nat_eq (p / w + 1) (q / w + 1))) [
       | inl t ↦
           let same : p / w + 1 ≡ q / w + 1 = eqb-true _ _ t in
@@ -122,9 +132,8 @@ hull_filled (s ∷ a) (t ∷ b) h k =
     let kp = and_parts _ _ k in
     let h1 = and_parts _ _ hp.0 in
     let k1 = and_parts _ _ kp.0 in
-    let low : 1 ≤ min s.0 t.0 = omega (arith, leb-true 1 s.0 h1.0, leb-true 1 t.0 k1.0) in
     let order : min s.0 t.0 ≤ max s.1 t.1 = omega (arith, leb-true s.0 s.1 h1.1) in
-    and_from _ _ (and_from _ _ (le-leb _ _ low) (le-leb _ _ order)) (hull_filled a b hp.1 kp.1)
+    and_from _ _ (and_from _ _ (le-leb _ _ (omega (arith, leb-true 1 s.0 h1.0, leb-true 1 t.0 k1.0))) (le-leb _ _ order)) (hull_filled a b hp.1 kp.1)
 
 pub hull_box : (a b : List Interval) → length a ≡ length b → is_box a ≡ true → is_box b ≡ true → is_box (hull_of a b) ≡ true
 hull_box a b e h k =
@@ -141,9 +150,7 @@ meet_filled (s ∷ a) (t ∷ b) h e =
     let hp = and_parts _ _ h in
     let h1 = and_parts _ _ hp.0 in
     let ep = or_parts _ _ e in
-    let low : 1 ≤ max s.0 t.0 = omega (arith, leb-true 1 s.0 h1.0) in
-    let order : max s.0 t.0 ≤ min s.1 t.1 = ltb-false (min s.1 t.1) (max s.0 t.0) ep.0 in
-    and_from _ _ (and_from _ _ (le-leb _ _ low) (le-leb _ _ order)) (meet_filled a b hp.1 ep.1)
+    and_from _ _ (and_from _ _ (le-leb _ _ (omega (arith, leb-true 1 s.0 h1.0))) (le-leb _ _ (ltb-false (min s.1 t.1) (max s.0 t.0) ep.0))) (meet_filled a b hp.1 ep.1)
 
 pub meet_box : (a b : List Interval) → length a ≡ length b → is_box a ≡ true → is_empty (meet_of a b) ≡ false → is_box (meet_of a b) ≡ true
 meet_box a b e h some =
@@ -197,32 +204,13 @@ length-index_after [] before = refl
 length-index_after (n ∷ axes) before = let k = length-index_after axes (before % size axes) in omega (arith, k)
 
 pub set_in_front : (n k : ℕ) (y : Interval) (xs now : List Interval) → now ≡ take n xs → k < length now → take n (set xs k y) ≡ set now k y
-set_in_front n k y xs now e h =
-    let few : length now ≤ n = rw e (length-take_at_most n xs) in
-    set_front n k y xs (omega arith) ∙ ap (λ (r : List Interval). set r k y) (sym e)
-  where
-    length-take_at_most : (n : ℕ) (xs : List Interval) → length (take n xs) ≤ n
-    length-take_at_most zero xs = omega arith
-    length-take_at_most (suc n) [] = omega arith
-    length-take_at_most (suc n) (x ∷ xs) = let k = length-take_at_most n xs in omega (arith, k)
-
-    set_front : (n k : ℕ) (y : Interval) (xs : List Interval) → k < n → take n (set xs k y) ≡ set (take n xs) k y
-    set_front zero k y xs h = absurd (omega arith)
-    set_front (suc n) k y [] h = refl
-    set_front (suc n) zero y (x ∷ xs) h = refl
-    set_front (suc n) (suc k) y (x ∷ xs) h = ap (λ (r : List Interval). x ∷ r) (set_front n k y xs (omega arith))
-
-removed_at : (k : ℕ) (xs : List Interval) → take k xs ++ drop (suc k) xs ≡ remove xs k
-removed_at zero [] = refl
-removed_at zero (x ∷ xs) = refl
-removed_at (suc k) [] = refl
-removed_at (suc k) (x ∷ xs) = ap (λ (r : List Interval). x ∷ r) (removed_at k xs)
+set_in_front n k y xs now e h = take-set-lt n xs k y (omega (arith, ap length e, length-take n xs)) ∙ ap (λ (r : List Interval). set r k y) (sym e)
 
 pub removed : (k n : ℕ) (xs : List Interval) → n ≡ length xs - (k + 1) → take k xs ++ take n (drop (k + 1) xs) ≡ remove xs k
 removed k n xs e =
     let next : k + 1 ≡ suc k = omega arith in
     let all : take n (drop (k + 1) xs) ≡ drop (k + 1) xs = take_all n (drop (k + 1) xs) (let l = length-drop (k + 1) xs in omega (arith, l)) in
-    ap (λ (r : List Interval). take k xs ++ r) all ∙ ap (λ (m : ℕ). take k xs ++ drop m xs) next ∙ removed_at k xs
+    ap (λ (r : List Interval). take k xs ++ r) all ∙ ap (λ (m : ℕ). take k xs ++ drop m xs) next
 
 -- ---- the intervals between two index lists, from an axis on
 
@@ -239,8 +227,7 @@ from_axis (suc k) (n ∷ axes) (i ∷ from) (j ∷ to) h e f = from_axis k axes 
 -- an axis on which the two have one index
 pub same_on_axis : (k : ℕ) (done : List Interval) (axes from to : List ℕ) → k < length axes → length from ≡ length axes → length to ≡ length axes → get_or from k 0 ≡ get_or to k 0
     → (done ++ (get_or from k 0, get_or to k 0) ∷ []) ++ cover_between (drop (k + 1) axes) (drop (k + 1) from) (drop (k + 1) to) ≡ done ++ cover_between (drop k axes) (drop k from) (drop k to)
-same_on_axis k done axes from to h e f same =
-    rw (append_assoc, add-one, from_axis k axes from to h e f, eq-eqb (get_or from k 0) (get_or to k 0) same) refl
+same_on_axis k done axes from to h e f same = rw (append_assoc, add-one, from_axis k axes from to h e f, eq-eqb (get_or from k 0) (get_or to k 0) same) refl
 
 -- the first axis on which the two differ
 pub differ_on_axis : (k n : ℕ) (done : List Interval) (axes from to : List ℕ) → k < length axes → length from ≡ length axes → length to ≡ length axes

@@ -18,8 +18,7 @@ pub room_for : {A : Type 0} (a : ArrayValue) (t : TailValue) (room : Option (Box
     → ((held items : ℕ) → IsRoomBehind t.item_type held items room → (r.item_type ≡ t.item_type) × HasRoom held items r.places)
     → IsRoomFor r a (length t.items)
 room_for a t room r h fits behind brought =
-    let longer = size_longer a.shape fits.some_axis in
-    let places : size t.shape ≡ length a.items + length t.items = omega (arith, longer, ap size fits.shaped, h.one_item_a_place, fits.one_place) in
+    let places : size t.shape ≡ length a.items + length t.items = omega (arith, size_longer a.shape fits.some_axis, ap size fits.shaped, h.one_item_a_place, fits.one_place) in
     let is = brought (size t.shape - length t.items) (size t.shape) behind in
     record {
       typed = is.0 ∙ fits.typed;
@@ -38,8 +37,6 @@ item_before a xs p h low high = sym (get_or_append_left a.items xs (fill a.item_
 pub item_behind : (a : ArrayValue) (xs : List Item) (p : ℕ) (d : Item) → IsArray a → size a.shape < p → p ≤ length (a.items ++ xs) → get_or xs (p - size a.shape - 1) d ≡ get_or (a.items ++ xs) (p - 1) (fill a.item_type)
 item_behind a xs p d h low high =
     let count = length-append a.items xs in
-    let k : p - 1 - length a.items ≡ p - size a.shape - 1 = omega arith in
-    let below : p - size a.shape - 1 < length xs = omega arith in
-    get_or_default xs (p - size a.shape - 1) d (fill a.item_type) below
-    ∙ ap (λ (n : ℕ). get_or xs n (fill a.item_type)) (sym k)
+    get_or_default xs (p - size a.shape - 1) d (fill a.item_type) (omega arith)
+    ∙ ap (λ (n : ℕ). get_or xs n (fill a.item_type)) (sym (omega arith))
     ∙ sym (get_or-append_right a.items xs (length a.items) (p - 1) (fill a.item_type) refl (omega arith))

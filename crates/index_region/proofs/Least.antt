@@ -1,14 +1,10 @@
 -- The least boxes: that hold two boxes, or some places of a shape.
-use Rattle.std.{proofs.Common.{◌≡◌, ℕ, suc, zero, ◌+◌, ◌-◌, ◌*◌, ◌/◌, ◌%◌, ◌<◌, ◌≤◌, List, [], ◌∷◌, length, refl, sym, ap, subst, ◌∙◌, arith, true, Bool, ◌&&◌, inl, inr, min, max, nat_le, nat_eq, map}, specs.List.{list_all}}
+use Rattle.std.proofs.Common.{◌≡◌, ℕ, suc, zero, ◌+◌, ◌-◌, ◌*◌, ◌/◌, ◌%◌, ◌<◌, ◌≤◌, List, [], ◌∷◌, length, refl, sym, ap, subst, ◌∙◌, arith, true, Bool, ◌&&◌, inl, inr, min, max, nat_le, nat_eq, map}
 use Rattle.std.{proofs.lemmas.Bool.{and_parts, and_from, leb-true, le-leb, eqb-true, eqb-false, false≢true, cases_Bool, cond-true, cond-false, cases_order}, proofs.lemmas.Nat.{div-mul-add, mod-mul-add, mod_below, div-add-mod', mul-le}}
 use Rattle.arrays_core.{specs.Shapes.{size, is_index_of, places_before, index_after}, proofs.Shapes.{places_below}, proofs.Order.{index_after-within, places_before-index_after}}
-use Rattle.index_region.{specs.Boxes.{Interval, is_within, hull_of, whole_of, cover}, specs.BoxLaws.{LiesIn, HoldsPlaces}}
+use Rattle.index_region.{specs.Boxes.{Interval, is_within, hull_of, whole_of, cover}, specs.BoxLaws.{LiesIn, HoldsPlaces}, proofs.Boxes.{filled, On, on_parts, on_from}}
 
 -- ---- the hull
-
--- each interval has a place
-abbrev filled : List Interval → Bool
-filled region = list_all (λ s. nat_le 1 s.0 && nat_le s.0 s.1) region
 
 -- the first places of the intervals
 abbrev firsts : List Interval → List ℕ
@@ -23,21 +19,6 @@ filled_parts : (s : Interval) (region : List Interval) → filled (s ∷ region)
 filled_parts s region h =
     let parts = and_parts _ _ h in
     record { order = leb-true s.0 s.1 (and_parts _ _ parts.0).1; rest = parts.1 }
-
--- an index on an interval
-record On (s : Interval) (i : ℕ) (region : List Interval) (index : List ℕ) : Type 0 where
-  low : s.0 ≤ i
-  high : i ≤ s.1
-  rest : is_within region index ≡ true
-
-on_parts : (s : Interval) (i : ℕ) (region : List Interval) (index : List ℕ) → is_within (s ∷ region) (i ∷ index) ≡ true → On s i region index
-on_parts s i region index h =
-    let parts = and_parts _ _ h in
-    let here = and_parts _ _ parts.0 in
-    record { low = leb-true s.0 i here.0; high = leb-true i s.1 here.1; rest = parts.1 }
-
-on_from : (s : Interval) (i : ℕ) (region : List Interval) (index : List ℕ) → s.0 ≤ i → i ≤ s.1 → is_within region index ≡ true → is_within (s ∷ region) (i ∷ index) ≡ true
-on_from s i region index l u rest = and_from _ _ (and_from _ _ (le-leb s.0 i l) (le-leb i s.1 u)) rest
 
 firsts_within : (region : List Interval) → filled region ≡ true → is_within region (firsts region) ≡ true
 firsts_within [] h = refl
@@ -107,10 +88,9 @@ cover-within (n ∷ axes) (i ∷ index) p q place l u b =
     let w = size axes in
     let o = places_before axes index in
     let below : o < w = places_below axes index parts.1 in
-    let positive : 0 < w = omega arith in
     let dp : p / w * w + p % w ≡ p = div-add-mod' p w in
     let dq : q / w * w + q % w ≡ q = div-add-mod' q w in
-    let mq : q % w < w = mod_below q w positive in
+    let mq : q % w < w = mod_below q w (omega arith) in
     let lp : p / w * w + p % w ≤ (i - 1) * w + o = omega arith in
     let lq : (i - 1) * w + o ≤ q / w * w + q % w = omega arith in
     let first : p / w ≤ i - 1 = row_le (p / w) (i - 1) w (p % w) o lp below in
@@ -130,9 +110,7 @@ pub cover_holds : (axes : List ℕ) (p q : ℕ) → q < size axes → HoldsPlace
 cover_holds axes p q b place l u =
     let below : place < size axes = omega arith in
     let back : places_before axes (index_after axes place) ≡ place = places_before-index_after axes place below in
-    let low : p ≤ places_before axes (index_after axes place) = subst (λ m. p ≤ m) (sym back) l in
-    let high : places_before axes (index_after axes place) ≤ q = subst (λ m. m ≤ q) (sym back) u in
-    cover-within axes (index_after axes place) p q (index_after-within axes place below) low high b
+    cover-within axes (index_after axes place) p q (index_after-within axes place below) (subst (λ m. p ≤ m) (sym back) l) (subst (λ m. m ≤ q) (sym back) u) b
 
 -- a place of a row by the place in it
 row_of : (axes : List ℕ) (n a b : ℕ) → b < size axes → index_after (n ∷ axes) (a * size axes + b) ≡ (a + 1) ∷ index_after axes b
@@ -182,18 +160,14 @@ cover_least (n ∷ axes) p q (t ∷ other) o b holds (i ∷ index) h =
     let mq : q % w < w = mod_below q w positive in
     let at_p = on_row t other axes n (p / w) (p % w) mp (subst (λ place. is_within (t ∷ other) (index_after (n ∷ axes) place) ≡ true) (sym dp) (holds p (omega arith) o)) in
     let at_q = on_row t other axes n (q / w) (q % w) mq (subst (λ place. is_within (t ∷ other) (index_after (n ∷ axes) place) ≡ true) (sym dq) (holds q o (omega arith))) in
-    let parts = and_parts _ _ h in
-    let here = and_parts _ _ parts.0 in
-    let low : p / w + 1 ≤ i = leb-true (p / w + 1) i here.0 in
-    let high : i ≤ q / w + 1 = leb-true i (q / w + 1) here.1 in
-    on_from t i other index (omega (arith, at_p.low, low)) (omega (arith, at_q.high, high)) (
+    let here = on_parts (p / w + 1, q / w + 1) i _ index h in
+    on_from t i other index (omega (arith, at_p.low, here.low)) (omega (arith, at_q.high, here.high)) (
     elim (cases_Bool (nat_eq (p / w + 1) (q / w + 1))) [
       | inl e ↦
           let same : p / w + 1 ≡ q / w + 1 = eqb-true _ _ e in
-          let row : q / w ≡ p / w = omega arith in
-          let eq : p / w * w + q % w ≡ q = subst (λ a. a * w + q % w ≡ q) row dq in
+          let eq : p / w * w + q % w ≡ q = subst (λ a. a * w + q % w ≡ q) (omega arith) dq in
           let rest : p % w ≤ q % w = omega arith in
-          cover_least axes (p % w) (q % w) other rest mq (one_row t other axes n (p / w) (p % w) (q % w) p q dp eq mq holds) index (subst (λ r. is_within r index ≡ true) (cond-true _ _ _ e) parts.1)
+          cover_least axes (p % w) (q % w) other rest mq (one_row t other axes n (p / w) (p % w) (q % w) p q dp eq mq holds) index (subst (λ r. is_within r index ≡ true) (cond-true _ _ _ e) here.rest)
       | inr e ↦
           let apart : p / w + 1 ≡ q / w + 1 → ⊥ = eqb-false _ _ e in
           let first : p / w ≤ q / w = row_le (p / w) (q / w) w (p % w) (q % w) (omega arith) mq in
@@ -202,5 +176,5 @@ cover_least (n ∷ axes) p q (t ∷ other) o b holds (i ∷ index) h =
           let more : (p / w + 1) * w ≡ p / w * w + w = grind arith in
           let begin = on_row t other axes n (p / w + 1) 0 positive (holds ((p / w + 1) * w + 0) (omega arith) (omega arith)) in
           let end = on_row t other axes n (p / w) (w - 1) (omega arith) (holds (p / w * w + (w - 1)) (omega arith) (omega arith)) in
-          ends_hold axes other positive begin.rest end.rest index (subst (λ r. is_within r index ≡ true) (cond-false _ _ _ e) parts.1)
+          ends_hold axes other positive begin.rest end.rest index (subst (λ r. is_within r index ≡ true) (cond-false _ _ _ e) here.rest)
     ])

@@ -1,5 +1,5 @@
 -- Boxes of one place.
-use Rattle.std.{proofs.Common.{◌≡◌, ℕ, ◌+◌, ◌-◌, ◌≤◌, List, [], ◌∷◌, suc, length, map, true, refl, ap, arith}, proofs.Math.Nat.{zero-div, zero-mod}, proofs.lemmas.Bool.{and_parts, and_from, le-leb, false≢true}}
+use Rattle.std.{proofs.Common.{◌≡◌, ℕ, ◌+◌, ◌-◌, ◌≤◌, List, [], ◌∷◌, length, map, true, refl, ap, arith}, proofs.Math.Nat.{zero-div, zero-mod}, proofs.lemmas.Bool.{and_parts, and_from, le-leb, false≢true}}
 use Rattle.arrays_core.{specs.Limits.{most_axes}, specs.Shapes.{is_index_of}}
 use Rattle.index_region.{specs.Boxes.{Interval, box_size, walk_at, fits, is_box}, proofs.Boxes.{fits_box}}
 
@@ -30,12 +30,6 @@ one_place_walk (i ∷ index) = let one = one_place_size index in let rest = one_
 -- it is a box
 pub one_place_box : (shape index : List ℕ) → length shape ≤ most_axes → is_index_of shape index ≡ true → is_box (one_place index) ≡ true
 one_place_box shape index few inside = fits_box (one_place index) shape few (one_place_fits shape index inside)
-
-pub as_long : (shape index : List ℕ) → is_index_of shape index ≡ true → length index ≡ length shape
-as_long [] [] h = refl
-as_long [] (i ∷ index) h = absurd (false≢true h)
-as_long (n ∷ shape) [] h = absurd (false≢true h)
-as_long (n ∷ shape) (i ∷ index) h = ap (λ (k : ℕ). suc k) (as_long shape index (and_parts _ _ h).1)
 
 -- a walk begins at the first place on each axis
 pub walk_first : (region : List Interval) → walk_at region 0 ≡ map (λ s. s.0) region

@@ -24,27 +24,20 @@ walk_ascends [] (n ∷ shape) p q fit l b = absurd (false≢true fit)
 walk_ascends (s ∷ region) [] p q fit l b = absurd (false≢true fit)
 walk_ascends (s ∷ region) (n ∷ shape) p q fit l b =
     let parts = and_parts _ _ fit in
-    let low : 1 ≤ s.0 = leb-true 1 s.0 (and_parts _ _ (and_parts _ _ parts.0).0).0 in
     let w = box_size region in
     let positive : 0 < w = rest_positive q (interval_length s) w b in
-    let dp : p / w * w + p % w ≡ p = div-add-mod' p w in
-    let dq : q / w * w + q % w ≡ q = div-add-mod' q w in
-    let mp : p % w < w = mod_below p w positive in
     let mq : q % w < w = mod_below q w positive in
-    let both : p / w * w + p % w < q / w * w + q % w = omega (arith, dp, dq, l) in
-    let inside = fits_within region shape (walk_at region (p % w)) parts.1 (walk_within region (p % w) mp) in
-    let below = places_below shape (walk_at region (p % w)) inside in
+    let both : p / w * w + p % w < q / w * w + q % w = omega (arith, div-add-mod' p w, div-add-mod' q w, l) in
+    let below = places_below shape (walk_at region (p % w)) (fits_within region shape (walk_at region (p % w)) parts.1 (walk_within region (p % w) (mod_below p w positive))) in
     let first = places_before shape (walk_at region (p % w)) in
     let last = places_before shape (walk_at region (q % w)) in
     elim (cases_order (p / w) (q / w)) [
       | inl e ↦
           let rest : p % w < q % w = rest_before (p / w) (q / w) w (p % w) (q % w) e both in
-          let same : s.0 + p / w - 1 ≡ s.0 + q / w - 1 = omega (arith, e) in
-          rest_after (s.0 + p / w - 1) (s.0 + q / w - 1) (size shape) first last same (walk_ascends region shape (p % w) (q % w) parts.1 rest mq)
+          rest_after (s.0 + p / w - 1) (s.0 + q / w - 1) (size shape) first last (omega (arith, e)) (walk_ascends region shape (p % w) (q % w) parts.1 rest mq)
       | inr o ↦ elim o [
-        | inl m ↦ rows_apart (s.0 + p / w - 1) (s.0 + q / w - 1) (size shape) first last (omega (arith, low, m)) below
+        | inl m ↦ rows_apart (s.0 + p / w - 1) (s.0 + q / w - 1) (size shape) first last (omega (arith, leb-true 1 s.0 (and_parts _ _ (and_parts _ _ parts.0).0).0, m)) below
         | inr m ↦
-            let back = rows_apart (q / w) (p / w) w (q % w) (p % w) m mq in
-            absurd (omega (arith, back, both))
+            absurd (omega (arith, rows_apart (q / w) (p / w) w (q % w) (p % w) m mq, both))
       ]
     ]

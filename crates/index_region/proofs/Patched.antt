@@ -1,9 +1,9 @@
 -- Places in row-major order, and patched arrays.
-use Rattle.std.{proofs.Common.{◌≡◌, ℕ, ◌+◌, ◌-◌, ◌*◌, ◌<◌, ◌≤◌, ◌^◌, List, [], ◌∷◌, arith, mul_comm, IsTrue, ap, sym, ◌∙◌, refl, true, Some, None, get_or, nat_le, nat_lt, length, ◌&&◌, w64, All, if◌then◌else◌, inl, inr}, proofs.lemmas.List.{get_or_past}, proofs.lemmas.Nat.{mul-add-lt, mul-le}}
+use Rattle.std.{proofs.Common.{◌≡◌, ℕ, ◌+◌, ◌-◌, ◌*◌, ◌<◌, ◌≤◌, ◌^◌, List, [], ◌∷◌, arith, mul_comm, IsTrue, ap, sym, ◌∙◌, refl, true, Some, None, get_or, nat_lt, length, w64, All, if◌then◌else◌, inl, inr}, proofs.lemmas.List.{get_or_past}, proofs.lemmas.Nat.{mul-add-lt, mul-le}}
 use Rattle.std.{proofs.lemmas.Bool.{and_parts, and_from, leb-true, le-leb, false≢true, cases_Bool, ltb-true, ltb-false, cond-true, cond-false, both_ways}, proofs.lemmas.List.FromFn.{get_or-map-range_with_len, length-map-range_with_len}}
 use Rattle.arrays_core.{specs.declared.item.Item.{Item}, specs.declared.item.ItemType.{ItemType}, specs.declared.item.ItemType.TheVariants.{Nums, Chars}, specs.Arrays.{ArrayValue, IsArray, item_of, item_if_there}, specs.Items.{fill, type_of}, specs.Shapes.{size, is_index_of, places_before, index_after}}
 use Rattle.arrays_core.{proofs.Shapes.{places_below}, proofs.Order.{index_after-places_before, index_after-within}}
-use Rattle.index_region.{specs.Boxes.{Interval, is_within, box_offset, box_size, fits}, specs.Patches.{PatchValue, FitsPatch, IsPatch, patched, patched_item}}
+use Rattle.index_region.{specs.Boxes.{Interval, is_within, box_offset, box_size, fits}, specs.Patches.{PatchValue, FitsPatch, IsPatch, patched, patched_item}, proofs.Boxes.{on_parts}}
 use mir.Val.{Fits}
 
 -- a place of a row is below the size
@@ -24,15 +24,12 @@ pub record OnFirstAxis (intervals : List Interval) (index : List ℕ) (s : Inter
 pub on_first_axis : (intervals : List Interval) (index : List ℕ) (s : Interval) (i : ℕ) (ss : List Interval) (is : List ℕ) (size offset : ℕ) → intervals ≡ s ∷ ss → index ≡ i ∷ is
     → IsTrue (is_within intervals index) → offset ≡ box_offset ss is → size ≡ box_size ss → offset < size → box_size intervals < 2 ^ 64 → OnFirstAxis intervals index s i size offset
 on_first_axis intervals index s i ss is size offset e f h offset_is size_is below few =
-    let k = rw (e, f) at h in
-    let here = and_parts (nat_le s.0 i && nat_le i s.1) (is_within ss is) k in
-    let first = and_parts (nat_le s.0 i) (nat_le i s.1) here.0 in
-    let low : s.0 ≤ i = leb-true s.0 i first.0 in
-    let high : i ≤ s.1 = leb-true i s.1 first.1 in
+    let here = on_parts s i ss is (rw (e, f) at h) in
+    let high = here.high in
     let place : (i - s.0) * size + offset < (s.1 + 1 - s.0) * size = row_below (i - s.0) (s.1 + 1 - s.0) size offset (omega arith) below in
     let all : (s.1 + 1 - s.0) * size ≡ box_size intervals = rw (e, size_is) refl in
     record {
-      low = low;
+      low = here.low;
       filled = omega arith;
       is = rw (e, f, size_is, offset_is) refl;
       size_is = all;
@@ -56,13 +53,10 @@ fits_within (s ∷ region) [] index h k = absurd (false≢true h)
 fits_within (s ∷ region) (n ∷ shape) [] h k = absurd (false≢true k)
 fits_within (s ∷ region) (n ∷ shape) (i ∷ index) h k =
     let hp = and_parts _ _ h in
-    let kp = and_parts _ _ k in
     let h1 = and_parts _ _ hp.0 in
-    let k1 = and_parts _ _ kp.0 in
-    let first = and_parts _ _ h1.0 in
-    let low : 1 ≤ i = omega (arith, leb-true 1 s.0 first.0, leb-true s.0 i k1.0) in
-    let high : i ≤ n = omega (arith, leb-true s.1 n h1.1, leb-true i s.1 k1.1) in
-    and_from _ _ (and_from _ _ (le-leb 1 i low) (le-leb i n high)) (fits_within region shape index hp.1 kp.1)
+    let here = on_parts s i region index k in
+    let high : i ≤ n = omega (arith, leb-true s.1 n h1.1, here.high) in
+    and_from _ _ (and_from _ _ (le-leb 1 i (omega (arith, leb-true 1 s.0 (and_parts _ _ h1.0).0, here.low))) (le-leb i n high)) (fits_within region shape index hp.1 here.rest)
 
 pub box_within_size : (region : List Interval) (shape : List ℕ) → fits region shape ≡ true → box_size region ≤ size shape
 box_within_size [] [] h = omega arith

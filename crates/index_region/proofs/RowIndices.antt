@@ -1,26 +1,20 @@
 -- The index lists of a row, with another index on one axis.
-use Rattle.std.{proofs.Common.{◌≡◌, ℕ, zero, suc, ◌<◌, pos, negsuc, true, List, [], ◌∷◌, ◌++◌, length, get_or, set, remove, refl, ap, arith}, proofs.lemmas.Bool.{and_parts, leb-true, false≢true}}
+use Rattle.std.{proofs.Common.{◌≡◌, ℕ, ◌<◌, pos, negsuc, true, List, [], ◌∷◌, ◌++◌, length, get_or, set, remove, refl, ap, arith}, proofs.lemmas.Bool.{and_parts, leb-true, false≢true}, proofs.lemmas.List.{set-append_left, get_or_append_left, get_or_push}, proofs.Math.Seq.{set-append_seam}}
 use Rattle.function_names.{specs.Axes.{is_axis, axis_at}, specs.declared.along.Along.{Along}, specs.declared.along.Along.TheVariants.{First, Last, Axis}}
 
 -- an axis before the last
 pub set_before : (row : List ℕ) (i k v : ℕ) → k < length row → set (row ++ i ∷ []) k v ≡ set row k v ++ i ∷ []
-set_before [] i k v h = absurd (omega arith)
-set_before (j ∷ row) i zero v h = refl
-set_before (j ∷ row) i (suc k) v h = ap (λ xs. j ∷ xs) (set_before row i k v (omega arith))
+set_before row i k v h = set-append_left row (i ∷ []) k v h
 
 pub get_before : (row : List ℕ) (i k d : ℕ) → k < length row → get_or (row ++ i ∷ []) k d ≡ get_or row k d
-get_before [] i k d h = absurd (omega arith)
-get_before (j ∷ row) i zero d h = refl
-get_before (j ∷ row) i (suc k) d h = get_before row i k d (omega arith)
+get_before row i k d h = get_or_append_left row (i ∷ []) d k h
 
 -- the last axis
 pub set_last : (row : List ℕ) (i v : ℕ) → set (row ++ i ∷ []) (length row) v ≡ row ++ v ∷ []
-set_last [] i v = refl
-set_last (j ∷ row) i v = ap (λ xs. j ∷ xs) (set_last row i v)
+set_last row i v = set-append_seam row i [] v
 
 pub get_last : (row : List ℕ) (i d : ℕ) → get_or (row ++ i ∷ []) (length row) d ≡ i
-get_last [] i d = refl
-get_last (j ∷ row) i d = get_last row i d
+get_last row i d = get_or_push row i d (length row) refl
 
 pub remove_last : (row : List ℕ) (i : ℕ) → remove (row ++ i ∷ []) (length row) ≡ row
 remove_last [] i = refl

@@ -11,9 +11,8 @@ walk_within [] p h = refl
 walk_within (s ∷ region) p h =
     let positive = rest_positive p (interval_length s) (box_size region) h in
     let steps = div_below p (box_size region) (interval_length s) positive h in
-    let low : s.0 ≤ s.0 + p / box_size region = omega arith in
     let high : s.0 + p / box_size region ≤ s.1 = omega arith in
-    and_from _ _ (and_from _ _ (le-leb _ _ low) (le-leb _ _ high)) (walk_within region (p % box_size region) (mod_below p (box_size region) positive))
+    and_from _ _ (and_from _ _ (le-leb _ _ (omega arith)) (le-leb _ _ high)) (walk_within region (p % box_size region) (mod_below p (box_size region) positive))
 
 pub offset_of_walk : (region : List Interval) (p : ℕ) → p < box_size region → box_offset region (walk_at region p) ≡ p
 offset_of_walk [] p h = omega arith
@@ -43,10 +42,8 @@ walk_of_offset (s ∷ region) (i ∷ index) h =
     let w = box_size region in
     let rest = box_offset region index in
     let below = offset_below region index parts.1 in
-    let steps : ((i - s.0) * w + rest) / w ≡ i - s.0 = div-mul-add (i - s.0) w rest below in
-    let left : ((i - s.0) * w + rest) % w ≡ rest = mod-mul-add (i - s.0) w rest below in
     let first : s.0 + (i - s.0) ≡ i = omega arith in
-    rw (steps, left, first, walk_of_offset region index parts.1) refl
+    rw (div-mul-add (i - s.0) w rest below, mod-mul-add (i - s.0) w rest below, first, walk_of_offset region index parts.1) refl
 
 -- a box that lies in a shape has a place
 pub some_place : (region : List Interval) (shape : List ℕ) → IsTrue (fits region shape) → 0 < box_size region
@@ -54,8 +51,7 @@ some_place [] [] fit = omega arith
 some_place (s ∷ region) (n ∷ shape) fit =
     let parts = and_parts _ _ fit in
     let order : s.0 ≤ s.1 = leb-true s.0 s.1 (and_parts _ _ (and_parts _ _ parts.0).0).1 in
-    let rest : 1 ≤ box_size region = omega (arith, some_place region shape parts.1) in
-    let most : 1 * 1 ≤ interval_length s * box_size region = mul-le 1 1 (interval_length s) (box_size region) (omega arith) rest in
+    let most : 1 * 1 ≤ interval_length s * box_size region = mul-le 1 1 (interval_length s) (box_size region) (omega arith) (omega (arith, some_place region shape parts.1)) in
     omega arith
 some_place [] (n ∷ shape) fit = absurd (false≢true fit)
 some_place (s ∷ region) [] fit = absurd (false≢true fit)

@@ -1,8 +1,7 @@
 -- Numbers that a rule gives place by place, as an array.
 use Rattle.std.{proofs.Common.{◌≡◌, ℕ, ◌<◌, List, [], ◌∷◌, length, get_or, map, refl, ap, sym, ◌∙◌, arith, ℤ, pos, Result, Ok, Err}, proofs.lemmas.List.{length-map, ext_get_or, get_or_default}, proofs.Math.ListN.{get_or-map}}
 use Rattle.arrays_core.{specs.declared.item.Item.{Item}, specs.declared.item.Item.TheVariants.{Num}, specs.declared.item.ItemType.TheVariants.{Nums}, specs.declared.item.Kind.{Kind}, specs.Items.{all_or_first_error, after}, specs.Shapes.{size, indices, index_after}, specs.Arrays.{collect, with_items}}
-use Rattle.arrays_core.proofs.Order.{length-indices, get_or-indices}
-use Rattle.item_fns.{specs.Items.{number_item}, specs.NumberLists.{number_items}}
+use Rattle.{arrays_core.proofs.Order.{length-indices, get_or-indices}, item_fns.{specs.Items.{number_item}, specs.NumberLists.{number_items}}}
 
 items_collected : (rs : List (Result ℤ Kind)) → all_or_first_error (map number_item rs) ≡ number_items (all_or_first_error rs)
 items_collected [] = refl
@@ -20,9 +19,8 @@ pub collected : (shape : List ℕ) (rule : List ℕ → Result Item Kind) (rs : 
 collected shape rule rs long each =
     let d : Result ℤ Kind = Ok (pos 0) in
     let n_rule : length (map rule (indices shape)) ≡ size shape = length-map (indices shape) rule ∙ length-indices shape in
-    let n_rs : length (map number_item rs) ≡ size shape = length-map rs number_item ∙ long in
     let same : map rule (indices shape) ≡ map number_item rs =
-    ext_get_or (number_item d) (map rule (indices shape)) (map number_item rs) (n_rule ∙ sym n_rs) (λ i h.
+    ext_get_or (number_item d) (map rule (indices shape)) (map number_item rs) (n_rule ∙ sym (length-map rs number_item ∙ long)) (λ i h.
     let below : i < size shape = omega arith in
     get_or_default (map rule (indices shape)) i (number_item d) (rule []) h
     ∙ get_or-map rule (indices shape) i []

@@ -1,8 +1,8 @@
 -- Quotients that are rounded down, against those toward zero.
-use Rattle.std.{proofs.Common.{◌≡◌, ℕ, zero, suc, ◌+◌, ◌/◌, ◌%◌, ◌^◌, min, refl, ap, ◌∙◌, inl, inr, arith, ℤ, pos, negsuc, neg_ℤ, ◌-ℤ◌, Bool, true, false, cond, Result, Ok, Err, int_lt, int_div}, specs.Prelude.{nat_lt}, specs.Ordering.{int_eq}, proofs.lemmas.Bool.Decides.{Decides-int_eq, nat_tests}}
+use Rattle.std.{proofs.Common.{◌≡◌, ℕ, zero, suc, ◌+◌, ◌/◌, ◌%◌, ◌^◌, refl, ap, ◌∙◌, inl, inr, arith, ℤ, pos, negsuc, neg_ℤ, ◌-ℤ◌, Bool, true, false, cond, Result, Ok, Err, int_lt, int_div}, specs.Prelude.{nat_lt}, specs.Ordering.{int_eq}, proofs.lemmas.Bool.Decides.{Decides-int_eq, nat_tests}}
 use Rattle.std.{proofs.lemmas.Bool.{cases_lt, le-ltb, true≢false, false_from_ne_true}, proofs.lemmas.Int.{ints}, proofs.lemmas.Nat.{div-mul-add}}
 use Rattle.arrays_core.{specs.declared.item.Kind.{Kind}, specs.declared.item.Kind.TheVariants.{Limit}}
-use Rattle.item_fns.{specs.Numbers.{residue, floor_div, number_or_limit, is_number}, proofs.Residues.{next_mod, negative_divisor_whole, negative_dividend_whole}}
+use Rattle.item_fns.{specs.Numbers.{residue, floor_div, number_or_limit}, proofs.Residues.{next_mod, negative_divisor_whole, negative_dividend_whole}, proofs.Within.{held_ok as number_held}}
 use mathlib.Core.Bool.{beq}
 
 pub not_zero : (b : ℤ) → (b ≡ pos 0 → ⊥) → int_eq b (pos 0) ≡ false
@@ -28,8 +28,7 @@ one_above (negsuc a) (negsuc b) some differ left = absurd (true≢false differ)
 one_above (pos a) (negsuc b) some differ left =
     elim (cases_lt 0 (a % suc b)) [
       | inl more ↦
-          let up : a / suc b + min 1 (a % suc b) ≡ a / suc b + 1 = omega arith in
-          record { magnitude = a / suc b; quotient = refl; floor = ap (λ q. neg_ℤ (pos q)) up ∙ one_less (a / suc b) }
+          record { magnitude = a / suc b; quotient = refl; floor = ap (λ q. neg_ℤ (pos q)) (omega arith) ∙ one_less (a / suc b) }
       | inr none ↦ absurd (left (negative_divisor_whole a b (omega arith)))
     ]
 one_above (negsuc a) (pos zero) some differ left = absurd (some refl)
@@ -56,8 +55,4 @@ held_below (suc m) k h =
     decide false e h = let far = farther m e in rw far h
 
 pub held_ok : (z q : ℤ) → number_or_limit z ≡ Ok q → q ≡ z
-held_ok z q h = decide (is_number z) h
-  where
-    decide : (w : Bool) → cond {A = Result ℤ Kind} w (Ok z) (Err Limit) ≡ Ok q → q ≡ z
-    decide true h = cc
-    decide false h = cc
+held_ok z q h = (number_held z q h).same

@@ -1,7 +1,6 @@
 -- Results at each place of two lists.
 use Rattle.std.{proofs.Common.{◌≡◌, ℕ, ◌<◌, ◌==◌, false, List, length, get_or, map, refl, ap, sym, ◌∙◌, inl, inr, arith, ℤ, pos, Result, Ok}, proofs.lemmas.Bool.{eq-eqb, eqb-true, false_from_ne_true, cases_Bool}, proofs.lemmas.List.{length-map, ext_get_or, get_or-map}}
-use Rattle.std.proofs.lemmas.List.FromFn.{length-map-range_with_len, get_or-map-range_with_len}
-use Rattle.arrays_core.specs.declared.item.Kind.{Kind}
+use Rattle.{std.proofs.lemmas.List.FromFn.{length-map-range_with_len, get_or-map-range_with_len}, arrays_core.specs.declared.item.Kind.{Kind}}
 use Rattle.item_fns.specs.NumberLists.{number_at, paired_length, results_by}
 
 not_one : (n : ℕ) → (n ≡ 1 → ⊥) → (n == 1) ≡ false
@@ -12,8 +11,7 @@ number_at_own xs k h =
     elim (cases_Bool (length xs == 1)) [
       | inl one ↦
           let e : length xs ≡ 1 = eqb-true (length xs) 1 one in
-          let first : 0 ≡ k = omega arith in
-          rw one (ap (λ j. get_or xs j (pos 0)) first)
+          rw one (ap (λ j. get_or xs j (pos 0)) (omega arith))
       | inr many ↦ rw many refl
     ]
 
@@ -43,21 +41,19 @@ module _ (f : ℤ → ℤ → Result ℤ Kind) (xs ys : List ℤ) where
   pub results_of_one_left : length xs ≡ 1 → results_by f xs ys ≡ map (f (get_or xs 0 (pos 0))) ys
   results_of_one_left h =
       let d : Result ℤ Kind = Ok (pos 0) in
-      let one = eq-eqb (length xs) 1 h in
       let long : length (results_by f xs ys) ≡ length ys = length-results ∙ places_of_one xs ys h in
       ext_get_or d (results_by f xs ys) (map (f (get_or xs 0 (pos 0))) ys) (long ∙ sym (length-map ys (f (get_or xs 0 (pos 0))))) (λ k below.
       let inside : k < length ys = omega arith in
       get_or-results k d (omega (arith, places_of_one xs ys h))
-      ∙ (rw one (ap (f (get_or xs 0 (pos 0))) (number_at_own ys k inside)))
+      ∙ (rw (eq-eqb (length xs) 1 h) (ap (f (get_or xs 0 (pos 0))) (number_at_own ys k inside)))
       ∙ sym (get_or-map (f (get_or xs 0 (pos 0))) ys k (pos 0) d inside))
 
   pub results_of_one_right : (length xs ≡ 1 → ⊥) → length ys ≡ 1 → results_by f xs ys ≡ map (λ a. f a (get_or ys 0 (pos 0))) xs
   results_of_one_right many h =
       let d : Result ℤ Kind = Ok (pos 0) in
-      let one = eq-eqb (length ys) 1 h in
       let long : length (results_by f xs ys) ≡ length xs = length-results ∙ places_of_many xs ys many in
       ext_get_or d (results_by f xs ys) (map (λ a. f a (get_or ys 0 (pos 0))) xs) (long ∙ sym (length-map xs (λ a. f a (get_or ys 0 (pos 0))))) (λ k below.
       let inside : k < length xs = omega arith in
       get_or-results k d (omega (arith, places_of_many xs ys many))
-      ∙ (rw one (ap (λ a. f a (get_or ys 0 (pos 0))) (number_at_own xs k inside)))
+      ∙ (rw (eq-eqb (length ys) 1 h) (ap (λ a. f a (get_or ys 0 (pos 0))) (number_at_own xs k inside)))
       ∙ sym (get_or-map (λ a. f a (get_or ys 0 (pos 0))) xs k (pos 0) d inside))

@@ -1,14 +1,11 @@
 -- Where the identity of a function leaves a number, or a truth value, as it is.
-use Rattle.std.{proofs.Common.{◌≡◌, ℕ, suc, ◌*◌, ◌/◌, ◌^◌, refl, ap, ◌∙◌, arith, Bool, true, false, ltb, Ok, ℤ, pos, negsuc, neg_ℤ, ◌+ℤ◌, ◌-ℤ◌, ◌*ℤ◌, SFits, w64}, proofs.Math.Nat.{div-one, pow-zero}, proofs.lemmas.Grind.{pow_more}, proofs.lemmas.Int.{ints, clamps}, proofs.lemmas.Bool.{lt-ltb}}
+use Rattle.std.{proofs.Common.{◌≡◌, [], ◌∷◌, ℕ, suc, ◌*◌, ◌/◌, ◌^◌, refl, ap, ◌∙◌, arith, Bool, true, false, Ok, ℤ, pos, negsuc, neg_ℤ, ◌+ℤ◌, ◌-ℤ◌, ◌*ℤ◌, SFits, w64}, proofs.Math.Nat.{div-one, pow-zero}, proofs.lemmas.Grind.{pow_more}, proofs.lemmas.Int.{ints, clamps}}
+use Rattle.arrays_core.proofs.CaseWords.{◌⇒◌, AllSame}
 use Rattle.function_names.specs.declared.scalar.Scalar2.TheVariants.{Plus, Minus, Times, Divide, Power, Residue, Maximum, Minimum, Less, LessOrEqual, Equal, GreaterOrEqual, Greater, NotEqual, And, Or}
-use Rattle.item_fns.{specs.Numbers.{number_or_limit, dyadic_on_numbers, truth}, specs.Identities.{least, greatest}, proofs.Residues.{quotient_whole}}
-
-held_fits : (z : ℤ) → SFits w64 z → number_or_limit z ≡ Ok z
-held_fits (pos n) f = let inside : ltb n (2 ^ 63) ≡ true = lt-ltb n (2 ^ 63) (let h = f.sfits in omega arith) in rw inside refl
-held_fits (negsuc n) f = let inside : ltb n (2 ^ 63) ≡ true = lt-ltb n (2 ^ 63) (let h = f.sfits in omega arith) in rw inside refl
+use Rattle.item_fns.{specs.Numbers.{number_or_limit, dyadic_on_numbers, truth}, specs.Identities.{least, greatest}, proofs.Residues.{quotient_whole}, proofs.Within.{held}}
 
 by_value : (y z : ℤ) → y ≡ z → SFits w64 z → number_or_limit y ≡ Ok z
-by_value y z e f = ap number_or_limit e ∙ held_fits z f
+by_value y z e f = ap number_or_limit e ∙ held z f
 
 plus_zero : (a : ℤ) → SFits w64 a → dyadic_on_numbers Plus a (pos 0) ≡ Ok a
 plus_zero a f = by_value (a +ℤ pos 0) a (omega (arith, ints)) f
@@ -46,34 +43,15 @@ minimum_greatest (pos n) f = let h = f.sfits in ap Ok (omega (arith, ints, clamp
 minimum_greatest (negsuc n) f = ap Ok (omega (arith, ints, clamps))
 
 -- on truth values
-truth_zero : (p : Bool) → dyadic_on_numbers Or (truth p) (pos 0) ≡ Ok (truth p)
-truth_zero true = refl
-truth_zero false = refl
-
-truth_one : (p : Bool) → dyadic_on_numbers And (truth p) (pos 1) ≡ Ok (truth p)
-truth_one true = refl
-truth_one false = refl
-
-less_zero : (p : Bool) → dyadic_on_numbers Less (pos 0) (truth p) ≡ Ok (truth p)
-less_zero true = refl
-less_zero false = refl
-
-not_greater_one : (p : Bool) → dyadic_on_numbers LessOrEqual (pos 1) (truth p) ≡ Ok (truth p)
-not_greater_one true = refl
-not_greater_one false = refl
-
-equal_one : (p : Bool) → dyadic_on_numbers Equal (truth p) (pos 1) ≡ Ok (truth p)
-equal_one true = refl
-equal_one false = refl
-
-not_less_one : (p : Bool) → dyadic_on_numbers GreaterOrEqual (truth p) (pos 1) ≡ Ok (truth p)
-not_less_one true = refl
-not_less_one false = refl
-
-greater_zero : (p : Bool) → dyadic_on_numbers Greater (truth p) (pos 0) ≡ Ok (truth p)
-greater_zero true = refl
-greater_zero false = refl
-
-not_equal_zero : (p : Bool) → dyadic_on_numbers NotEqual (truth p) (pos 0) ≡ Ok (truth p)
-not_equal_zero true = refl
-not_equal_zero false = refl
+on_truth_values : (p : Bool) → AllSame (
+    dyadic_on_numbers Or (truth p) (pos 0) ⇒ Ok (truth p) ∷
+    dyadic_on_numbers And (truth p) (pos 1) ⇒ Ok (truth p) ∷
+    dyadic_on_numbers Less (pos 0) (truth p) ⇒ Ok (truth p) ∷
+    dyadic_on_numbers LessOrEqual (pos 1) (truth p) ⇒ Ok (truth p) ∷
+    dyadic_on_numbers Equal (truth p) (pos 1) ⇒ Ok (truth p) ∷
+    dyadic_on_numbers GreaterOrEqual (truth p) (pos 1) ⇒ Ok (truth p) ∷
+    dyadic_on_numbers Greater (truth p) (pos 0) ⇒ Ok (truth p) ∷
+    dyadic_on_numbers NotEqual (truth p) (pos 0) ⇒ Ok (truth p) ∷
+    [])
+on_truth_values true = refl
+on_truth_values false = refl

@@ -1,8 +1,7 @@
 -- Powers of 0, 1 and -1, and powers that are too great.
 use Rattle.std.{proofs.Common.{◌≡◌, ℕ, zero, suc, ◌+◌, ◌*◌, ◌%◌, ◌^◌, ◌<◌, ◌≤◌, ◌==◌, refl, ap, sym, ◌∙◌, inl, inr, arith, true, false, Ok, Err, ℤ, pos, negsuc, neg_ℤ, unsigned_abs, int_lt, int_rem, of_z, w64}, specs.Int.{int_pow, FitsUnsignedBits}, proofs.Math.Nat.{pow-le-pow_left, pow-le-pow_right}}
 use Rattle.std.{proofs.Math.Dec.{eqb-suc-zero}, proofs.lemmas.Bool.{le-ltb, cases_Bool, eq-eqb, eqb-true, cases_lt, false_from_ne_true, true≢false}, proofs.lemmas.Grind.{pow_more}}
-use Rattle.arrays_core.specs.declared.item.Kind.TheVariants.{Limit}
-use Rattle.item_fns.specs.Numbers.{number_or_limit, power, truth}
+use Rattle.{arrays_core.specs.declared.item.Kind.TheVariants.{Limit}, item_fns.specs.Numbers.{number_or_limit, power, truth}}
 
 one_more : (b n : ℕ) → b ^ suc n ≡ b ^ n * b
 one_more b n = let e : suc n ≡ n + 1 = omega arith in ap (λ k. b ^ k) e ∙ pow_more b n
@@ -56,8 +55,7 @@ even_is : (n : ℕ) → n % 2 ≡ 0 → int_pow (negsuc 0) n ≡ pos 1
 even_is n h = let even : (n % 2 == 0) ≡ true = eq-eqb (n % 2) 0 h in rw (even, one_pow n) refl
 
 odd_is : (n : ℕ) → (n % 2 ≡ 0 → ⊥) → int_pow (negsuc 0) n ≡ negsuc 0
-odd_is n h =
-    rw (false_from_ne_true _ (λ t. h (eqb-true (n % 2) 0 t)), one_pow n) refl
+odd_is n h = rw (false_from_ne_true _ (λ t. h (eqb-true (n % 2) 0 t)), one_pow n) refl
 
 pub even_power : (b : ℤ) → of_z w64 (int_rem b (pos 2)) ≡ 0 → power (negsuc 0) b ≡ Ok (pos 1)
 even_power (pos n) h = ap number_or_limit (even_is n h)

@@ -1,7 +1,6 @@
 -- Quotients by the machine's remainder, and those by -1.
-use Rattle.std.{proofs.Common.{◌≡◌, ◌/◌, ◌%◌, ◌^◌, ◌<◌, ◌≤◌, suc, true, Ok, nat_lt, SFits, unsigned_abs, refl, ap, sym, ◌∙◌, inl, arith, ℤ, pos, negsuc, neg_ℤ, ◌+ℤ◌, ◌-ℤ◌, ◌*ℤ◌, false, of_z, w64, int_rem, int_div}, proofs.Math.IntN.{*ℤ_comm}, proofs.lemmas.Int.{ints, quot-rem, rem_below, fits_signed_from_abs}}
-use Rattle.std.{proofs.lemmas.Bool.{lt-ltb}, specs.Ordering.{int_eq}}
-use Rattle.item_fns.{specs.Numbers.{residue, floor_div, quotient, number_or_limit}, proofs.Residues.{as_it_is, whole_quotient, quotient_whole}, proofs.Signs.{zero_of_bits}}
+use Rattle.std.{proofs.Common.{◌≡◌, ◌/◌, ◌%◌, ◌^◌, ◌<◌, ◌≤◌, suc, SFits, unsigned_abs, refl, ap, sym, ◌∙◌, inl, arith, ℤ, pos, negsuc, neg_ℤ, ◌+ℤ◌, ◌-ℤ◌, ◌*ℤ◌, false, of_z, w64, int_rem, int_div}, proofs.Math.IntN.{*ℤ_comm}, proofs.lemmas.Int.{ints, quot-rem, rem_below, fits_signed_from_abs}, specs.Ordering.{int_eq}}
+use Rattle.item_fns.{specs.Numbers.{residue, quotient, number_or_limit}, proofs.Residues.{as_it_is, whole_quotient, quotient_whole}, proofs.Signs.{zero_of_bits}}
 
 nothing_left : (a p r : ℤ) → a -ℤ p ≡ pos 0 → p +ℤ r ≡ a → r ≡ pos 0
 nothing_left a p r h e = omega (arith, ints)
@@ -9,9 +8,7 @@ nothing_left a p r h e = omega (arith, ints)
 -- where the residue is 0, so is the machine's remainder
 pub no_remainder : (a b : ℤ) → int_eq b (pos 0) ≡ false → residue b a ≡ pos 0 → int_rem a b ≡ pos 0
 no_remainder a b some whole =
-    let left : a -ℤ b *ℤ floor_div a b ≡ pos 0 = rw some at whole in
-    let product : b *ℤ floor_div a b ≡ int_div a b *ℤ b = ap (λ z. b *ℤ z) (sym (whole_quotient a b some whole)) ∙ *ℤ_comm b (int_div a b) in
-    nothing_left a (int_div a b *ℤ b) (int_rem a b) (rw product at left) (quot-rem a b)
+    nothing_left a (int_div a b *ℤ b) (int_rem a b) (rw (ap (λ z. b *ℤ z) (sym (whole_quotient a b some whole)) ∙ *ℤ_comm b (int_div a b)) at (rw some at whole)) (quot-rem a b)
 
 reaches : (b : ℤ) → SFits w64 b → (of_z w64 b ≡ 0 → ⊥) → (0 < unsigned_abs b) × (unsigned_abs b ≤ 2 ^ 63)
 reaches (pos n) fits some = let f = fits.sfits in (omega arith, omega arith)
@@ -22,10 +19,6 @@ no_bits a b some fits none =
     let reach = reaches b fits some in
     let below = rem_below a b reach.0 in
     zero_of_bits (int_rem a b) (fits_signed_from_abs w64 (int_rem a b) (let r = reach.1 in omega arith)) none
-
-pub held : (z : ℤ) → SFits w64 z → number_or_limit z ≡ Ok z
-held (pos n) fits = let f = fits.sfits in let within : nat_lt n (2 ^ 63) ≡ true = lt-ltb n (2 ^ 63) (omega arith) in rw within refl
-held (negsuc n) fits = let f = fits.sfits in let within : nat_lt n (2 ^ 63) ≡ true = lt-ltb n (2 ^ 63) (omega arith) in rw within refl
 
 -- where the machine's remainder is 0, so is the residue
 pub no_residue : (a b : ℤ) → (of_z w64 b ≡ 0 → ⊥) → int_rem a b ≡ pos 0 → residue b a ≡ pos 0
@@ -40,6 +33,4 @@ none_by_minus_one (pos n) = let e : n % 1 ≡ 0 = omega arith in ap pos e
 none_by_minus_one (negsuc n) = let e : suc n % 1 ≡ 0 = omega arith in ap (λ m. neg_ℤ (pos m)) e
 
 pub negated : (a : ℤ) → quotient a (negsuc 0) ≡ number_or_limit (neg_ℤ a)
-negated a =
-    let some : of_z w64 (negsuc 0) ≡ 0 → ⊥ = λ e. omega arith in
-    quotient_whole a (negsuc 0) refl (no_residue a (negsuc 0) some (none_by_minus_one a)) ∙ ap number_or_limit (by_minus_one a)
+negated a = quotient_whole a (negsuc 0) refl (no_residue a (negsuc 0) (λ e. omega arith) (none_by_minus_one a)) ∙ ap number_or_limit (by_minus_one a)

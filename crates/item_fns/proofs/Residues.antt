@@ -13,25 +13,21 @@ next_mod b d h =
       | inl lt ↦
           inr (ap (λ n. n % d) (omega arith) ∙ mod-mul-add (b / d) d (b % d + 1) lt)
       | inr ge ↦
-          let last : b % d + 1 ≡ d = omega arith in
-          inl (ap (λ n. n % d) (omega arith) ∙ mod-mul-add (b / d + 1) d 0 h, last)
+          inl (ap (λ n. n % d) (omega arith) ∙ mod-mul-add (b / d + 1) d 0 h, omega arith)
     ]
 
 pub both_positive : (b a : ℕ) → pos b -ℤ pos (suc a) *ℤ pos (b / suc a) ≡ pos (b % suc a)
 both_positive b a = let e = div-add-mod' b (suc a) in omega (arith, ints)
 
 pub both_negative : (b a : ℕ) → negsuc b -ℤ negsuc a *ℤ pos (suc b / suc a) ≡ neg_ℤ (pos (suc b % suc a))
-both_negative b a =
-    rw (negsuc-*ℤ-pos a (suc b / suc a)) (omega (arith, ints))
+both_negative b a = rw (negsuc-*ℤ-pos a (suc b / suc a)) (omega (arith, ints))
 
 pub negative_dividend : (b a : ℕ) → suc b % suc a ≡ b % suc a + 1
     → negsuc b -ℤ pos (suc a) *ℤ negsuc (b / suc a) ≡ neg_ℤ (pos (suc b % suc a)) +ℤ pos (suc a)
-negative_dividend b a h =
-    rw (pos-*ℤ-negsuc (suc a) (b / suc a), h) (omega (arith, ints))
+negative_dividend b a h = rw (pos-*ℤ-negsuc (suc a) (b / suc a), h) (omega (arith, ints))
 
 pub negative_dividend_whole : (b a : ℕ) → b % suc a + 1 ≡ suc a → negsuc b -ℤ pos (suc a) *ℤ negsuc (b / suc a) ≡ pos 0
-negative_dividend_whole b a h =
-    rw (pos-*ℤ-negsuc (suc a) (b / suc a)) (omega (arith, ints))
+negative_dividend_whole b a h = rw (pos-*ℤ-negsuc (suc a) (b / suc a)) (omega (arith, ints))
 
 negative_product : (a q : ℕ) → negsuc a *ℤ neg_ℤ (pos q) ≡ pos (suc a * q)
 negative_product a zero = let z : suc a * 0 ≡ 0 = omega arith in rw z refl
@@ -68,8 +64,7 @@ corrected (pos (suc a)) (negsuc b) rest some is far differ =
       | inr more ↦ rw (is, is_not_zero (pos (suc a)) some) (sym (negative_dividend b a more))
     ]
 corrected (negsuc a) (pos b) rest some is far differ =
-    let r : b % suc a ≡ 0 → ⊥ = λ e. far (ap (of_z w64) (is ∙ ap pos e)) in
-    ap (λ z. z +ℤ negsuc a) is ∙ sym (negative_divisor b a (nonzero_place (b % suc a) r))
+    ap (λ z. z +ℤ negsuc a) is ∙ sym (negative_divisor b a (nonzero_place (b % suc a) (λ e. far (ap (of_z w64) (is ∙ ap pos e)))))
 corrected (negsuc a) (negsuc b) rest some is far differ =
     let same = rw (is ∙ ap (λ r. neg_ℤ (pos r)) (nonzero_rest (suc b % suc a) (λ e. far (ap (of_z w64) is ∙ e))).1) at differ in absurd (false≢true same)
 
@@ -110,8 +105,7 @@ whole_quotient (pos a) (negsuc b) some whole =
           let left : pos (a % suc b) +ℤ negsuc b ≡ pos 0 = sym (negative_divisor a b more) ∙ whole in
           absurd (omega (arith, ints))
       | inr none ↦
-          let up : a / suc b + min 1 (a % suc b) ≡ a / suc b = omega arith in
-          ap (λ q. neg_ℤ (pos q)) (sym up)
+          ap (λ q. neg_ℤ (pos q)) (sym (omega arith))
     ]
 whole_quotient (negsuc a) (pos zero) some whole = absurd (true≢false some)
 whole_quotient (negsuc a) (pos (suc b)) some whole =
@@ -128,11 +122,7 @@ whole_quotient (negsuc a) (pos (suc b)) some whole =
     ]
 
 pub quotient_whole : (a b : ℤ) → int_eq b (pos 0) ≡ false → residue b a ≡ pos 0 → quotient a b ≡ number_or_limit (int_div a b)
-quotient_whole a b some none =
-    let tested : int_eq (residue b a) (pos 0) ≡ true = (Decides-int_eq (residue b a) (pos 0)).1 none in
-    let same : quotient a b ≡ number_or_limit (floor_div a b) = rw (tested, some) refl in
-    same ∙ ap number_or_limit (sym (whole_quotient a b some none))
+quotient_whole a b some none = (rw ((Decides-int_eq (residue b a) (pos 0)).1 none, some) refl) ∙ ap number_or_limit (sym (whole_quotient a b some none))
 
 pub quotient_broken : (a b : ℤ) → int_eq b (pos 0) ≡ false → (residue b a ≡ pos 0 → ⊥) → quotient a b ≡ Err Domain
-quotient_broken a b some left =
-    rw (false_from_ne_true _ (λ t. left ((Decides-int_eq (residue b a) (pos 0)).0 t)), some) refl
+quotient_broken a b some left = rw (false_from_ne_true _ (λ t. left ((Decides-int_eq (residue b a) (pos 0)).0 t)), some) refl

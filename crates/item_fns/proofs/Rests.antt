@@ -11,10 +11,8 @@ not_above m a h = (omega (arith, ints), omega (arith, ints))
 
 between : (a b : ℤ) → int_eq a (pos 0) ≡ false → IsFromZeroBelow a (b -ℤ a *ℤ floor_div b a)
 between (pos zero) b some = absurd (true≢false some)
-between (pos (suc a)) (pos b) some =
-    rw (both_positive b a) (omega (arith, ints), omega (arith, ints))
-between (negsuc a) (negsuc b) some =
-    rw (both_negative b a) (not_above (suc b % suc a) a (mod_below (suc b) (suc a) (omega arith)))
+between (pos (suc a)) (pos b) some = rw (both_positive b a) (omega (arith, ints), omega (arith, ints))
+between (negsuc a) (negsuc b) some = rw (both_negative b a) (not_above (suc b % suc a) a (mod_below (suc b) (suc a) (omega arith)))
 between (pos (suc a)) (negsuc b) some =
     elim (next_mod b (suc a) (omega arith)) [
       | inl last ↦ rw (negative_dividend_whole b a last.1) (omega (arith, ints), omega (arith, ints))
@@ -30,5 +28,4 @@ pub residue_is_rest : (a b : ℤ) → int_eq a (pos 0) ≡ false → IsRest a b 
 residue_is_rest a b some = rw some (record { times = floor_div b a; parts = parts_of b (a *ℤ floor_div b a); between = between a b some })
 
 pub rest_by : (a b r : ℤ) → r ≡ residue a b → (a ≡ pos 0 → ⊥) → IsRest a b r
-rest_by a b r is some =
-    subst (λ z. IsRest a b z) (sym is) (residue_is_rest a b (false_from_ne_true _ (λ t. some ((Decides-int_eq a (pos 0)).0 t))))
+rest_by a b r is some = subst (λ z. IsRest a b z) (sym is) (residue_is_rest a b (false_from_ne_true _ (λ t. some ((Decides-int_eq a (pos 0)).0 t))))

@@ -1,8 +1,7 @@
 -- Folds of lists that are not empty, from the last entry to the first.
 use Rattle.std.{proofs.Common.{◌≡◌, ℕ, zero, suc, ◌+◌, ◌-◌, ◌*◌, ◌<◌, ◌≤◌, List, [], ◌∷◌, length, get_or, drop, take, refl, ap, sym, ◌∙◌, arith, Result, Ok, Err}, proofs.lemmas.List.{drop_more, get_or-take, get_or-drop, length-drop, length-take, ext_get_or}}
 use Rattle.std.proofs.lemmas.List.FromFn.{length-map-range_with_len, get_or-map-range_with_len}
-use Rattle.arrays_core.{specs.declared.item.Kind.{Kind}, specs.Items.{and_then}}
-use Rattle.item_fns.specs.Folds.{strided, folded}
+use Rattle.{arrays_core.{specs.declared.item.Kind.{Kind}, specs.Items.{and_then}}, item_fns.specs.Folds.{strided, folded}}
 
 module _ {A : Type 0} (f : A → A → Result A Kind) where
   pub fold_more : (x : A) (rest : List A) → 0 < length rest → folded f (x ∷ rest) ≡ and_then (folded f rest) (f x)
@@ -19,8 +18,7 @@ module _ {A : Type 0} (f : A → A → Result A Kind) where
   pub error_stands : (xs : List A) (k : ℕ) (e : Kind) → k < length xs → folded f (drop k xs) ≡ Err e → folded f xs ≡ Err e
   error_stands [] k e h g = absurd (omega arith)
   error_stands (x ∷ xs) zero e h g = g
-  error_stands (x ∷ xs) (suc k) e h g =
-      fold_more x xs (omega arith) ∙ (rw (error_stands xs k e (omega arith) g) refl)
+  error_stands (x ∷ xs) (suc k) e h g = fold_more x xs (omega arith) ∙ (rw (error_stands xs k e (omega arith) g) refl)
 
 -- one entry more in front
 pub rest_more : {A : Type 0} (f : A → A → Result A Kind) (xs : List A) (d : A) (j : ℕ) (y : A) → j + 1 < length xs → folded f (drop (j + 1) xs) ≡ Ok y
@@ -49,17 +47,8 @@ module _ {A : Type 0} (d : A) (xs : List A) where
     pub strided_more : (j : ℕ) (y : A) → j + 1 < count → folded f (drop (j + 1) (strided d xs first stride count)) ≡ Ok y
         → folded f (drop j (strided d xs first stride count)) ≡ f (get_or xs (first + j * stride) d) y
     strided_more j y h e =
-        let ys = strided d xs first stride count in
         let long = length-strided first stride count in
-        let item = get_or-strided first stride count j d (omega arith) in
-        rest_more f ys d j y (omega arith) e ∙ ap (λ x. f x y) item
-
-    -- an error on the way is that of the whole
-    pub strided_error : (j : ℕ) (y : A) (e : Kind) → j + 1 < count → folded f (drop (j + 1) (strided d xs first stride count)) ≡ Ok y
-        → f (get_or xs (first + j * stride) d) y ≡ Err e → folded f (strided d xs first stride count) ≡ Err e
-    strided_error j y e h g bad =
-        let long = length-strided first stride count in
-        error_stands f (strided d xs first stride count) j e (omega arith) (strided_more j y h g ∙ bad)
+        rest_more f (strided d xs first stride count) d j y (omega arith) e ∙ ap (λ x. f x y) (get_or-strided first stride count j d (omega arith))
 
   -- the first entries of a line
   pub take-strided : (first stride count n : ℕ) → n ≤ count → take n (strided d xs first stride count) ≡ strided d xs first stride n
@@ -77,14 +66,12 @@ module _ {A : Type 0} (d : A) (xs : List A) where
 -- entries one apart are a run
 pub strided_run : {A : Type 0} (d : A) (xs : List A) (first count : ℕ) → first + count ≤ length xs → take count (drop first xs) ≡ strided d xs first 1 count
 strided_run d xs first count h =
-    let run = take count (drop first xs) in
     let long = length-take count (drop first xs) in
     let rest = length-drop first xs in
     let n = length-strided d xs first 1 count in
-    ext_get_or d run (strided d xs first 1 count) (omega arith) (λ k below.
+    ext_get_or d (take count (drop first xs)) (strided d xs first 1 count) (omega arith) (λ k below.
     let inside : k < count = omega arith in
-    let place : first + k ≡ first + k * 1 = omega arith in
     get_or-take count (drop first xs) k d inside
     ∙ get_or-drop first xs k d
-    ∙ ap (λ m. get_or xs m d) place
+    ∙ ap (λ m. get_or xs m d) (omega arith)
     ∙ sym (get_or-strided d xs first 1 count k d inside))

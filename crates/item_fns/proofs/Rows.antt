@@ -1,5 +1,5 @@
 -- Worked rows of the definitions, computed.
-use Rattle.std.proofs.Common.{◌≡◌, refl, [], ◌∷◌, Ok, Err, pos, negsuc}
+use Rattle.std.proofs.Common.{refl, [], ◌∷◌, Ok, Err, pos, negsuc}
 use Rattle.arrays_core.{specs.declared.item.Item.TheVariants.{Num, Char}, specs.declared.item.Kind.TheVariants.{Domain, Limit}, proofs.CaseWords.{◌⇒◌, AllSame}}
 use Rattle.function_names.{specs.declared.scalar.Scalar1.TheVariants.{Negative, Reciprocal, Magnitude, Not}, specs.declared.scalar.Scalar2.TheVariants.{Divide, Power, Residue, Equal, NotEqual, Less, And, Or}}
 use Rattle.item_fns.{specs.Numbers.{monadic_on_number, dyadic_on_numbers}, specs.Items.{dyadic_on_items}, specs.Identities.{least}}
@@ -28,31 +28,23 @@ worked_cases : AllSame (
     dyadic_on_numbers Power (pos 2) (negsuc 0) ⇒ Err Domain ∷  -- power below 0
     dyadic_on_numbers Power (pos 0) (pos 0) ⇒ Ok (pos 1) ∷  -- power of zeros
     dyadic_on_numbers Power (pos 0) (negsuc 0) ⇒ Err Domain ∷  -- power of 0 below 0
-    [])
-worked_cases = refl
-
-worked_cases_2 : AllSame (
     -- -¯9223372036854775808 and |¯9223372036854775808 are out of range, ÷¯1 is ¯1, ÷2 is not whole, ~2 is not 0 or 1
     monadic_on_number Negative least ⇒ Err Limit ∷
     monadic_on_number Magnitude least ⇒ Err Limit ∷  -- magnitude of least
     monadic_on_number Reciprocal (negsuc 0) ⇒ Ok (negsuc 0) ∷  -- reciprocal of minus 1
     monadic_on_number Reciprocal (pos 2) ⇒ Err Domain ∷  -- reciprocal of 2
     monadic_on_number Not (pos 2) ⇒ Err Domain ∷  -- not 2
+    -- 0∧2 and 1∨2 are domain errors
+    dyadic_on_numbers And (pos 0) (pos 2) ⇒ Err Domain ∷
+    dyadic_on_numbers Or (pos 1) (pos 2) ⇒ Err Domain ∷
     [])
-worked_cases_2 = refl
+worked_cases = refl
 
--- 0∧2 and 1∨2 are domain errors
-and_2 : dyadic_on_numbers And (pos 0) (pos 2) ≡ Err Domain
-and_2 = refl
-
-or_2 : dyadic_on_numbers Or (pos 1) (pos 2) ≡ Err Domain
-or_2 = refl
-
-worked_cases_3 : AllSame (
+worked_cases_2 : AllSame (
     -- 'a'=97 is 0, 'a'≠97 and 'a'='a' are 1, 'a'<97 is a domain error
     dyadic_on_items Equal (Char 97) (Num (pos 97)) ⇒ Ok (Num (pos 0)) ∷
     dyadic_on_items NotEqual (Char 97) (Num (pos 97)) ⇒ Ok (Num (pos 1)) ∷  -- character or number
     dyadic_on_items Equal (Char 97) (Char 97) ⇒ Ok (Num (pos 1)) ∷  -- characters
     dyadic_on_items Less (Char 97) (Num (pos 97)) ⇒ Err Domain ∷  -- less than a number
     [])
-worked_cases_3 = refl
+worked_cases_2 = refl

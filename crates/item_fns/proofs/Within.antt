@@ -27,6 +27,9 @@ pub held_within : (z : ℤ) → Within z → number_or_limit z ≡ Ok z
 held_within (pos n) h = let inside : ltb n (2 ^ 63) ≡ true = lt-ltb n (2 ^ 63) (omega (arith, ints, h.high)) in rw inside refl
 held_within (negsuc n) h = let inside : ltb n (2 ^ 63) ≡ true = lt-ltb n (2 ^ 63) (omega (arith, ints, h.low)) in rw inside refl
 
+pub held : (z : ℤ) → SFits w64 z → number_or_limit z ≡ Ok z
+held z f = held_within z (within_of z f)
+
 pub record Holds (z t : ℤ) : Type 0 where
   pub within : Within z
   pub same : t ≡ z

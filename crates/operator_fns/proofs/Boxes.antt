@@ -1,12 +1,9 @@
 -- Worked cases of boxes, computed.
 use Rattle.std.proofs.Common.{refl, pos, ℕ, List, [], ◌∷◌, replicate, Option, Some, None}
 use Rattle.arrays_core.{specs.Arrays.{ArrayValue}, specs.Shapes.{size}, proofs.CaseWords.{◌⇒◌, AllSame, nums}}
-use Rattle.function_names.specs.declared.along.Along.TheVariants.{First, Last, Axis}
-use Rattle.index_region.specs.Boxes.{Interval}
-use Rattle.change_core.{specs.declared.reach.Reach.TheVariants.{Unmoved, Inside, Anew}, specs.Reaches.{reach_of}}
-use Rattle.reduce_fns.specs.Reduce.{reduce_rule}
-use Rattle.scan_fns.specs.Scan.{scan_rule}
-use Rattle.operator_fns.{specs.OuterProduct.{outer_rule}, specs.InnerProduct.{inner_rule}}
+use Rattle.{function_names.specs.declared.along.Along.TheVariants.{First, Last, Axis}, index_region.specs.Boxes.{Interval}}
+use Rattle.{change_core.{specs.declared.reach.Reach.TheVariants.{Unmoved, Inside, Anew}, specs.Reaches.{reach_of}}, reduce_fns.specs.Reduce.{reduce_rule}}
+use Rattle.{scan_fns.specs.Scan.{scan_rule}, operator_fns.{specs.OuterProduct.{outer_rule}, specs.InnerProduct.{inner_rule}}}
 use Rattle.function_names.specs.declared.scalar.Scalar2.TheVariants as two
 
 -- an array of this shape, all of noughts

@@ -62,79 +62,56 @@ one_row (n ∷ shape) h =
 
 -- ---- entries of a row and of a column
 
--- an entry of a row lies in the numbers, and is the item that is meant
-record RowEntry (a : ArrayValue) (xs : List ℤ) (row : List ℕ) (k first stride : ℕ) : Type 0 where
-  there : first + k * stride < length xs
-  is : Num (get_or xs (first + k * stride) (pos 0)) ≡ extended a (row ++ (k + 1) ∷ [])
+-- an entry of a row or of a column lies in the numbers, and is the item that is meant
+record Entry (a : ArrayValue) (xs : List ℤ) (index : List ℕ) (place : ℕ) : Type 0 where
+  there : place < length xs
+  is : Num (get_or xs place (pos 0)) ≡ extended a index
+
+-- where one item stands still, and where an entry of many stands
+entry_at : (a : ArrayValue) (xs : List ℤ) → length a.items ≡ size a.shape → a.items ≡ map (λ z. Num z) xs → 0 < length xs
+    → (index : List ℕ) (place : Bool → ℕ) → (size a.shape ≡ 1 → place true ≡ 0)
+    → (length a.items ≢ 1 → size a.shape ≢ 1 → (place false ≡ places_before a.shape index) × (places_before a.shape index < size a.shape))
+    → Entry a xs index (place (eqb (length a.items) 1))
+entry_at a xs long is_a some index place at_one at_many =
+    elim (eqb_tells (length a.items) 1) [
+      | inl one ↦
+          let single : size a.shape ≡ 1 = omega (arith, one.1, long) in
+          subst (λ w. Entry a xs index (place w)) (sym one.0)
+          (rw (at_one single) (record { there = some; is = sym (number_there a.items xs 0 (fill a.item_type) is_a some) ∙ sym (extended_one a index single) }))
+      | inr several ↦
+          let many : size a.shape ≢ 1 = λ e. several.1 (long ∙ e) in
+          let here = at_many several.1 many in
+          let below : places_before a.shape index < length xs = omega (arith, here.1, as_many a xs long is_a) in
+          subst (λ w. Entry a xs index (place w)) (sym several.0) (rw here.0 (record {
+            there = below;
+            is = sym (number_there a.items xs (places_before a.shape index) (fill a.item_type) is_a below) ∙ sym (extended_many a index many);
+          }))
+    ]
 
 row_entry : (a : ArrayValue) (xs : List ℤ) → length a.items ≡ size a.shape → a.items ≡ map (λ z. Num z) xs → 0 < length xs
     → (row : List ℕ) (count k : ℕ) → is_index_of (take (row_rank a) a.shape) row ≡ true → (length a.items ≢ 1 → row_length a ≡ count) → k < count
-    → RowEntry a xs row k (places_before (take (row_rank a) a.shape) row * count) (cond (eqb (length a.items) 1) 0 1)
+    → Entry a xs (row ++ (k + 1) ∷ []) (places_before (take (row_rank a) a.shape) row * count + k * cond (eqb (length a.items) 1) 0 1)
 row_entry a xs long is_a some row count k inside row_long low =
-    let rows = take (row_rank a) a.shape in
-    let p = places_before rows row in
-    let many_numbers = as_many a xs long is_a in
-    elim (eqb_tells (length a.items) 1) [
-      | inl one ↦
-          let single : size a.shape ≡ 1 = omega (arith, one.1) in
-          let none : p ≡ 0 = omega (arith, places_below rows row inside, one_row a.shape single) in
-          let place : p * count + k * 0 ≡ 0 = rw none (omega arith) in
-          subst (λ w. RowEntry a xs row k (p * count) (cond w 0 1)) (sym one.0)
-          (record {
-            there = omega arith;
-            is = ap (λ m. Num (get_or xs m (pos 0))) place ∙ sym (number_there a.items xs 0 (fill a.item_type) is_a some) ∙ sym (extended_one a (row ++ (k + 1) ∷ []) single);
-          })
-      | inr several ↦
-          let many : size a.shape ≢ 1 = λ e. several.1 (long ∙ e) in
-          let e : row_length a ≡ count = row_long several.1 in
-          let here = row_place a row k many inside (omega arith) in
-          let same : p * row_length a ≡ p * count = ap (λ n. p * n) e in
-          let place : p * count + k * 1 ≡ places_before a.shape (row ++ (k + 1) ∷ []) = omega (arith, here.place) in
-          let below : places_before a.shape (row ++ (k + 1) ∷ []) < length xs = omega (arith, here.place, here.below) in
-          subst (λ w. RowEntry a xs row k (p * count) (cond w 0 1)) (sym several.0)
-          (record {
-            there = omega arith;
-            is = ap (λ m. Num (get_or xs m (pos 0))) place
-                ∙ sym (number_there a.items xs (places_before a.shape (row ++ (k + 1) ∷ [])) (fill a.item_type) is_a below)
-                ∙ sym (extended_many a (row ++ (k + 1) ∷ []) many);
-          })
-    ]
-
-record ColumnEntry (b : ArrayValue) (ys : List ℤ) (column : List ℕ) (k first stride : ℕ) : Type 0 where
-  there : first + k * stride < length ys
-  is : Num (get_or ys (first + k * stride) (pos 0)) ≡ extended b ((k + 1) ∷ column)
+    let p = places_before (take (row_rank a) a.shape) row in
+    entry_at a xs long is_a some (row ++ (k + 1) ∷ []) (λ w. p * count + k * cond w 0 1)
+    (λ single. let none : p ≡ 0 = omega (arith, places_below (take (row_rank a) a.shape) row inside, one_row a.shape single) in rw none (omega arith))
+    (λ several many.
+    let e : row_length a ≡ count = row_long several in
+    let here = row_place a row k many inside (omega arith) in
+    let same : p * row_length a ≡ p * count = ap (λ n. p * n) e in
+    (omega (arith, here.place), omega (arith, here.place, here.below)))
 
 column_entry : (b : ArrayValue) (ys : List ℤ) → length b.items ≡ size b.shape → b.items ≡ map (λ z. Num z) ys → 0 < length ys
     → (column : List ℕ) (count k : ℕ) → is_index_of (drop 1 b.shape) column ≡ true → (length b.items ≢ 1 → column_length b ≡ count) → k < count
-    → ColumnEntry b ys column k (places_before (drop 1 b.shape) column) (cond (eqb (length b.items) 1) 0 (size (drop 1 b.shape)))
+    → Entry b ys ((k + 1) ∷ column) (places_before (drop 1 b.shape) column + k * cond (eqb (length b.items) 1) 0 (size (drop 1 b.shape)))
 column_entry b ys long is_b some column count k inside column_long low =
-    let columns = drop 1 b.shape in
-    let p = places_before columns column in
-    let many_numbers = as_many b ys long is_b in
-    elim (eqb_tells (length b.items) 1) [
-      | inl one ↦
-          let single : size b.shape ≡ 1 = omega (arith, one.1) in
-          let none : p ≡ 0 = omega (arith, places_below columns column inside, (size-drop-le 1 b.shape (omega arith)).1) in
-          let place : p + k * 0 ≡ 0 = rw none (omega arith) in
-          subst (λ w. ColumnEntry b ys column k p (cond w 0 (size columns))) (sym one.0)
-          (record {
-            there = omega arith;
-            is = ap (λ m. Num (get_or ys m (pos 0))) place ∙ sym (number_there b.items ys 0 (fill b.item_type) is_b some) ∙ sym (extended_one b ((k + 1) ∷ column) single);
-          })
-      | inr several ↦
-          let many : size b.shape ≢ 1 = λ e. several.1 (long ∙ e) in
-          let e : column_length b ≡ count = column_long several.1 in
-          let here = column_place b column k many inside (omega arith) in
-          let place : p + k * size columns ≡ places_before b.shape ((k + 1) ∷ column) = sym here.place in
-          let below : places_before b.shape ((k + 1) ∷ column) < length ys = omega (arith, here.place, here.below) in
-          subst (λ w. ColumnEntry b ys column k p (cond w 0 (size columns))) (sym several.0)
-          (record {
-            there = omega (arith, place);
-            is = ap (λ m. Num (get_or ys m (pos 0))) place
-                ∙ sym (number_there b.items ys (places_before b.shape ((k + 1) ∷ column)) (fill b.item_type) is_b below)
-                ∙ sym (extended_many b ((k + 1) ∷ column) many);
-          })
-    ]
+    let p = places_before (drop 1 b.shape) column in
+    entry_at b ys long is_b some ((k + 1) ∷ column) (λ w. p + k * cond w 0 (size (drop 1 b.shape)))
+    (λ single. let none : p ≡ 0 = omega (arith, places_below (drop 1 b.shape) column inside, (size-drop-le 1 b.shape (omega arith)).1) in rw none (omega arith))
+    (λ several many.
+    let e : column_length b ≡ count = column_long several in
+    let here = column_place b column k many inside (omega arith) in
+    (sym here.place, omega (arith, here.place, here.below)))
 
 -- ---- the two parts of an index list of the result
 
@@ -193,9 +170,8 @@ module _ (a b : ArrayValue) (xs ys : List ℤ) (long_a : length a.items ≡ size
         → number_item (cell (dyadic_on_numbers f) (dyadic_on_numbers g) xs ys (grid_of a b) (places_before (take (row_rank a) a.shape ++ drop 1 b.shape) index))
         ≡ inner_item f g a b index
     cell_there f g index h =
-        let rows = take (row_rank a) a.shape in
         let columns = drop 1 b.shape in
-        let place = places_before (rows ++ columns) index in
+        let place = places_before (take (row_rank a) a.shape ++ columns) index in
         let two = apart a b index h in
         let row = take (row_rank a) index in
         let column = drop (row_rank a) index in

@@ -1,10 +1,9 @@
 -- Rows and columns of arrays, and inner products.
-use Rattle.std.{proofs.Common.{◌≡◌, ℕ, ◌+◌, ◌<◌, List, [], ◌∷◌, ◌++◌, length, map, take, drop, Result, Ok, Err, refl, ap, sym, ◌∙◌, arith}, specs.List.{range_with_len}, proofs.lemmas.List.{ext_get_or}, proofs.lemmas.List.FromFn.{length-map-range_with_len, get_or-map-range_with_len}}
+use Rattle.std.{proofs.Common.{◌≡◌, ℕ, ◌+◌, ◌<◌, List, [], ◌∷◌, ◌++◌, length, Result, Ok, Err, refl, sym, ◌∙◌, arith}, proofs.lemmas.List.FromFn.{length-map-range_with_len, get_or-map-range_with_len, fill_by_all}}
 use Rattle.arrays_core.{specs.declared.item.Item.{Item}, specs.declared.item.Kind.{Kind}, specs.Items.{and_then}, specs.Arrays.{ArrayValue}}
-use Rattle.function_names.specs.declared.scalar.Scalar2.{Scalar2}
-use Rattle.scalar_fns.specs.ScalarExtension.{extended}
+use Rattle.{function_names.specs.declared.scalar.Scalar2.{Scalar2}, scalar_fns.specs.ScalarExtension.{extended}}
 use Rattle.item_fns.{specs.Items.{dyadic_on_items}, specs.Folds.{folded}, specs.RightFold.{fold_right}, proofs.ItemFolds.{some_folded}}
-use Rattle.operator_fns.{specs.InnerProduct.{row_rank, inner_length, inner_item, all_or_last_error, products}, specs.RowByColumn.{all_met, folded_all}, proofs.Meetings.{length-met, met_at}}
+use Rattle.operator_fns.{specs.InnerProduct.{inner_length, all_or_last_error, products}, specs.RowByColumn.{all_met, folded_all}}
 
 -- ---- the fold of a row and a column
 one_longer : (x : Result Item Kind) (rest : Result (List Item) Kind) (items : List Item) → and_then rest (λ items. and_then x (λ item. Ok (item ∷ items))) ≡ Ok items → 0 < length items
@@ -30,10 +29,5 @@ pub products_met : (g : Scalar2) (a b : ArrayValue) (row column : List ℕ) (lef
     → products g a b row column ≡ all_met (dyadic_on_items g) left right count
 products_met g a b row column left right count e is_left is_right =
     let f = λ (j : ℕ). dyadic_on_items g (extended a (row ++ j ∷ [])) (extended b (j ∷ column)) in
-    let d : Result Item Kind = f 0 in
-    let long = length-map-range_with_len f 1 (inner_length a b) in
-    let met_long = length-met (dyadic_on_items g) left right count in
-    ext_get_or d (products g a b row column) (all_met (dyadic_on_items g) left right count) (omega arith) (λ k h.
-    let below : k < count = omega arith in
-    get_or-map-range_with_len f 1 (inner_length a b) k (k + 1) d (omega arith) (omega arith)
-    ∙ sym (met_at (dyadic_on_items g) left right count k d below ∙ (rw (is_left k below, is_right k below) refl)))
+    fill_by_all (λ k. dyadic_on_items g (left k) (right k)) (products g a b row column) count (f 0) (length-map-range_with_len f 1 (inner_length a b) ∙ sym e) (λ k below.
+    get_or-map-range_with_len f 1 (inner_length a b) k (k + 1) (f 0) (omega arith) (omega arith) ∙ (rw (is_left k below, is_right k below) refl))

@@ -8,6 +8,5 @@ pub mod Inners
 pub mod Grids
 pub mod OuterCases
 pub mod InnerCases
-pub mod MetLists
 pub mod Ranks
 pub mod Boxes

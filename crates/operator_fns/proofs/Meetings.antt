@@ -1,8 +1,7 @@
 -- Folds of what a row and a column give, from the last entry to the first.
-use Rattle.std.{proofs.Common.{◌≡◌, ℕ, zero, suc, ◌+◌, ◌<◌, ◌≤◌, List, [], ◌∷◌, ◌++◌, length, get_or, drop, take, map, refl, ap, sym, ◌∙◌, arith, Result, Ok, Err}, specs.List.{range_with_len}, proofs.lemmas.List.{drop_more, drop_all, take_more, take_all, length-take, get_or-take, ext_get_or}}
-use Rattle.std.proofs.lemmas.List.FromFn.{length-map-range_with_len, get_or-map-range_with_len}
-use Rattle.arrays_core.{specs.declared.item.Kind.{Kind}, specs.Items.{and_then}}
-use Rattle.item_fns.{specs.Folds.{folded}, proofs.RightFolds.{fold_more}}
+use Rattle.std.{proofs.Common.{◌≡◌, ℕ, zero, suc, ◌+◌, ◌-◌, ◌<◌, ◌≤◌, List, [], ◌∷◌, ◌++◌, length, get_or, set, drop, take, map, refl, ap, sym, ◌∙◌, arith, Result, Ok, Err}, specs.List.{range_with_len}, proofs.lemmas.List.{drop_more, drop_all, drop-set}}
+use Rattle.std.proofs.lemmas.List.FromFn.{length-map-range_with_len, get_or-map-range_with_len, map-range_with_len_more, take-map-range_with_len}
+use Rattle.{arrays_core.{specs.declared.item.Kind.{Kind}, specs.Items.{and_then}}, item_fns.{specs.Folds.{folded}, proofs.RightFolds.{fold_more}}}
 use Rattle.operator_fns.{specs.InnerProduct.{all_or_last_error}, specs.RowByColumn.{all_met, last_error_or, folded_all}}
 
 -- ---- the error of the last that has one
@@ -22,8 +21,7 @@ module _ {A : Type 0} where
   pub later_error : (rs : List (Result A Kind)) (k : ℕ) (e : Kind) → k < length rs → all_or_last_error (drop k rs) ≡ Err e → all_or_last_error rs ≡ Err e
   later_error [] k e h g = absurd (omega arith)
   later_error (x ∷ rs) zero e h g = g
-  later_error (x ∷ rs) (suc k) e h g =
-      ap (λ r. and_then r (λ items. and_then x (λ item. Ok (item ∷ items)))) (later_error rs k e (omega arith) g)
+  later_error (x ∷ rs) (suc k) e h g = ap (λ r. and_then r (λ items. and_then x (λ item. Ok (item ∷ items)))) (later_error rs k e (omega arith) g)
 
   -- what follows a list that is fine at its end, where it fails whatever stands in front
   fails_after : {B : Type 0} (rs : List (Result A Kind)) (k : ℕ) (later : List A) (next : List A → Result B Kind) (e : Kind)
@@ -44,52 +42,6 @@ module _ {A : Type 0} where
       moved (Ok items) = refl
       moved (Err i) = refl
 
--- ---- the fold so far
-
-module _ {A : Type 0} (f : A → A → Result A Kind) where
-  still_fails : (front later : List A) (e : Kind) → 0 < length later → folded f later ≡ Err e → (folded f (front ++ later) ≡ Err e) × (0 < length (front ++ later))
-  still_fails [] later e h g = (g, h)
-  still_fails (x ∷ front) later e h g =
-      let rest = still_fails front later e h g in
-      (fold_more f x (front ++ later) rest.1 ∙ ap (λ r. and_then r (f x)) rest.0, omega (arith, rest.1))
-
-  -- the rest from an entry on is fine, and folds to y
-  pub record FoldedTo (rs : List (Result A Kind)) (k : ℕ) (y : A) : Type 0 where
-    pub later : List A
-    pub made : all_or_last_error (drop k rs) ≡ Ok later
-    pub some : 0 < length later
-    pub is : folded f later ≡ Ok y
-
-  pub folded_last : (rs : List (Result A Kind)) (k : ℕ) (y : A) → k + 1 ≡ length rs → get_or rs k (Ok y) ≡ Ok y → FoldedTo rs k y
-  folded_last rs k y h here =
-      record { later = y ∷ []; made = rw (drop_more rs k (Ok y) (omega arith), drop_all (k + 1) rs (omega arith), here) refl; some = omega arith; is = refl }
-
-  pub one_more : (rs : List (Result A Kind)) (k : ℕ) (x y z : A) → k + 1 < length rs → FoldedTo rs (k + 1) y → get_or rs k (Ok x) ≡ Ok x → f x y ≡ Ok z → FoldedTo rs k z
-  one_more rs k x y z h so_far here gave =
-      record {
-        later = x ∷ so_far.later;
-        made = rw (drop_more rs k (Ok x) (omega arith), here, so_far.made) refl;
-        some = omega arith;
-        is = fold_more f x so_far.later so_far.some ∙ ap (λ r. and_then r (f x)) so_far.is ∙ gave;
-      }
-
-  pub last_entry_failed : (rs : List (Result A Kind)) (k : ℕ) (e : Kind) → k + 1 ≡ length rs → get_or rs k (Err e) ≡ Err e → folded_all f rs ≡ Err e
-  last_entry_failed rs k e h here =
-      let there : all_or_last_error (drop k rs) ≡ Err e = rw (drop_more rs k (Err e) (omega arith), drop_all (k + 1) rs (omega arith), here) refl in
-      ap (λ r. and_then r (folded f)) (later_error rs k e (omega arith) there)
-
-  pub entry_failed : (rs : List (Result A Kind)) (k : ℕ) (y : A) (e : Kind) → k + 1 < length rs → FoldedTo rs (k + 1) y → get_or rs k (Err e) ≡ Err e → folded_all f rs ≡ Err e
-  entry_failed rs k y e h so_far here =
-      let there : all_or_last_error (drop k rs) ≡ Err e = rw (drop_more rs k (Err e) (omega arith), here, so_far.made) refl in
-      ap (λ r. and_then r (folded f)) (later_error rs k e (omega arith) there)
-
-  pub fold_failed : (rs : List (Result A Kind)) (k : ℕ) (x y : A) (e : Kind) → k + 1 < length rs → FoldedTo rs (k + 1) y → get_or rs k (Ok x) ≡ Ok x → f x y ≡ Err e
-      → folded_all f rs ≡ Err (last_error_or e (take k rs))
-  fold_failed rs k x y e h so_far here gave =
-      let made : all_or_last_error (drop k rs) ≡ Ok (x ∷ so_far.later) = rw (drop_more rs k (Ok x) (omega arith), here, so_far.made) refl in
-      let fails : folded f (x ∷ so_far.later) ≡ Err e = fold_more f x so_far.later so_far.some ∙ ap (λ r. and_then r (f x)) so_far.is ∙ gave in
-      fails_after rs k (x ∷ so_far.later) (folded f) e made (λ front. (still_fails front (x ∷ so_far.later) e (omega arith) fails).0)
-
 -- ---- what a rule gives at the first places
 
 module _ {A : Type 0} (rule : ℕ → Result A Kind) where
@@ -103,36 +55,84 @@ module _ {A : Type 0} (rule : ℕ → Result A Kind) where
   first_at count k d h = get_or-map-range_with_len rule 0 count k k d h (omega arith)
 
   pub take-firsts : (count k : ℕ) → k ≤ count → take k (firsts count) ≡ firsts k
-  take-firsts count k h =
-      let long = length-firsts count in
-      let short = length-firsts k in
-      let taken = length-take k (firsts count) in
-      ext_get_or (rule 0) (take k (firsts count)) (firsts k) (omega arith) (λ i below.
-      let inside : i < k = omega arith in
-      get_or-take k (firsts count) i (rule 0) inside
-      ∙ first_at count i (rule 0) (omega arith)
-      ∙ sym (first_at k i (rule 0) inside))
+  take-firsts count k h = take-map-range_with_len rule 0 count k h
 
-  pub firsts_more : (k : ℕ) → firsts (k + 1) ≡ firsts k ++ rule k ∷ []
-  firsts_more k =
-      let ys = firsts (k + 1) in
-      let long = length-firsts (k + 1) in
-      sym (take_all (k + 1) ys (omega arith))
-      ∙ take_more ys k (rule k) (omega arith)
-      ∙ (rw (take-firsts (k + 1) k (omega arith), first_at (k + 1) k (rule k) (omega arith)) refl)
+  firsts_more : (place : ℕ) → 0 < place → firsts place ≡ firsts (place - 1) ++ rule (place - 1) ∷ []
+  firsts_more place some = let next : place ≡ place - 1 + 1 = omega arith in ap firsts next ∙ map-range_with_len_more rule 0 (place - 1) (place - 1) (omega arith)
 
   -- one entry fewer that is fine, or that has the error
-  pub fine_entry : (e : Kind) (k : ℕ) (x : A) → rule k ≡ Ok x → last_error_or e (firsts (k + 1)) ≡ last_error_or e (firsts k)
-  fine_entry e k x here = ap (last_error_or e) (firsts_more k ∙ ap (λ r. firsts k ++ r ∷ []) here) ∙ last_fine e (firsts k) x
+  pub fine_entry : (e : Kind) (place : ℕ) (x : A) → 0 < place → rule (place - 1) ≡ Ok x → last_error_or e (firsts place) ≡ last_error_or e (firsts (place - 1))
+  fine_entry e place x some here = ap (last_error_or e) (firsts_more place some ∙ ap (λ r. firsts (place - 1) ++ r ∷ []) here) ∙ last_fine e (firsts (place - 1)) x
 
-  pub failed_entry : (e : Kind) (k : ℕ) (j : Kind) → rule k ≡ Err j → last_error_or e (firsts (k + 1)) ≡ j
-  failed_entry e k j here = ap (last_error_or e) (firsts_more k ∙ ap (λ r. firsts k ++ r ∷ []) here) ∙ last_failed e (firsts k) j
+  pub failed_entry : (e : Kind) (place : ℕ) (j : Kind) → 0 < place → rule (place - 1) ≡ Err j → last_error_or e (firsts place) ≡ j
+  failed_entry e place j some here = ap (last_error_or e) (firsts_more place some ∙ ap (λ r. firsts (place - 1) ++ r ∷ []) here) ∙ last_failed e (firsts (place - 1)) j
+
+  module _ (n : ℕ) where
+    pub none_after : drop n (firsts n) ≡ []
+    none_after = drop_all n (firsts n) (omega (arith, length-firsts n))
+
+    -- the rest from the entry before a place on
+    pub rest_from : (place : ℕ) (r : Result A Kind) → 0 < place → place ≤ n → rule (place - 1) ≡ r → drop (place - 1) (firsts n) ≡ r ∷ drop place (firsts n)
+    rest_from place r some inside here =
+        drop_more (firsts n) (place - 1) r (omega (arith, length-firsts n)) ∙ ap (λ m. get_or (firsts n) (place - 1) r ∷ drop m (firsts n)) (omega arith)
+        ∙ ap (λ x. x ∷ drop place (firsts n)) (first_at n (place - 1) r (omega arith) ∙ here)
+
+    pub rest_failed : (place : ℕ) (e : Kind) (later : List A) → 0 < place → place ≤ n → rule (place - 1) ≡ Err e → all_or_last_error (drop place (firsts n)) ≡ Ok later
+        → all_or_last_error (firsts n) ≡ Err e
+    rest_failed place e later some inside here made =
+        later_error (firsts n) (place - 1) e (omega (arith, length-firsts n)) (rw (rest_from place (Err e) some inside here, made) refl)
+
+    -- a list that is written from its last entry to its first has one more
+    pub one_written : (xs : List A) (place : ℕ) (x : A) → 0 < place → place ≤ n → place ≤ length xs → rule (place - 1) ≡ Ok x
+        → all_or_last_error (drop place (firsts n)) ≡ Ok (drop place xs) → all_or_last_error (drop (place - 1) (firsts n)) ≡ Ok (drop (place - 1) (set xs (place - 1) x))
+    one_written xs place x some inside in_xs here later =
+        let next : place - 1 + 1 ≡ place = omega arith in
+        (rw (rest_from place (Ok x) some inside here, later) refl) ∙ ap (λ m. Ok (x ∷ drop m xs)) (sym next) ∙ ap Ok (sym (drop-set xs (place - 1) x (omega arith)))
+
+-- ---- the fold so far
+
+still_fails : {A : Type 0} (f : A → A → Result A Kind) (front later : List A) (e : Kind) → 0 < length later → folded f later ≡ Err e
+    → (folded f (front ++ later) ≡ Err e) × (0 < length (front ++ later))
+still_fails f [] later e h g = (g, h)
+still_fails f (x ∷ front) later e h g =
+    let rest = still_fails f front later e h g in
+    (fold_more f x (front ++ later) rest.1 ∙ ap (λ r. and_then r (f x)) rest.0, omega (arith, rest.1))
+
+module _ {A : Type 0} (f : A → A → Result A Kind) (rule : ℕ → Result A Kind) (n : ℕ) where
+  -- the rest from an entry on is fine, and folds to y
+  pub record FoldedTo (place : ℕ) (y : A) : Type 0 where
+    pub later : List A
+    pub made : all_or_last_error (drop place (firsts rule n)) ≡ Ok later
+    pub some : 0 < length later
+    pub is : folded f later ≡ Ok y
+
+  pub folded_last : (y : A) → 1 ≤ n → rule (n - 1) ≡ Ok y → FoldedTo (n - 1) y
+  folded_last y some here = record { later = y ∷ []; made = rw (rest_from rule n n (Ok y) some (omega arith) here, none_after rule n) refl; some = omega arith; is = refl }
+
+  pub last_entry_failed : (e : Kind) → 1 ≤ n → rule (n - 1) ≡ Err e → folded_all f (firsts rule n) ≡ Err e
+  last_entry_failed e some here = ap (λ r. and_then r (folded f)) (rest_failed rule n n e [] some (omega arith) here (ap all_or_last_error (none_after rule n)))
+
+  module _ (place : ℕ) (y : A) (some : 0 < place) (inside : place ≤ n) (so_far : FoldedTo place y) where
+    pub one_more : (x z : A) → rule (place - 1) ≡ Ok x → f x y ≡ Ok z → FoldedTo (place - 1) z
+    one_more x z here gave = record {
+      later = x ∷ so_far.later;
+      made = rw (rest_from rule n place (Ok x) some inside here, so_far.made) refl;
+      some = omega arith;
+      is = fold_more f x so_far.later so_far.some ∙ ap (λ r. and_then r (f x)) so_far.is ∙ gave;
+    }
+
+    pub entry_failed : (e : Kind) → rule (place - 1) ≡ Err e → folded_all f (firsts rule n) ≡ Err e
+    entry_failed e here = ap (λ r. and_then r (folded f)) (rest_failed rule n place e so_far.later some inside here so_far.made)
+
+    pub fold_failed : (x : A) (e : Kind) → rule (place - 1) ≡ Ok x → f x y ≡ Err e → folded_all f (firsts rule n) ≡ Err (last_error_or e (firsts rule (place - 1)))
+    fold_failed x e here gave =
+        let made : all_or_last_error (drop (place - 1) (firsts rule n)) ≡ Ok (x ∷ so_far.later) = rw (rest_from rule n place (Ok x) some inside here, so_far.made) refl in
+        let fails : folded f (x ∷ so_far.later) ≡ Err e = fold_more f x so_far.later so_far.some ∙ ap (λ r. and_then r (f x)) so_far.is ∙ gave in
+        fails_after (firsts rule n) (place - 1) (x ∷ so_far.later) (folded f) e made (λ front. (still_fails f front (x ∷ so_far.later) e (omega arith) fails).0)
+        ∙ ap (λ rs. Err (last_error_or e rs)) (take-firsts rule n (place - 1) (omega arith))
 
 -- ---- what is met
 
 module _ {A : Type 0} (g : A → A → Result A Kind) (row column : ℕ → A) where
   pub length-met : (count : ℕ) → length (all_met g row column count) ≡ count
   length-met count = length-firsts (λ k. g (row k) (column k)) count
-
-  pub met_at : (count k : ℕ) (d : Result A Kind) → k < count → get_or (all_met g row column count) k d ≡ g (row k) (column k)
-  met_at count k d h = first_at (λ k. g (row k) (column k)) count k d h

@@ -1,10 +1,9 @@
 -- Outer products of numbers, row by row.
 use Rattle.std.{proofs.Common.{◌≡◌, Vec, ℕ, zero, suc, ◌+◌, ◌*◌, ◌/◌, ◌%◌, ◌<◌, List, [], ◌∷◌, ◌++◌, append-nil, length, get_or, map, take, drop, ℤ, pos, Result, Ok, Err, ap, sym, ◌∙◌, arith}, specs.List.{range_with_len}}
-use Rattle.std.{proofs.lemmas.List.{length-map, length-append, get_or_append_left, get_or-append-add, get_or-map, ext_get_or, take_more, take-append-drop}, proofs.lemmas.List.FromFn.{length-map-range_with_len, get_or-map-range_with_len}, proofs.lemmas.Grind.{flat_map-append}, proofs.lemmas.Nat.{div-add-mod'}}
-use Rattle.std.{proofs.Math.Nat.{mod-lt, div-lt_iff_lt-mul}, specs.Result.{IsErr, IsErrAnd}}
+use Rattle.std.{proofs.lemmas.List.{length-map, length-append, get_or_append_left, get_or-append-add, get_or-map, take_more, take-append-drop}, proofs.lemmas.List.FromFn.{fill_by_all}, proofs.lemmas.Grind.{flat_map-append}, proofs.lemmas.Nat.{div-add-mod'}, proofs.Math.Nat.{mod-lt, div-lt_iff_lt-mul}}
+use Rattle.std.specs.Result.{IsErr, IsErrAnd}
 use Rattle.arrays_core.{specs.declared.item.Kind.{Kind}, specs.declared.fault.ApplyFault.{ApplyFault}, specs.declared.fault.ApplyFault.TheVariants.{Kind as KindFault, NoMemory}, specs.Items.{all_or_first_error}}
-use Rattle.item_fns.specs.NumberLists.{IsListAnswerTo}
-use Rattle.operator_fns.specs.OuterResults.{outer_results, LeavesOrFails}
+use Rattle.{item_fns.specs.NumberLists.{IsListAnswerTo}, operator_fns.specs.OuterResults.{outer_results, LeavesOrFails}}
 
 -- the first results of a list stand after some numbers
 pub record RowTo (old : List ℤ) (rs : List (Result ℤ Kind)) (k : ℕ) (items : List ℤ) : Type 0 where
@@ -27,8 +26,7 @@ module _ (f : ℤ → ℤ → Result ℤ Kind) (ys : List ℤ) where
 
   pub length-outer : (xs : List ℤ) → length (outer_results f xs ys) ≡ length xs * length ys
   length-outer [] = omega arith
-  length-outer (x ∷ xs) =
-      length-append (map (f x) ys) (outer_results f xs ys) ∙ (omega (arith, length-map ys (f x), length-outer xs))
+  length-outer (x ∷ xs) = length-append (map (f x) ys) (outer_results f xs ys) ∙ (omega (arith, length-map ys (f x), length-outer xs))
 
   pub entry_of_row : (xs : List ℤ) (q r : ℕ) (d : Result ℤ Kind) → q < length xs → r < length ys
       → get_or (outer_results f xs ys) (q * length ys + r) d ≡ f (get_or xs q (pos 0)) (get_or ys r (pos 0))
@@ -52,14 +50,10 @@ module _ (f : ℤ → ℤ → Result ℤ Kind) (ys : List ℤ) where
   places_of_outer xs n e =
       let m = length ys in
       let number = λ (p : ℕ). f (get_or xs (p / m) (pos 0)) (get_or ys (p % m) (pos 0)) in
-      let long = length-map-range_with_len number 0 n in
-      let d : Result ℤ Kind = Ok (pos 0) in
-      ext_get_or d (map number (range_with_len 0 n)) (outer_results f xs ys) (omega (arith, length-outer xs)) (λ p h.
-      let below : p < n = omega arith in
+      sym (fill_by_all number (outer_results f xs ys) n (Ok (pos 0)) (length-outer xs ∙ sym e) (λ p h.
       let some : 0 < m = some_columns (length xs) m p (omega arith) in
       let q_low : p / m < length xs = (div-lt_iff_lt-mul some).1 (omega arith) in
-      get_or-map-range_with_len number 0 n p p d below (omega arith)
-      ∙ sym (ap (λ k. get_or (outer_results f xs ys) k d) (sym (div-add-mod' p m)) ∙ entry_of_row xs (p / m) (p % m) d q_low (mod-lt p some)))
+      ap (λ k. get_or (outer_results f xs ys) k (Ok (pos 0))) (sym (div-add-mod' p m)) ∙ entry_of_row xs (p / m) (p % m) (Ok (pos 0)) q_low (mod-lt p some)))
     where
       some_columns : (n m p : ℕ) → p < n * m → 0 < m
       some_columns n zero p h = absurd (omega arith)

@@ -2,8 +2,7 @@
 use Rattle.std.{proofs.Common.{◌≡◌, ℕ, suc, ◌+◌, ◌-◌, ◌*◌, ◌/◌, ◌%◌, inl, inr, ◌^◌, ◌<◌, ◌≤◌, List, [], ◌∷◌, ◌++◌, length, get_or, take, drop, map, refl, ap, subst, sym, ◌∙◌, arith, ℤ, pos, negsuc, ◌+ℤ◌, ◌*ℤ◌, unsigned_abs, FitsSigned, Ok}, specs.Int.{w64}, specs.List.{All, range_with_len}}
 use Rattle.std.{proofs.lemmas.Int.{ints, unsigned_abs-mul, fits_signed_from_abs}, proofs.lemmas.List.FromFn.{length-map-range_with_len, get_or-map-range_with_len, map-range_with_len_more}, proofs.Math.Nat.{mul-le-mul, mul-le-mul_left, mul-le-mul_right}}
 use Rattle.std.{proofs.lemmas.List.{get_or-take, get_or-drop, get_or_append_left, get_or-append_right, length-take, length-drop}, proofs.lemmas.List.Elements.{All-take, All-drop}, proofs.lemmas.Bool.{cases_lt}, proofs.lemmas.Nat.{div-mul-add, mod-mul-add}}
-use Rattle.arrays_core.specs.Items.{and_then}
-use Rattle.function_names.specs.declared.scalar.Scalar2.TheVariants.{Plus, Times}
+use Rattle.{arrays_core.specs.Items.{and_then}, function_names.specs.declared.scalar.Scalar2.TheVariants.{Plus, Times}}
 use Rattle.item_fns.{specs.Numbers.{dyadic_on_numbers, number_or_limit}, specs.Folds.{folded}, proofs.Within.{held_within, within_of}}
 use Rattle.reduce_fns.{specs.Sum.{IsWithinBound, sum_of}, proofs.Firsts.{same_rules}}
 use Rattle.operator_fns.{specs.InnerProduct.{all_or_last_error}, specs.RowByColumn.{all_met, folded_all}, specs.SmallProducts.{sum_of_products, IsNoFurther, AddUp, EndsInSums, IsProduct}}
@@ -37,8 +36,7 @@ near_folded most [] some few h = absurd (omega arith)
 near_folded most (x ∷ []) some few h = ap Ok (omega (arith, ints))
 near_folded most (x ∷ y ∷ rest) some few h =
     let later : All (IsNoFurther most) (y ∷ rest) = λ k d below. h (suc k) d (omega arith) in
-    let fewer : most * length (y ∷ rest) < 2 ^ 63 = omega arith in
-    ap (λ r. and_then r (dyadic_on_numbers Plus x)) (near_folded most (y ∷ rest) (omega arith) fewer later)
+    ap (λ r. and_then r (dyadic_on_numbers Plus x)) (near_folded most (y ∷ rest) (omega arith) (omega arith) later)
     ∙ near_held (x +ℤ sum_of (y ∷ rest)) (most * length (x ∷ y ∷ rest)) (sum_near most (x ∷ y ∷ rest) h) few
 
 -- ---- the products
@@ -87,8 +85,7 @@ module _ (row column : ℕ → ℤ) (n : ℕ) (small : AreSmall row column n) wh
   near_products : (k : ℕ) → k ≤ n → All (IsNoFurther most) (products k)
   near_products k high i d below =
       let long = length-map-range_with_len (λ k. row k *ℤ column k) 0 k in
-      let inside : i < k = omega arith in
-      let here : get_or (products k) i d ≡ row i *ℤ column i = get_or-map-range_with_len (λ k. row k *ℤ column k) 0 k i i d inside (omega arith) in
+      let here : get_or (products k) i d ≡ row i *ℤ column i = get_or-map-range_with_len (λ k. row k *ℤ column k) 0 k i i d (omega arith) (omega arith) in
       record { near = rw (here, unsigned_abs-mul) (mul-le-mul (small.near_x i (omega arith)) (small.near_y i (omega arith))) }
 
   part_near : (k : ℕ) → k ≤ n → unsigned_abs (sum_of_products row column k) ≤ most * n
@@ -123,15 +120,6 @@ module _ (row column : ℕ → ℤ) (n : ℕ) (small : AreSmall row column n) wh
 
 -- ---- places in rows that lie one after another
 
-pub in_rows : (column columns row rows : ℕ) → column < columns → row < rows → column + row * columns < rows * columns
-in_rows column columns row rows below inside =
-    let most : (row + 1) * columns ≤ rows * columns = mul-le-mul_right columns (omega arith) in
-    let more : (row + 1) * columns ≡ row * columns + columns = one_more row columns in
-    omega arith
-  where
-    one_more : (r m : ℕ) → (r + 1) * m ≡ r * m + m
-    one_more r m = omega arith
-
 pub row_high : (row count rows : ℕ) → row < rows → row * count + count ≤ rows * count
 row_high row count rows inside =
     let most : (row + 1) * count ≤ rows * count = mul-le-mul_right count (omega arith) in
@@ -140,6 +128,9 @@ row_high row count rows inside =
   where
     one_more : (r m : ℕ) → (r + 1) * m ≡ r * m + m
     one_more r m = omega arith
+
+pub in_rows : (column columns row rows : ℕ) → column < columns → row < rows → column + row * columns < rows * columns
+in_rows column columns row rows below inside = omega (arith, row_high row columns rows inside)
 
 pub row_entry : (rows : List ℤ) (columns row column : ℕ) → column < columns
     → get_or (take (row * columns + columns - row * columns) (drop (row * columns) rows)) column (pos 0) ≡ get_or rows (column + row * columns) (pos 0)

@@ -2,8 +2,7 @@
 use Rattle.std.{proofs.Common.{◌≡◌, ◌≢◌, ℕ, zero, suc, ◌+◌, ◌-◌, ◌<◌, ◌≤◌, Bool, true, false, List, [], ◌∷◌, ◌++◌, length, get_or, take, drop, Result, Ok, refl, ap, arith}, proofs.lemmas.Bool.{and_parts, leb-true}, proofs.lemmas.List.{length-append, length-drop, length-take}}
 use Rattle.arrays_core.{specs.declared.item.Kind.{Kind}, specs.declared.item.ItemType.{ItemType}, specs.Arrays.{ArrayValue}, specs.Limits.{most_axes}}
 use Rattle.index_region.{specs.ArgumentLists.{of_two_arguments}, specs.Boxes.{Interval}, specs.Checks.{Form, check, form_of, is_within_limits, limited}, proofs.Boxes.{fits_length}}
-use Rattle.change_core.specs.RuleModels.{FitsAt, HasShape}
-use Rattle.operator_fns.specs.InnerProduct.{row_rank, inner_form}
+use Rattle.{change_core.specs.RuleModels.{FitsAt, HasShape}, operator_fns.specs.InnerProduct.{row_rank, inner_form}}
 
 -- checks that give a shape have passed
 rest_of_checks : (holds : Bool) (kind : Kind) (rest : Result Form Kind) (shape : List ℕ) → HasShape (check holds kind rest) shape → HasShape rest shape

@@ -35,13 +35,11 @@ all_or_last_error (x ∷ rest) = and_then (all_or_last_error rest) (λ items. an
 
 -- g of the items of a row and a column
 abbrev pub products : Scalar2 → ArrayValue → ArrayValue → List ℕ → List ℕ → List (Result Item Kind)
-products g a b row column =
-    map (λ j. dyadic_on_items g (extended a (row ++ j ∷ [])) (extended b (j ∷ column))) (range_with_len 1 (inner_length a b))
+products g a b row column = map (λ j. dyadic_on_items g (extended a (row ++ j ∷ [])) (extended b (j ∷ column))) (range_with_len 1 (inner_length a b))
 
 -- the item at an index list: a row and a column, put together by g and folded by f
 abbrev pub inner_item : Scalar2 → Scalar2 → ArrayValue → ArrayValue → List ℕ → Result Item Kind
-inner_item f g a b index =
-    and_then (all_or_last_error (products g a b (take (row_rank a) index) (drop (row_rank a) index))) (fold_right f)
+inner_item f g a b index = and_then (all_or_last_error (products g a b (take (row_rank a) index) (drop (row_rank a) index))) (fold_right f)
 
 -- the whole result
 abbrev pub inner_whole : Scalar2 → Scalar2 → ArrayValue → ArrayValue → Result ArrayValue Kind

@@ -12,8 +12,7 @@ outer_form a b = limited (a.shape ++ b.shape) Nums
 
 -- the item at an index list: f of an item of a and an item of b
 abbrev pub outer_item : Scalar2 → ArrayValue → ArrayValue → List ℕ → Result Item Kind
-outer_item f a b index =
-    dyadic_on_items f (item_of a (take (length a.shape) index)) (item_of b (drop (length a.shape) index))
+outer_item f a b index = dyadic_on_items f (item_of a (take (length a.shape) index)) (item_of b (drop (length a.shape) index))
 
 -- the whole result
 abbrev pub outer_whole : Scalar2 → ArrayValue → ArrayValue → Result ArrayValue Kind

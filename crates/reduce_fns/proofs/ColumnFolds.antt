@@ -1,7 +1,6 @@
 -- The folds of the lines of a list, from those of the columns of its blocks.
 use Rattle.std.{proofs.Common.{◌≡◌, refl, inl, inr, ℕ, ◌+◌, ◌-◌, ◌*◌, ◌/◌, ◌%◌, ◌<◌, ◌≤◌, List, length, get_or, drop, take, ℤ, pos, Result, Ok, ap, sym, ◌∙◌, arith}, proofs.lemmas.Bool.{cases_lt}, proofs.lemmas.List.{ext_get_or, get_or-take, get_or-drop, get_or_append_left, get_or-append_right}}
-use Rattle.std.{proofs.lemmas.Nat.{div-mul-add, mod-mul-add, div-add-mod'}, proofs.Math.Nat.{mul-le-mul_right}}
-use Rattle.arrays_core.specs.declared.item.Kind.{Kind}
+use Rattle.{std.{proofs.lemmas.Nat.{div-mul-add, mod-mul-add, div-add-mod'}, proofs.Math.Nat.{mul-le-mul_right}}, arrays_core.specs.declared.item.Kind.{Kind}}
 use Rattle.item_fns.{specs.Folds.{strided, folded, line_start}, proofs.RightFolds.{length-strided, get_or-strided}}
 use Rattle.reduce_fns.{specs.Columns.{EndsInFolds}, proofs.Folds.{place_high}}
 
@@ -14,12 +13,10 @@ strided_part xs first size column stride count below whole =
     let m = length-strided (pos 0) xs (first + column) stride count in
     ext_get_or (pos 0) (strided (pos 0) part column stride count) (strided (pos 0) xs (first + column) stride count) (n ∙ sym m) (λ k h.
     let inside : k < count = omega arith in
-    let high : column + k * stride < size = within column stride count k size below inside whole in
-    let place : first + (column + k * stride) ≡ first + column + k * stride = omega arith in
     get_or-strided (pos 0) part column stride count k (pos 0) inside
-    ∙ get_or-take size (drop first xs) (column + k * stride) (pos 0) high
+    ∙ get_or-take size (drop first xs) (column + k * stride) (pos 0) (within column stride count k size below inside whole)
     ∙ get_or-drop first xs (column + k * stride) (pos 0)
-    ∙ ap (λ p. get_or xs p (pos 0)) place
+    ∙ ap (λ p. get_or xs p (pos 0)) (omega arith)
     ∙ sym (get_or-strided (pos 0) xs (first + column) stride count k (pos 0) inside))
   where
     within : (column stride count k size : ℕ) → column < stride → k < count → size ≡ count * stride → column + k * stride < size
@@ -35,8 +32,7 @@ module _ (f : ℤ → ℤ → Result ℤ Kind) (xs : List ℤ) (stride count : �
   at_place place = folded f (strided (pos 0) xs (line_start stride count place) stride count)
 
   start_at : (block column : ℕ) → column < stride → line_start stride count (block * stride + column) ≡ block * (count * stride) + column
-  start_at block column inside =
-      rw (div-mul-add block stride column inside, mod-mul-add block stride column inside) refl
+  start_at block column inside = rw (div-mul-add block stride column inside, mod-mul-add block stride column inside) refl
 
   -- a block more
   pub block_more : (block : ℕ) (before all : List ℤ) → length before ≡ block * stride
@@ -49,10 +45,8 @@ module _ (f : ℤ → ℤ → Result ℤ Kind) (xs : List ℤ) (stride count : �
         | inr h ↦
             (let column = place - block * stride in
             let size = count * stride in
-            let parts : place ≡ block * stride + column = omega arith in
             let inside : column < stride = omega arith in
-            let start : line_start stride count place ≡ block * size + column = ap (line_start stride count) parts ∙ start_at block column inside in
-            ap (λ p. folded f (strided (pos 0) xs p stride count)) start
+            ap (λ p. folded f (strided (pos 0) xs p stride count)) (ap (line_start stride count) (omega arith) ∙ start_at block column inside)
             ∙ ap (folded f) (sym (strided_part xs (block * size) size column stride count inside refl))
             ∙ ap (λ s. folded f (strided (pos 0) (take size (drop (block * size) xs)) column s count)) (sym ends.long)
             ∙ ends.folded.each column (omega arith)
@@ -70,8 +64,7 @@ pub block_high : (block stride count places n : ℕ) → block < places / stride
     → block * (count * stride) + count * stride ≤ n
 block_high block stride count places n below even whole =
     let blocks = places / stride in
-    let parts : places ≡ blocks * stride = sym (div-add-mod' places stride) ∙ omega (arith, even) in
-    let all : n ≡ blocks * (count * stride) = sym whole ∙ ap (λ p. p * count) parts ∙ regroup blocks stride count in
+    let all : n ≡ blocks * (count * stride) = sym whole ∙ ap (λ p. p * count) (sym (div-add-mod' places stride) ∙ omega (arith, even)) ∙ regroup blocks stride count in
     let some : (block + 1) * (count * stride) ≤ blocks * (count * stride) = mul-le-mul_right (count * stride) (omega arith) in
     let more : (block + 1) * (count * stride) ≡ block * (count * stride) + count * stride = one_more block (count * stride) in
     omega arith

@@ -86,8 +86,7 @@ same_rules {B = B} rule other n h = from 0 n (λ k below. h k (omega (arith, bel
   where
     from : (a m : ℕ) → ((k : ℕ) → (a ≤ k) × (k < a + m) → rule k ≡ other k) → map rule (range_with_len a m) ≡ map other (range_with_len a m)
     from a zero h = refl
-    from a (suc m) h =
-        rw (h a (omega arith, omega arith), from (a + 1) m (λ k below. h k (omega (arith, below.0), omega (arith, below.1)))) refl
+    from a (suc m) h = rw (h a (omega arith, omega arith), from (a + 1) m (λ k below. h k (omega (arith, below.0), omega (arith, below.1)))) refl
 
 -- a rule that gives the entries of a list
 pub all_places : {A E : Type 0} (rule : ℕ → Result A E) (n : ℕ) (xs : List A) (d : A) → length xs ≡ n → ((k : ℕ) → k < n → rule k ≡ Ok (get_or xs k d))

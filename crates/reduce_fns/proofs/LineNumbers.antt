@@ -1,8 +1,7 @@
 -- The numbers of a line.
 use Rattle.std.{proofs.Common.{◌≡◌, ℕ, ◌+◌, ◌-◌, ◌*◌, ◌<◌, List, ℤ, Vec, Result, Ok, Err, IfOk, length, get_or, map, pos, refl, ap, sym, ◌∙◌, arith}, proofs.lemmas.List.{length-map, ext_get_or}, proofs.lemmas.List.Elements.{All-get_or}, proofs.Math.ListN.{get_or-map}}
 use Rattle.arrays_core.{specs.declared.item.Item.{Item}, specs.declared.item.Item.TheVariants.{Num, Char}, specs.declared.item.ItemType.TheVariants.{Nums}, specs.Items.{fill, type_of}, specs.Arrays.{ArrayValue, IsArray}}
-use Rattle.item_fns.{specs.Folds.{strided}, proofs.RightFolds.{length-strided, get_or-strided}}
-use Rattle.index_region.specs.Arguments.{number_of, numbers}
+use Rattle.{item_fns.{specs.Folds.{strided}, proofs.RightFolds.{length-strided, get_or-strided}}, index_region.specs.Arguments.{number_of, numbers}}
 use Rattle.reduce_fns.proofs.Folds.{place_high}
 
 item_number : (x : Item) → type_of x ≡ Nums → Num (number_of x) ≡ x

@@ -15,9 +15,8 @@ strided_numbers xs first stride count =
     let items = map (λ z. Num z) xs in
     let zs = strided (pos 0) xs first stride count in
     let n = length-strided (Num (pos 0)) items first stride count in
-    let m = length-strided (pos 0) xs first stride count in
     let long = length-map zs (λ z. Num z) in
-    ext_get_or (Num (pos 0)) (strided (Num (pos 0)) items first stride count) (map (λ z. Num z) zs) (n ∙ sym (long ∙ m)) (λ k h.
+    ext_get_or (Num (pos 0)) (strided (Num (pos 0)) items first stride count) (map (λ z. Num z) zs) (n ∙ sym (long ∙ (length-strided (pos 0) xs first stride count))) (λ k h.
     let below : k < count = omega arith in
     get_or-strided (Num (pos 0)) items first stride count k (Num (pos 0)) below
     ∙ get_or-map (λ z. Num z) xs (first + k * stride) (pos 0)
@@ -47,19 +46,13 @@ sizes axis [] h = absurd (omega arith)
 sizes zero (n ∷ shape) h = record { lines = 1; without = omega arith; all = omega arith }
 sizes (suc axis) (n ∷ shape) h =
     let rest = sizes axis shape (omega arith) in
-    record {
-      lines = n * rest.lines;
-      without = times_assoc n rest.lines _ _ rest.without;
-      all = times_assoc n rest.lines _ _ rest.all;
-    }
+    record { lines = n * rest.lines; without = times_assoc n rest.lines _ _ rest.without; all = times_assoc n rest.lines _ _ rest.all }
 
 start_more : (s n k i p : ℕ) → 0 < s → line_start s n (i * (k * s) + p) ≡ i * (k * (n * s)) + line_start s n p
 start_more s n k i p h =
     let e : i * (k * s) + p ≡ i * k * s + p = omega arith in
-    let d : (i * k * s + p) / s ≡ i * k + p / s = mul-add-div_right h (i * k) p in
-    let r : (i * k * s + p) % s ≡ p % s = mul-add-mod_self_right (i * k) s p in
     ap (line_start s n) e
-    ∙ (rw (d, r) (omega arith))
+    ∙ (rw (mul-add-div_right h (i * k) p, mul-add-mod_self_right (i * k) s p) (omega arith))
 
 pub start_is : (axis : ℕ) (shape index : List ℕ) → axis < length shape → is_index_of (remove shape axis) index ≡ true → 0 < size (drop (suc axis) shape)
     → places_before shape (insert index axis 1)
@@ -67,9 +60,7 @@ pub start_is : (axis : ℕ) (shape index : List ℕ) → axis < length shape →
 start_is axis [] index h inside some = absurd (omega arith)
 start_is zero (n ∷ shape) index h inside some =
     let below : places_before shape index < size shape = places_below shape index inside in
-    let d : places_before shape index / size shape ≡ 0 = div-eq_of_lt below in
-    let r : places_before shape index % size shape ≡ places_before shape index = mod-eq_of_lt below in
-    rw (d, r) (omega arith)
+    rw (div-eq_of_lt below, mod-eq_of_lt below) (omega arith)
 start_is (suc axis) (n ∷ shape) [] h inside some = cc
 start_is (suc axis) (n ∷ shape) (i ∷ index) h inside some =
     let parts = sizes axis shape (omega arith) in
@@ -100,8 +91,7 @@ line_below stride count place places apart some even below =
     let whole : l * stride + places % stride ≡ places = div-add-mod' places stride in
     let all : places ≡ l * stride = omega arith in
     let q : place / stride < l = (div-lt_iff_lt-mul apart).1 (rw all at below) in
-    let e : l * (count * stride) ≡ places * count = turned l count stride ∙ ap (λ x. x * count) (sym all) in
-    rw (← e) (last_below stride count (place / stride) (place % stride) l some (mod_below place stride apart) (omega arith))
+    rw (← (turned l count stride ∙ ap (λ x. x * count) (sym all))) (last_below stride count (place / stride) (place % stride) l some (mod_below place stride apart) (omega arith))
 
 pub whole_line : (place places n long : ℕ) → place < places → places * n ≡ long → place * n + n ≤ long
 whole_line place places n long below whole =
@@ -127,14 +117,11 @@ module _ (f : Scalar2) (b : ArrayValue) (xs : List ℤ) (items : b.items ≡ map
       let s = size (drop (suc axis) b.shape) in
       let n = get_or b.shape axis 0 in
       let parts = sizes axis b.shape there in
-      let apart = (size-drop-le (suc axis) b.shape some).0 in
-      let many : 1 ≤ n = some_along n s parts.lines (size b.shape) parts.all some in
       let start = places_before b.shape (insert index axis 1) in
-      let t : fill b.item_type ≡ Num (pos 0) = ap fill typed in
       sym (ap (fold_right f) (line-strided b axis index there inside)
-      ∙ ap (λ d. fold_right f (strided d b.items start s n)) t
-      ∙ numbers_folded f xs b.items start s n items many
-      ∙ ap (λ m. number_item (folded (dyadic_on_numbers f) (strided (pos 0) xs m s n))) (start_is axis b.shape index there inside apart))
+      ∙ ap (λ d. fold_right f (strided d b.items start s n)) (ap fill typed)
+      ∙ numbers_folded f xs b.items start s n items (some_along n s parts.lines (size b.shape) parts.all some)
+      ∙ ap (λ m. number_item (folded (dyadic_on_numbers f) (strided (pos 0) xs m s n))) (start_is axis b.shape index there inside ((size-drop-le (suc axis) b.shape some).0)))
 
 same_type : (w : Bool) (t : ItemType) → t ≡ Nums → cond w t Nums ≡ Nums
 same_type true t h = h
@@ -151,8 +138,7 @@ lines_whole axis b shape n s there shaped n_is s_is some =
     let m = get_or b axis 0 in
     let apart = size (drop (suc axis) b) in
     let whole : size (remove b axis) * m ≡ size b = ap (λ x. x * m) parts.without ∙ sym (turned parts.lines m apart) ∙ sym parts.all in
-    let even : size (remove b axis) % apart ≡ 0 = ap (λ x. x % apart) parts.without ∙ mul-mod_left parts.lines apart in
-    rw (shaped, n_is, s_is) (some_along m apart parts.lines (size b) parts.all some, whole, even)
+    rw (shaped, n_is, s_is) (some_along m apart parts.lines (size b) parts.all some, whole, ap (λ x. x % apart) parts.without ∙ mul-mod_left parts.lines apart)
 
 module _ (f : Scalar2) (b : ArrayValue) (xs : List ℤ) (items : b.items ≡ map (λ z. Num z) xs) (typed : b.item_type ≡ Nums) where
   -- the whole reduction, place by place
@@ -161,12 +147,10 @@ module _ (f : Scalar2) (b : ArrayValue) (xs : List ℤ) (items : b.items ≡ map
       → reduce_whole f along b ≡ collect Nums shape (λ index. number_item (folded (dyadic_on_numbers f) (strided (pos 0) xs (line_start s n (places_before shape index)) s n)))
   reduced_whole along shape t axis n s form meant there n_is s_is some =
       let facts = reduce_facts along b shape t form in
-      let t_is : t ≡ Nums = facts.typed ∙ same_type _ b.item_type typed in
       let shaped : shape ≡ remove b.shape axis = facts.shaped ∙ ap (remove b.shape) (sym meant) in
       ap (λ r. and_then r (λ g. collect g.item_type g.shape (reduce_item f along b))) form
-      ∙ ap (λ u. collect u shape (reduce_item f along b)) t_is
+      ∙ ap (λ u. collect u shape (reduce_item f along b)) (facts.typed ∙ same_type _ b.item_type typed)
       ∙ collected_same Nums shape (reduce_item f along b) _ (λ index inside.
-      let below : is_index_of (remove b.shape axis) index ≡ true = ap (λ sh. is_index_of sh index) (sym shaped) ∙ inside in
       ap (λ a. fold_right f (line b a index)) (sym meant)
-      ∙ sym (item_there f b xs items typed axis index there below some)
+      ∙ sym (item_there f b xs items typed axis index there (ap (λ sh. is_index_of sh index) (sym shaped) ∙ inside) some)
       ∙ (rw (n_is, s_is, shaped) refl))

@@ -1,7 +1,6 @@
 -- Small numbers stay within 64 bits, in whatever order they are added.
 use Rattle.std.{proofs.Common.{◌≡◌, ℕ, sym, suc, ◌+◌, ◌*◌, ◌<◌, ◌≤◌, ℤ, pos, negsuc, neg_ℤ, ◌+ℤ◌, ◌≤ℤ◌, List, [], ◌∷◌, length, ap, ◌∙◌, Ok, arith, w64, SFits}, specs.List.{All}, proofs.lemmas.Int.{ints, clamps}}
-use Rattle.arrays_core.specs.Items.{and_then}
-use Rattle.function_names.specs.declared.scalar.Scalar2.TheVariants.{Plus}
+use Rattle.{arrays_core.specs.Items.{and_then}, function_names.specs.declared.scalar.Scalar2.TheVariants.{Plus}}
 use Rattle.item_fns.{specs.Numbers.{dyadic_on_numbers}, specs.Folds.{folded}, proofs.Within.{held_within}}
 use Rattle.reduce_fns.{specs.LeftFolds.{fold_on, folded_left}, specs.Sum.{IsSmall, sum_of}, proofs.Endings.{total, most, fewest, folded_sum}}
 
@@ -23,12 +22,7 @@ bounded x [] h =
 bounded x (y ∷ rest) h =
     let s = h 0 x (omega arith) in
     let later = bounded y rest (λ k d below. h (suc k) d (omega arith)) in
-    record {
-      total_low = omega (arith, ints);
-      total_high = omega (arith, ints);
-      low = omega (arith, ints, clamps);
-      high = omega (arith, ints, clamps);
-    }
+    record { total_low = omega (arith, ints); total_high = omega (arith, ints); low = omega (arith, ints, clamps); high = omega (arith, ints, clamps) }
 
 pub small_folded : (xs : List ℤ) → 0 < length xs → length xs ≤ 1048576 → All IsSmall xs → folded (dyadic_on_numbers Plus) xs ≡ Ok (sum_of xs)
 small_folded [] some few h = absurd (omega arith)
@@ -46,8 +40,7 @@ from_left : (x : ℤ) (rest : List ℤ) (n : ℕ) → neg_ℤ (pos (879609302220
 from_left x [] n low high h few = ap Ok (omega (arith, ints))
 from_left x (y ∷ rest) n low high h few =
     let s = h 0 y (omega arith) in
-    let held = held_within (x +ℤ y) (record { low = omega (arith, ints); high = omega (arith, ints) }) in
-    ap (λ r. and_then r (λ z. fold_on (dyadic_on_numbers Plus) z rest)) held
+    ap (λ r. and_then r (λ z. fold_on (dyadic_on_numbers Plus) z rest)) (held_within (x +ℤ y) (record { low = omega (arith, ints); high = omega (arith, ints) }))
     ∙ from_left (x +ℤ y) rest (n + 1) (omega (arith, ints)) (omega (arith, ints)) (λ k d below. h (suc k) d (omega arith)) (omega arith)
     ∙ ap Ok (omega (arith, ints))
 

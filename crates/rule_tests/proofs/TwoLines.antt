@@ -28,13 +28,7 @@ module _ (a : ArrayValue) (lines : List (List ℤ)) (a_is : a ≡ array_of_shape
   }
 
   stood : (p : PatchValue) → FitsPatch a p → StoodFor Last (all_trees 5 lines) p (patched a p)
-  stood p fit = record {
-    before = a;
-    on_axis = by_shape (λ s. is_axis (length s) Last ≡ true) refl;
-    lines = stand;
-    fit = fit;
-    is = refl;
-  }
+  stood p fit = record { before = a; on_axis = by_shape (λ s. is_axis (length s) Last ≡ true) refl; lines = stand; fit = fit; is = refl }
 
   pub summed_by_lines : (p : PatchValue) → FitsPatch a p → AreAllAsLong 5 lines
       → AreAllAsLong (length_along Last (patched a p).shape) lines × StoodFor Last (all_trees (length_along Last (patched a p).shape) lines) p (patched a p)

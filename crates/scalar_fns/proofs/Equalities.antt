@@ -1,8 +1,8 @@
 -- Equality of arrays of characters, and of numbers beside characters.
-use Rattle.std.{proofs.Common.{◌≡◌, ℕ, ◌+◌, ◌<◌, ◌==◌, Bool, true, false, if◌then◌else◌, List, [], ◌∷◌, length, get_or, map, refl, ap, sym, ◌∙◌, arith, ℤ, pos, Result, Ok, Err, IfOk, replicate}, specs.Prelude.{Vec}, proofs.lemmas.List.{length-map, get_or-map, get_or-replicate, length-replicate}}
-use Rattle.std.{proofs.lemmas.List.Elements.{All-get_or}, proofs.lemmas.List.FromFn.{get_or-map-range_with_len, length-map-range_with_len}, proofs.lemmas.Bool.{eqb-true}, proofs.lemmas.Bool.Decides.{nat_tests}}
+use Rattle.std.{proofs.Common.{◌≡◌, ℕ, ◌+◌, ◌<◌, ◌==◌, Bool, true, false, if◌then◌else◌, List, [], ◌∷◌, ◌++◌, ◌≤◌, length, get_or, map, refl, ap, sym, ◌∙◌, arith, ℤ, pos, SFits, w64, to_z, of_z, vec_len, vec_capacity, Result, Ok, Err, IfOk, replicate}, specs.Prelude.{Vec}, proofs.lemmas.Int.{to_z-of_z}}
+use Rattle.std.{proofs.lemmas.List.{length-map, get_or-map, get_or-replicate, length-replicate}, proofs.lemmas.List.Elements.{All-get_or}, proofs.lemmas.List.FromFn.{get_or-map-range_with_len, length-map-range_with_len}, proofs.lemmas.Bool.{eqb-true}, proofs.lemmas.Bool.Decides.{nat_tests}}
 use Rattle.arrays_core.{specs.Building.{listed}, specs.declared.item.Item.{Item}, specs.declared.item.Item.TheVariants.{Num, Char}, specs.declared.item.ItemType.TheVariants.{Nums}, specs.declared.item.Kind.{Kind}, specs.Items.{all_or_first_error, after, fill, type_of}, specs.Shapes.{size, index_after}}
-use Rattle.arrays_core.specs.Arrays.{ArrayValue, IsArray, collect, with_items}
+use Rattle.arrays_core.{specs.Arrays.{ArrayValue, IsArray, collect, with_items}, proofs.Building.{listed_more}}
 use Rattle.scalar_fns.{specs.ScalarExtension.{common, extended, dyadic_on_arrays, for_shape}, specs.Characters.{equality, told, answers_of, character_at, AreTold}, specs.Laws.Extension.{ExtendsTo, common_extends}, proofs.Joint.{IsOf, extended_is, extended_place, place_in}}
 use Rattle.item_fns.{specs.Items.{dyadic_on_items, number_item}, specs.NumberLists.{number_items}, proofs.Collected.{collected}}
 
@@ -10,13 +10,13 @@ all_ok : (zs : List ℤ) → all_or_first_error {E = Kind} (map (λ z. Ok z) zs)
 all_ok [] = refl
 all_ok (z ∷ zs) = ap (after z) (all_ok zs)
 
--- a rule that gives these answers
-answers_collected : (shape : List ℕ) (rule : List ℕ → Result Item Kind) (zs : List ℤ) → length zs ≡ size shape
-    → ((i : ℕ) → i < size shape → rule (index_after shape i) ≡ Ok (Num (get_or zs i (pos 0))))
-    → collect Nums shape rule ≡ Ok (record { item_type = Nums; shape = shape; items = map (λ z. Num z) zs })
-answers_collected shape rule zs long each =
-    let rs : List (Result ℤ Kind) = map (λ z. Ok z) zs in
-    collected shape rule rs (length-map zs (λ z. Ok z) ∙ long) (λ i h.
+-- two arrays whose items have these answers
+answers_collected : (equal : Bool) (a b : ArrayValue) (shape : List ℕ) (zs : List ℤ) → common a.shape b.shape ≡ Ok shape → length zs ≡ size shape
+    → ((i : ℕ) → i < size shape → dyadic_on_items (equality equal) (extended a (index_after shape i)) (extended b (index_after shape i)) ≡ Ok (Num (get_or zs i (pos 0))))
+    → dyadic_on_arrays (equality equal) a b ≡ answers_of shape zs
+answers_collected equal a b shape zs common_is long each =
+    ap (λ r. for_shape r (λ s. collect Nums s (λ index. dyadic_on_items (equality equal) (extended a index) (extended b index)))) common_is
+    ∙ collected shape (λ index. dyadic_on_items (equality equal) (extended a index) (extended b index)) (map (λ z. Ok z) zs) (length-map zs (λ z. Ok z) ∙ long) (λ i h.
     each i h ∙ sym (ap number_item (get_or-map (λ z. Ok z) zs i (pos 0) (Ok (pos 0)) (omega arith))))
     ∙ ap (λ r. with_items Nums shape (number_items r)) (all_ok zs)
 
@@ -36,8 +36,7 @@ pub of_characters : (equal : Bool) (a b : ArrayValue) (cs ds : List ℕ) (shape 
     → common a.shape b.shape ≡ Ok shape → AreTold equal cs ds (size shape) zs → dyadic_on_arrays (equality equal) a b ≡ answers_of shape zs
 of_characters equal a b cs ds shape zs is_a is_b common_is answers =
     let fits = common_extends a.shape b.shape shape common_is in
-    ap (λ r. for_shape r (λ s. collect Nums s (λ index. dyadic_on_items (equality equal) (extended a index) (extended b index)))) common_is
-    ∙ answers_collected shape (λ index. dyadic_on_items (equality equal) (extended a index) (extended b index)) zs answers.long (λ i h.
+    answers_collected equal a b shape zs common_is answers.long (λ i h.
     (rw (extended_is (λ c. Char c) 0 a cs shape i is_a fits.0 h, extended_is (λ c. Char c) 0 b ds shape i is_b fits.1 h)
     (asked_of_characters equal (character_at cs i) (character_at ds i)))
     ∙ ap (λ z. Ok (Num z)) (sym (answers.each i h)))
@@ -54,12 +53,24 @@ pub of_other_types : (equal : Bool) (a b : ArrayValue) (shape : List ℕ) → Is
     → common a.shape b.shape ≡ Ok shape → dyadic_on_arrays (equality equal) a b ≡ answers_of shape (replicate (size shape) (told equal false))
 of_other_types equal a b shape is_a is_b differ common_is =
     let fits = common_extends a.shape b.shape shape common_is in
-    ap (λ r. for_shape r (λ s. collect Nums s (λ index. dyadic_on_items (equality equal) (extended a index) (extended b index)))) common_is
-    ∙ answers_collected shape (λ index. dyadic_on_items (equality equal) (extended a index) (extended b index)) (replicate (size shape) (told equal false))
-    (length-replicate (size shape) (told equal false)) (λ i h.
+    answers_collected equal a b shape (replicate (size shape) (told equal false)) common_is (length-replicate (size shape) (told equal false)) (λ i h.
     asked_of_others equal (extended a (index_after shape i)) (extended b (index_after shape i))
     (λ e. differ (sym (type_there a shape i is_a fits.0 h) ∙ e ∙ type_there b shape i is_b fits.1 h))
     ∙ ap (λ z. Ok (Num z)) (sym (get_or-replicate (size shape) i (told equal false) (pos 0) h)))
+
+-- answers so far, place by place, where there is room for all
+pub record AreToldTo {G : Type 0} (place most : ℕ) (answer : ℕ → ℤ) (answers : Vec ℤ G) : Type 0 where
+  pub long : vec_len answers ≡ place
+  pub room : most ≤ vec_capacity answers
+  pub made : answers.items ≡ listed place answer
+
+pub told_more : {G : Type 0} (place most : ℕ) (answer : ℕ → ℤ) (answers more : Vec ℤ G) (z : ℤ) → AreToldTo place most answer answers → z ≡ answer place → SFits w64 z
+    → more.items ≡ answers.items ++ to_z w64 (of_z w64 z) ∷ [] → vec_len more ≡ vec_len answers + 1 → vec_capacity answers ≤ vec_capacity more → AreToldTo (place + 1) most answer more
+told_more place most answer answers more z before here fits items longer room = record {
+  long = longer ∙ ap (λ n. n + 1) before.long;
+  room = omega (arith, before.room, room);
+  made = listed_more answer [] answers.items more.items place z before.made (rw (to_z-of_z w64 z fits) at items) here;
+}
 
 -- one character stands at every place
 one_at : (cs : List ℕ) (k : ℕ) → length cs ≡ 1 → character_at cs k ≡ get_or cs 0 0

@@ -2,8 +2,7 @@
 use Rattle.std.{proofs.Common.{◌≡◌, ℕ, zero, suc, ◌<◌, List, [], ◌∷◌, length, get_or, refl, ap, sym, subst, arith, true, Result, Ok, Some}, proofs.lemmas.Bool.{and_parts, cond-true, eqb-true, leb-true}, proofs.lemmas.Slice.Eq.{bytes_eq-Decides}}
 use Rattle.arrays_core.{specs.declared.item.Kind.{Kind}, specs.declared.item.ItemType.TheVariants.{Nums}, specs.Arrays.{ArrayValue}}
 use Rattle.function_names.specs.declared.scalar.Scalar2.{Scalar2}
-use Rattle.index_region.{specs.Boxes.{Interval, whole_of}, specs.Checks.{form_of}, proofs.Passing.{two_arguments}}
-use Rattle.change_core.specs.RuleModels.{KeepsPlaces}
+use Rattle.{index_region.{specs.Boxes.{Interval, whole_of}, specs.Checks.{form_of}, proofs.Passing.{two_arguments}}, change_core.specs.RuleModels.{KeepsPlaces}}
 use Rattle.scalar_fns.{specs.EachDyadic.{each_dyadic_rule, extended_box}, specs.Growth.{is_extended_to}, specs.ScalarExtension.{for_shape}, specs.Laws.EachDyadicGrowth.{common_left, common_right}}
 
 own_box : (a : ArrayValue) (region : List Interval) → extended_box a.shape a region ≡ Some region

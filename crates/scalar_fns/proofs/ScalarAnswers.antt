@@ -25,9 +25,8 @@ pub each_dyadic_answer : (f : Scalar2) (args : List ArrayValue) (a b l r : Array
     → IsAnswerTo (dyadic_on_arrays f l r) x → IsAnswerTo (whole (of_two_arguments each_dyadic_form args) (λ index. of_two_arguments (λ c d. each_dyadic_item f c d index) args)) x
 each_dyadic_answer f args a b l r x n p q s t h =
     let both : args ≡ a ∷ b ∷ [] = two_arguments args a b n p q in
-    let same : dyadic_on_arrays f l r ≡ whole (each_dyadic_form a b) (each_dyadic_item f a b) = (λ i. dyadic_on_arrays f (s i) (t i)) ∙ whole_of_each f a b in
     subst (λ (v : List ArrayValue). IsAnswerTo (whole (of_two_arguments each_dyadic_form v) (λ index. of_two_arguments (λ c d. each_dyadic_item f c d index) v)) x) (sym both)
-    (subst (λ (w : Result ArrayValue Kind). IsAnswerTo w x) same h)
+    (subst (λ (w : Result ArrayValue Kind). IsAnswerTo w x) ((λ i. dyadic_on_arrays f (s i) (t i)) ∙ whole_of_each f a b) h)
 
 one_of_both : (a b shape : List ℕ) (one_a one_b less long same : Bool) (e f : Kind) → cond one_a (Ok (cond one_b (cond less b a) b)) (cond one_b (Ok a) (cond long (cond same (Ok a) (Err e)) (Err f))) ≡ Ok shape
     → (a ≡ shape) ⊎ (b ≡ shape)

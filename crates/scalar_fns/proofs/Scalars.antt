@@ -1,7 +1,6 @@
 -- A number beside an array, as the array that has no axes and the number as its item.
 use Rattle.std.{proofs.Common.{◌≡◌, ℕ, ℤ, List, [], ◌∷◌, length, eqb, refl, Ok, inl, inr, arith}, proofs.lemmas.Bool.{cases_Bool, lt-ltb, le-ltb}}
-use Rattle.arrays_core.{specs.Arrays.{scalar_of}, specs.Shapes.{size}}
-use Rattle.scalar_fns.{specs.ScalarExtension.{common}, proofs.Joint.{IsOfNumbers}}
+use Rattle.{arrays_core.{specs.Arrays.{scalar_of}, specs.Shapes.{size}}, scalar_fns.{specs.ScalarExtension.{common}, proofs.Joint.{IsOfNumbers}}}
 
 -- the other array's shape is that of the result
 pub common_right : (a : List ℕ) → common a [] ≡ Ok a

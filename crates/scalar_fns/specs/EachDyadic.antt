@@ -21,10 +21,7 @@ extended_box shape a region = Some (if bytes_eq a.shape shape then region else w
 
 -- each item reads its own place, of an array of one item that one
 abbrev pub extended_use : List ℕ → ArrayValue → Use
-extended_use shape a = record {
-  reads = λ index. (if size a.shape == 1 then map (λ _. 1) a.shape else index) ∷ [];
-  box = extended_box shape a;
-}
+extended_use shape a = record { reads = λ index. (if size a.shape == 1 then map (λ _. 1) a.shape else index) ∷ []; box = extended_box shape a }
 
 abbrev pub each_dyadic_rule : Scalar2 → RuleModel
 each_dyadic_rule f = growing (two_rule false each_dyadic_form (each_dyadic_item f) (λ shape a b. extended_use shape a) (λ shape a b. extended_use shape b)) each_dyadic_grows

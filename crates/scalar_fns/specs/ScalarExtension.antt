@@ -34,5 +34,4 @@ monadic_on_array f a = collect Nums a.shape (λ index. monadic_on_item f (item_o
 
 -- a scalar function of two arrays
 abbrev pub dyadic_on_arrays : Scalar2 → ArrayValue → ArrayValue → Result ArrayValue Kind
-dyadic_on_arrays f a b =
-    for_shape (common a.shape b.shape) (λ shape. collect Nums shape (λ index. dyadic_on_items f (extended a index) (extended b index)))
+dyadic_on_arrays f a b = for_shape (common a.shape b.shape) (λ shape. collect Nums shape (λ index. dyadic_on_items f (extended a index) (extended b index)))

@@ -1,9 +1,7 @@
 -- Folds by associative functions: from the left as from the right.
 use Rattle.std.proofs.Common.{◌≡◌, List, [], ◌∷◌, refl, ap, sym, ◌∙◌, ℤ, Result, Ok, Err}
-use Rattle.arrays_core.{specs.declared.item.Kind.{Kind}, specs.Items.{and_then}}
-use Rattle.item_fns.specs.Folds.{folded, IsAssociative}
-use Rattle.reduce_fns.specs.LeftFolds.{fold_on, folded_left}
-use Rattle.scan_fns.proofs.Runs.{through, as_it_is}
+use Rattle.{arrays_core.{specs.declared.item.Kind.{Kind}, specs.Items.{and_then}}, item_fns.specs.Folds.{folded, IsAssociative}}
+use Rattle.{reduce_fns.specs.LeftFolds.{fold_on, folded_left}, scan_fns.proofs.Runs.{through, as_it_is}}
 
 -- one error on the way is the error of all that follows
 stopped : (r : Result ℤ Kind) (k : Kind) → ((e : Kind) → r ≡ Err e → e ≡ k) → and_then {A = ℤ} {B = ℤ} r (λ z. Err k) ≡ Err k

@@ -37,15 +37,13 @@ first_of (Ok x ∷ rs) e h = decide (all_or_first_error rs) refl h (first_of rs 
     decide : (all : Result (List Item) Kind) → all_or_first_error rs ≡ all → after x all ≡ Err e → (all_or_first_error rs ≡ Err e → First rs e) → First (Ok x ∷ rs) e
     decide (Ok rest) made h later = cc
     decide (Err k) made h later =
-        let same : k ≡ e = cc in
-        let rest = later (made ∙ ap (λ (j : Kind). Err j) same) in
+        let rest = later (made ∙ ap (λ (j : Kind). Err j) cc) in
         record { place = suc rest.place; below = omega (arith, rest.below); is = rest.is; before = earlier rest.before }
 
 error_at : (rs : List (Result Item Kind)) (k : ℕ) (e : Kind) → k < length rs → get_or rs k (Err Domain) ≡ Err e → ((j : ℕ) → j < k → (x : Item) × (get_or rs j (Err Domain) ≡ Ok x)) → all_or_first_error rs ≡ Err e
 error_at [] k e below is before = absurd (omega arith)
 error_at (r ∷ rs) zero e below is before = rw is refl
-error_at (r ∷ rs) (suc k) e below is before =
-    rw ((before 0 (omega arith)).1, error_at rs k e (omega arith) is (λ j low. before (suc j) (omega arith))) refl
+error_at (r ∷ rs) (suc k) e below is before = rw ((before 0 (omega arith)).1, error_at rs k e (omega arith) is (λ j low. before (suc j) (omega arith))) refl
 
 -- ---- the error of a line
 
@@ -76,8 +74,7 @@ offset_less zero (s ∷ region) (i ∷ index) j there h low less =
   where
     step : (a b w o : ℕ) → a < b → o < w → a * w + o < b * w + o
     step a b w o h k = let more : (a + 1) * w ≤ b * w = mul-le (a + 1) w b w (omega arith) (omega arith) in omega (arith, more)
-offset_less (suc axis) (s ∷ region) (i ∷ index) j there h low less =
-    omega (arith, offset_less axis region index j (omega arith) (and_parts _ _ h).1 low less)
+offset_less (suc axis) (s ∷ region) (i ∷ index) j there h low less = omega (arith, offset_less axis region index j (omega arith) (and_parts _ _ h).1 low less)
 
 module _ (item : List ℕ → Result Item Kind) (region : List Interval) (axis : ℕ) (there : axis < length region) where
   abbrev s : Interval

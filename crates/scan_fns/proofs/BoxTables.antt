@@ -1,6 +1,7 @@
 -- Tables of the items of a box, filled line by line.
 use Rattle.std.{proofs.Common.{◌≡◌, ℕ, zero, suc, ◌+◌, ◌-◌, ◌<◌, ◌≤◌, true, nat_eq, inl, inr, List, [], ◌∷◌, length, get_or, map, set, insert, remove, Result, Ok, Err, refl, ap, sym, ◌∙◌, arith, pos}, specs.List.{range_with_len}}
-use Rattle.std.{proofs.lemmas.Bool.{and_parts, and_from, leb-true, le-leb, false≢true, cases_Bool, eqb-true, eqb-false}, proofs.lemmas.List.{get_or-set_same, get_or-set_other, length-set}, proofs.lemmas.List.FromFn.{length-map-range_with_len, get_or-map-range_with_len}}
+use Rattle.std.{proofs.lemmas.Bool.{and_parts, and_from, leb-true, le-leb, false≢true, cases_Bool, eqb-true, eqb-false}, proofs.lemmas.List.{get_or-set_same, get_or-set_other, length-set}, proofs.lemmas.List.Edits.{get_or-insert_at, length-remove}}
+use Rattle.std.proofs.lemmas.List.FromFn.{length-map-range_with_len, get_or-map-range_with_len}
 use Rattle.arrays_core.{specs.declared.item.Item.{Item}, specs.declared.item.Item.TheVariants.{Num}, specs.declared.item.ItemType.TheVariants.{Nums}, specs.declared.item.Kind.{Kind}, specs.declared.item.Kind.TheVariants.{Domain}, specs.Items.{all_or_first_error, after, fill}, specs.Arrays.{ArrayValue, with_items}}
 use Rattle.function_names.{specs.declared.scalar.Scalar2.{Scalar2}, specs.declared.along.Along.{Along}, specs.Axes.{axis_at}}
 use Rattle.index_region.{specs.Boxes.{Interval, box_size, box_offset, is_within, walk_at}, proofs.Walks.{walk_within, walk_of_offset, offset_below}}
@@ -27,20 +28,9 @@ pub all_results : {A E : Type 0} (rs : List (Result A E)) (xs : List A) (r : Res
 all_results [] [] r d long each = refl
 all_results [] (x ∷ xs) r d long each = absurd (omega arith)
 all_results (e ∷ rs) [] r d long each = absurd (omega arith)
-all_results (e ∷ rs) (x ∷ xs) r d long each =
-    rw (each 0 (omega arith), all_results rs xs r d (omega arith) (λ k below. each (suc k) (omega arith))) refl
+all_results (e ∷ rs) (x ∷ xs) r d long each = rw (each 0 (omega arith), all_results rs xs r d (omega arith) (λ k below. each (suc k) (omega arith))) refl
 
 -- ---- index lists on a line
-
-pub get_inserted : (axis j d : ℕ) (others : List ℕ) → axis ≤ length others → get_or (insert others axis j) axis d ≡ j
-get_inserted zero j d others h = refl
-get_inserted (suc axis) j d [] h = absurd (omega arith)
-get_inserted (suc axis) j d (i ∷ others) h = get_inserted axis j d others (omega arith)
-
-pub long_removed : (axis : ℕ) (index : List ℕ) → axis < length index → length (remove index axis) + 1 ≡ length index
-long_removed axis [] h = absurd (omega arith)
-long_removed zero (i ∷ index) h = omega arith
-long_removed (suc axis) (i ∷ index) h = let rest = long_removed axis index (omega arith) in omega arith
 
 pub as_long_as : (region : List Interval) (index : List ℕ) → is_within region index ≡ true → length index ≡ length region
 as_long_as [] [] h = refl
@@ -153,11 +143,11 @@ module _ (region : List Interval) (axis : ℕ) (there : axis < length region) (o
   short : axis ≤ length (remove (walk_at region place) axis)
   short =
       let long = as_long_as region (walk_at region place) (walk_within region place below) in
-      omega (arith, long_removed axis (walk_at region place) (omega (arith, long, there)), long, there)
+      omega (arith, length-remove (walk_at region place) axis (omega (arith, long, there)), long, there)
 
   -- a line begins at its first index
   pub begins_first : (p : ℕ) → line_begins region axis place ≡ p → get_or (walk_at region p) axis 1 ≡ first
-  begins_first p e = ap (λ q. get_or (walk_at region q) axis 1) (sym e) ∙ ap (λ i. get_or i axis 1) (walk_of_offset region beginning inside) ∙ get_inserted axis first 1 _ short
+  begins_first p e = ap (λ q. get_or (walk_at region q) axis 1) (sym e) ∙ ap (λ i. get_or i axis 1) (walk_of_offset region beginning inside) ∙ get_or-insert_at _ axis first 1 short
 
   pub begins_on_line : (p : ℕ) → line_begins region axis place ≡ p → IsOnLine region axis (walk_at region p) place
   begins_on_line p e = sym (ap (λ q. remove (walk_at region q) axis) (sym e) ∙ ap (λ i. remove i axis) (walk_of_offset region beginning inside) ∙ remove_inserted axis first _ short)

@@ -1,8 +1,7 @@
 -- Residues along a line, from divisor to divisor.
 use Rattle.std.{proofs.Common.{◌≡◌, ℕ, zero, suc, ◌+◌, ◌-◌, ◌<◌, ◌≤◌, List, [], ◌∷◌, ◌++◌, inl, inr, length, get_or, refl, ap, sym, ◌∙◌, arith, pos, ℤ, unsigned_abs, FitsSigned, w64, Bool, true, false, nat_eq, IfSome, Option, Some, None}, proofs.lemmas.Bool.{eqb-true, eqb-false, cases_lt}}
 use Rattle.std.{proofs.lemmas.List.{get_or_append_left, length-append}, proofs.Math.Seq.{get_or-append_right}}
-use Rattle.function_names.specs.declared.scalar.Scalar2.TheVariants.{Residue as ByResidue}
-use Rattle.item_fns.specs.Numbers.{residue, dyadic_on_numbers}
+use Rattle.{function_names.specs.declared.scalar.Scalar2.TheVariants.{Residue as ByResidue}, item_fns.specs.Numbers.{residue, dyadic_on_numbers}}
 use Rattle.scan_fns.{specs.declared.residue_scan.Divisor.{Divisor}, specs.LinearScan.{depth}, specs.RecalledScan.{given_at}, specs.ResidueScan.{extent_at, place_before, no_divisor, AreDivisors, IsBeside, AreTheSame, IsDivisor, Leads, LeadsTo, from}, proofs.RecalledFolds.{at_first, at_later}}
 use Rattle.scan_fns.proofs.OneSided.{stays, comes_near, beside_at, rest_stays_beside}
 

@@ -1,8 +1,7 @@
 -- The error that a `?` passes on.
 use Rattle.std.{proofs.Common.{◌≡◌, refl, ℕ, List, ℤ, pos, Vec, Ok, Err, Result}, specs.Result.{IsErr, IsErrAnd}}
 use Rattle.arrays_core.{specs.declared.item.Kind.{Kind}, specs.declared.fault.ApplyFault.{ApplyFault}, specs.declared.fault.ApplyFault.TheVariants.{Kind as KindFault, NoMemory}, specs.declared.item.ItemType.TheVariants.{Nums}, specs.Arrays.{ArrayValue, IsAnswerTo, with_items}}
-use Rattle.item_fns.specs.NumberLists.{IsListAnswerTo, number_items}
-use Rattle.scan_fns.specs.LinearScan.{run_to, FailsAt, HasRead}
+use Rattle.{item_fns.specs.NumberLists.{IsListAnswerTo, number_items}, scan_fns.specs.LinearScan.{run_to, FailsAt, HasRead}}
 
 -- an error of what was read is that of the whole, or it is want of memory
 pub fault_passed : {G : Type 0} (fold : List ℤ → Result ℤ Kind) (zs : List ℤ) (stride count : ℕ) (wanted : Result (List ℤ) Kind) (fault : ApplyFault) (r : Result (Vec ℤ G) ApplyFault)

@@ -1,9 +1,9 @@
 -- The folds of the first numbers of a list, from a place on.
-use Rattle.std.{proofs.Common.{◌≡◌, ℕ, zero, suc, ◌+◌, ◌-◌, ◌*◌, ◌/◌, ◌%◌, ◌<◌, ◌≤◌, List, [], ◌∷◌, ◌++◌, length, map, take, drop, ℤ, pos, Result, Ok, Err, refl, ap, sym, ◌∙◌, arith}, specs.List.{range_with_len}, proofs.lemmas.List.{length-drop, length-take, get_or-drop, ext_get_or, take-take, take-append-drop}}
-use Rattle.std.{proofs.lemmas.List.FromFn.{length-map-range_with_len, get_or-map-range_with_len, take-map-range_with_len}, proofs.Math.Nat.{mod-eq_of_lt}}
+use Rattle.std.{proofs.Common.{◌≡◌, ℕ, zero, suc, ◌+◌, ◌-◌, ◌*◌, ◌%◌, ◌<◌, ◌≤◌, List, [], ◌∷◌, ◌++◌, length, map, take, drop, ℤ, pos, Result, Ok, Err, refl, ap, sym, ◌∙◌, arith}, specs.List.{range_with_len}, proofs.lemmas.List.{length-drop, length-take, get_or-drop, take-take, take-append-drop}}
+use Rattle.std.{proofs.lemmas.List.FromFn.{fill_by_all, length-map-range_with_len, get_or-map-range_with_len, take-map-range_with_len}, proofs.Math.Nat.{mod-eq_of_lt}}
 use Rattle.arrays_core.{specs.declared.item.Kind.{Kind}, specs.declared.item.Kind.TheVariants.{Domain}, specs.declared.fault.ApplyFault.{ApplyFault}, specs.declared.fault.ApplyFault.TheVariants.{Kind as KindFault, NoMemory}, specs.Items.{all_or_first_error, and_then}}
 use Rattle.item_fns.{specs.NumberLists.{IsListAnswerTo}, specs.Folds.{strided, folded}, proofs.RightFolds.{strided_run}}
-use Rattle.reduce_fns.{specs.declared.axis_lines.AxisLines.{AxisLines}, proofs.ListResults.{after_parts, all_then}}
+use Rattle.reduce_fns.{specs.declared.axis_lines.AxisLines.{AxisLines}, proofs.ListResults.{after_parts, all_then}, proofs.Firsts.{same_rules}}
 use Rattle.scan_fns.specs.LinearScan.{scans_of, run_to, scanned, folds_from}
 
 -- a list as one line
@@ -39,24 +39,13 @@ module _ (f : ℤ → ℤ → Result ℤ Kind) where
 
   run_whole : (zs : List ℤ) (place : ℕ) → place < length zs → run_to (pos 0) zs 1 (length zs) place ≡ take (place + 1) zs
   run_whole zs place below =
-      let deep : place / 1 % length zs ≡ place = ap (λ m. m % length zs) (omega arith) ∙ mod-eq_of_lt below in
-      ap (λ d. strided (pos 0) zs (place - d * 1) 1 (d + 1)) deep
+      ap (λ d. strided (pos 0) zs (place - d * 1) 1 (d + 1)) (ap (λ m. m % length zs) (omega arith) ∙ mod-eq_of_lt below)
       ∙ ap (λ m. strided (pos 0) zs m 1 (place + 1)) (omega arith)
       ∙ sym (strided_run (pos 0) zs 0 (place + 1) (omega arith))
 
-  same_folds : (n : ℕ) (g h : ℕ → Result ℤ Kind) → ((place : ℕ) → place < n → g place ≡ h place) → map g (range_with_len 0 n) ≡ map h (range_with_len 0 n)
-  same_folds n g h same =
-      let long_g = length-map-range_with_len g 0 n in
-      let long_h = length-map-range_with_len h 0 n in
-      ext_get_or (Err Domain) (map g (range_with_len 0 n)) (map h (range_with_len 0 n)) (long_g ∙ sym long_h) (λ place h_below.
-      let below : place < n = omega arith in
-      get_or-map-range_with_len g 0 n place place (Err Domain) below (omega arith)
-      ∙ same place below
-      ∙ sym (get_or-map-range_with_len h 0 n place place (Err Domain) below (omega arith)))
-
   -- the scan of one line is the folds up to each place
   scanned_line : (zs : List ℤ) → scanned (folded f) zs 1 (length zs) ≡ all_or_first_error (first_folds zs (length zs))
-  scanned_line zs = ap all_or_first_error (same_folds (length zs) _ _ (λ place below. ap (folded f) (run_whole zs place below)))
+  scanned_line zs = ap all_or_first_error (same_rules _ _ (length zs) (λ place below. ap (folded f) (run_whole zs place below)))
 
   -- so is that of its first numbers
   scanned_first : (zs : List ℤ) (n : ℕ) → n ≤ length zs → scanned (folded f) (take n zs) 1 n ≡ all_or_first_error (take n (first_folds zs (length zs)))
@@ -65,7 +54,7 @@ module _ (f : ℤ → ℤ → Result ℤ Kind) where
       ap (scanned (folded f) (take n zs) 1) (sym long)
       ∙ scanned_line (take n zs)
       ∙ ap (λ m. all_or_first_error (first_folds (take n zs) m)) long
-      ∙ ap all_or_first_error (same_folds n _ _ (λ place below. ap (folded f) (take-take (place + 1) n zs (omega arith))))
+      ∙ ap all_or_first_error (same_rules _ _ n (λ place below. ap (folded f) (take-take (place + 1) n zs (omega arith))))
       ∙ ap all_or_first_error (sym (take-map-range_with_len (λ place. folded f (take (place + 1) zs)) 0 (length zs) n few))
 
   -- the folds from a place on are those behind the first ones
@@ -75,15 +64,11 @@ module _ (f : ℤ → ℤ → Result ℤ Kind) where
       let rule : ℕ → Result ℤ Kind = λ place. folded f (take (place + 1) zs) in
       let later : ℕ → Result ℤ Kind = λ before. folded f (take (first + before) zs) in
       let long = length-map-range_with_len rule 0 n in
-      let dropped = length-drop (first - 1) (first_folds zs n) in
-      let many = length-map-range_with_len later 0 (n + 1 - first) in
-      ext_get_or (Err Domain) (drop (first - 1) (first_folds zs n)) (map later (range_with_len 0 (n + 1 - first))) (omega arith) (λ before h.
-      let below : before < n + 1 - first = omega arith in
+      fill_by_all later (drop (first - 1) (first_folds zs n)) (n + 1 - first) (Err Domain) (omega (arith, length-drop (first - 1) (first_folds zs n))) (λ before h.
       let place : first - 1 + before + 1 ≡ first + before = omega arith in
       get_or-drop (first - 1) (first_folds zs n) before (Err Domain)
       ∙ get_or-map-range_with_len rule 0 n (first - 1 + before) (first - 1 + before) (Err Domain) (omega arith) (omega arith)
-      ∙ ap (λ m. folded f (take m zs)) place
-      ∙ sym (get_or-map-range_with_len later 0 (n + 1 - first) before before (Err Domain) below (omega arith)))
+      ∙ ap (λ m. folded f (take m zs)) place)
 
   pub later_folds : (zs folds : List ℤ) (first : ℕ) → 1 ≤ first → first ≤ length zs → scanned (folded f) zs 1 (length zs) ≡ Ok folds → folds_from f zs first ≡ Ok (drop (first - 1) folds)
   later_folds zs folds first low high h =

@@ -2,8 +2,7 @@
 use Rattle.std.{proofs.Common.{◌≡◌, suc, zero, refl, ap, ◌∙◌, arith, Bool, true, false, not, ◌&&◌, if◌then◌else◌, ℤ, pos, negsuc, ◌+ℤ◌, ◌-ℤ◌, ◌≤ℤ◌, SFits, w64, Err}, specs.Prelude.{int_le}, specs.Int.{saturate_signed}, specs.Bool.{Decides}, proofs.lemmas.Int.{ints}, proofs.lemmas.Bool.{and_parts}}
 use Rattle.std.{proofs.lemmas.Bool.Decides.{same_from_decides}, proofs.Math.Bool.{and_comm}}
 use Rattle.arrays_core.{specs.declared.item.Kind.TheVariants.{Limit}, specs.Items.{and_then}}
-use Rattle.item_fns.{specs.Numbers.{is_number, number_or_limit}, proofs.Within.{Within, within_of, held_within}}
-use Rattle.scan_fns.specs.Prefixes.{difference}
+use Rattle.{item_fns.{specs.Numbers.{is_number, number_or_limit}, proofs.Within.{Within, within_of, held_within}}, scan_fns.specs.Prefixes.{difference}}
 
 at_most : (a b : ℤ) → Decides (int_le a b) (a ≤ℤ b)
 at_most a b = (λ e. grind (arith, ints), λ h. grind (arith, ints))
@@ -17,13 +16,11 @@ same_order a b c d to from =
 low_of : (z v : ℤ) → Within v → z ≤ℤ pos 0 → int_le (saturate_signed w64 z) v ≡ int_le z v
 low_of (pos zero) v h low = refl
 low_of (pos (suc n)) v h low = absurd (omega (arith, ints))
-low_of (negsuc n) v h low =
-    same_order (saturate_signed w64 (negsuc n)) v (negsuc n) v (λ e. omega (arith, ints)) (λ e. omega (arith, ints))
+low_of (negsuc n) v h low = same_order (saturate_signed w64 (negsuc n)) v (negsuc n) v (λ e. omega (arith, ints)) (λ e. omega (arith, ints))
 
 high_of : (z v : ℤ) → Within v → pos 0 ≤ℤ z → int_le v (saturate_signed w64 z) ≡ int_le v z
 high_of (negsuc n) v h high = absurd (omega (arith, ints))
-high_of (pos n) v h high =
-    same_order v (saturate_signed w64 (pos n)) v (pos n) (λ e. omega (arith, ints)) (λ e. omega (arith, ints))
+high_of (pos n) v h high = same_order v (saturate_signed w64 (pos n)) v (pos n) (λ e. omega (arith, ints)) (λ e. omega (arith, ints))
 
 lies_within : (low high x v : ℤ) → low ≤ℤ x → x ≤ℤ high → Within v
     → (int_le (saturate_signed w64 (x -ℤ high)) v && int_le v (saturate_signed w64 (x -ℤ low))) ≡ (int_le low (x -ℤ v) && int_le (x -ℤ v) high)

@@ -2,8 +2,7 @@
 use Rattle.std.{proofs.Common.{◌≡◌, refl, sym, subst, arith, Bool, true, false, not, ◌&&◌, ◌||◌, ℤ, pos, SFits, w64, Some, None, Result, Ok, Err, ◌⊎◌, inl, inr}, specs.Ordering.{int_eq}, specs.Prelude.{int_lt, int_le}, proofs.lemmas.Bool.Decides.{Decides-int_eq}}
 use Rattle.arrays_core.{specs.declared.item.Kind.{Kind}, specs.Items.{and_then}}
 use Rattle.function_names.specs.declared.scalar.Scalar2.TheVariants.{Less, LessOrEqual, Equal, GreaterOrEqual, Greater, NotEqual, Nand, Nor}
-use Rattle.item_fns.specs.Numbers.{dyadic_on_numbers, truth, as_truth, on_truths}
-use Rattle.scan_fns.specs.Prefixes.{GivesTruths, chosen, outcome, Continues, IsClosed}
+use Rattle.{item_fns.specs.Numbers.{dyadic_on_numbers, truth, as_truth, on_truths}, scan_fns.specs.Prefixes.{GivesTruths, chosen, outcome, Continues, IsClosed}}
 
 zero_or_one : (z : ℤ) → (int_eq z (pos 0) || int_eq z (pos 1)) ≡ true → (z ≡ pos 0) ⊎ (z ≡ pos 1)
 zero_or_one z e = decide (int_eq z (pos 0)) refl e

@@ -1,8 +1,7 @@
 -- A product with the next number, where one more number comes before it.
 use Rattle.std.{proofs.Common.{◌≡◌, ℕ, suc, zero, ◌+◌, ◌*◌, ◌/◌, ◌<◌, ◌≤◌, ◌^◌, min, nat_le, nat_lt, refl, ap, sym, ◌∙◌, arith, Bool, true, false, if◌then◌else◌, ℤ, pos, negsuc, neg_ℤ, unsigned_abs, ◌*ℤ◌, ◌≤ℤ◌, ◌<ℤ◌, SFits, w64, Err}, specs.Bool.{Decides}, proofs.lemmas.Int.{ints}}
 use Rattle.std.{proofs.lemmas.Bool.{leb-true, ltb-true, lt-ltb, le-leb}, proofs.lemmas.Bool.Decides.{same_from_decides}, proofs.Math.Nat.{le-div_iff_mul-le}}
-use Rattle.arrays_core.{specs.declared.item.Kind.TheVariants.{Limit}, specs.Items.{and_then}}
-use Rattle.item_fns.specs.Numbers.{is_number, number_or_limit}
+use Rattle.{arrays_core.{specs.declared.item.Kind.TheVariants.{Limit}, specs.Items.{and_then}}, item_fns.specs.Numbers.{is_number, number_or_limit}}
 use Rattle.scan_fns.specs.Prefixes.{lies_within, product}
 use borrow.Author.Differences.{up, down, product_is}
 

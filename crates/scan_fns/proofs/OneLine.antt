@@ -5,8 +5,7 @@ use Rattle.arrays_core.{specs.declared.item.Item.{Item}, specs.declared.item.Ite
 use Rattle.arrays_core.specs.Arrays.{ArrayValue, IsAnswerTo, with_items}
 use Rattle.function_names.{specs.declared.scalar.Scalar2.{Scalar2}, specs.declared.along.Along.{Along}, specs.Axes.{axis_at}}
 use Rattle.index_region.{specs.ArgumentLists.{of_one_argument}, specs.Boxes.{Interval, interval_length, box_size, walk_at, fits}, proofs.Walks.{some_place}}
-use Rattle.change_core.specs.Parts.{HoldsItems, items_in}
-use Rattle.scan_fns.specs.Scan.{scan_item, scan_along}
+use Rattle.{change_core.specs.Parts.{HoldsItems, items_in}, scan_fns.specs.Scan.{scan_item, scan_along}, reduce_fns.proofs.Firsts.{same_rules}}
 
 -- ---- the walk of such a box
 
@@ -23,8 +22,7 @@ no_less (suc e) m low = omega arith
 -- the first interval of a box in a shape has a place
 first_interval : (s : Interval) (region : List Interval) (n : ℕ) (shape : List ℕ) → IsTrue (fits (s ∷ region) (n ∷ shape)) → 1 ≤ interval_length s
 first_interval s region n shape fit =
-    let parts = and_parts _ _ fit in
-    let order : s.0 ≤ s.1 = leb-true s.0 s.1 (and_parts _ _ (and_parts _ _ parts.0).0).1 in
+    let order : s.0 ≤ s.1 = leb-true s.0 s.1 (and_parts _ _ (and_parts _ _ (and_parts _ _ fit).0).0).1 in
     omega arith
 
 rest_fits : (s : Interval) (region : List Interval) (n : ℕ) (shape : List ℕ) → IsTrue (fits (s ∷ region) (n ∷ shape)) → IsTrue (fits region shape)
@@ -47,8 +45,7 @@ interval_within (suc axis) (s ∷ region) (n ∷ shape) there fit =
 pub walk_first : (axis : ℕ) (region : List Interval) (shape : List ℕ) → axis < length region → IsTrue (fits region shape) → get_or (walk_at region 0) axis 1 ≡ (get_or region axis (0, 0)).0
 walk_first axis [] shape there fit = absurd (omega arith)
 walk_first axis (s ∷ region) [] there fit = absurd (false≢true fit)
-walk_first zero (s ∷ region) (n ∷ shape) there fit =
-    omega (arith, div-eq_of_lt (some_place region shape (rest_fits s region n shape fit)))
+walk_first zero (s ∷ region) (n ∷ shape) there fit = omega (arith, div-eq_of_lt (some_place region shape (rest_fits s region n shape fit)))
 walk_first (suc axis) (s ∷ region) (n ∷ shape) there fit =
     let left : 0 % box_size region ≡ 0 = mod-eq_of_lt (some_place region shape (rest_fits s region n shape fit)) in
     ap (λ p. get_or (walk_at region p) axis 1) left ∙ walk_first axis region shape (omega arith) (rest_fits s region n shape fit)
@@ -60,11 +57,9 @@ line_walk axis [] shape there fit one p below = absurd (omega arith)
 line_walk axis (s ∷ region) [] there fit one p below = absurd (false≢true fit)
 line_walk zero (s ∷ region) (n ∷ shape) there fit one p below =
     let single : box_size region ≡ 1 = alone (interval_length s) (box_size region) (first_interval s region n shape fit) one in
-    let whole : p / 1 ≡ p = omega arith in
     let left : p % 1 ≡ 0 % 1 = omega arith in
-    let steps : p / box_size region ≡ p = ap (λ m. p / m) single ∙ whole in
-    let same : p % box_size region ≡ 0 % box_size region = ap (λ m. p % m) single ∙ left ∙ ap (λ m. 0 % m) (sym single) in
-    λ i. (s.0 + steps i) ∷ walk_at region (same i)
+    let steps : p / box_size region ≡ p = ap (λ m. p / m) single ∙ (omega arith) in
+    λ i. (s.0 + steps i) ∷ walk_at region ((ap (λ m. p % m) single ∙ left ∙ ap (λ m. 0 % m) (sym single)) i)
 line_walk (suc axis) (s ∷ region) (n ∷ shape) there fit one p below =
     let m = box_size region in
     let inside = rest_fits s region n shape fit in
@@ -78,29 +73,31 @@ line_walk (suc axis) (s ∷ region) (n ∷ shape) there fit one p below =
     ap (walk_at region) left ∙ line_walk axis region shape (omega arith) inside rest p p_below ∙ ap (λ q. set (walk_at region q) axis ((get_or region axis (0, 0)).0 + p)) (sym none) in
     λ i. (s.0 + (div-eq_of_lt p_below ∙ sym (div-eq_of_lt some)) i) ∷ tail i
 
--- the interval of a box on an axis
-pub record OnAxis (region : List Interval) (shape : List ℕ) (axis : ℕ) : Type 0 where
-  pub low : 1 ≤ (get_or region axis (0, 0)).0
-  pub order : (get_or region axis (0, 0)).0 ≤ (get_or region axis (0, 0)).1
-  pub high : (get_or region axis (0, 0)).1 ≤ get_or shape axis 0
+-- the interval of a box on an axis, as it is read
+pub record OnAxis (read region : List Interval) (shape : List ℕ) (axis : ℕ) : Type 0 where
+  pub there : axis < length region
+  pub low : 1 ≤ (get_or read axis (0, 0)).0
+  pub order : (get_or read axis (0, 0)).0 ≤ (get_or read axis (0, 0)).1
+  pub high : (get_or read axis (0, 0)).1 ≤ get_or shape axis 0
+  pub first : (get_or read axis (0, 0)).0 ≡ (get_or region axis (0, 0)).0
+  pub last : (get_or read axis (0, 0)).1 ≡ (get_or region axis (0, 0)).1
 
-pub on_axis : (axis : ℕ) (region : List Interval) (shape : List ℕ) → axis < length region → IsTrue (fits region shape) → OnAxis region shape axis
-on_axis axis [] shape there fit = absurd (omega arith)
-on_axis axis (s ∷ region) [] there fit = absurd (false≢true fit)
-on_axis zero (s ∷ region) (n ∷ shape) there fit =
-    let here = and_parts _ _ (and_parts _ _ fit).0 in
-    let bounds = and_parts _ _ here.0 in
-    record { low = leb-true 1 s.0 bounds.0; order = leb-true s.0 s.1 bounds.1; high = leb-true s.1 n here.1 }
-on_axis (suc axis) (s ∷ region) (n ∷ shape) there fit =
-    let rest = on_axis axis region shape (omega arith) (rest_fits s region n shape fit) in
-    record { low = rest.low; order = rest.order; high = rest.high }
+pub on_axis : (axis : ℕ) (read region : List Interval) (shape : List ℕ) → read ≡ region → axis < length shape → IsTrue (fits region shape) → OnAxis read region shape axis
+on_axis axis read region shape is there fit = rw is (own axis region shape there fit)
+  where
+    own : (axis : ℕ) (region : List Interval) (shape : List ℕ) → axis < length shape → IsTrue (fits region shape) → OnAxis region region shape axis
+    own axis [] [] there fit = absurd (omega arith)
+    own axis [] (n ∷ shape) there fit = absurd (false≢true fit)
+    own axis (s ∷ region) [] there fit = absurd (omega arith)
+    own zero (s ∷ region) (n ∷ shape) there fit =
+        let here = and_parts _ _ (and_parts _ _ fit).0 in
+        let bounds = and_parts _ _ here.0 in
+        record { there = omega arith; low = leb-true 1 s.0 bounds.0; order = leb-true s.0 s.1 bounds.1; high = leb-true s.1 n here.1; first = refl; last = refl }
+    own (suc axis) (s ∷ region) (n ∷ shape) there fit =
+        let rest = own axis region shape (omega arith) (rest_fits s region n shape fit) in
+        record { there = omega (arith, rest.there); low = rest.low; order = rest.order; high = rest.high; first = refl; last = refl }
 
 -- ---- the items there
-
-pub only_argument : (args : List ArrayValue) (b d : ArrayValue) → length args ≡ 1 → b ≡ get_or args 0 d → args ≡ b ∷ []
-only_argument [] b d count is = absurd (omega arith)
-only_argument (a ∷ []) b d count is = ap (λ x. x ∷ []) (sym is)
-only_argument (a ∷ c ∷ rest) b d count is = absurd (omega arith)
 
 pub as_one : {A : Type 0} (f : ArrayValue → Result A Kind) (args : List ArrayValue) (b : ArrayValue) → args ≡ b ∷ [] → of_one_argument f args ≡ f b
 as_one f args b h = rw h refl
@@ -116,18 +113,10 @@ scanned_items f along args b region shape only there fit one =
     let begins : get_or index axis 1 ≡ s.0 = walk_first axis region shape there fit in
     let item : List ℕ → Result Item Kind = λ index. of_one_argument (λ a. scan_item f along a index) args in
     let there_item : ℕ → Result Item Kind = λ before. scan_item f along b (set index axis (s.0 + before)) in
-    ap (λ rs. with_items Nums (box_size region ∷ []) (all_or_first_error rs)) (same_results (λ p. item (walk_at region p)) there_item (box_size region) (λ p below.
+    ap (λ rs. with_items Nums (box_size region ∷ []) (all_or_first_error rs)) (same_rules (λ p. item (walk_at region p)) there_item (box_size region) (λ p below.
     as_one (λ a. scan_item f along a (walk_at region p)) args b only ∙ ap (scan_item f along b) (line_walk axis region shape there fit one p below)))
     ∙ ap (λ m. with_items Nums (m ∷ []) (all_or_first_error (map there_item (range_with_len 0 m)))) one
     ∙ ap (λ q. with_items Nums ((s.1 + 1 - q) ∷ []) (all_or_first_error (map (λ before. scan_item f along b (set index axis (q + before))) (range_with_len 0 (s.1 + 1 - q))))) (sym begins)
-  where
-    same_from : (u v : ℕ → Result Item Kind) (from n : ℕ) → ((j : ℕ) → from ≤ j → j < from + n → u j ≡ v j) → map u (range_with_len from n) ≡ map v (range_with_len from n)
-    same_from u v from zero h = refl
-    same_from u v from (suc n) h =
-        λ i. (h from (omega arith) (omega arith)) i ∷ (same_from u v (from + 1) n (λ j l b. h j (omega arith) (omega arith))) i
-
-    same_results : (u v : ℕ → Result Item Kind) (n : ℕ) → ((j : ℕ) → j < n → u j ≡ v j) → map u (range_with_len 0 n) ≡ map v (range_with_len 0 n)
-    same_results u v n h = same_from u v 0 n (λ j l b. h j (omega arith))
 
 holds : (items : Result (List Item) Kind) (shape : List ℕ) (r : Result ArrayValue ApplyFault) → IsAnswerTo (with_items Nums shape items) r → HoldsItems Nums items r
 holds (Ok xs) shape (Ok a) h = let same : record { item_type = Nums; shape = shape; items = xs } ≡ a = cc in (ap (λ (b : ArrayValue). Ok b.items) same, sym (ap (λ (b : ArrayValue). b.item_type) same))

@@ -1,17 +1,12 @@
 -- Folds of the numbers up to each place, from the numbers before it as a function of the next one.
 use Rattle.std.{proofs.Common.{◌≡◌, ℕ, zero, suc, ◌+◌, ◌-◌, ◌*◌, ◌/◌, ◌%◌, true, false, nat_lt, ◌≢◌, inl, inr, ◌<◌, ◌≤◌, List, [], ◌∷◌, ◌++◌, length, get_or, refl, ap, sym, subst, ◌∙◌, arith, pos, ℤ, FitsSigned, Result, Ok, Err, append_assoc, length-append}, specs.Int.{w64}, proofs.Math.ListN.{set}}
 use Rattle.std.{proofs.lemmas.Bool.{cases_lt, lt-ltb, le-ltb}, proofs.lemmas.List.{get_or-set_same, get_or-set_other}, proofs.Math.Nat.{mod-add-div, mod-add-mod, mod-eq_of_lt, add-mod_right, mul-le-mul_left}, proofs.lemmas.Nat.{mod_below}}
-use Rattle.arrays_core.{specs.declared.item.Kind.{Kind}, specs.Items.{and_then}}
-use Rattle.item_fns.{specs.Folds.{folded}, proofs.RightFolds.{fold_more}}
-use Rattle.scan_fns.{specs.LinearScan.{depth, run_to}, specs.Prefixes.{fold_to, IsFresh, Continues, IsClosed}, proofs.Runs.{through, as_it_is, run_first, run_more, first_row, later_row}}
+use Rattle.{arrays_core.{specs.declared.item.Kind.{Kind}, specs.Items.{and_then}}, item_fns.{specs.Folds.{folded}, proofs.RightFolds.{fold_more}}}
+use Rattle.scan_fns.{specs.LinearScan.{depth, run_to}, specs.Prefixes.{fold_to, IsFresh, Continues, IsClosed}, proofs.Runs.{through, as_it_is, regroup, run_first, run_more, first_row, later_row}}
 
 -- what a list of numbers and one more of 64 bits fold to
 pub record FoldsWithNext (f : ℤ → ℤ → Result ℤ Kind) (gives : ℤ → Result ℤ Kind) (xs : List ℤ) : Type 0 where
   pub is : (v : ℤ) → FitsSigned w64 v → gives v ≡ folded f (xs ++ v ∷ [])
-
-regroup : {A B C : Type 0} (r : Result A Kind) (g : A → Result B Kind) (h : B → Result C Kind) → and_then (and_then r g) h ≡ and_then r (λ z. and_then (g z) h)
-regroup (Ok z) g h = refl
-regroup (Err k) g h = refl
 
 -- ---- a list and two more numbers
 
@@ -138,24 +133,20 @@ module _ {A : Type 0} (step : A → ℤ → ℤ → Result ℤ Kind) (gives : A 
               subst (Keeps step gives (step none) (run_to (pos 0) zs stride count (q - stride))) (sym (get_or-set_other lines column (q % stride) after none other))
               (kept q (omega arith) near deep)
           | inr far ↦
-              let is : q ≡ place + stride = omega arith in
-              let back : q - stride ≡ place = omega arith in
-              let there : q % stride ≡ column = ap (λ n. n % stride) is ∙ add-mod_right place stride ∙ sym at in
+              let there : q % stride ≡ column = ap (λ n. n % stride) (omega arith) ∙ add-mod_right place stride ∙ sym at in
               let inside : column < length lines = omega (arith, mod_below place stride apart) in
               let found : get_or (set lines column after) (q % stride) none ≡ after = ap (λ k. get_or (set lines column after) k none) there ∙ get_or-set_same lines column after none inside in
               subst (Keeps step gives (step none) (run_to (pos 0) zs stride count (q - stride))) (sym found)
-              (subst (λ p. Keeps step gives (step none) (run_to (pos 0) zs stride count p) after) (sym back) after_keeps)
+              (subst (λ p. Keeps step gives (step none) (run_to (pos 0) zs stride count p) after) (sym (omega arith)) after_keeps)
         ]
 
 -- ---- a line of neighbours
 
 pub beside_depth : (count place first : ℕ) → 1 ≤ count → first % count ≡ 0 → first ≤ place → place < first + count → depth 1 count place ≡ place - first
 beside_depth count place first some begins low near =
-    let whole : first + (place - first) ≡ place = omega arith in
     let from : first % count + (place - first) ≡ place - first = omega (arith, begins) in
-    let inside : place - first < count = omega arith in
     let one : place / 1 ≡ place = omega arith in
-    ap (λ n. n % count) one ∙ ap (λ n. n % count) (sym whole) ∙ sym (mod-add-mod first count (place - first)) ∙ ap (λ n. n % count) from ∙ mod-eq_of_lt inside
+    ap (λ n. n % count) one ∙ ap (λ n. n % count) (sym (omega arith)) ∙ sym (mod-add-mod first count (place - first)) ∙ ap (λ n. n % count) from ∙ mod-eq_of_lt (omega arith)
 
 module _ {A : Type 0} (step : A → ℤ → ℤ → Result ℤ Kind) (gives : A → ℤ → Result ℤ Kind) (none : A) (zs : List ℤ) (count : ℕ) (some : 1 ≤ count) (first : ℕ) (begins : first % count ≡ 0) where
   pub line_begun : IsFresh (gives none) → IsFoldKept step gives none zs 1 count first none
@@ -166,12 +157,11 @@ module _ {A : Type 0} (step : A → ℤ → ℤ → Result ℤ Kind) (gives : A 
       → IsClosed (step none) → step after ≡ step line → Continues (step line (get_or zs place (pos 0))) (gives line) (gives after)
       → IsFoldKept step gives none zs 1 count (place + 1) after
   line_goes_on place line after low near it fits closed same next =
-      let back : place + 1 - 1 ≡ place = omega arith in
       record {
         same = same ∙ it.same;
         fresh = λ d. absurd (omega (arith, beside_depth count (place + 1) first some begins (omega arith) near, d));
         told = λ d.
-            subst (λ p. FoldsWithNext (step none) (gives after) (run_to (pos 0) zs 1 count p)) (sym back)
+            subst (λ p. FoldsWithNext (step none) (gives after) (run_to (pos 0) zs 1 count p)) (sym (omega arith))
             (tells_here (step none) zs 1 count (omega arith) some place (gives line) fits it.fresh it.told (gives after) closed
             (subst (λ f. Continues (f (get_or zs place (pos 0))) (gives line) (gives after)) it.same next));
       }

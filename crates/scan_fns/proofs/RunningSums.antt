@@ -34,8 +34,7 @@ module _ (zs : List ℤ) (stride count : ℕ) (apart : 0 < stride) (some : 1 ≤
         record { item = get_or zs place (pos 0); is = left_first stride count apart some (pos 0) zs step place e }
     left_given step more (suc d) place e below sums =
         let deep : 0 < depth stride count place = omega (arith, e) in
-        let deeper = one_deeper stride count apart some place deep in
-        let before = left_given step more d (place - stride) (omega (arith, e, deeper)) (omega arith) sums in
+        let before = left_given step more d (place - stride) (omega (arith, e, (one_deeper stride count apart some place deep))) (omega arith) sums in
         let y = get_or zs place (pos 0) in
         let split = run_more stride count apart some (pos 0) zs place deep in
         let sum = sums place below in

@@ -1,10 +1,8 @@
 -- The runs of lines up to each place, and folds from the left.
 use Rattle.std.{proofs.Common.{◌≡◌, ℕ, zero, suc, ◌+◌, ◌-◌, ◌*◌, ◌/◌, ◌%◌, ◌<◌, ◌≤◌, List, [], ◌∷◌, ◌++◌, length, get_or, refl, ap, sym, ◌∙◌, inl, inr, arith, Result, Ok, Err}, proofs.lemmas.List.{take_more, take_all}, proofs.lemmas.Nat.{mod_below}, proofs.Math.Nat.{div-eq-sub-div, mod-add-div}}
-use Rattle.std.proofs.Math.Arith.{mod-mul}
-use Rattle.arrays_core.{specs.declared.item.Kind.{Kind}, specs.Items.{and_then}}
+use Rattle.{std.proofs.Math.Arith.{mod-mul}, arrays_core.{specs.declared.item.Kind.{Kind}, specs.Items.{and_then}}}
 use Rattle.item_fns.{specs.Folds.{strided}, proofs.Residues.{next_mod}, proofs.RightFolds.{length-strided, get_or-strided, take-strided}}
-use Rattle.scan_fns.specs.LinearScan.{depth, run_to}
-use Rattle.reduce_fns.specs.LeftFolds.{fold_on, folded_left}
+use Rattle.{scan_fns.specs.LinearScan.{depth, run_to}, reduce_fns.specs.LeftFolds.{fold_on, folded_left}}
 
 -- ---- left folds
 
@@ -16,7 +14,7 @@ pub as_it_is : {A : Type 0} (r : Result A Kind) → and_then r (λ z. Ok z) ≡ 
 as_it_is (Ok z) = refl
 as_it_is (Err k) = refl
 
-regroup : {A B C : Type 0} (r : Result A Kind) (g : A → Result B Kind) (h : B → Result C Kind) → and_then (and_then r g) h ≡ and_then r (λ z. and_then (g z) h)
+pub regroup : {A B C : Type 0} (r : Result A Kind) (g : A → Result B Kind) (h : B → Result C Kind) → and_then (and_then r g) h ≡ and_then r (λ z. and_then (g z) h)
 regroup (Ok z) g h = refl
 regroup (Err k) g h = refl
 
@@ -71,8 +69,7 @@ module _ (stride count : ℕ) (apart : 0 < stride) (some : 1 ≤ count) where
   pub one_deeper : (place : ℕ) → 0 < depth stride count place → depth stride count place ≡ depth stride count (place - stride) + 1
   one_deeper place h =
       let q = (place - stride) / stride in
-      let next : q + 1 ≡ suc q = omega arith in
-      let e : depth stride count place ≡ suc q % count = ap (λ m. m % count) ((div-eq-sub-div apart (past_stride place h)) ∙ next) in
+      let e : depth stride count place ≡ suc q % count = ap (λ m. m % count) ((div-eq-sub-div apart (past_stride place h)) ∙ (omega arith)) in
       elim (next_mod q count (omega (arith, some))) [
         | inl n ↦ absurd (omega (arith, n.0))
         | inr n ↦ e ∙ n
@@ -80,28 +77,34 @@ module _ (stride count : ℕ) (apart : 0 < stride) (some : 1 ≤ count) where
 
   module _ {A : Type 0} (d : A) (xs : List A) where
     pub run_first : (place : ℕ) → depth stride count place ≡ 0 → run_to d xs stride count place ≡ get_or xs place d ∷ []
-    run_first place e =
-        let at : place - 0 * stride + 0 * stride ≡ place = omega arith in
-        rw e (ap (λ k. get_or xs k d ∷ []) at)
+    run_first place e = rw e (ap (λ k. get_or xs k d ∷ []) (omega arith))
 
-    pub run_more : (place : ℕ) → 0 < depth stride count place
-        → run_to d xs stride count place ≡ run_to d xs stride count (place - stride) ++ get_or xs place d ∷ []
-    run_more place h =
+    -- the run to a place is the entries before it and the one there
+    pub run_last : (place : ℕ) → run_to d xs stride count place ≡ strided d xs (place - depth stride count place * stride) stride (depth stride count place) ++ get_or xs place d ∷ []
+    run_last place =
+        let k = depth stride count place in
+        let first = place - k * stride in
+        let ys = strided d xs first stride (k + 1) in
+        let long = length-strided d xs first stride (k + 1) in
+        let last : first + k * stride ≡ place = omega (arith, depth_high place) in
+        sym (take_all (k + 1) ys (omega (arith, long)))
+        ∙ take_more ys k d (omega (arith, long))
+        ∙ ap (λ ws. ws ++ get_or ys k d ∷ []) (take-strided d xs first stride (k + 1) k (omega arith))
+        ∙ ap (λ z. strided d xs first stride k ++ z ∷ []) (get_or-strided d xs first stride (k + 1) k d (omega arith) ∙ ap (λ n. get_or xs n d) last)
+
+    pub run_before_is : (place : ℕ) → 0 < depth stride count place
+        → strided d xs (place - depth stride count place * stride) stride (depth stride count place) ≡ run_to d xs stride count (place - stride)
+    run_before_is place h =
         let b = depth stride count (place - stride) in
-        let first = place - stride - b * stride in
         let deeper = one_deeper place h in
         let high = depth_high place in
         let total : depth stride count place * stride ≡ b * stride + stride = ap (λ n. n * stride) deeper ∙ (omega arith) in
-        let same : place - depth stride count place * stride ≡ first = omega arith in
-        let ys = strided d xs first stride (b + 1 + 1) in
-        let long = length-strided d xs first stride (b + 1 + 1) in
-        let last : first + (b + 1) * stride ≡ place = omega arith in
-        ap (λ m. strided d xs (place - depth stride count place * stride) stride (m + 1)) deeper
-        ∙ ap (λ m. strided d xs m stride (b + 1 + 1)) same
-        ∙ sym (take_all (b + 1 + 1) ys (omega arith))
-        ∙ take_more ys (b + 1) d (omega arith)
-        ∙ ap (λ zs. zs ++ get_or ys (b + 1) d ∷ []) (take-strided d xs first stride (b + 1 + 1) (b + 1) (omega arith))
-        ∙ ap (λ z. strided d xs first stride (b + 1) ++ z ∷ []) (get_or-strided d xs first stride (b + 1 + 1) (b + 1) d (omega arith) ∙ ap (λ k. get_or xs k d) last)
+        ap (λ m. strided d xs (place - depth stride count place * stride) stride m) deeper
+        ∙ ap (λ m. strided d xs m stride (b + 1)) (omega arith)
+
+    pub run_more : (place : ℕ) → 0 < depth stride count place
+        → run_to d xs stride count place ≡ run_to d xs stride count (place - stride) ++ get_or xs place d ∷ []
+    run_more place h = run_last place ∙ ap (λ ws. ws ++ get_or xs place d ∷ []) (run_before_is place h)
 
     pub run_some : (place : ℕ) → 0 < length (run_to d xs stride count place)
     run_some place = omega (arith, length-strided d xs (place - depth stride count place * stride) stride (depth stride count place + 1))

@@ -1,8 +1,7 @@
 -- Worked cases of scan, computed.
 use Rattle.std.proofs.Common.{refl, pos, [], ◌∷◌}
 use Rattle.arrays_core.{specs.declared.item.Kind.TheVariants.{Axis as AxisError, Domain, Limit}, proofs.CaseWords.{◌⇒◌, AllSame, nums, ints, chars, is, fails, minus, greatest, least}}
-use Rattle.function_names.specs.declared.along.Along.TheVariants.{First, Last, Axis}
-use Rattle.scan_fns.specs.Scan.{scan_whole}
+use Rattle.{function_names.specs.declared.along.Along.TheVariants.{First, Last, Axis}, scan_fns.specs.Scan.{scan_whole}}
 use Rattle.function_names.specs.declared.scalar.Scalar2.TheVariants as two
 
 worked_cases : AllSame (

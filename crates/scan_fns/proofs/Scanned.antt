@@ -1,13 +1,13 @@
 -- The scan of an array of numbers, taken from the numbers as they lie.
 use Rattle.std.proofs.Common.{◌≡◌, ℕ, zero, suc, ◌+◌, ◌-◌, ◌*◌, ◌/◌, ◌%◌, ◌<◌, ◌≤◌, Bool, true, false, ◌||◌, not, nat_eq, nat_lt, inl, inr, IfOk, ℤ, pos, List, [], ◌∷◌, length, get_or, drop, take, map, refl, ap, sym, ◌∙◌, arith, insert, remove, if◌then◌else◌, Result, Ok, Err}
-use Rattle.std.{proofs.lemmas.Bool.{eqb-true, ltb-true, le-ltb, cases_lt}, proofs.lemmas.List.{get_or_default}, proofs.lemmas.Nat.{div-mul-add, mod-mul-add, mod_below}, specs.List.{range_with_len}}
+use Rattle.std.{proofs.lemmas.Bool.{eqb-true, ltb-true, le-ltb, cases_lt}, proofs.lemmas.List.{get_or_default}, proofs.lemmas.List.Edits.{length-remove}, proofs.lemmas.Nat.{div-mul-add, mod-mul-add, mod_below}, specs.List.{range_with_len}}
 use Rattle.arrays_core.{specs.declared.item.Item.{Item}, specs.declared.item.Item.TheVariants.{Num}, specs.declared.item.Kind.{Kind}, specs.declared.item.Kind.TheVariants.{Axis as AxisKind, Domain}, specs.declared.item.ItemType.{ItemType}, specs.declared.item.ItemType.TheVariants.{Nums, Chars}}
 use Rattle.arrays_core.{specs.Items.{fill, type_of, all_or_first_error, and_then}, specs.Shapes.{size, is_index_of, places_before}, specs.Arrays.{ArrayValue, IsArray, collect, with_items}, proofs.Shapes.{as_long, places_below}}
 use Rattle.function_names.{specs.declared.scalar.Scalar2.{Scalar2}, specs.declared.along.Along.{Along}, specs.Axes.{is_axis, axis_at}}
 use Rattle.item_fns.{specs.Numbers.{dyadic_on_numbers}, specs.Items.{number_item}, specs.NumberLists.{number_items}, specs.Folds.{strided, folded, line_start}, proofs.RightFolds.{take-strided}, specs.RightFold.{fold_right}}
 use Rattle.index_region.{specs.Checks.{form_of, limited}, specs.Arguments.{counts_as_numbers, is_of_numbers}, specs.Axes.{places_along}, specs.Answers.{IsPlaceOf, HasTypeOf}, proofs.Passing.{passed, place_inside, typed_check, typed_limited}}
 use Rattle.reduce_fns.{specs.Lines.{line}, proofs.Lines.{stride, line-strided, size-drop-le}, proofs.Placewise.{collected_same, numbers_collected}, proofs.Reduced.{numbers_folded, start_is}}
-use Rattle.scan_fns.{specs.LinearScan.{depth, run_to, scanned}, specs.Scan.{scan_type, scan_form, scan_item, scan_whole}, specs.Laws.ScannedPlaces.{at_axis, scan_facts}}
+use Rattle.scan_fns.{specs.LinearScan.{depth, run_to, scanned}, specs.Scan.{scan_type, scan_form, scan_item, scan_whole}, specs.Laws.ScannedPlaces.{AtAxis, at_axis, scan_facts}}
 
 -- ---- an index list and its place
 pub restored : (index : List ℕ) (k d : ℕ) → k < length index → insert (remove index k) k (get_or index k d) ≡ index
@@ -33,31 +33,21 @@ module _ (f : Scalar2) (b : ArrayValue) (xs : List ℤ) (items : b.items ≡ map
       let first = places_before b.shape (insert others axis 1) in
       let p = places_before b.shape index in
       let at = at_axis b.shape index axis there inside in
-      let low : 1 ≤ i = at.low in
-      let high : i ≤ n = at.high in
       let apart = (size-drop-le (suc axis) b.shape some).0 in
       let long = as_long b.shape index inside in
-      let back = restored index axis 1 (omega arith) in
-      let others_long = long_without index axis (omega arith) in
-      let place : p ≡ first + (i - 1) * s = ap (places_before b.shape) (sym back) ∙ stride axis b.shape others i there (omega arith) in
+      let others_long = length-remove index axis (omega arith) in
+      let place : p ≡ first + (i - 1) * s = ap (places_before b.shape) (sym (restored index axis 1 (omega arith))) ∙ stride axis b.shape others i there (omega arith) in
       let start = start_is axis b.shape others there at.others apart in
       let deep : depth s n p ≡ i - 1 =
       ap (depth s n) (place ∙ ap (λ m. m + (i - 1) * s) start) ∙ depth_at s n (places_before (remove b.shape axis) others) (i - 1) apart (omega arith) in
-      let from : first ≡ p - depth s n p * s = first_is p first (depth s n p) (i - 1) s place deep in
       let many : i ≡ depth s n p + 1 = omega arith in
-      let t : fill b.item_type ≡ Num (pos 0) = ap fill typed in
       ap (λ l. fold_right f (take i l)) (line-strided b axis others there at.others)
-      ∙ ap (fold_right f) (take-strided (fill b.item_type) b.items first s n i high)
-      ∙ ap (λ d. fold_right f (strided d b.items first s i)) t
-      ∙ numbers_folded f xs b.items first s i items low
-      ∙ ap (λ m. number_item (folded (dyadic_on_numbers f) (strided (pos 0) xs m s i))) from
+      ∙ ap (fold_right f) (take-strided (fill b.item_type) b.items first s n i at.high)
+      ∙ ap (λ d. fold_right f (strided d b.items first s i)) (ap fill typed)
+      ∙ numbers_folded f xs b.items first s i items at.low
+      ∙ ap (λ m. number_item (folded (dyadic_on_numbers f) (strided (pos 0) xs m s i))) (first_is p first (depth s n p) (i - 1) s place deep)
       ∙ ap (λ m. number_item (folded (dyadic_on_numbers f) (strided (pos 0) xs (p - depth s n p * s) s m))) many
     where
-      long_without : (index : List ℕ) (k : ℕ) → k < length index → length (remove index k) + 1 ≡ length index
-      long_without [] k h = absurd (omega arith)
-      long_without (i ∷ index) zero h = omega arith
-      long_without (i ∷ index) (suc k) h = let rest = long_without index k (omega arith) in omega arith
-
       first_is : (p first d i s : ℕ) → p ≡ first + i * s → d ≡ i → first ≡ p - d * s
       first_is p first d i s e g = rw g (omega arith)
 
@@ -73,6 +63,23 @@ scan_place along b index h =
     let on_axis = passed (is_axis (length b.shape) along) _ _ index h in
     let checked = passed (nat_lt (places_along b.shape axis) 2 || counts_as_numbers b) _ _ index on_axis.place in
     record { on_axis = on_axis.test; short_or_numbers = checked.test; inside = place_inside b.shape (scan_type b axis) index checked.place }
+
+-- the axis of the scan at an index list of a result
+pub record ScanAxis (along : Along) (b : ArrayValue) (index : List ℕ) (axis : ℕ) : Type 0 where
+  pub meant : axis ≡ axis_at (length b.shape) along
+  pub long : length index ≡ length b.shape
+  pub there : axis < length b.shape
+  pub on_index : axis < length index
+  pub index_at : get_or index axis 1 ≡ get_or index axis 0
+  pub at : AtAxis b.shape index axis
+
+pub scan_axis : (along : Along) (b : ArrayValue) (index : List ℕ) (axis : ℕ) → IsPlaceOf (scan_form along b) index → axis ≡ axis_at (length b.shape) along → axis < length b.shape
+    → ScanAxis along b index axis
+scan_axis along b index axis place meant there =
+    let inside = (scan_place along b index place).inside in
+    let long = as_long b.shape index inside in
+    let on_index : axis < length index = omega (arith, long, there) in
+    record { meant = meant; long = long; there = there; on_index = on_index; index_at = get_or_default index axis 1 0 on_index; at = at_axis b.shape index axis there inside }
 
 are_numbers : (b : ArrayValue) → counts_as_numbers b ≡ true → 0 < length b.items → b.item_type ≡ Nums
 are_numbers b h some = decide b.item_type (nat_eq (length b.items) 0) refl h
@@ -129,13 +136,11 @@ module _ (f : Scalar2) (b : ArrayValue) (xs : List ℤ) (items : b.items ≡ map
       → scan_whole f along b ≡ with_items Nums shape (number_items (scanned (folded (dyadic_on_numbers f)) xs s n))
   scanned_whole along shape t axis n s form meant there n_is s_is some long =
       let facts = scan_facts along b shape t form in
-      let t_is : t ≡ Nums = facts.typed ∙ of_numbers _ b.item_type typed in
       ap (λ r. and_then r (λ g. collect g.item_type g.shape (scan_item f along b))) form
-      ∙ ap (λ u. collect u shape (scan_item f along b)) t_is
+      ∙ ap (λ u. collect u shape (scan_item f along b)) (facts.typed ∙ of_numbers _ b.item_type typed)
       ∙ collected_same Nums shape (scan_item f along b) _ (λ index inside.
-      let below : is_index_of b.shape index ≡ true = ap (λ sh. is_index_of sh index) (sym facts.shaped) ∙ inside in
       ap (λ a. fold_right f (take (get_or index a 1) (line b a (remove index a)))) (sym meant)
-      ∙ run_there f b xs items typed axis index there below some
+      ∙ run_there f b xs items typed axis index there (ap (λ sh. is_index_of sh index) (sym facts.shaped) ∙ inside) some
       ∙ (rw (n_is, s_is, facts.shaped) refl))
       ∙ scan_collected (dyadic_on_numbers f) xs s n shape long
 

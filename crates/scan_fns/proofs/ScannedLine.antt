@@ -1,12 +1,10 @@
 -- The items of a scan on one line, taken from the numbers of the line.
 use Rattle.std.{proofs.Common.{◌≡◌, ℕ, zero, suc, ◌+◌, ◌-◌, ◌<◌, ◌≤◌, List, [], ◌∷◌, length, get_or, map, take, set, insert, remove, ℤ, Result, Ok, Err, refl, ap, sym, ◌∙◌, arith}, specs.List.{range_with_len}, proofs.lemmas.Bool.{le-leb}}
-use Rattle.std.{proofs.lemmas.List.{length-map, length-take, take-take, take-map, get_or-set_same, get_or_default, ext_get_or}, proofs.lemmas.List.FromFn.{length-map-range_with_len, get_or-map-range_with_len}, proofs.Math.ListN.{get_or-map}}
-use Rattle.arrays_core.{specs.declared.item.Item.{Item}, specs.declared.item.Item.TheVariants.{Num}, specs.declared.item.ItemType.TheVariants.{Nums}, specs.declared.item.Kind.{Kind}, specs.declared.item.Kind.TheVariants.{Domain}, specs.Limits.{longest_axis}, specs.Items.{all_or_first_error, after}}
-use Rattle.arrays_core.specs.Arrays.{ArrayValue, item_of, with_items, vector_of}
+use Rattle.std.{proofs.lemmas.List.{length-map, length-take, take-take, take-map, get_or-set_same, get_or_default}, proofs.lemmas.List.FromFn.{length-map-range_with_len}, proofs.lemmas.Simd.{map-map}}
+use Rattle.arrays_core.{specs.declared.item.Item.TheVariants.{Num}, specs.declared.item.ItemType.TheVariants.{Nums}, specs.declared.item.Kind.{Kind}, specs.Limits.{longest_axis}, specs.Items.{all_or_first_error, after}, specs.Arrays.{ArrayValue, item_of, with_items, vector_of}}
 use Rattle.function_names.{specs.declared.scalar.Scalar2.{Scalar2}, specs.declared.along.Along.{Along}, specs.Axes.{axis_at}}
 use Rattle.item_fns.{specs.Numbers.{dyadic_on_numbers}, specs.Items.{number_item}, specs.NumberLists.{number_items}, specs.Folds.{folded}, specs.RightFold.{fold_right}, proofs.ItemFolds.{some_folded, folded_numbers}}
-use Rattle.index_region.specs.Axes.{places_along}
-use Rattle.reduce_fns.{specs.Lines.{line}, proofs.ListResults.{as_many_as}}
+use Rattle.{index_region.specs.Axes.{places_along}, reduce_fns.{specs.Lines.{line}, proofs.ListResults.{as_many_as}, proofs.Firsts.{same_rules}}}
 use Rattle.scan_fns.{specs.LinearScan.{folds_from}, specs.Scan.{scan_item, scan_along}}
 
 -- ---- numbers as the items of a vector
@@ -65,16 +63,7 @@ module _ (f : Scalar2) (along : Along) (b : ArrayValue) (index : List ℕ) (last
       let first = get_or index axis 1 in
       let n = last + 1 - first in
       let number : ℕ → Result ℤ Kind = λ before. folded (dyadic_on_numbers f) (take (first + before) zs) in
-      let rs = map number (range_with_len 0 n) in
-      let item : ℕ → Result Item Kind = λ before. scan_item f along b (set index axis (first + before)) in
-      let many = length-map rs number_item in
-      let long_rs = length-map-range_with_len number 0 n in
-      let long_items = length-map-range_with_len item 0 n in
       ap (λ m. with_items Nums ((m + 1 - first) ∷ []) (number_items (all_or_first_error (map number (range_with_len 0 (m + 1 - first)))))) long
-      ∙ ap (with_items Nums (n ∷ [])) (results_as_items rs)
-      ∙ ap (λ ys. with_items Nums (n ∷ []) (all_or_first_error ys)) (ext_get_or (Err Domain) (map number_item rs) (map item (range_with_len 0 n)) (many ∙ long_rs ∙ sym long_items) (λ before h.
-      let below : before < n = omega (arith, h, many, long_rs) in
-      get_or-map number_item rs before (Err Domain)
-      ∙ ap number_item (get_or-map-range_with_len number 0 n before before (Err Domain) below (omega arith))
-      ∙ item_there (first + before) (omega arith) (omega arith)
-      ∙ sym (get_or-map-range_with_len item 0 n before before (Err Domain) below (omega arith))))
+      ∙ ap (with_items Nums (n ∷ [])) (results_as_items (map number (range_with_len 0 n)))
+      ∙ ap (λ ys. with_items Nums (n ∷ []) (all_or_first_error ys)) (map-map number_item number (range_with_len 0 n)
+      ∙ same_rules _ (λ before. scan_item f along b (set index axis (first + before))) n (λ before below. item_there (first + before) (omega arith) (omega arith)))

@@ -1,11 +1,10 @@
 -- Small numbers stay within 64 bits where they are added and taken off in turn.
 use Rattle.std.{proofs.Common.{◌≡◌, ℕ, zero, suc, ◌+◌, ◌-◌, ◌*◌, ◌/◌, ◌%◌, ◌<◌, ◌≤◌, nat_eq, true, false, Bool, if◌then◌else◌, List, [], ◌∷◌, ◌++◌, length, get_or, map, take, refl, ap, sym, ◌∙◌, arith, pos, ℤ, neg_ℤ, ◌+ℤ◌, ◌-ℤ◌, ◌≤ℤ◌, ◌<ℤ◌, SFits, w64, Ok}, specs.List.{All, range_with_len}, proofs.lemmas.Int.{ints}}
-use Rattle.std.{proofs.Math.Nat.{mul-le-mul_left, mod-add-mod, add-mul-div_left}, proofs.lemmas.Nat.{div-mul-add}, proofs.lemmas.List.{length-take, get_or-take}, proofs.lemmas.List.FromFn.{length-map-range_with_len, get_or-map-range_with_len}}
-use Rattle.arrays_core.specs.Items.{all_or_first_error, and_then}
-use Rattle.function_names.specs.declared.scalar.Scalar2.TheVariants.{Minus}
+use Rattle.std.{proofs.Math.Nat.{mul-le-mul_left, mod-add-mod, add-mul-div_left}, proofs.lemmas.Nat.{div-mul-add}}
+use Rattle.{arrays_core.specs.Items.{all_or_first_error, and_then}, function_names.specs.declared.scalar.Scalar2.TheVariants.{Minus}}
 use Rattle.item_fns.{specs.Numbers.{dyadic_on_numbers}, specs.Folds.{folded}, proofs.RightFolds.{length-strided}, proofs.Within.{held_within}}
-use Rattle.scan_fns.{specs.LinearScan.{depth, run_to}, specs.Prefixes.{fold_to}, proofs.RunningSums.{run_each}, proofs.Prefixes.{beside_depth}, proofs.Runs.{one_deeper, depth_high, run_first, run_more, run_some}}
-use Rattle.reduce_fns.{specs.Sum.{IsSmall}, proofs.SmallSums.{fits_between}, proofs.Firsts.{entry_of}}
+use Rattle.scan_fns.{specs.LinearScan.{depth, run_to}, specs.Prefixes.{fold_to}, proofs.RunningSums.{run_each}, proofs.LeftScans.{result_before}, proofs.Prefixes.{beside_depth}, proofs.Runs.{one_deeper, depth_high, run_first, run_more, run_some}}
+use Rattle.reduce_fns.{specs.Sum.{IsSmall}, proofs.SmallSums.{fits_between}}
 
 -- x1 - (x2 - (.. xk))
 abbrev pub signed_sum : List ℤ → ℤ
@@ -109,12 +108,7 @@ pub result_is : (zs : List ℤ) (stride count : ℕ) (apart : 0 < stride) (some 
     → get_or xs q (pos 0) ≡ sum_to zs stride count q
 result_is zs stride count apart some small few place q xs made before within =
     let rule = fold_to (dyadic_on_numbers Minus) zs stride count in
-    let rs = map rule (range_with_len 0 (length zs)) in
-    let long : length rs ≡ length zs = length-map-range_with_len rule 0 (length zs) in
-    let entry = entry_of (take place rs) xs q (Ok (pos 0)) (pos 0) made (omega (arith, length-take place rs)) in
-    let given : rule q ≡ Ok (get_or xs q (pos 0)) =
-    sym (get_or-take place rs q (Ok (pos 0)) before
-    ∙ get_or-map-range_with_len rule 0 (length zs) q q (Ok (pos 0)) (omega arith) (omega arith)) ∙ entry in
+    let given : rule q ≡ Ok (get_or xs q (pos 0)) = result_before rule zs place xs made within q before in
     let is : rule q ≡ Ok (sum_to zs stride count q) = sum_is zs stride count apart some small few q (omega arith) in
     cc
 
@@ -135,5 +129,4 @@ row_depth stride count place first begins low near =
 -- the row after one
 pub next_row : (stride count place : ℕ) → 0 < stride → (depth stride count place + 1) % count ≡ depth stride count (place + stride)
 next_row stride count place apart =
-    let at : place + stride ≡ place + stride * 1 = omega arith in
-    mod-add-mod (place / stride) count 1 ∙ ap (λ n. n % count) (sym (add-mul-div_left place 1 apart)) ∙ ap (λ n. n / stride % count) (sym at)
+    mod-add-mod (place / stride) count 1 ∙ ap (λ n. n % count) (sym (add-mul-div_left place 1 apart)) ∙ ap (λ n. n / stride % count) (sym (omega arith))

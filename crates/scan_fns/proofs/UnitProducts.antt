@@ -1,7 +1,6 @@
 -- The products of numbers that are 0, 1 or ¯1, from the left and from the right.
 use Rattle.std.{proofs.Common.{◌≡◌, ℕ, zero, suc, ◌<◌, ◌≤◌, List, [], ◌∷◌, length, refl, ap, sym, ◌∙◌, arith, pos, negsuc, ℤ, ◌*ℤ◌, Ok}, specs.List.{All}}
-use Rattle.arrays_core.specs.Items.{all_or_first_error, and_then}
-use Rattle.function_names.specs.declared.scalar.Scalar2.TheVariants.{Times}
+use Rattle.{arrays_core.specs.Items.{all_or_first_error, and_then}, function_names.specs.declared.scalar.Scalar2.TheVariants.{Times}}
 use Rattle.item_fns.{specs.Numbers.{dyadic_on_numbers}, specs.Folds.{folded}, proofs.Products.{times_assoc}}
 use Rattle.scan_fns.{specs.LinearScan.{scanned}, specs.Prefixes.{IsUnit}, proofs.RunningSums.{run_each}}
 use Rattle.reduce_fns.{specs.LeftFolds.{fold_on, folded_left}, proofs.Firsts.{same_rules}}

@@ -10,13 +10,11 @@ depth stride count place = place / stride % count
 
 -- the entries of the line of a place up to the one there
 abbrev pub run_to : {A : Type 0} → A → List A → (stride count place : ℕ) → List A
-run_to default xs stride count place =
-    strided default xs (place - depth stride count place * stride) stride (depth stride count place + 1)
+run_to default xs stride count place = strided default xs (place - depth stride count place * stride) stride (depth stride count place + 1)
 
 -- the folds of the numbers up to each place, or the error of the first place that has one
 abbrev pub scanned : (List ℤ → Result ℤ Kind) → List ℤ → (stride count : ℕ) → Result (List ℤ) Kind
-scanned fold zs stride count =
-    all_or_first_error (map (λ place. fold (run_to (pos 0) zs stride count place)) (range_with_len 0 (length zs)))
+scanned fold zs stride count = all_or_first_error (map (λ place. fold (run_to (pos 0) zs stride count place)) (range_with_len 0 (length zs)))
 
 -- the folds of the numbers of each line up to each of its places
 abbrev pub scans_of : (ℤ → ℤ → Result ℤ Kind) → AxisLines → Result (List ℤ) Kind

@@ -22,8 +22,7 @@ pub record IsClosed (f : ℤ → ℤ → Result ℤ Kind) : Type 0 where
 
 -- a difference from some total, or its sum with it, of a number between two others; that of any other is beyond the limits on its way
 abbrev pub difference : (total : ℤ) (is_added : Bool) (low high : ℤ) → ℤ → Result ℤ Kind
-difference total is_added low high v =
-    if int_le low v && int_le v high then number_or_limit (if is_added then total +ℤ v else total -ℤ v) else Err Limit
+difference total is_added low high v = if int_le low v && int_le v high then number_or_limit (if is_added then total +ℤ v else total -ℤ v) else Err Limit
 
 -- at most that far below 0, or above it
 abbrev pub lies_within : (below above : ℕ) → ℤ → Bool

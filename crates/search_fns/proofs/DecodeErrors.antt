@@ -1,8 +1,7 @@
 -- Each error of decode's items is LIMIT, so that of the whole result is too, whichever comes first.
 use Rattle.std.{proofs.Common.{◌≡◌, ℕ, zero, suc, ◌<◌, Bool, true, false, List, [], ◌∷◌, length, get_or, map, ℤ, pos, ◌+ℤ◌, ◌*ℤ◌, Result, Ok, Err, refl, subst, arith}, specs.List.{range_with_len}}
 use Rattle.arrays_core.{specs.declared.item.Kind.{Kind}, specs.declared.item.Kind.TheVariants.{Limit}, specs.Items.{all_or_first_error, and_then}, specs.Arrays.{ArrayValue}}
-use Rattle.item_fns.{specs.Numbers.{is_number, number_or_limit}, specs.Items.{number_item}}
-use Rattle.index_region.specs.Checks.{check}
+use Rattle.{item_fns.{specs.Numbers.{is_number, number_or_limit}, specs.Items.{number_item}}, index_region.specs.Checks.{check}}
 use Rattle.search_fns.{specs.Decode.{worth, decoded, decode_item, digit_count}, specs.DecodedRows.{with_one_more}, proofs.Worths.{digit_pair}}
 
 -- an error is LIMIT

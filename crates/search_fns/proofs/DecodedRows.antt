@@ -3,8 +3,7 @@ use Rattle.std.{proofs.Common.{◌≡◌, ℕ, ◌+◌, ◌-◌, ◌*◌, ◌<�
 use Rattle.std.{proofs.lemmas.List.{length-map, length-take, length-drop, get_or-take, get_or-drop}, proofs.Math.ListN.{get_or-map}, proofs.Math.Nat.{mul-le-mul_right}}
 use Rattle.arrays_core.{specs.declared.item.Item.TheVariants.{Num}, specs.declared.item.ItemType.TheVariants.{Nums}, specs.declared.item.Item.{Item}, specs.declared.item.Kind.{Kind}, specs.declared.item.Kind.TheVariants.{Limit}, specs.Items.{fill, and_then}, specs.Shapes.{size, indices, places_before, index_after}}
 use Rattle.arrays_core.{specs.Arrays.{ArrayValue, collect, with_items}, proofs.Order.{given_in_order, places_before-index_after, length-indices, get_or-indices}}
-use Rattle.item_fns.specs.Items.{number_item}
-use Rattle.index_region.{specs.Arguments.{number_of, numbers}, specs.Axes.{places_along}}
+use Rattle.{item_fns.specs.Items.{number_item}, index_region.{specs.Arguments.{number_of}, specs.Axes.{places_along}}}
 use Rattle.search_fns.{specs.Decode.{decode_item, digit_count, radix_at, digit_at, worth, decoded}, specs.DecodedRows.{with_one_more, HaveOneMore, LeavesNumbers, AreDecoded, HasLimit}, proofs.Worths.{digits_after, digit_pair, one_more_digit, number_there}, proofs.DecodeErrors.{limit_of_list, decode_limited}}
 
 -- ---- a number on its way: with the digits that are left it is worth what all digits are
@@ -20,9 +19,9 @@ module _ (a b : ArrayValue) (index : List ℕ) (count : ℕ) where
   one_further before value next h gave so_far =
       record { is = ap (λ r. and_then r (λ z. worth z (digits_after a b index count (before + 1)))) (sym gave) ∙ sym (one_more_digit a b index count before value h) ∙ so_far.is }
 
-  pub no_further : (before : ℕ) (value : ℤ) → before < count → next_of before value ≡ Err Limit → IsOnTheWay a b index count before value
-      → decoded (map (digit_pair a b index) (range_with_len 1 count)) ≡ Err Limit
-  no_further before value h failed so_far =
+  pub no_further : (before : ℕ) (value : ℤ) (e : Kind) → before < count → next_of before value ≡ Err e → IsOnTheWay a b index count before value
+      → decoded (map (digit_pair a b index) (range_with_len 1 count)) ≡ Err e
+  no_further before value e h failed so_far =
       sym so_far.is ∙ one_more_digit a b index count before value h ∙ ap (λ r. and_then r (λ z. worth z (digits_after a b index count (before + 1)))) failed
 
 -- ---- where the digits of a row stand
@@ -40,9 +39,8 @@ row_within : (shape : List ℕ) (r : ℕ) → 1 ≤ r → r ≤ places_along sha
 row_within shape r low high =
     let s = size (drop 1 shape) in
     let next : r ≡ r - 1 + 1 = omega arith in
-    let more : (r - 1 + 1) * s ≡ (r - 1) * s + s = one_row_more (r - 1) s in
     let inside : r * s ≤ places_along shape 0 * s = mul-le-mul_right s high in
-    let there = ap (λ m. m * s) next ∙ more in
+    let there = ap (λ m. m * s) next ∙ (one_row_more (r - 1) s) in
     omega (arith, rows_make shape)
   where
     one_row_more : (m s : ℕ) → (m + 1) * s ≡ m * s + s
@@ -69,9 +67,8 @@ pub digit_there : (b : ArrayValue) (zs : List ℤ) → b.items ≡ map (λ z. Nu
     → get_or zs ((row_of b.shape k - 1) * size (drop 1 b.shape) + place) (pos 0) ≡ digit_at b (index_after (drop 1 b.shape) place) k
 digit_there b zs items k place h =
     let first = (row_of b.shape k - 1) * size (drop 1 b.shape) in
-    let here : numbers b ≡ zs = ap (map number_of) items ∙ numbers_of_numbers zs in
     let there = place_there b.shape (index_after (drop 1 b.shape) place) k ∙ ap (λ p. first + p) (places_before-index_after (drop 1 b.shape) place h) in
-    ap (λ xs. get_or xs (first + place) (pos 0)) (sym here)
+    ap (λ xs. get_or xs (first + place) (pos 0)) (sym (ap (map number_of) items ∙ numbers_of_numbers zs))
     ∙ number_there b (first + place)
     ∙ ap (λ p. number_of (get_or b.items p (fill b.item_type))) (sym there)
 
@@ -119,7 +116,7 @@ module _ (a b : ArrayValue) (before : ℕ) where
     row_fails counted fails =
         let place = fails.place in
         let below : place < size (drop 1 b.shape) = rw has.long at fails.below in
-        let failed = no_further a b (index_at place) count before (get_or old place (pos 0)) h (step place (Err Limit) below fails.is) (so_far place below) in
+        let failed = no_further a b (index_at place) count before (get_or old place (pos 0)) Limit h (step place (Err Limit) below fails.is) (so_far place below) in
         record {
           place = place;
           below = below;

@@ -1,7 +1,6 @@
 -- The digits of numbers, a row for each radix, the row of the last radix first.
 use Rattle.std.{proofs.Common.{◌≡◌, ℕ, ◌+◌, ◌-◌, ◌*◌, ◌<◌, ◌≤◌, List, length, get_or, drop, ℤ, pos, Ok, ap, sym, ◌∙◌, inl, inr, arith}, proofs.lemmas.Bool.{cases_lt}, proofs.Math.Nat.{mul-le-mul_right}}
-use Rattle.arrays_core.specs.Items.{and_then}
-use Rattle.item_fns.specs.Numbers.{residue}
+use Rattle.{arrays_core.specs.Items.{and_then}, item_fns.specs.Numbers.{residue}}
 use Rattle.search_fns.{specs.Encode.{carried_through, digit}, specs.EncodedRows.{AreCarried, HasRow}, proofs.Radices.{one_more_radix}}
 
 -- the digit by the radix before those that leave a number
@@ -26,8 +25,7 @@ module _ (radices zs rests : List ℤ) (k : ℕ) (same : length rests ≡ length
     | inl above ↦
         let n = length zs in
         let rows : (k + 1) * n ≤ p * n = mul-le-mul_right n (omega arith) in
-        let behind : k * n + length rests ≤ p * n + j = omega arith in
-        made p j (omega arith) high inside ∙ ap (λ (x : ℤ). Ok x) (sym (row.behind (p * n + j) behind))
+        made p j (omega arith) high inside ∙ ap (λ (x : ℤ). Ok x) (sym (row.behind (p * n + j) (omega arith)))
     | inr here ↦
         let e : p ≡ k = omega arith in
         rw e (digit_here radices k (get_or zs j (pos 0)) (get_or rests j (pos 0)) (left j inside) ∙ ap (λ (x : ℤ). Ok x) (sym (row.each j (omega arith))))

@@ -24,11 +24,7 @@ encode_gives a b shape item_type form =
     let rank = gives (is_list a) Rank counted (form_of shape item_type) form in
     let checked = gives (counts_as_numbers a && counts_as_numbers b) Domain (limited (a.shape ++ b.shape) Nums) (form_of shape item_type) rank.is in
     let asked = limited_gives (a.shape ++ b.shape) Nums (form_of shape item_type) checked.is in
-    record {
-      few = within (length a.shape) rank.test;
-      shaped = ap (λ (f : Form). f.shape) asked;
-      typed = ap (λ (f : Form). f.item_type) asked;
-    }
+    record { few = within (length a.shape) rank.test; shaped = ap (λ (f : Form). f.shape) asked; typed = ap (λ (f : Form). f.item_type) asked }
   where
     within : (n : ℕ) → nat_le n 1 ≡ true → n ≤ 1
     within n e = grind (arith, nat_tests)
@@ -60,9 +56,7 @@ module _ (a b : ArrayValue) (digits : List ℤ) (long_a : length a.items ≡ siz
   item_there : (s : List ℕ) → length s ≤ 1 → size a.shape ≡ size s → (m : ℕ) → m < size (s ++ b.shape)
       → number_item (digit (numbers a) (if nat_eq (length s) 0 then 1 else get_or (index_after (s ++ b.shape) m) 0 1) (number_of (item_of b (drop (length s) (index_after (s ++ b.shape) m)))))
       ≡ Ok (Num (get_or digits m (pos 0)))
-  item_there [] few same m h =
-      let all : 0 * size b.shape + m ≡ m = omega arith in
-      digit_there 0 m (omega arith) h ∙ ap (λ k. Ok (Num (get_or digits k (pos 0)))) all
+  item_there [] few same m h = digit_there 0 m (omega arith) h ∙ ap (λ k. Ok (Num (get_or digits k (pos 0)))) (omega arith)
   item_there (n ∷ []) few same m h =
       let s = size b.shape in
       let some = row_some n s m h in

@@ -37,7 +37,6 @@ digit_by_left radix z left f g h is = machine_is radix z left f g h ∙ decide (
         let whole : z -ℤ radix *ℤ left ≡ z = rw ((Decides-int_eq radix (pos 0)).0 zero) (omega (arith, ints)) in
         ap (int_wrap w64) whole ∙ int_wrap_fits w64 z g
     decide false some is =
-        let rest = residue_is_rest radix z some in
         let same : residue radix z ≡ z -ℤ radix *ℤ floor_div z radix = rw some refl in
-        let fits : SFits w64 (z -ℤ radix *ℤ floor_div z radix) = subst (SFits w64) same (rest_fits radix (residue radix z) f rest.between) in
+        let fits : SFits w64 (z -ℤ radix *ℤ floor_div z radix) = subst (SFits w64) same (rest_fits radix (residue radix z) f (residue_is_rest radix z some).between) in
         ap (λ q. int_wrap w64 (z -ℤ radix *ℤ q)) (held_ok _ _ is) ∙ int_wrap_fits w64 _ fits

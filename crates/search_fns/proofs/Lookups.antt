@@ -1,7 +1,6 @@
 -- Items looked up in a list by their first places.
-use Rattle.std.{proofs.Common.{◌≡◌, ℕ, ◌+◌, ◌<◌, ◌≤◌, Bool, true, false, cond, List, [], ◌∷◌, ◌++◌, length, get_or, take, drop, map, Option, Some, None, pos, refl, ap, sym, ◌∙◌, arith}, specs.Prelude.{is_some}, specs.Cmp.{IsEquivalence}, specs.List.{list_any, position_from, position_or_len}}
-use Rattle.std.proofs.lemmas.List.{drop_more, take_more, map-append}
-use Rattle.item_fns.specs.Numbers.{truth}
+use Rattle.std.{proofs.Common.{◌≡◌, ℕ, ◌+◌, ◌<◌, ◌≤◌, Bool, true, false, cond, List, [], ◌∷◌, ◌++◌, length, get_or, take, drop, map, Option, Some, None, ℤ, SFits, w64, to_z, of_z, pos, refl, ap, sym, ◌∙◌, arith}, specs.Prelude.{is_some}, specs.Cmp.{IsEquivalence}, specs.List.{list_any, position_from, position_or_len}}
+use Rattle.{std.{proofs.lemmas.List.{drop_more, take_more, map-append}, proofs.lemmas.Int.{to_z-of_z}}, item_fns.specs.Numbers.{truth}}
 use mir.Val.{bool_byte}
 
 -- one more item in front of those whose first places are known
@@ -57,10 +56,11 @@ is_found p (x ∷ xs) i = decide (p x) refl (is_found p xs (i + 1))
 
 -- ---- results of a list, made from the front by a loop over it
 
-pub mapped_more : {A B : Type 0} (f : A → B) (xs : List A) (k : ℕ) (x : A) (made more : List B) (y : B) → k < length xs → x ≡ get_or xs k x
-    → made ≡ map f (take k xs) → y ≡ f x → more ≡ made ++ y ∷ [] → more ≡ map f (take (k + 1) xs)
-mapped_more f xs k x made more y below here so_far gives pushed =
+pub mapped_more : {A : Type 0} (f : A → ℤ) (xs : List A) (k : ℕ) (x : A) (made more : List ℤ) (y : ℤ) → k < length xs → x ≡ get_or xs k x
+    → made ≡ map f (take k xs) → y ≡ f x → SFits w64 y → more ≡ made ++ to_z w64 (of_z w64 y) ∷ [] → more ≡ map f (take (k + 1) xs)
+mapped_more f xs k x made more y below here so_far gives fits pushed =
     pushed
+    ∙ ap (λ z. made ++ z ∷ []) (to_z-of_z w64 y fits)
     ∙ ap (λ ys. ys ++ y ∷ []) so_far
     ∙ ap (λ z. map f (take k xs) ++ z ∷ []) gives
     ∙ sym (map-append f (take k xs) (x ∷ []))

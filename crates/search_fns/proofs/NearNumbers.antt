@@ -1,8 +1,6 @@
 -- Numbers that are near 0, which one more digit leaves within 64 bits.
 use Rattle.std.{proofs.Common.{◌≡◌, ◌+◌, ◌^◌, ◌≤◌, ltb, true, ℤ, pos, negsuc, ◌+ℤ◌, ◌*ℤ◌, unsigned_abs, FitsSigned, w64, Ok, refl, ap, ◌∙◌, arith}, proofs.lemmas.Int.{ints, unsigned_abs-mul, fits_signed_from_abs}, proofs.lemmas.Bool.{lt-ltb}, proofs.Math.Nat.{mul-le-mul}}
-use Rattle.arrays_core.specs.Items.{and_then}
-use Rattle.item_fns.specs.Numbers.{number_or_limit}
-use Rattle.search_fns.specs.DecodedRows.{with_one_more, StaysWithin}
+use Rattle.{arrays_core.specs.Items.{and_then}, item_fns.specs.Numbers.{number_or_limit}, search_fns.specs.DecodedRows.{with_one_more, StaysWithin}}
 
 held : (z : ℤ) → FitsSigned w64 z → number_or_limit z ≡ Ok z
 held (pos n) f = let inside : ltb n (2 ^ 63) ≡ true = lt-ltb n (2 ^ 63) (let h = f.sfits in omega arith) in rw inside refl
@@ -13,10 +11,7 @@ stays number radix digit near few small =
     let product = unsigned_abs-mul number radix in
     let high = mul-le-mul near few in
     let sum : unsigned_abs (number *ℤ radix +ℤ digit) ≤ unsigned_abs (number *ℤ radix) + unsigned_abs digit = sum_near (number *ℤ radix) digit in
-    record {
-      product = fits_signed_from_abs w64 (number *ℤ radix) (omega arith);
-      sum = fits_signed_from_abs w64 (number *ℤ radix +ℤ digit) (omega arith);
-    }
+    record { product = fits_signed_from_abs w64 (number *ℤ radix) (omega arith); sum = fits_signed_from_abs w64 (number *ℤ radix +ℤ digit) (omega arith) }
   where
     sum_near : (a b : ℤ) → unsigned_abs (a +ℤ b) ≤ unsigned_abs a + unsigned_abs b
     sum_near a b = omega (arith, ints)

@@ -67,11 +67,6 @@ encode_rank a b index h = within (length a.shape) (passed (is_list a) _ _ index 
     within : (n : ℕ) → nat_le n 1 ≡ true → n ≤ 1
     within n e = grind (arith, nat_tests)
 
-pub after : (front rest index : List ℕ) → is_index_of (front ++ rest) index ≡ true → is_index_of rest (drop (length front) index) ≡ true
-after [] rest index h = h
-after (n ∷ front) rest [] h = cc
-after (n ∷ front) rest (i ∷ index) h = after front rest index (head_of n i (front ++ rest) index h).rest
-
 -- the index of the one axis in front
 pub record InFront (front index : List ℕ) : Type 0 where
   pub some : 0 < length index

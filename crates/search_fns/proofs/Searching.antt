@@ -1,7 +1,6 @@
 -- Items sought in the items of an array.
 use Rattle.std.{proofs.Common.{◌≡◌, ◌≢◌, ℕ, ◌+◌, ◌<◌, Bool, true, false, List, [], ◌∷◌, length, get_or, map, replicate, suc, pos, ℤ, refl, ap, sym, ◌∙◌, arith}, specs.Prelude.{nat_eq, nat_le}, specs.Ordering.{int_eq}, specs.List.{All, list_any, position_or_len}, proofs.lemmas.Bool.Decides.{nat_tests}}
-use Rattle.std.proofs.lemmas.List.Sums.{position_or_len_is}
-use Rattle.item_fns.specs.Numbers.{truth}
+use Rattle.{std.proofs.lemmas.List.Sums.{position_or_len_is}, item_fns.specs.Numbers.{truth}}
 use Rattle.arrays_core.{specs.declared.item.Item.{Item}, specs.declared.item.Item.TheVariants.{Num, Char}, specs.Items.{type_of}, specs.Arrays.{ArrayValue}}
 use Rattle.search_fns.specs.SameItem.{same_item}
 
@@ -48,8 +47,7 @@ none_same x xs h =
 
 none_any : (x : Item) (xs : List Item) → All (λ y. type_of x ≢ type_of y) xs → list_any (same_item x) xs ≡ false
 none_any x [] h = refl
-none_any x (y ∷ xs) h =
-    rw (other_type x y (h 0 x (omega arith)), none_any x xs (λ k d below. h (suc k) d (omega arith))) refl
+none_any x (y ∷ xs) h = rw (other_type x y (h 0 x (omega arith)), none_any x xs (λ k d below. h (suc k) d (omega arith))) refl
 
 all_alike : {A B : Type 0} (f : A → B) (y : B) (xs : List A) → All (λ x. f x ≡ y) xs → map f xs ≡ replicate (length xs) y
 all_alike f y [] h = refl

@@ -2,8 +2,7 @@
 use Rattle.std.{proofs.Common.{◌≡◌, ◌≢◌, ℕ, suc, ◌+◌, ◌-◌, ◌*◌, ◌<◌, ◌≤◌, ◌==◌, true, false, cond, List, [], ◌∷◌, length, get_or, map, drop, ℤ, pos, ◌+ℤ◌, ◌*ℤ◌, Result, Ok, Err, refl, ap, sym, ◌∙◌, arith}, specs.Prelude.{◌||◌, nat_eq, if◌then◌else◌}, specs.List.{range_with_len}, proofs.lemmas.Bool.Decides.{nat_tests}}
 use Rattle.std.proofs.Math.ListN.{get_or-map}
 use Rattle.arrays_core.{specs.declared.item.Kind.{Kind}, specs.declared.item.ItemType.{ItemType}, specs.declared.item.ItemType.TheVariants.{Nums, Chars}, specs.Items.{fill, and_then}, specs.Shapes.{size, places_before, is_index_of}, specs.Arrays.{ArrayValue}}
-use Rattle.item_fns.specs.Numbers.{number_or_limit}
-use Rattle.index_region.{specs.Arguments.{numbers, number_of}, specs.Axes.{places_along}}
+use Rattle.{item_fns.specs.Numbers.{number_or_limit}, index_region.{specs.Arguments.{numbers, number_of}, specs.Axes.{places_along}}}
 use Rattle.search_fns.specs.Decode.{digit_count, radix_at, digit_at, worth, decoded}
 
 -- ---- what is known at a place of decode's result

@@ -25,8 +25,7 @@ radix_at a k = number_of (extended a (k ∷ []))
 
 -- digit k at an index list of the other axes; on a first axis of length 1 each digit is the same
 abbrev pub digit_at : ArrayValue → List ℕ → ℕ → ℤ
-digit_at b index k =
-    number_of (item_of b (if is_scalar b then [] else ((if nat_eq (places_along b.shape 0) 1 then 1 else k) ∷ index)))
+digit_at b index k = number_of (item_of b (if is_scalar b then [] else ((if nat_eq (places_along b.shape 0) 1 then 1 else k) ∷ index)))
 
 -- the value so far with further digits: for each, times its radix, plus the digit
 abbrev pub worth : ℤ → List (ℤ × ℤ) → Result ℤ Kind

@@ -31,8 +31,7 @@ radix_place a index = if is_scalar a then 1 else get_or index 0 1
 
 -- the digit at an index list
 abbrev pub encode_item : ArrayValue → ArrayValue → List ℕ → Result Item Kind
-encode_item a b index =
-    number_item (digit (numbers a) (radix_place a index) (number_of (item_of b (drop (length a.shape) index))))
+encode_item a b index = number_item (digit (numbers a) (radix_place a index) (number_of (item_of b (drop (length a.shape) index))))
 
 -- the checks, and then the items
 abbrev pub encode_whole : ArrayValue → ArrayValue → Result ArrayValue Kind

@@ -1,8 +1,7 @@
 -- Worked boxes, computed: what changes of a result where boxes of the arguments changed.
 use Rattle.std.proofs.Common.{◌≡◌, ℕ, List, [], ◌∷◌, refl, true, false, Option, Some, None}
 use Rattle.arrays_core.{specs.Arrays.{ArrayValue}, proofs.CaseWords.{◌⇒◌, AllSame, nums, scalar, no_numbers}}
-use Rattle.function_names.specs.declared.along.Along.TheVariants.{First, Last}
-use Rattle.index_region.specs.Boxes.{Interval}
+use Rattle.{function_names.specs.declared.along.Along.TheVariants.{First, Last}, index_region.specs.Boxes.{Interval}}
 use Rattle.change_core.{specs.declared.reach.Reach.{Reach}, specs.declared.reach.Reach.TheVariants.{Anew, Inside, Unmoved}, specs.Reaches.{reach_of}}
 use Rattle.selection_fns.{specs.Shape.{shape_rule}, specs.IndexGenerator.{generator_rule}, specs.Replicate.{replicate_rule}, specs.Index.{index_rule}}
 

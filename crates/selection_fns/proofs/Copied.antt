@@ -10,9 +10,7 @@ pub sum_first_same : (first places count : ℕ) → first ≤ places → sum (ta
 sum_first_same zero places count h = let none : 0 * count ≡ 0 = omega arith in sym none
 sum_first_same (suc first) zero count h = absurd (omega arith)
 sum_first_same (suc first) (suc places) count h =
-    let rest = sum_first_same first places count (omega arith) in
-    let front = sum_front count (take first (replicate places count)) in
-    omega arith
+    omega (arith, sum_first_same first places count (omega arith), sum_front count (take first (replicate places count)))
 
 -- a form is one of its shape and some type
 pub record IsForm (form : Result Form Kind) (shape : List ℕ) : Type 0 where
@@ -58,8 +56,7 @@ copied_along along a b shape h =
     let asked = form_of shape form.item_type in
     let axes = gives (is_axis rank along) _ _ asked form.is in
     let lengths = gives (has_one_item a || (nat_eq n 1 || nat_eq (length a.items) n)) _ _ asked (gives (is_list a) _ _ asked axes.is).is in
-    let counted = gives (counts_as_numbers a && none_negative (numbers a)) _ _ asked lengths.is in
-    let limits = limited_within (replicated_shape a b.shape axis) b.item_type asked counted.is in
+    let limits = limited_within (replicated_shape a b.shape axis) b.item_type asked (gives (counts_as_numbers a && none_negative (numbers a)) _ _ asked lengths.is).is in
     let copies = exchanged_there along b.shape (sum (times a n)) axes.test in
     record {
       there = subst (λ (s : List ℕ). axis < length s) (sym limits.is) copies.there;

@@ -69,8 +69,7 @@ module _ (along : Along) (a b : ArrayValue) (shape before row : List ℕ) (count
 
     place_other : (j : ℕ) → j < count → places_before b.shape (copied (0 + j + 1)) ≡ first + j
     place_other j h =
-        let begin : is_index_of b.shape (others ++ 1 ∷ []) ≡ true = ap (is_index_of b.shape) (sym (at_other 1)) ∙ inside 1 (omega arith) (omega arith) in
-        let beside = places_in_row b.shape others 1 (0 + j + 1) begin (omega arith) in
+        let beside = places_in_row b.shape others 1 (0 + j + 1) (ap (is_index_of b.shape) (sym (at_other 1)) ∙ inside 1 (omega arith) (omega arith)) (omega arith) in
         let now : first ≡ places_before b.shape (others ++ 1 ∷ []) = ap (places_before b.shape) (at_other 1) in
         let then : places_before b.shape (copied (0 + j + 1)) ≡ places_before b.shape (others ++ (0 + j + 1) ∷ []) = ap (places_before b.shape) (at_other (0 + j + 1)) in
         omega arith
@@ -83,8 +82,7 @@ module _ (along : Along) (a b : ArrayValue) (shape before row : List ℕ) (count
         let some = r.row_of.some in
         let last : count - 1 < count = omega arith in
         let below = places_below b.shape (copied (0 + (count - 1) + 1)) (inside (0 + (count - 1) + 1) (omega arith) (omega arith)) in
-        let place = place_other (count - 1) last in
-        omega (arith, sound.one_item_a_place)
+        omega (arith, place_other (count - 1) last, sound.one_item_a_place)
 
   -- along the last axis it has copies of the places of one
   module _ (last_axis : k ≡ length row) where
@@ -98,9 +96,8 @@ module _ (along : Along) (a b : ArrayValue) (shape before row : List ℕ) (count
     pub as_many : length before ≡ count
     as_many =
         let known = replicate_gives along a b shape b.item_type r.form in
-        let total = sum (times a (places_along b.shape (axis_at (max 1 (length b.shape)) along))) in
         r.long
-        ∙ sym (exchanged_there along b.shape total known.axis).is
+        ∙ sym (exchanged_there along b.shape (sum (times a (places_along b.shape (axis_at (max 1 (length b.shape)) along)))) known.axis).is
         ∙ ap (λ s. get_or s (axis_at (max 1 (length b.shape)) along) 0) (sym known.shaped)
         ∙ ap (λ m. get_or shape m 0) (sym ranked ∙ last_axis)
         ∙ r.row_of.whole
@@ -110,8 +107,7 @@ module _ (along : Along) (a b : ArrayValue) (shape before row : List ℕ) (count
 
     place_last : (j : ℕ) → j < count → places_before b.shape (copied (0 + j + 1)) ≡ start + get_or before j 0
     place_last j h =
-        let same : 0 + j + 1 - 1 ≡ j = omega arith in
-        let here = at_last (0 + j + 1) ∙ ap (λ n. row ++ (get_or before n 0 + 1) ∷ []) same in
+        let here = at_last (0 + j + 1) ∙ ap (λ n. row ++ (get_or before n 0 + 1) ∷ []) (omega arith) in
         let there : is_index_of b.shape (row ++ (get_or before j 0 + 1) ∷ []) ≡ true = ap (is_index_of b.shape) (sym here) ∙ inside (0 + j + 1) (omega arith) (omega arith) in
         let beside : start + (get_or before j 0 + 1) ≡ places_before b.shape (row ++ (get_or before j 0 + 1) ∷ []) + 1 = places_in_row b.shape row (get_or before j 0 + 1) 1 there (omega arith) in
         let then : places_before b.shape (copied (0 + j + 1)) ≡ places_before b.shape (row ++ (get_or before j 0 + 1) ∷ []) = ap (places_before b.shape) here in
@@ -127,6 +123,4 @@ module _ (along : Along) (a b : ArrayValue) (shape before row : List ℕ) (count
     last_fits sound j h =
         let e = first_before in
         let below : j < count = omega (arith, as_many) in
-        let place = place_last j below in
-        let there = places_below b.shape (copied (0 + j + 1)) (inside (0 + j + 1) (omega arith) (omega arith)) in
-        omega (arith, sound.one_item_a_place)
+        omega (arith, place_last j below, places_below b.shape (copied (0 + j + 1)) (inside (0 + j + 1) (omega arith) (omega arith)), sound.one_item_a_place)

@@ -27,13 +27,11 @@ each_walk (suc n) count i low high = decide (λ j. each_walk n count j) (nat_le 
     decide : ((j : ℕ) → 1 ≤ j → j ≤ n * count → (j - 1) / count + 1 ≡ walk (replicate n count) j) → (b : Bool) → nat_le i count ≡ b → (i - 1) / count + 1 ≡ walk (replicate (suc n) count) i
     decide before true h =
         let below : i ≤ count = grind (arith, nat_tests) in
-        let first : (i - 1) / count ≡ 0 = div-eq_of_lt (omega arith) in
-        ap (λ k. k + 1) first ∙ sym (step true h)
+        ap (λ k. k + 1) (div-eq_of_lt (omega arith)) ∙ sym (step true h)
     decide before false h =
         let above : count < i = grind (arith, nat_tests) in
         let less : (i - 1) / count ≡ (i - 1 - count) / count + 1 = div-eq-sub-div positive (omega arith) in
-        let order : i - 1 - count ≡ i - count - 1 = omega arith in
-        ap (λ k. k + 1) (less ∙ ap (λ m. m / count + 1) order) ∙ plus_one _ _ (before (i - count) (omega arith) (omega arith)) ∙ sym (step false h)
+        ap (λ k. k + 1) (less ∙ ap (λ m. m / count + 1) (omega arith)) ∙ plus_one _ _ (before (i - count) (omega arith) (omega arith)) ∙ sym (step false h)
       where
         plus_one : (a b : ℕ) → a + 1 ≡ b → a + 1 + 1 ≡ suc b
         plus_one a b h = omega arith
@@ -122,8 +120,7 @@ replicate_beyond along a b on pass below long =
 walk_run : (counts : List ℕ) (k i : ℕ) → k < length counts → sum (take k counts) < i → i ≤ sum (take k counts) + get_or counts k 0 → walk counts i ≡ k + 1
 walk_run [] k i below low high = absurd (omega arith)
 walk_run (count ∷ counts) zero i below low high =
-    let first : nat_le i count ≡ true = at_most i count high in
-    ap (λ (w : Bool). if w then 1 else suc (walk counts (i - count))) first
+    ap (λ (w : Bool). if w then 1 else suc (walk counts (i - count))) (at_most i count high)
   where
     at_most : (i count : ℕ) → i ≤ 0 + count → nat_le i count ≡ true
     at_most i count h = grind (arith, nat_tests)
@@ -160,8 +157,7 @@ sum_taken [] k h = absurd (omega arith)
 sum_taken (x ∷ xs) zero h = refl
 sum_taken (x ∷ xs) (suc k) h =
     let rest = sum_taken xs k (omega arith) in
-    let whole : x + sum (take (suc k) xs) ≡ x + sum (take k xs) + get_or xs k 0 = omega arith in
-    sum_front x (take (suc k) xs) ∙ whole ∙ ap (λ n. n + get_or xs k 0) (sym (sum_front x (take k xs)))
+    sum_front x (take (suc k) xs) ∙ (omega arith) ∙ ap (λ n. n + get_or xs k 0) (sym (sum_front x (take k xs)))
 
 -- one more of the counts of an array
 pub record CountStep (a : ArrayValue) (k : ℕ) : Type 0 where
@@ -189,9 +185,7 @@ pub record AreBefore (counts : List ℕ) (k : ℕ) (before : List ℕ) : Type 0 
   pub is : (i : ℕ) → i < length before → get_or before i 0 + 1 ≡ maker counts (i + 1)
 
 pub copies_fit : (counts : List ℕ) (k : ℕ) (before : List ℕ) → AreBefore counts k before → k < length counts → length before + get_or counts k 0 ≤ sum counts
-copies_fit counts k before made h =
-    let within = sum_within counts k h in
-    omega arith
+copies_fit counts k before made h = omega (arith, sum_within counts k h)
 
 pub one_place_more : (counts : List ℕ) (k count : ℕ) (before new : List ℕ) → k < length counts → count ≡ get_or counts k 0 → new ≡ before ++ replicate count k → AreBefore counts k before
     → AreBefore counts (k + 1) new
@@ -286,9 +280,8 @@ pub copy_source : (along : Along) (a b : ArrayValue) (index before : List ℕ) (
     → Place 1 (set index k (get_or before (get_or index k 0 - 1) 0 + 1)) ≡ replicate_source along a b index
 copy_source along a b index before k some facts long is =
     let i = get_or index k 0 - 1 in
-    let again : i + 1 ≡ get_or index k 0 = omega arith in
     let place : get_or before i 0 + 1 ≡ copied_place a (places_along b.shape k) (get_or index k 1) =
-    is i (omega arith) ∙ ap (λ j. copied_place a (places_along b.shape k) j) (again ∙ (get_or_default index k 0 1 (omega arith))) in
+    is i (omega arith) ∙ ap (λ j. copied_place a (places_along b.shape k) j) ((omega arith) ∙ (get_or_default index k 0 1 (omega arith))) in
     ap (λ p. Place 1 (set index k p)) place
     ∙ ap (λ m. Place 1 (set index m (copied_place a (places_along b.shape m) (get_or index m 1)))) facts.axis
     ∙ sym (ap (λ (w : Bool). source_of w) (positive (length b.shape) some))
@@ -306,8 +299,7 @@ pub copies_within : (a : ArrayValue) (n total : ℕ) (before : List ℕ) → n �
     → ((i : ℕ) → i < total → get_or before i 0 + 1 ≡ copied_place a n (i + 1)) → All (λ m. m ≤ 1048576) before
 copies_within a n total before places counts long is =
     λ k d h.
-    let there : get_or before k d ≡ get_or before k 0 = get_or_default before k d 0 h in
-    omega (arith, there, is k (omega (arith, long, h)), copied_most (nat_eq n 1) (has_one_item a) (k + 1))
+    omega (arith, get_or_default before k d 0 h, is k (omega (arith, long, h)), copied_most (nat_eq n 1) (has_one_item a) (k + 1))
   where
     copied_most : (v w : Bool) (i : ℕ) → (if v then 1 else maker (if w then replicate n (unsigned_abs (number_of (item_of a []))) else map unsigned_abs (numbers a)) i) ≤ 1048577
     copied_most true w i = omega arith

@@ -19,8 +19,7 @@ pub from_entries : {A E : Type 0} (rs : List (Result A E)) (xs : List A) (r : Re
 from_entries [] [] r d long each = refl
 from_entries [] (x ∷ xs) r d long each = absurd (omega arith)
 from_entries (e ∷ rs) [] r d long each = absurd (omega arith)
-from_entries (e ∷ rs) (x ∷ xs) r d long each =
-    rw (each 0 (omega arith), from_entries rs xs r d (omega arith) (λ k below. each (suc k) (omega arith))) refl
+from_entries (e ∷ rs) (x ∷ xs) r d long each = rw (each 0 (omega arith), from_entries rs xs r d (omega arith) (λ k below. each (suc k) (omega arith))) refl
 
 pub long_entries : {A E : Type 0} (rs : List (Result A E)) (xs : List A) → all_or_first_error rs ≡ Ok xs → length xs ≡ length rs
 long_entries [] xs h = let none : xs ≡ [] = cc in rw none refl

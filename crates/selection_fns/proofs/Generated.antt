@@ -14,10 +14,7 @@ has_index (n ∷ []) index h =
     let one = passed (has_one_item n) _ _ index (passed (is_list n) _ _ index h).place in
     let counted = passed (counts_as_numbers n && none_negative (numbers n)) _ _ index one.place in
     let long = as_long (map unsigned_abs (numbers n)) index (place_inside (map unsigned_abs (numbers n)) _ index counted.place) in
-    let single = one_item (length n.items) one.test in
-    let magnitudes = length-map (numbers n) unsigned_abs in
-    let values = length-map n.items number_of in
-    omega arith
+    omega (arith, one_item (length n.items) one.test, length-map (numbers n) unsigned_abs, length-map n.items number_of)
   where
     one_item : (n : ℕ) → nat_eq n 1 ≡ true → n ≡ 1
     one_item n h = grind (arith, nat_tests)
@@ -73,14 +70,13 @@ generated (n ∷ []) shape item_type h form =
     let zs = map pos (range_with_len 1 c) in
     let long : length zs ≡ c = length-map-range_with_len pos 1 c in
     let items = map (λ z. Num z) zs in
-    let sized : length items ≡ c * 1 = length-map zs (λ z. Num z) ∙ long ∙ omega arith in
     let read : (k : ℕ) → k < c → get_or items k (Num (pos 0)) ≡ Num (pos (k + 1)) = λ k below.
     get_or-map (λ z. Num z) zs k (pos 0) (Num (pos 0)) (omega (arith, long)) ∙ ap (λ z. Num z) (get_or-map-range_with_len pos 1 c k (k + 1) (pos 0) below (omega arith)) in
     let each : (k : ℕ) → k < c * 1 → generator_item n (index_after (c ∷ []) k) ≡ Ok (get_or items k (Num (pos 0))) = λ k below.
     ap (λ m. Ok (Num (pos (m + 1)))) (div-one k) ∙ ap (λ (x : Item). Ok x) (sym (read k (omega arith))) in
     let collected : generator_whole n ≡ Ok (record { item_type = Nums; shape = c ∷ []; items = items }) =
     ap (λ r. and_then r (λ f. collect f.item_type f.shape (generator_item n))) known.form
-    ∙ ap (with_items Nums (c ∷ [])) (given_in_order (c ∷ []) (generator_item n) items (Num (pos 0)) sized each) in
+    ∙ ap (with_items Nums (c ∷ [])) (given_in_order (c ∷ []) (generator_item n) items (Num (pos 0)) (length-map zs (λ z. Num z) ∙ long ∙ omega arith) each) in
     let vector : vector_of zs ≡ Ok (record { item_type = Nums; shape = c ∷ []; items = items }) =
     ap (λ m. cond (nat_le m 1048576) (Ok (record { item_type = Nums; shape = m ∷ []; items = items })) (Err Limit)) long
     ∙ ap (λ w. cond w (Ok (record { item_type = Nums; shape = c ∷ []; items = items })) (Err Limit)) known.within in

@@ -11,9 +11,7 @@ use Rattle.selection_fns.{proofs.PlaceSums.{length-sums, get_or-sums, sums_below
 
 size_append : (shape rest : List ℕ) → size (shape ++ rest) ≡ size shape * size rest
 size_append [] rest = omega arith
-size_append (n ∷ shape) rest =
-    let whole : n * size (shape ++ rest) ≡ n * size shape * size rest = rw (size_append shape rest) (omega arith) in
-    whole
+size_append (n ∷ shape) rest = rw (size_append shape rest) (omega arith)
 
 places_append : (shape rest index : List ℕ) → is_index_of (shape ++ rest) index ≡ true
     → places_before (shape ++ rest) index ≡ places_before shape (take (length shape) index) * size rest + places_before rest (drop (length shape) index)
@@ -35,8 +33,7 @@ places_inside axes positions places found k h =
     let there = index_after-within shape k below in
     let is : get_or places k 0 ≡ places_before axes (source_index positions (index_after shape k)) =
     ap (λ j. get_or places j 0) (sym (places_before-index_after shape k below)) ∙ found.is (index_after shape k) there in
-    let inside = places_below axes (source_index positions (index_after shape k)) (found.inside (index_after shape k) there) in
-    omega arith
+    omega (arith, places_below axes (source_index positions (index_after shape k)) (found.inside (index_after shape k) there))
 
 -- how far the places of the indices of a position lie from that of index 1
 pub record AreOffsetsOf (n step : ℕ) (q : Position) (offsets : List ℕ) : Type 0 where
@@ -59,8 +56,7 @@ whole_axis n step = record {
     axis_is [] h = absurd (false≢true h)
     axis_is (i ∷ at) h =
         let head = head_of n i [] at h in
-        let here : (i - 1) * 1 + 0 ≡ i - 1 = omega arith in
-        ap (λ k. get_or (listed n (λ j. j * step)) k 0) here ∙ get_or-map-range_with_len (λ k. k * step) 0 n (i - 1) (i - 1) 0 (omega arith) (omega arith)
+        ap (λ k. get_or (listed n (λ j. j * step)) k 0) (omega arith) ∙ get_or-map-range_with_len (λ k. k * step) 0 n (i - 1) (i - 1) 0 (omega arith) (omega arith)
 
 pub written_indices : (n step : ℕ) (p : ArrayValue) → IsArray p → list_all (is_on_axis n) (numbers p) ≡ true
     → AreOffsetsOf n step (Some p) (map (λ z. (unsigned_abs z - 1) * step) (numbers p))
@@ -132,20 +128,14 @@ no_axes = record { as_many = refl; is = λ index h. refl; inside = λ index h. r
 
 -- the last axis alone, where it is taken whole
 pub last_axis : (n : ℕ) → ArePlacesOf (n ∷ []) (None ∷ []) (range_with_len 0 n)
-last_axis n = record {
-  as_many = let one : n ≡ n * 1 = omega arith in length-range_with_len 0 n ∙ one;
-  is = axis_is;
-  inside = axis_inside;
-}
+last_axis n = record { as_many = let one : n ≡ n * 1 = omega arith in length-range_with_len 0 n ∙ one; is = axis_is; inside = axis_inside }
   where
     axis_is : (index : List ℕ) → is_index_of (n ∷ []) index ≡ true
         → get_or (range_with_len 0 n) (places_before (n ∷ []) index) 0 ≡ places_before (n ∷ []) (get_or index 0 0 ∷ [])
     axis_is [] h = absurd (false≢true h)
     axis_is (i ∷ index) h =
         let head = head_of n i [] index h in
-        let here : (i - 1) * 1 + 0 ≡ i - 1 = omega arith in
-        let back : 0 + (i - 1) ≡ (i - 1) * 1 + 0 = omega arith in
-        ap (λ k. get_or (range_with_len 0 n) k 0) here ∙ get_or-range_with_len 0 n (i - 1) 0 (omega arith) ∙ back
+        ap (λ k. get_or (range_with_len 0 n) k 0) (omega arith) ∙ get_or-range_with_len 0 n (i - 1) 0 (omega arith) ∙ (omega arith)
 
     axis_inside : (index : List ℕ) → is_index_of (n ∷ []) index ≡ true → is_index_of (n ∷ []) (get_or index 0 0 ∷ []) ≡ true
     axis_inside [] h = absurd (false≢true h)
@@ -289,10 +279,9 @@ picked_places a positions shape places item_type form shaped typed found =
         let index = index_after shape k in
         let within : is_index_of (indexed_shape a.shape positions) index ≡ true = subst (λ s. is_index_of s index ≡ true) shaped (index_after-within shape k h) in
         let place : places_before (indexed_shape a.shape positions) index ≡ k = ap (λ s. places_before s index) (sym shaped) ∙ places_before-index_after shape k h in
-        let is : places_before a.shape (source_index positions index) ≡ get_or places k 0 = sym (found.is index within) ∙ ap (λ j. get_or places j 0) place in
         let sized : length places ≡ size shape = found.as_many ∙ ap size (sym shaped) in
         item_there a (source_index positions index) (found.inside index within)
-        ∙ ap (λ j. Ok (get_or a.items j (fill a.item_type))) is
+        ∙ ap (λ j. Ok (get_or a.items j (fill a.item_type))) (sym (found.is index within) ∙ ap (λ j. get_or places j 0) place)
         ∙ ap (λ (x : Item). Ok x) (sym (get_or-map (λ j. get_or a.items j (fill a.item_type)) places k 0 (fill a.item_type) (omega arith)))
 
 -- where an indexed reference gives a form, its positions are on the axes, and the form is their shape
@@ -307,17 +296,11 @@ pub index_gives : (a : ArrayValue) (written : List Bool) (args : List ArrayValue
 index_gives a written args shape item_type long form =
     let positions = written_positions written args in
     let ranks = gives (not (is_scalar a) && nat_eq (length positions) (length a.shape)) _ _ (form_of shape item_type) form in
-    let counted = gives (list_all are_numbers positions) _ _ (form_of shape item_type) ranks.is in
-    let on = gives (are_on a.shape positions) _ _ (form_of shape item_type) counted.is in
+    let on = gives (are_on a.shape positions) _ _ (form_of shape item_type) (gives (list_all are_numbers positions) _ _ (form_of shape item_type) ranks.is).is in
     let asked = limited_gives (indexed_shape a.shape positions) a.item_type (form_of shape item_type) on.is in
     let as_many = positions_long written args long in
     let same = eqb-true (length positions) (length a.shape) (and_parts (not (is_scalar a)) _ ranks.test).1 in
-    record {
-      one_an_axis = omega arith;
-      on = on.test;
-      shaped = ap (λ (f : Form). f.shape) asked;
-      typed = ap (λ (f : Form). f.item_type) asked;
-    }
+    record { one_an_axis = omega arith; on = on.test; shaped = ap (λ (f : Form). f.shape) asked; typed = ap (λ (f : Form). f.item_type) asked }
 
 pub no_places : (a : ArrayValue) (positions : List Position) (shape : List ℕ) (item_type : ItemType) → index_form a positions ≡ Ok (form_of shape item_type) → size shape ≡ 0
     → index_whole a positions ≡ Ok (record { item_type = item_type; shape = shape; items = [] })

@@ -24,11 +24,7 @@ has_passed a written args index long h =
     let on = passed (are_on a.shape positions) _ _ index (passed (list_all are_numbers positions) _ _ index rank.place).place in
     let as_many = positions_long written args long in
     let same = as_many_axes (not (is_scalar a)) (length positions) (length a.shape) rank.test in
-    record {
-      one_an_axis = omega arith;
-      on = on.test;
-      inside = place_inside (indexed_shape a.shape positions) _ index on.place;
-    }
+    record { one_an_axis = omega arith; on = on.test; inside = place_inside (indexed_shape a.shape positions) _ index on.place }
   where
     as_many_axes : (b : Bool) (m n : ℕ) → (b && nat_eq m n) ≡ true → m ≡ n
     as_many_axes true m n h = grind (arith, nat_tests)

@@ -42,21 +42,15 @@ pub own_axes : (axes : List ℕ) (positions : List Position) → length position
     → own_rank (last_position positions) ≤ length (indexed_shape axes positions)
 own_axes axes [] same some = absurd (omega arith)
 own_axes [] (q ∷ rest) same some = absurd (omega arith)
-own_axes (n ∷ axes) (q ∷ []) same some =
-    let long = length-append (position_axes n q) (indexed_shape axes []) in
-    let own = axes_long n q in
-    omega arith
+own_axes (n ∷ axes) (q ∷ []) same some = omega (arith, length-append (position_axes n q) (indexed_shape axes []), axes_long n q)
 own_axes (n ∷ axes) (q ∷ r ∷ rest) same some =
-    let long = length-append (position_axes n q) (indexed_shape axes (r ∷ rest)) in
-    let more = own_axes axes (r ∷ rest) (omega arith) (omega arith) in
-    omega arith
+    omega (arith, length-append (position_axes n q) (indexed_shape axes (r ∷ rest)), own_axes axes (r ∷ rest) (omega arith) (omega arith))
 
 -- a row without its first indices has the same end
 own_part_later : (q : Position) (row : List ℕ) (n : ℕ) → n ≤ length row → own_rank q ≤ length row - n + 1 → own_part q (drop n row) ≡ own_part q row
 own_part_later q row n low high =
     let long = length-drop n row in
-    let same : n + (length (drop n row) + 1 - own_rank q) ≡ length row + 1 - own_rank q = omega arith in
-    drop-drop (length (drop n row) + 1 - own_rank q) n row ∙ ap (λ k. drop k row) same
+    drop-drop (length (drop n row) + 1 - own_rank q) n row ∙ ap (λ k. drop k row) (omega arith)
 
 -- where the items of a row come from: an index list that differs in its last index alone
 pub source_ends : (axes : List ℕ) (positions : List Position) (row : List ℕ) (i : ℕ) → length positions ≡ length axes → 0 < length positions
@@ -225,10 +219,7 @@ module _ (a : ArrayValue) (positions : List Position) (row : List ℕ) (before c
   others = others_index positions row
 
   row_long : (i : ℕ) → 1 ≤ i → i ≤ count → length row + 1 ≡ length (indexed_shape a.shape positions)
-  row_long i low high =
-      let long = as_long (indexed_shape a.shape positions) (row ++ i ∷ []) (places i low high) in
-      let pushed = length_push row i in
-      omega arith
+  row_long i low high = omega (arith, as_long (indexed_shape a.shape positions) (row ++ i ∷ []) (places i low high), length_push row i)
 
   comes_from : (i : ℕ) → 1 ≤ i → i ≤ count → source_index positions (row ++ i ∷ []) ≡ others ++ index_at i ∷ []
   comes_from i low high = source_ends a.shape positions row i one_an_axis some (row_long i low high) own
@@ -248,10 +239,9 @@ module _ (a : ArrayValue) (positions : List Position) (row : List ℕ) (before c
       let this_there = same_row a.shape others (index_at 1) (index_at i) first_there on_axis.low (omega arith) in
       let beside = places_in_row a.shape others (index_at 1) (index_at i) first_there on_axis.low in
       let below = places_below a.shape (others ++ index_at i ∷ []) this_there in
-      let place : places_before a.shape (others ++ index_at i ∷ []) ≡ before + index_at i - 1 = omega arith in
       record {
         is = ap (λ at. item_from a a a.item_type (Place 0 at)) (comes_from i low high) ∙ item_there a (others ++ index_at i ∷ []) this_there
-            ∙ ap (λ k. Ok (get_or a.items k (fill a.item_type))) place;
+            ∙ ap (λ k. Ok (get_or a.items k (fill a.item_type))) (omega arith);
         low = on_axis.low;
         high = omega arith;
       }
@@ -263,8 +253,7 @@ pub row_typed : (a : ArrayValue) (positions : List Position) (row : List ℕ) (c
 row_typed a positions row count item_type h =
     let ranks = row_passed (not (is_scalar a) && nat_eq (length positions) (length a.shape)) _ _ row count item_type h in
     let counted = row_passed (list_all are_numbers positions) _ _ row count item_type ranks.row_in in
-    let on = row_passed (are_on a.shape positions) _ _ row count item_type counted.row_in in
-    (row_inside (indexed_shape a.shape positions) a.item_type row count item_type on.row_in).typed
+    (row_inside (indexed_shape a.shape positions) a.item_type row count item_type (row_passed (are_on a.shape positions) _ _ row count item_type counted.row_in).row_in).typed
 
 -- the last index of an index list is at most how many places come before it, and one
 pub last_index_below : (shape at : List ℕ) → is_index_of shape at ≡ true → get_or at (length at - 1) 0 ≤ places_before shape at + 1
@@ -370,8 +359,7 @@ module _ (written : List Bool) (args : List ArrayValue) (a : ArrayValue) (row : 
       nothing = let all : length row + 1 - 1 ≡ length row = omega arith in ap (λ k. drop k row) all ∙ drop-length row
 
   pub run_item : last_position all_positions ≡ None → (j : ℕ) → j < count → index_item a all_positions (row ++ (0 + j + 1) ∷ []) ≡ Ok (get_or a.items (before + j) (fill a.item_type))
-  run_item last j h =
-      (of_whole last (0 + j + 1) (omega arith) (omega arith)).is ∙ ap (λ k. Ok (get_or a.items k (fill a.item_type))) (omega arith)
+  run_item last j h = (of_whole last (0 + j + 1) (omega arith) (omega arith)).is ∙ ap (λ k. Ok (get_or a.items k (fill a.item_type))) (omega arith)
 
   pub run_inside : last_position all_positions ≡ None → before + count ≤ size a.shape
   run_inside last = let some = known.positive in (of_whole last count (omega arith) (omega arith)).high
@@ -379,21 +367,11 @@ module _ (written : List Bool) (args : List ArrayValue) (a : ArrayValue) (row : 
   -- it has these indices
   module _ (p : ArrayValue) (last : last_position all_positions ≡ Some p) (own : 0 < length p.shape) (sound : IsArray p) (indices : List ℤ)
       (taken : (i : ℕ) → i < count → get_or indices i (pos 0) ≡ number_of (item_of p (drop (length row + 1 - length p.shape) row ++ (i + 1) ∷ []))) where
-    of_indices : (j : ℕ) → j < count → IsItemOfRow a all_positions row before (unsigned_abs (get_or indices j (pos 0))) (0 + j + 1)
+    pub of_indices : (j : ℕ) → j < count → IsItemOfRow a all_positions row before (unsigned_abs (get_or indices j (pos 0))) (0 + j + 1)
     of_indices j h =
-        let one : 0 + j + 1 ≡ j + 1 = omega arith in
         subst (λ x. IsItemOfRow a all_positions row before x (0 + j + 1))
-        (ap (λ i. unsigned_abs (number_of (item_of p (drop (length row + 1 - length p.shape) row ++ i ∷ [])))) one ∙ ap unsigned_abs (sym (taken j h)))
+        (ap (λ i. unsigned_abs (number_of (item_of p (drop (length row + 1 - length p.shape) row ++ i ∷ [])))) (omega arith) ∙ ap unsigned_abs (sym (taken j h)))
         (of_last (Some p) last own (λ r e. let same : p ≡ r = cc in subst IsArray same sound) (0 + j + 1) (omega arith) (omega arith))
-
-    pub index_low : (j : ℕ) → j < count → 1 ≤ unsigned_abs (get_or indices j (pos 0))
-    index_low j h = (of_indices j h).low
-
-    pub index_high : (j : ℕ) → j < count → before + unsigned_abs (get_or indices j (pos 0)) ≤ size a.shape
-    index_high j h = (of_indices j h).high
-
-    pub index_given : (j : ℕ) → j < count → index_item a all_positions (row ++ (0 + j + 1) ∷ []) ≡ Ok (get_or a.items (before + unsigned_abs (get_or indices j (pos 0)) - 1) (fill a.item_type))
-    index_given j h = (of_indices j h).is
 
 -- the end of a row is an index list of the last position
 pub own_few : (written : List Bool) (args : List ArrayValue) (a : ArrayValue) (row : List ℕ) (count : ℕ) → IsRowOfIndex written args a row count → (p : ArrayValue)
@@ -401,14 +379,11 @@ pub own_few : (written : List Bool) (args : List ArrayValue) (a : ArrayValue) (r
 own_few written args a row count known p last =
     let positions = written_positions written (drop 1 args) in
     let few : own_rank (Some p) ≤ length (indexed_shape a.shape positions) = subst (λ q. own_rank q ≤ length (indexed_shape a.shape positions)) last (own_axes a.shape positions known.one_an_axis known.some) in
-    let long = as_long (indexed_shape a.shape positions) (row ++ 1 ∷ []) (known.places 1 (omega arith) (omega arith)) in
-    let pushed = length_push row 1 in
-    omega arith
+    omega (arith, as_long (indexed_shape a.shape positions) (row ++ 1 ∷ []) (known.places 1 (omega arith) (omega arith)), length_push row 1)
 
 pub own_places : (written : List Bool) (args : List ArrayValue) (a : ArrayValue) (row : List ℕ) (count : ℕ) → IsRowOfIndex written args a row count → (p : ArrayValue)
     → last_position (written_positions written (drop 1 args)) ≡ Some p → 0 < length p.shape → (i : ℕ) → 1 ≤ i → i ≤ count
     → is_index_of p.shape (drop (length row + 1 - length p.shape) row ++ i ∷ []) ≡ true
 own_places written args a row count known p last own i low high =
-    let positions = written_positions written (drop 1 args) in
     subst (λ q. is_index_of (own_shape a.shape q) (own_part q row ++ i ∷ []) ≡ true) last
-    (own_below a.shape positions row i known.one_an_axis known.some (known.places i low high) (subst (λ q. 0 < own_rank q) (sym last) own))
+    (own_below a.shape (written_positions written (drop 1 args)) row i known.one_an_axis known.some (known.places i low high) (subst (λ q. 0 < own_rank q) (sym last) own))

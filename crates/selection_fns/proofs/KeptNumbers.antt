@@ -53,9 +53,7 @@ pub kept_fit : (counts ns : List ℤ) (k : ℕ) (kept : List ℤ) → k < length
 kept_fit counts ns k kept below so_far =
     let long = length-map counts unsigned_abs in
     let fit = copies_fit (map unsigned_abs counts) k so_far.before so_far.made (omega arith) in
-    let same = counted counts ns k kept so_far in
-    let count = get_or-map unsigned_abs counts k (pos 0) 0 below in
-    omega arith
+    omega (arith, counted counts ns k kept so_far, get_or-map unsigned_abs counts k (pos 0) 0 below)
 
 -- all are kept where there are as many as copies
 pub all_kept : (counts ns : List ℤ) (k : ℕ) (kept : List ℤ) → AreKeptSoFar counts ns k kept → length kept ≡ sum (map unsigned_abs counts) → AreKept counts ns kept
@@ -72,8 +70,7 @@ module _ (along : Along) (a b : ArrayValue) (shape : List ℕ) (ns kept : List �
   as_long : places ≡ length b.items
   as_long =
       let below = axis_below (max 1 (length b.shape)) along (replicate_gives along a b shape b.item_type form).axis (omega arith) in
-      let first : axis_at (max 1 (length b.shape)) along ≡ 0 = omega arith in
-      ap (places_along b.shape) first ∙ alone b.shape vector ∙ sym as_many
+      ap (places_along b.shape) (omega arith) ∙ alone b.shape vector ∙ sym as_many
     where
       alone : (s : List ℕ) → length s ≡ 1 → get_or s 0 1 ≡ size s
       alone [] h = absurd (omega arith)

@@ -24,9 +24,7 @@ read_vector b n place is as_many low = decide (nat_le place n) refl
         either false = refl
 
     decide : (w : Bool) → nat_le place n ≡ w → unwrap_or (item_if_there b (place ∷ [])) (fill b.item_type) ≡ get_or b.items (place - 1) (fill b.item_type)
-    decide true h =
-        let one : (place - 1) * 1 + 0 ≡ place - 1 = omega arith in
-        read true h ∙ ap (λ j. get_or b.items j (fill b.item_type)) one
+    decide true h = read true h ∙ ap (λ j. get_or b.items j (fill b.item_type)) (omega arith)
     decide false h =
         let above : n < place = grind (arith, nat_tests) in
         read false h ∙ sym (get_or-eq_default b.items (fill b.item_type) (omega arith))
@@ -40,15 +38,12 @@ module _ (along : Along) (a b : ArrayValue) (shape before : List ℕ) (item_type
   picked = map (λ k. get_or b.items k (fill b.item_type)) before
 
   first_axis : axis_at (max 1 (length b.shape)) along ≡ 0
-  first_axis =
-      let below = axis_below (max 1 (length b.shape)) along (replicate_gives along a b shape item_type form).axis (omega arith) in
-      omega arith
+  first_axis = omega (arith, axis_below (max 1 (length b.shape)) along (replicate_gives along a b shape item_type form).axis (omega arith))
 
   one_axis : shape ≡ length before ∷ []
   one_axis =
-      let known = replicate_gives along a b shape item_type form in
       let total = sum (times a (places_along b.shape (axis_at (max 1 (length b.shape)) along))) in
-      known.shaped ∙ ap (λ k. insert (remove b.shape k) k total) first_axis ∙ alone b.shape few total ∙ ap (λ n. n ∷ []) (sym long)
+      (replicate_gives along a b shape item_type form).shaped ∙ ap (λ k. insert (remove b.shape k) k total) first_axis ∙ alone b.shape few total ∙ ap (λ n. n ∷ []) (sym long)
     where
       alone : (s : List ℕ) → length s ≤ 1 → (total : ℕ) → insert (remove s 0) 0 total ≡ total ∷ []
       alone [] h total = refl

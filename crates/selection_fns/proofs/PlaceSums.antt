@@ -1,29 +1,22 @@
 -- Numbers of one list and of another, added.
 use Rattle.std.{proofs.Common.{◌≡◌, ℕ, zero, suc, ◌+◌, ◌*◌, ◌<◌, ◌≤◌, List, [], ◌∷◌, ◌++◌, map, length, get_or, take, refl, ap, sym, ◌∙◌, append-nil, append_assoc, arith}, proofs.lemmas.List.{length-append, length-map, get_or-map, get_or_append_left, get_or-append-add, map-append, take_more, take_all}}
 use Rattle.std.{proofs.lemmas.List.FromFn.{fill_by_all, length-range_with_len, get_or-range_with_len}, proofs.lemmas.Nat.{mul-add-lt}, proofs.lemmas.Simd.{map-map}, specs.List.{range_with_len}}
-use Rattle.arrays_core.specs.Building.{listed}
-use Rattle.selection_fns.specs.IndexPlaces.{sums}
+use Rattle.{arrays_core.specs.Building.{listed}, selection_fns.specs.IndexPlaces.{sums}}
 
 pub length-sums : (xs ys : List ℕ) → length (sums xs ys) ≡ length xs * length ys
 length-sums [] ys = omega arith
-length-sums (x ∷ xs) ys =
-    let joined = length-append (map (λ y. x + y) ys) (sums xs ys) in
-    let mapped = length-map ys (λ y. x + y) in
-    let rest = length-sums xs ys in
-    omega arith
+length-sums (x ∷ xs) ys = omega (arith, length-append (map (λ y. x + y) ys) (sums xs ys), length-map ys (λ y. x + y), length-sums xs ys)
 
 pub get_or-sums : (xs ys : List ℕ) (i j : ℕ) → i < length xs → j < length ys → get_or (sums xs ys) (i * length ys + j) 0 ≡ get_or xs i 0 + get_or ys j 0
 get_or-sums [] ys i j h g = absurd (omega arith)
 get_or-sums (x ∷ xs) ys zero j h g =
-    let here : zero * length ys + j ≡ j = omega arith in
     let mapped = length-map ys (λ y. x + y) in
-    ap (λ k. get_or (map (λ y. x + y) ys ++ sums xs ys) k 0) here
+    ap (λ k. get_or (map (λ y. x + y) ys ++ sums xs ys) k 0) (omega arith)
     ∙ get_or_append_left (map (λ y. x + y) ys) (sums xs ys) 0 j (omega arith)
     ∙ get_or-map (λ y. x + y) ys j 0 0 g
 get_or-sums (x ∷ xs) ys (suc i) j h g =
     let mapped = length-map ys (λ y. x + y) in
-    let there : suc i * length ys + j ≡ length (map (λ y. x + y) ys) + (i * length ys + j) = omega arith in
-    ap (λ k. get_or (map (λ y. x + y) ys ++ sums xs ys) k 0) there
+    ap (λ k. get_or (map (λ y. x + y) ys ++ sums xs ys) k 0) (omega arith)
     ∙ get_or-append-add (map (λ y. x + y) ys) (sums xs ys) (i * length ys + j) 0
     ∙ get_or-sums xs ys i j (omega arith) g
 
@@ -35,8 +28,7 @@ sums_below xs ys m below i j h g =
     let place = mul-add-lt i (length ys) j (length xs) h g in
     let sum = get_or-sums xs ys i j h g in
     let there : i * length ys + j < length (sums xs ys) = omega arith in
-    let small = below (i * length ys + j) there in
-    omega arith
+    omega (arith, below (i * length ys + j) there)
 
 sums_append : (xs zs ys : List ℕ) → sums (xs ++ zs) ys ≡ sums xs ys ++ sums zs ys
 sums_append [] zs ys = refl
@@ -149,8 +141,7 @@ heads_fit offsets xs ys m some fit i j h g =
     let place = mul-add-lt j (length ys) 0 (length xs) g second in
     let sum = get_or-sums xs ys j 0 g second in
     let there : j * length ys + 0 < length (sums xs ys) = omega arith in
-    let small = fit i (j * length ys + 0) h there in
-    omega arith
+    omega (arith, fit i (j * length ys + 0) h there)
 
 pub first_alone : (xs : List ℕ) → length xs ≡ 1 → 0 ≡ get_or xs 0 0 → xs ≡ 0 ∷ []
 first_alone [] e h = absurd (omega arith)
@@ -163,8 +154,7 @@ run_inside head (suc n) long begins inside =
     let counted = length-range_with_len 0 (suc n) in
     let last = get_or-range_with_len 0 (suc n) n 0 (omega arith) in
     let there : n < length (range_with_len 0 (suc n)) = omega arith in
-    let below = inside n there in
-    omega arith
+    omega (arith, inside n there)
 
 pub listed_map : {A : Type 0} (f : ℕ → A) (ys : List ℕ) → listed (length ys) (λ k. f (get_or ys k 0)) ≡ map f ys
 listed_map f ys = sym (fill_by_all (λ k. f (get_or ys k 0)) (map f ys) (length ys) (f 0) (length-map ys f) (λ k h. get_or-map f ys k 0 (f 0) h))
@@ -173,8 +163,7 @@ listed_map f ys = sym (fill_by_all (λ k. f (get_or ys k 0)) (map f ys) (length 
 pub picked_more : {A : Type 0} (f : ℕ → A) (before now new : List A) (xs ys : List ℕ) (k : ℕ) → k < length xs
     → now ≡ before ++ map f (sums (take k xs) ys) → new ≡ now ++ map (λ y. f (get_or xs k 0 + y)) ys → new ≡ before ++ map f (sums (take (k + 1) xs) ys)
 picked_more f before now new xs ys k h made put =
-    let row : List ℕ = map (λ y. get_or xs k 0 + y) ys in
     put ∙ ap (λ zs. zs ++ map (λ y. f (get_or xs k 0 + y)) ys) made
     ∙ append_assoc before (map f (sums (take k xs) ys)) (map (λ y. f (get_or xs k 0 + y)) ys)
     ∙ ap (λ zs. before ++ (map f (sums (take k xs) ys) ++ zs)) (sym (map-map f (λ y. get_or xs k 0 + y) ys))
-    ∙ ap (λ zs. before ++ zs) (sym (map-append f (sums (take k xs) ys) row) ∙ ap (map f) (sym (sums_more xs ys k h)))
+    ∙ ap (λ zs. before ++ zs) (sym (map-append f (sums (take k xs) ys) (map (λ y. get_or xs k 0 + y) ys)) ∙ ap (map f) (sym (sums_more xs ys k h)))

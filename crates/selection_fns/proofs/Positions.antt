@@ -2,8 +2,7 @@
 use Rattle.std.{proofs.Common.{◌≡◌, ℕ, zero, suc, ◌+◌, ◌-◌, ◌<◌, ◌≤◌, ℤ, pos, negsuc, int_le, unsigned_abs, Bool, true, false, nat_le, ◌&&◌, List, [], ◌∷◌, ◌++◌, map, length, take, drop, get_or, Some, None, refl, subst, sym, arith}, specs.List.{list_all}, proofs.lemmas.Bool.Decides.{nat_tests}}
 use Rattle.std.proofs.lemmas.List.{length-append, length-drop, take_all}
 use Rattle.arrays_core.{specs.declared.item.Item.{Item}, specs.declared.item.ItemType.{ItemType}, specs.declared.item.ItemType.TheVariants.{Nums, Chars}, specs.Items.{fill}, specs.Arrays.{ArrayValue}, specs.Shapes.{is_index_of}}
-use Rattle.index_region.specs.Arguments.{number_of}
-use Rattle.selection_fns.specs.Index.{count_written, written_positions, indexed_shape, is_on_axis, is_on, are_on}
+use Rattle.{index_region.specs.Arguments.{number_of}, selection_fns.specs.Index.{count_written, written_positions, indexed_shape, is_on_axis, is_on, are_on}}
 
 -- the first position where it is not written, and the rest
 pub record IsEmptyFirst (written : List Bool) (args : List ArrayValue) : Type 0 where

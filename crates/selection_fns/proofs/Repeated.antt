@@ -12,11 +12,7 @@ sum_same (suc n) count = let rest = sum_same n count in let front = sum_front co
 pub sum_within : (xs : List ℕ) (k : ℕ) → k < length xs → sum (take k xs) + get_or xs k 0 ≤ sum xs
 sum_within [] k below = absurd (omega arith)
 sum_within (x ∷ xs) zero below = let front = sum_front x xs in omega arith
-sum_within (x ∷ xs) (suc k) below =
-    let front = sum_front x xs in
-    let taken = sum_front x (take k xs) in
-    let rest = sum_within xs k (omega arith) in
-    omega arith
+sum_within (x ∷ xs) (suc k) below = omega (arith, sum_front x xs, sum_front x (take k xs), sum_within xs k (omega arith))
 
 -- the places that are repeated are at least the first of them
 entries_least : (counts : List ℕ) (k j : ℕ) → 1 ≤ k → 1 ≤ get_or (places_repeated k counts) j 1

@@ -53,8 +53,7 @@ count_shape [] [] h = refl
 count_shape [] (position ∷ positions) h = absurd (omega arith)
 count_shape (n ∷ axes) [] h = absurd (omega arith)
 count_shape (n ∷ axes) (None ∷ positions) h = let k = count_shape axes positions (omega arith) in omega (arith, k)
-count_shape (n ∷ axes) (Some p ∷ positions) h =
-    omega (arith, count_shape axes positions (omega arith), length-append p.shape (indexed_shape axes positions))
+count_shape (n ∷ axes) (Some p ∷ positions) h = omega (arith, count_shape axes positions (omega arith), length-append p.shape (indexed_shape axes positions))
 
 -- what the checks say of the axes of the result
 pub record HasAxes (written : List Bool) (args : List ArrayValue) (shape : List ℕ) : Type 0 where
@@ -119,5 +118,4 @@ pub record ArePartsLong (shape : List ℕ) (region : List Interval) (before rank
 pub parts_long : (shape : List ℕ) (region : List Interval) (before rank : ℕ) → before + rank ≤ length shape → length region ≡ rank → ArePartsLong shape region before rank
 parts_long shape region before rank within long =
     let first : length (whole_of (take before shape)) ≡ before = length-map (take before shape) (λ n. (1, n)) ∙ (length-take-le before shape (omega arith)) in
-    let dropped = length-drop (before + rank) shape in
-    record { first = first; front = omega (arith, length-append (whole_of (take before shape)) region, first, long); rest = omega (arith, dropped) }
+    record { first = first; front = omega (arith, length-append (whole_of (take before shape)) region, first, long); rest = omega (arith, length-drop (before + rank) shape) }

@@ -20,9 +20,8 @@ pub index_on_axis : (n : ℕ) (p : ArrayValue) (at : List ℕ) → IsArray p →
 index_on_axis n p at sound inside on =
     let k = places_before p.shape at in
     let below = places_below p.shape at inside in
-    let there : k < length p.items = omega arith in
     let numbered = length-map p.items number_of in
-    let read : get_or (numbers p) k (pos 0) ≡ number_of (item_of p at) = get_or-map number_of p.items k (fill p.item_type) (pos 0) there in
+    let read : get_or (numbers p) k (pos 0) ≡ number_of (item_of p at) = get_or-map number_of p.items k (fill p.item_type) (pos 0) (omega arith) in
     let place = place_in n (get_or (numbers p) k (pos 0)) (each_on n (numbers p) k on (omega arith)) in
     let same : unsigned_abs (get_or (numbers p) k (pos 0)) ≡ unsigned_abs (number_of (item_of p at)) = ap unsigned_abs read in
     record { low = omega (arith, place.low); high = omega (arith, place.high) }
@@ -55,8 +54,7 @@ walk_within (count ∷ counts) i low high = decide (nat_le i count) refl (λ j. 
     decide false h later =
         let above : count < i = grind (arith, nat_tests) in
         let front = sum_front count counts in
-        let rest = later (i - count) (omega arith) (omega arith) in
-        omega arith
+        omega (arith, later (i - count) (omega arith) (omega arith))
 
 times_long : (a : ArrayValue) (n : ℕ) → (has_one_item a || nat_eq (length a.items) n) ≡ true → length (times a n) ≡ n
 times_long a n h = by_test (has_one_item a) h

@@ -85,5 +85,4 @@ replicate_box along shape a b region =
 
 -- the counts are a selector
 abbrev pub replicate_rule : Along → RuleModel
-replicate_rule along =
-    two_sourced true (replicate_form along) (λ a b. b.item_type) (replicate_source along) (λ shape a b region. None) (replicate_box along)
+replicate_rule along = two_sourced true (replicate_form along) (λ a b. b.item_type) (replicate_source along) (λ shape a b region. None) (replicate_box along)

@@ -1,9 +1,7 @@
 -- What is printed for what a line asks for.
-use Rattle.std.{proofs.Common.{◌≡◌, ℕ, ℤ, List, codes, Ok, Err, refl}, proofs.lemmas.List.{length-map}}
-use Rattle.apl_tokens.specs.Scans.{SpannedLexeme}
+use Rattle.{std.{proofs.Common.{◌≡◌, ℕ, ℤ, List, codes, Ok, Err, refl}, proofs.lemmas.List.{length-map}}, apl_tokens.specs.Scans.{SpannedLexeme}}
 use Rattle.apl_expr.{specs.declared.command.Command.{Command}, specs.declared.fault.LineFault.TheVariants.{Syntax, Limit}, specs.Lines.{Open, meaning, change_meaning}, specs.Answers.{IsAnswered}}
-use Rattle.sheet_recalc.specs.History.{change_of}
-use Rattle.sheet_desk.specs.Desk.{DeskValue, IsEvent}
+use Rattle.{sheet_recalc.specs.History.{change_of}, sheet_desk.specs.Desk.{DeskValue, IsEvent}}
 use Rattle.sheet_cli.specs.Answer.{State, state_of, IsChangeAnswered, IsPrintedFor, IsAsked, IsCarriedOut, IsTextAnswer, no_line, too_large, carried_out}
 use Rattle.apl_expr.specs.declared.command.Change as asked
 use Rattle.apl_expr.specs.declared.command.Change.TheVariants as lined

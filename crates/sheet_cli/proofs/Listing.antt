@@ -1,7 +1,6 @@
 -- The list of names, one name more.
 use Rattle.std.{proofs.Common.{◌≡◌, ℕ, ◌+◌, ◌<◌, List, [], ◌∷◌, ◌++◌, length, take, get_or, sym, ap, ◌∙◌, append_assoc}, proofs.lemmas.List.{take_more, flat_map_more}}
-use Rattle.array_text.specs.Text.{line_end}
-use Rattle.sheet_cli.specs.Answer.{names_text}
+use Rattle.{array_text.specs.Text.{line_end}, sheet_cli.specs.Answer.{names_text}}
 
 pub listed_more : (names : List (List ℕ)) (i : ℕ) (name before now : List ℕ) → i < length names → name ≡ get_or names i name → before ≡ names_text (take i names) → now ≡ (before ++ name) ++ line_end → now ≡ names_text (take (i + 1) names)
 listed_more names i name before now h is so_far pushed =

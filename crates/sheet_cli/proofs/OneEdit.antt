@@ -1,6 +1,5 @@
 -- An edit has one outcome, but for want of memory.
-use Rattle.std.proofs.Common.{◌≡◌, ℕ, List, refl, sym, subst, ◌∙◌}
-use Rattle.sheet_recalc.{specs.Names.{Names}, specs.Changes.{SheetChange}, specs.Costs.{HasCost}}
+use Rattle.{std.proofs.Common.{◌≡◌, ℕ, List, refl, sym, subst, ◌∙◌}, sheet_recalc.{specs.Names.{Names}, specs.Changes.{SheetChange}, specs.Costs.{HasCost}}}
 use Rattle.sheet_desk.{specs.Desk.{Refused}, proofs.Causes.{accepted_refused, refused_one}, proofs.Spent.{accepts_one}}
 use Rattle.sheet_cli.{specs.Answer.{State, refusal_text, IsChangeAnswered, accepted, refused}, proofs.OneEvent.{texts_one}}
 

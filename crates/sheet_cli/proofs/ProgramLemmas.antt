@@ -1,10 +1,8 @@
 -- How the program ends.
 use Rattle.std.{proofs.Common.{◌≡◌, ℕ, Bool, true, false, List, [], ◌∷◌, replicate, Option, Some, None, Result, Ok, Err, IfErr, OnOk, is_err, string_bytes, refl}, proofs.lemmas.Bool.{true≢false}}
-use Rattle.clap.specs.Words.{Text, takes}
-use Rattle.arrays_core.specs.Arrays.{ArrayValue}
+use Rattle.{clap.specs.Words.{Text, takes}, arrays_core.specs.Arrays.{ArrayValue}}
 use Rattle.program_words.{specs.Asked.{IsNotBadWords, IsRefusalOf}, specs.Program.{aplsheet}, specs.declared.reading.Words.{Words}}
-use Rattle.sheet_recalc.{specs.Names.{Names, Data}, specs.Changes.{Accepts, Put}}
-use Rattle.sheet_desk.{specs.Desk.{DeskValue}, specs.Slots.{slot_count}}
+use Rattle.{sheet_recalc.{specs.Names.{Names, Data}, specs.Changes.{Accepts, Put}}, sheet_desk.{specs.Desk.{DeskValue}, specs.Slots.{slot_count}}}
 use Rattle.sheet_cli.{specs.Answer.{State, state_of}, specs.Run.{BreaksOff, IsCut}, specs.Endings.{OfWords, ending_unread}, specs.Hosts.{HostValue, HasWords, FailsToRead}, specs.Programs.{RefusesWords, refused, AskedTable, GivesTable, GivesNoTable, BeginsWith, FailsToBegin, Sources, Sinks, LinesComeTo, first_state}}
 use Rattle.sheet_cli.{specs.declared.ending.Ending.{Ending}, specs.declared.ending.Ending.TheVariants.{Run}, specs.declared.host.NotRead.{NotRead}, specs.declared.run_loop.RunFault.{RunFault}}
 use Rattle.sheet_cli.specs.declared.host.NotRead.TheVariants as unread

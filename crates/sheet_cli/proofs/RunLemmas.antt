@@ -92,10 +92,7 @@ pub Finishes-none : (kept line : List ℕ) (tally : Tally) (state : State) → l
 Finishes-none kept line tally state h e = λ old input before m.
     let no_line : length (next_stripped (ended_lines input) (last_line input)) ≡ 0 = (kept_empty (ended_lines input) (last_line input)).0 (ap length (sym (e ∙ kept_line kept input tally.lines m.kept_is m.lines_is)) ∙ h) in
     let all : lines_of input ≡ first_stripped (ended_lines input) = lines_of-is input ∙ rw (line_if_any-none _ no_line, append-nil) refl in
-    record {
-      answered = rw (append-nil, all) m.answered;
-      counted = rw all (m.lines_is ∙ sym (length-first_stripped (ended_lines input)));
-    }
+    record { answered = rw (append-nil, all) m.answered; counted = rw all (m.lines_is ∙ sym (length-first_stripped (ended_lines input))) }
 
 last_one_more : (kept line input : List ℕ) (lines : ℕ) → 0 < length line → line ≡ line_after lines kept → kept ≡ take most_kept (last_line input) → lines ≡ length (ended_lines input) →
     lines_of input ≡ first_stripped (ended_lines input) ++ next_stripped (ended_lines input) (last_line input) ∷ []

@@ -46,11 +46,7 @@ made_same d e a b change same p q =
     subst (λ (ns : Names). HasCost d.names change ns a.cost) names (subst (λ (ns : Names). HasCost ns change a.names a.cost) same p.cost) in
     let ticks : HasTicks d.names change a.names a.ticks = subst (λ (ns : Names). HasTicks ns change a.names a.ticks) same p.computed in
     let other : HasTicks d.names change a.names b.ticks = subst (λ (ns : Names). HasTicks d.names change ns b.ticks) (sym names) q.computed in
-    record {
-      names = names;
-      cost = cost ∙ sym q.cost;
-      ticks = λ good. ticks.all good ∙ sym (other.all good);
-    }
+    record { names = names; cost = cost ∙ sym q.cost; ticks = λ good. ticks.all good ∙ sym (other.all good) }
 
 same_slot : {o : Option (Option SlotValue)} {s t : SlotValue} → o ≡ Some (Some s) → o ≡ Some (Some t) → s ≡ t
 same_slot p q = cc

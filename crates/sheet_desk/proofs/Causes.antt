@@ -1,11 +1,9 @@
 -- A change is accepted or refused, and for one cause, but for want of memory and which cycle is named.
 use Rattle.std.{proofs.Common.{◌≡◌, ◌≢◌, ℕ, ℤ, ◌<◌, ◌⊎◌, ⊎_elim, inl, inr, true, List, [], ◌∷◌, length, is_some, None, Result, Ok, Err, refl, sym, ap, ◌∙◌, arith}, proofs.lemmas.Bool.{false≢true}}
-use Rattle.apl_expr.specs.Trees.{Tree, Literal}
-use Rattle.arrays_core.{specs.Arrays.{ArrayValue}, specs.declared.fault.Fault.{Fault}}
+use Rattle.{apl_expr.specs.Trees.{Tree, Literal}, arrays_core.{specs.Arrays.{ArrayValue}, specs.declared.fault.Fault.{Fault}}}
 use Rattle.formula_core.specs.Meaning.{eval}
 use Rattle.sheet_recalc.{specs.Names.{Names, Binding, Formula, binding, put, Refers, most_names}, specs.Meaning.{val}, specs.Cells.{cell_put}, specs.Rows.{row_put}, specs.Changes.{SheetChange, Define, Store, Put, SetCell, AddRow, Erase, Accepts, Refuses, CannotPut, HasRoomForName, IsFullFor, IsCycleFrom}}
-use Rattle.sheet_recalc.specs.declared.refusal.Refusal.{Refusal}
-use Rattle.sheet_desk.{specs.Desk.{Refused}, specs.Histories.{names_cycle, IsSameAnswer}}
+use Rattle.{sheet_recalc.specs.declared.refusal.Refusal.{Refusal}, sheet_desk.{specs.Desk.{Refused}, specs.Histories.{names_cycle, IsSameAnswer}}}
 use Rattle.sheet_recalc.specs.declared.refusal.Refusal.TheVariants as why
 
 full_with_room : (names : Names) (name : List ℕ) → HasRoomForName names name → IsFullFor names name → ⊥

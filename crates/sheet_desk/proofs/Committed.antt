@@ -1,7 +1,6 @@
 -- The names after events are those of the changes that were made.
 use Rattle.std.{proofs.Common.{◌≡◌, ℕ, zero, suc, ℤ, List, [], ◌∷◌, ◌++◌, map, Option, Some, None, refl, sym, ap, subst, ◌∙◌, arith}, specs.Option.{option_map}}
-use Rattle.formula_core.specs.Meaning.{eval}
-use Rattle.sheet_recalc.{specs.Names.{Names}, specs.Meaning.{val}, specs.Changes.{SheetChange, Accepts}}
+use Rattle.{formula_core.specs.Meaning.{eval}, sheet_recalc.{specs.Names.{Names}, specs.Meaning.{val}, specs.Changes.{SheetChange, Accepts}}}
 use Rattle.sheet_desk.{specs.Slots.{with_slot}, specs.Desk.{DeskValue, SlotValue, Event, Open, Step, Commit, Drop, Plain, Show, Answer, Done, Left, Shown, Refused, stale, with_held, IsEvent, IsMade, IsStepped}}
 use Rattle.sheet_desk.{specs.Histories.{open_changes, the_change, made_by, opened_after, committed, AreAccepted, NamesAreOfChangesCommitted, ShowsAreOfChangesCommitted}, proofs.Slotted.{slot_in-map, with_slot-map}, proofs.Placed.{with_slot_same}, proofs.Spent.{accepts_one}}
 
@@ -57,8 +56,7 @@ follows : (d next : DeskValue) (event : Event) (answer : Answer) → IsEvent d e
 follows d next (Open k change) Done h = absurd h
 follows d next (Open k change) (Left n) h = record {
   names = ap (λ (e : DeskValue). e.names) h.next_is;
-  opened =
-      ap (λ (e : DeskValue). open_changes e.slots) h.next_is ∙ put_changes d.slots k (Some _);
+  opened = ap (λ (e : DeskValue). open_changes e.slots) h.next_is ∙ put_changes d.slots k (Some _);
 }
 follows d next (Open k change) (Shown outcome) h = absurd h
 follows d next (Open k change) (Refused cause) h = let b = as_before d next h.1 in record { names = b.names; opened = b.opened }
@@ -78,8 +76,7 @@ follows d next (Commit k) (Shown outcome) h = absurd h
 follows d next (Commit k) (Refused cause) h = let b = as_before d next h.1 in record { names = b.names; opened = b.opened }
 follows d next (Drop k) Done h = record {
   names = ap (λ (e : DeskValue). e.names) h.next_is;
-  opened =
-      ap (λ (e : DeskValue). open_changes e.slots) h.next_is ∙ put_changes d.slots k None;
+  opened = ap (λ (e : DeskValue). open_changes e.slots) h.next_is ∙ put_changes d.slots k None;
 }
 follows d next (Drop k) (Left n) h = absurd h
 follows d next (Drop k) (Shown outcome) h = absurd h

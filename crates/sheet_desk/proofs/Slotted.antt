@@ -73,8 +73,7 @@ module _ (sheet : SheetValue) (slots : List (Option Slot)) (k : ℤ) (d : DeskVa
         names = sheet.names;
         cost = sheet.cost;
         ticks = sheet.ticks;
-        slots =
-            ss;
+        slots = ss;
       }) (with_slot-map slot_value_of slots k held))
 
 -- a number that a call was given is that of a place of the slots, and the desk is seen so
@@ -110,8 +109,7 @@ pub slot_after : (s : Slot) (after : Pending) (left ticks : ℕ) → s.is_stale 
       change = change_of s.change;
       is_stale = false;
       left = left;
-      ticks =
-          ticks;
+      ticks = ticks;
     }
 slot_after s after left ticks fresh left_is ticks_are =
     ap (λ (b : Bool). record { change = change_of s.change; is_stale = b; left = steps_left after; ticks = after.ticks }) fresh

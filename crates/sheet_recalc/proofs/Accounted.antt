@@ -1,8 +1,6 @@
 -- What a sheet keeps of a change: what it cost, and the items that were computed.
-use Rattle.std.{proofs.Common.{◌≡◌, ◌≢◌, ◌+◌, ◌≤◌, ◌<◌, ◌∙◌, ℕ, List, Some, Ok, sym, ap, arith}, specs.Prelude.{Vec}}
-use Rattle.arrays_core.specs.Arrays.{ArrayValue}
-use Rattle.index_region.{specs.declared.delta.Delta.{Delta}, specs.declared.delta.Delta.TheVariants.{Whole}}
-use Rattle.change_core.specs.Meters.{ticked}
+use Rattle.{std.{proofs.Common.{◌≡◌, ◌≢◌, ◌+◌, ◌≤◌, ◌<◌, ◌∙◌, ℕ, List, Some, Ok, sym, ap, arith}, specs.Prelude.{Vec}}, arrays_core.specs.Arrays.{ArrayValue}}
+use Rattle.{index_region.{specs.declared.delta.Delta.{Delta}, specs.declared.delta.Delta.TheVariants.{Whole}}, change_core.specs.Meters.{ticked}}
 use Rattle.apl_expr.specs.Trees.{Tree}
 use Rattle.sheet_recalc.{specs.Names.{Names, Data, Formula, binding, put}, specs.Live.{TellsUsers}, specs.Meaning.{val}, proofs.Binding.{rebound_own, rebound_same}, proofs.Live.{val_data}}
 

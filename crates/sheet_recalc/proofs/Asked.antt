@@ -1,8 +1,6 @@
 -- What is worked out for a name is what the change asks for.
 use Rattle.std.{proofs.Common.{◌≡◌, ◌≤◌, ◌∙◌, ℕ, ℤ, List, Option, Some, None, IsSome, Result, Ok, Err, IfOk, OnOk, true, refl, sym, ap, arith}, specs.Option.{option_map}}
-use Rattle.apl_expr.specs.Trees.{Tree, Literal}
-use Rattle.arrays_core.{specs.Arrays.{ArrayValue}, specs.Growth.{grown_by}}
-use Rattle.change_core.specs.Meters.{ticked}
+use Rattle.{apl_expr.specs.Trees.{Tree, Literal}, arrays_core.{specs.Arrays.{ArrayValue}, specs.Growth.{grown_by}}, change_core.specs.Meters.{ticked}}
 use Rattle.change_rules.specs.Currency.{applied}
 use Rattle.index_region.{specs.Patches.{PatchValue, patched}, specs.Tails.{TailValue, FitsTail}, specs.declared.delta.Delta.{Delta}, specs.declared.delta.Delta.TheVariants.{Patch, Grown, Whole}}
 use Rattle.formula_core.{specs.Formulas.{FormulaValue}, specs.Meaning.{eval}, specs.Plans.{tree_cost}}

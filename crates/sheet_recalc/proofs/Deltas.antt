@@ -1,7 +1,6 @@
 -- What changed of each name is one step from what changed of all names; of what the changed name does not reach, nothing did.
 use Rattle.std.{proofs.Common.{◌≡◌, ℕ, zero, suc, false, List, Option, Some, None, length, refl, sym, ap, ◌∙◌, subst, ⊎_elim, if◌then◌else◌}, specs.Str.{bytes_eq}, specs.List.{Contains}, proofs.lemmas.Bool.{cond-true, cond-false, false_from_ne_true}}
-use Rattle.apl_expr.specs.Trees.{Tree}
-use Rattle.index_region.{specs.declared.delta.Delta.{Delta}, specs.declared.delta.Delta.TheVariants.{Same}}
+use Rattle.{apl_expr.specs.Trees.{Tree}, index_region.{specs.declared.delta.Delta.{Delta}, specs.declared.delta.Delta.TheVariants.{Same}}}
 use Rattle.formula_core.{specs.Meaning.{names_in}, proofs.Alike.{change_alike, unchanged_costs_nothing}}
 use Rattle.dep_order.{specs.Follows.{Follows}, proofs.Following.{follows_has}}
 use Rattle.sheet_recalc.{specs.Names.{Names, Binding, Data, Formula, binding, Refers}, specs.Costs.{origin_delta, delta_by, names_change, delta_at, name_delta, sheet_change}, proofs.NameEquality.{equal-true, equal-same}, proofs.Scratch.{settles, IsNameOrder}}

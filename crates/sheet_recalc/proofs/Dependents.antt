@@ -1,8 +1,7 @@
 -- A node that does not depend on the changed name costs nothing: a change costs as much as the nodes that depend on it.
 use Rattle.std.{proofs.Common.{◌≡◌, ℕ, zero, suc, ◌+◌, inl, inr, Bool, true, false, List, [], ◌∷◌, length, filter, Option, Some, None, refl, sym, ap, ◌∙◌, arith, ⊎_elim}, specs.Str.{bytes_eq}, specs.Map.{keys_of}, specs.Option.{option_map_or}, specs.List.{Contains, IsDistinct, list_any, sum_by}}
 use Rattle.std.{proofs.lemmas.Bool.{cond-false, false_from_ne_true, false≢true}, proofs.lemmas.List.Sums.{sum_by-cons, sum_by_push}, proofs.lemmas.Map.Views.{lookup-from_Contains, list_any-from_Contains}}
-use Rattle.apl_expr.specs.Trees.{Tree}
-use Rattle.index_region.{specs.declared.delta.Delta.{Delta}, specs.declared.delta.Delta.TheVariants.{Same}}
+use Rattle.{apl_expr.specs.Trees.{Tree}, index_region.{specs.declared.delta.Delta.{Delta}, specs.declared.delta.Delta.TheVariants.{Same}}}
 use Rattle.formula_core.{specs.Meaning.{names_in}, specs.Plans.{tree_cost, node_cost_at}, specs.Tables.{subtrees}, proofs.Alike.{unchanged_costs_nothing, unchanged_tree_costs_nothing}, proofs.Rooted.{before_root, root_last}}
 use Rattle.dep_order.proofs.Following.{contains_cases, contains_none}
 use Rattle.sheet_recalc.{specs.Names.{Names, Binding, Data, Formula, binding}, specs.Costs.{origin_delta, delta_by, names_change, delta_at, sheet_change, binding_cost, formulas_cost, AreAllThatReach, has_any, node_depends, dependent_cost, dependents_cost, changed_name, own_delta}}

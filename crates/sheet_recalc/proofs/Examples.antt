@@ -1,6 +1,6 @@
 -- Worked examples of the definitions, each true by computation.
-use Rattle.std.{proofs.Common.{◌≡◌, ℕ, Some, Ok, Err, List, [], ◌∷◌, length, map, refl}, specs.Prelude.{ℤ, pos, negsuc}}
-use Rattle.arrays_core.{specs.Arrays.{ArrayValue}, specs.declared.item.Item.TheVariants.{Num, Char}, specs.declared.item.ItemType.TheVariants.{Nums, Chars}, specs.declared.item.Kind.{Kind}, specs.Outcomes.{Outcome, fault}}
+use Rattle.std.{proofs.Common.{ℕ, Some, Ok, Err, List, [], ◌∷◌, length, refl}, specs.Prelude.{ℤ, pos, negsuc, codes}}
+use Rattle.arrays_core.{specs.Arrays.{ArrayValue}, specs.declared.item.Kind.{Kind}, specs.Outcomes.{Outcome, fault}, proofs.CaseWords.{◌⇒◌, AllSame, nums, ints, chars, scalar, no_text}}
 use Rattle.apl_expr.{specs.Trees.{Tree, Const, Numbers, Text, Name, Dyad}, specs.declared.expr.Dyadic.TheVariants.{Scalar}}
 use Rattle.function_names.{specs.declared.scalar.Scalar2.{Scalar2}, specs.declared.scalar.Scalar2.TheVariants.{Plus, Times, Divide}}
 use Rattle.formula_core.specs.Meaning.{eval}
@@ -8,22 +8,13 @@ use Rattle.sheet_recalc.{specs.Names.{Names, Data, Formula, binding, put}, specs
 use Rattle.arrays_core.specs.declared.item.Kind.TheVariants as kind
 
 abbrev numbers : List ℤ → ArrayValue
-numbers zs = record { item_type = Nums; shape = length zs ∷ []; items = map (λ (z : ℤ). Num z) zs }
+numbers zs = ints (length zs ∷ []) zs
 
 abbrev A : List ℕ
-A = 0x41 ∷ []
+A = codes "A"
 
 abbrev B : List ℕ
-B = 0x42 ∷ []
-
-abbrev D : List ℕ
-D = 0x44 ∷ []
-
-abbrev T : List ℕ
-T = 0x54 ∷ []
-
-abbrev U : List ℕ
-U = 0x55 ∷ []
+B = codes "B"
 
 abbrev both : Scalar2 → Tree → Tree → Tree
 both f a b = Dyad (Scalar f) a b
@@ -31,103 +22,59 @@ both f a b = Dyad (Scalar f) a b
 abbrev number : ℕ → Tree
 number n = Const (Numbers (pos n ∷ []))
 
+-- 1 2+1 2 3
+abbrev unequal : Tree
+unequal = both Plus (Const (Numbers (pos 1 ∷ pos 2 ∷ []))) (Const (Numbers (pos 1 ∷ pos 2 ∷ pos 3 ∷ [])))
+
 -- T←D×2 and U←T+D, over these data of D
 abbrev sheet : ArrayValue → Names
-sheet a = put (put (put [] D (Data a)) T (Formula (both Times (Name D) (number 2)))) U (Formula (both Plus (Name T) (Name D)))
+sheet a = put (put (put [] (codes "D") (Data a)) (codes "T") (Formula (both Times (Name (codes "D")) (number 2)))) (codes "U") (Formula (both Plus (Name (codes "T")) (Name (codes "D"))))
 
-u_shows_3_6_9 : val (sheet (numbers (pos 1 ∷ pos 2 ∷ pos 3 ∷ []))) U ≡ Ok (numbers (pos 3 ∷ pos 6 ∷ pos 9 ∷ []))
-u_shows_3_6_9 = refl
+formulas_follow : AllSame (
+    val (sheet (numbers (pos 1 ∷ pos 2 ∷ pos 3 ∷ []))) (codes "U") ⇒ Ok (numbers (pos 3 ∷ pos 6 ∷ pos 9 ∷ [])) ∷
+    val (sheet (numbers (pos 1 ∷ pos 10 ∷ pos 3 ∷ []))) (codes "U") ⇒ Ok (numbers (pos 3 ∷ pos 30 ∷ pos 9 ∷ [])) ∷  -- D[2]←10
+    [])
+formulas_follow = refl
 
--- D[2]←10
-second_replaced : cell_put (Some (Data (numbers (pos 1 ∷ pos 2 ∷ pos 3 ∷ [])))) (pos 2 ∷ []) (Numbers (pos 10 ∷ [])) ≡ Ok (numbers (pos 1 ∷ pos 10 ∷ pos 3 ∷ []))
-second_replaced = refl
+-- data with a new cell, or the refusal
+cells : AllSame (
+    cell_put (Some (Data (numbers (pos 1 ∷ pos 2 ∷ pos 3 ∷ [])))) (pos 2 ∷ []) (Numbers (pos 10 ∷ [])) ⇒ Ok (numbers (pos 1 ∷ pos 10 ∷ pos 3 ∷ [])) ∷
+    cell_put (binding [] A) (pos 1 ∷ []) (Numbers (pos 5 ∷ [])) ⇒ Err NotFound ∷
+    cell_put (Some (Formula (number 1))) (pos 1 ∷ []) (Numbers (pos 5 ∷ [])) ⇒ Err NotData ∷
+    cell_put (Some (Data (numbers (pos 1 ∷ [])))) (pos 1 ∷ pos 1 ∷ []) (Numbers (pos 5 ∷ [])) ⇒ Err Rank ∷  -- two positions
+    cell_put (Some (Data (numbers (pos 1 ∷ [])))) (negsuc 0 ∷ []) (Numbers (pos 5 ∷ pos 6 ∷ [])) ⇒ Err Index ∷  -- below one
+    cell_put (Some (Data (numbers (pos 1 ∷ [])))) (pos 1 ∷ []) (Text []) ⇒ Err Length ∷  -- no item
+    cell_put (Some (Data (numbers (pos 1 ∷ [])))) (pos 1 ∷ []) (Text (0x61 ∷ [])) ⇒ Err Domain ∷  -- other type
+    [])
+cells = refl
 
-u_shows_3_30_9 : val (sheet (numbers (pos 1 ∷ pos 10 ∷ pos 3 ∷ []))) U ≡ Ok (numbers (pos 3 ∷ pos 30 ∷ pos 9 ∷ []))
-u_shows_3_30_9 = refl
-
--- why a cell is refused
-absent : cell_put (binding [] A) (pos 1 ∷ []) (Numbers (pos 5 ∷ [])) ≡ Err NotFound
-absent = refl
-
-formula : cell_put (Some (Formula (number 1))) (pos 1 ∷ []) (Numbers (pos 5 ∷ [])) ≡ Err NotData
-formula = refl
-
-two_positions : cell_put (Some (Data (numbers (pos 1 ∷ [])))) (pos 1 ∷ pos 1 ∷ []) (Numbers (pos 5 ∷ [])) ≡ Err Rank
-two_positions = refl
-
-below_one : cell_put (Some (Data (numbers (pos 1 ∷ [])))) (negsuc 0 ∷ []) (Numbers (pos 5 ∷ pos 6 ∷ [])) ≡ Err Index
-below_one = refl
-
-no_item : cell_put (Some (Data (numbers (pos 1 ∷ [])))) (pos 1 ∷ []) (Text []) ≡ Err Length
-no_item = refl
-
-other_type : cell_put (Some (Data (numbers (pos 1 ∷ [])))) (pos 1 ∷ []) (Text (0x61 ∷ [])) ≡ Err Domain
-other_type = refl
-
--- )ROW C 'ef', over a table of characters
-abbrev characters : ℕ → ℕ → List ℕ → ArrayValue
-characters rows columns cs = record { item_type = Chars; shape = rows ∷ columns ∷ []; items = map (λ (c : ℕ). Char c) cs }
-
-row_added : row_put (Some (Data (characters 2 2 (0x61 ∷ 0x62 ∷ 0x63 ∷ 0x64 ∷ [])))) (Text (0x65 ∷ 0x66 ∷ [])) ≡ Ok (characters 3 2 (0x61 ∷ 0x62 ∷ 0x63 ∷ 0x64 ∷ 0x65 ∷ 0x66 ∷ []))
-row_added = refl
-
--- )ROW V 9
-item_added : row_put (Some (Data (numbers (pos 1 ∷ pos 2 ∷ [])))) (Numbers (pos 9 ∷ [])) ≡ Ok (numbers (pos 1 ∷ pos 2 ∷ pos 9 ∷ []))
-item_added = refl
-
--- a table of numbers without columns, whose rows have no items
-abbrev rows_only : ℕ → ArrayValue
-rows_only n = record { item_type = Nums; shape = n ∷ 0 ∷ []; items = [] }
-
-empty_row_added : row_put (Some (Data (rows_only 2))) (Text []) ≡ Ok (rows_only 3)
-empty_row_added = refl
-
--- why a row is refused
-row_of_absent : row_put (binding [] A) (Numbers (pos 5 ∷ [])) ≡ Err NotFound
-row_of_absent = refl
-
-row_of_formula : row_put (Some (Formula (number 1))) (Numbers (pos 5 ∷ [])) ≡ Err NotData
-row_of_formula = refl
-
-row_of_scalar : row_put (Some (Data (record { item_type = Nums; shape = []; items = Num (pos 5) ∷ [] }))) (Text []) ≡ Err Rank
-row_of_scalar = refl
-
-row_of_planes : row_put (Some (Data (record { item_type = Nums; shape = 1 ∷ 1 ∷ 1 ∷ []; items = Num (pos 5) ∷ [] }))) (Numbers (pos 1 ∷ [])) ≡ Err Rank
-row_of_planes = refl
-
-row_too_long : row_put (Some (Data (numbers (pos 1 ∷ [])))) (Text (0x61 ∷ 0x62 ∷ [])) ≡ Err Length
-row_too_long = refl
-
-row_of_other_type : row_put (Some (Data (record { item_type = Chars; shape = 0 ∷ []; items = [] }))) (Numbers (pos 5 ∷ [])) ≡ Err Domain
-row_of_other_type = refl
-
-row_beyond_limits : row_put (Some (Data (rows_only 1048576))) (Numbers []) ≡ Err Limit
-row_beyond_limits = refl
+-- data with a new row, or the refusal: )ROW C 'ef' over a table of characters, )ROW V 9, and an empty row of a table without columns
+rows : AllSame (
+    row_put (Some (Data (chars (2 ∷ 2 ∷ []) (0x61 ∷ 0x62 ∷ 0x63 ∷ 0x64 ∷ [])))) (Text (0x65 ∷ 0x66 ∷ [])) ⇒ Ok (chars (3 ∷ 2 ∷ []) (0x61 ∷ 0x62 ∷ 0x63 ∷ 0x64 ∷ 0x65 ∷ 0x66 ∷ [])) ∷
+    row_put (Some (Data (numbers (pos 1 ∷ pos 2 ∷ [])))) (Numbers (pos 9 ∷ [])) ⇒ Ok (numbers (pos 1 ∷ pos 2 ∷ pos 9 ∷ [])) ∷
+    row_put (Some (Data (nums (2 ∷ 0 ∷ []) []))) (Text []) ⇒ Ok (nums (3 ∷ 0 ∷ []) []) ∷
+    row_put (binding [] A) (Numbers (pos 5 ∷ [])) ⇒ Err NotFound ∷
+    row_put (Some (Formula (number 1))) (Numbers (pos 5 ∷ [])) ⇒ Err NotData ∷
+    row_put (Some (Data (scalar 5))) (Text []) ⇒ Err Rank ∷
+    row_put (Some (Data (nums (1 ∷ 1 ∷ 1 ∷ []) (5 ∷ [])))) (Numbers (pos 1 ∷ [])) ⇒ Err Rank ∷
+    row_put (Some (Data (numbers (pos 1 ∷ [])))) (Text (0x61 ∷ 0x62 ∷ [])) ⇒ Err Length ∷  -- too long
+    row_put (Some (Data no_text)) (Numbers (pos 5 ∷ [])) ⇒ Err Domain ∷  -- other type
+    row_put (Some (Data (nums (1048576 ∷ 0 ∷ []) []))) (Numbers []) ⇒ Err Limit ∷
+    [])
+rows = refl
 
 -- the kinds of errors, each with the name in whose formula it arose
 abbrev error_in : Kind → List ℕ → Outcome
 error_in k name = Err (record { kind = k; origin = Some name })
 
--- A←B+1, where B is absent
-value_error : val (put [] A (Formula (both Plus (Name B) (number 1)))) A ≡ error_in kind.Value A
-value_error = refl
-
--- A←1÷0 and B←A+1
-origin_kept : val (put (put [] A (Formula (both Divide (number 1) (number 0)))) B (Formula (both Plus (Name A) (number 1)))) B ≡ error_in kind.Domain A
-origin_kept = refl
-
--- A←9223372036854775807+1
-limit_error : val (put [] A (Formula (both Plus (number 9223372036854775807) (number 1)))) A ≡ error_in kind.Limit A
-limit_error = refl
-
--- A←1 2+1 2 3
-length_error : val (put [] A (Formula (both Plus (Const (Numbers (pos 1 ∷ pos 2 ∷ []))) (Const (Numbers (pos 1 ∷ pos 2 ∷ pos 3 ∷ [])))))) A ≡ error_in kind.Length A
-length_error = refl
-
--- A shown over a matrix B: A←B+1 2
-rank_error : val (put (put [] B (Data (record { item_type = Nums; shape = 1 ∷ 2 ∷ []; items = Num (pos 1) ∷ Num (pos 2) ∷ [] }))) A (Formula (both Plus (Name B) (Const (Numbers (pos 1 ∷ pos 2 ∷ [])))))) A ≡ error_in kind.Rank A
-rank_error = refl
-
--- (1 2+1 2 3)×B, shown: the right argument is evaluated first, and the error has no origin
-right_first : eval (both Times (both Plus (Const (Numbers (pos 1 ∷ pos 2 ∷ []))) (Const (Numbers (pos 1 ∷ pos 2 ∷ pos 3 ∷ [])))) (Name B)) (val []) ≡ Err (fault kind.Value)
-right_first = refl
+errors : AllSame (
+    val (put [] A (Formula (both Plus (Name B) (number 1)))) A ⇒ error_in kind.Value A ∷  -- A←B+1, where B is absent
+    val (put (put [] A (Formula (both Divide (number 1) (number 0)))) B (Formula (both Plus (Name A) (number 1)))) B ⇒ error_in kind.Domain A ∷  -- A←1÷0 and B←A+1
+    val (put [] A (Formula (both Plus (number 9223372036854775807) (number 1)))) A ⇒ error_in kind.Limit A ∷  -- A←9223372036854775807+1
+    val (put [] A (Formula unequal)) A ⇒ error_in kind.Length A ∷
+    -- A←B+1 2, where B is a matrix
+    val (put (put [] B (Data (nums (1 ∷ 2 ∷ []) (1 ∷ 2 ∷ [])))) A (Formula (both Plus (Name B) (Const (Numbers (pos 1 ∷ pos 2 ∷ [])))))) A ⇒ error_in kind.Rank A ∷
+    -- (1 2+1 2 3)×B, shown: the right argument is evaluated first, and the error has no origin
+    eval (both Times unequal (Name B)) (val []) ⇒ Err (fault kind.Value) ∷
+    [])
+errors = refl

@@ -1,8 +1,7 @@
 -- How the plans of a change come forward.
 use Rattle.std.{proofs.Common.{◌≡◌, ◌+◌, ◌-◌, ◌≤◌, ◌<◌, ℕ, Bool, true, false, min, List, [], ◌∷◌, ◌++◌, length, take, get_or, cond, Option, Some, None, refl, sym, ap, ◌∙◌, subst, arith}, specs.Str.{bytes_eq}, specs.Map.{lookup, keys_of}, specs.Option.{option_map_or, unwrap_or}, specs.List.{IsDistinct, sum_by}}
 use Rattle.std.{proofs.lemmas.Bool.{false≢true}, proofs.lemmas.List.{length-append, take_all}, proofs.lemmas.List.Sums.{sum_by_push}, proofs.Math.Seq.{get_or-append_seam}}
-use Rattle.change_core.specs.Meters.{ticked}
-use Rattle.dep_order.specs.Users.{HasNothing}
+use Rattle.{change_core.specs.Meters.{ticked}, dep_order.specs.Users.{HasNothing}}
 use Rattle.formula_core.{specs.Changes.{NamesChange}, specs.Formulas.{FormulaValue, operations}, specs.Plans.{PlanValue, node_cost_at, tree_cost, IsComputed, AllComputed, IsPlanOf, IsPlanned as IsFormulaPlanned}, specs.Progress.{operations_among, IsPlannedTo}, specs.Tables.{subtrees, tree_at}}
 use Rattle.formula_core.{proofs.Planned.{planned_at_end, plan_of}, proofs.Progressed.{all_among, left_at, part_left, longer, cost_more, cost_within}}
 use Rattle.sheet_recalc.{specs.Names.{Names, Binding}, specs.Costs.{IsNodeCost, functions_of}, specs.Live.{AreRightOnceTaken, plan_in}, specs.ProposedSheet.{Outline, own_entry, proposed_names, proposed_change, proposed_cost, entry_of}}

@@ -1,9 +1,7 @@
 -- Entries, the names that they stand for, and what they show.
-use Rattle.std.{proofs.Common.{◌≡◌, ℕ, zero, suc, ◌+◌, ◌-◌, ◌<◌, ◌≤◌, Bool, true, false, cond, List, [], ◌∷◌, ◌++◌, length, take, get_or, slice_get, ⊎_elim, ◌⊎◌, Option, Some, None, Ok, IsSome, is_some, refl, sym, ap, ◌∙◌, subst, arith, not, if◌then◌else◌}, specs.Str.{bytes_eq}}
-use Rattle.std.{specs.Map.{lookup, keys_of, set_value}, specs.Option.{option_map, unwrap_or}, specs.List.{IsDistinct, Contains}, specs.Prelude.{Vec}, proofs.lemmas.Bool.{false≢true}, proofs.lemmas.List.{take_all, take_more, length-map, same_from_push}, proofs.lemmas.List.Elements.{Contains-push_cases}}
-use Rattle.std.proofs.lemmas.Map.Views.{Contains-keys_from_lookup}
-use Rattle.indexmap.specs.IndexMap.{insert_entry, set_value_at}
-use Rattle.arrays_core.{specs.Arrays.{ArrayValue}, specs.Outcomes.{Outcome}}
+use Rattle.std.{proofs.Common.{◌≡◌, ℕ, zero, suc, ◌+◌, ◌-◌, ◌<◌, ◌≤◌, Bool, true, false, cond, List, [], ◌∷◌, ◌++◌, length, take, get_or, slice_get, ⊎_elim, ◌⊎◌, Option, Some, None, Ok, IsSome, is_some, refl, sym, ap, ◌∙◌, subst, arith, not, if◌then◌else◌}, specs.Str.{bytes_eq}, specs.Map.{lookup, keys_of, set_value}}
+use Rattle.std.{specs.Option.{option_map, unwrap_or}, specs.List.{IsDistinct, Contains}, specs.Prelude.{Vec}, proofs.lemmas.Bool.{false≢true}, proofs.lemmas.List.{take_all, take_more, length-map, same_from_push}, proofs.lemmas.List.Elements.{Contains-push_cases}, proofs.lemmas.Map.Views.{Contains-keys_from_lookup}}
+use Rattle.{indexmap.specs.IndexMap.{insert_entry, set_value_at}, arrays_core.{specs.Arrays.{ArrayValue}, specs.Outcomes.{Outcome}}}
 use Rattle.dep_order.{specs.Reachability.{Chain, IsAcyclic, Reaches}, specs.Users.{Uses, EndsWith, EachFollowsUsers, HasNothing}, proofs.Following.{contains_none}}
 use Rattle.formula_core.specs.Plans.{PlanValue}
 use Rattle.sheet_recalc.{specs.Names.{Names, Data, binding, put, without, Refers}, specs.Meaning.{shown_beside, val, val_at}, specs.Entries.{names_of, binding_of, entry_outcome, adopting}, specs.Live.{IsRightEntry, IsCurrent, IsLive, IsReach, CanAdopt, AreRightOnceTaken, IsAdopting, entry_after, plan_in}}

@@ -1,6 +1,5 @@
 -- A change that is worked out at once.
-use Rattle.std.{proofs.Common.{◌≡◌, ◌<◌, ◌∙◌, ℕ, false, sym, subst, arith}, specs.Map.{keys_of}}
-use Rattle.change_core.specs.Meters.{MeterValue}
+use Rattle.{std.{proofs.Common.{◌≡◌, ◌<◌, ◌∙◌, ℕ, false, sym, subst, arith}, specs.Map.{keys_of}}, change_core.specs.Meters.{MeterValue}}
 use Rattle.sheet_recalc.{specs.Names.{SheetValue}, specs.Tables.{Tables}, specs.Changes.{SheetChange}, specs.Costs.{AreAllThatReach}, specs.Planning.{AllWait, CanBe, IsPlanning, IsProposed}, specs.Pending.{HasPlace, IsLaidOut, IsLaidOutOn, IsPendingOn, names_after, outline_for, steps_left}}
 use Rattle.sheet_recalc.{specs.declared.pending.Pending.{Pending}, specs.declared.plans.Plans.{Plans}, proofs.Forward.{all_made}, proofs.Stepped.{begun_of_laid_out, of_laid_out, is_ready, IsAllReady}}
 

@@ -1,8 +1,7 @@
 -- What a plan makes of a formula makes the name show what it is to show.
 use Rattle.std.{proofs.Common.{◌≡◌, ℕ, zero, suc, ◌<◌, ◌-◌, Bool, true, false, List, [], ◌∷◌, ◌++◌, length, map, get_or, Option, Some, None, IsSome, Ok, Err, IfOk, refl, sym, ap, ◌∙◌, subst, arith, ⊎_elim}, specs.Borrow.{Bor}, specs.Str.{bytes_eq}, specs.Map.{lookup}, specs.List.{Contains}}
 use Rattle.std.{specs.Option.{option_map, option_map_or}, proofs.lemmas.Bool.{false≢true}, proofs.lemmas.List.{length-map, length-append, map-append, get_or-map}, proofs.lemmas.List.Elements.{Contains-append_cases}, proofs.Math.Seq.{get_or-append_seam}}
-use Rattle.dep_order.proofs.Following.{contains_one}
-use Rattle.apl_expr.specs.Trees.{Tree}
+use Rattle.{dep_order.proofs.Following.{contains_one}, apl_expr.specs.Trees.{Tree}}
 use Rattle.arrays_core.{specs.Arrays.{ArrayValue, IsArray}, specs.declared.fault.Fault.{Fault}, specs.declared.item.Kind.TheVariants.{Value}, specs.Growth.{grown_by}, specs.Outcomes.{Outcome, fault}}
 use Rattle.index_region.{specs.Patches.{patched}, specs.declared.delta.Delta.{Delta}, specs.declared.delta.Delta.TheVariants.{Same, Patch, Grown, Whole}}
 use Rattle.change_rules.{specs.Currency.{applied}, specs.Nodes.{is_same}}
@@ -51,11 +50,7 @@ good_delta x (Whole (Err e)) held a is = let never : Ok a ≡ Err e = is in absu
 
 -- an input gets its origin
 pub good_origin : (x : List ℕ) (d : Delta) (held : Outcome) (a : ArrayValue) (delta : Bor Delta) → IsInput (applied d held) d (Good a delta) → IsInput (with_origin x (applied d held)) (origin_delta x d) (Good a delta)
-good_origin x d held a delta i = record {
-  is = ap (with_origin x) i.is;
-  same = i.same ∙ same_origin x d;
-  delta = i.delta ∙ good_delta x d held a i.is;
-}
+good_origin x d held a delta i = record { is = ap (with_origin x) i.is; same = i.same ∙ same_origin x d; delta = i.delta ∙ good_delta x d held a i.is }
 
 all_by_origin : (x : List ℕ) (d : Delta) → IsAllOrNothing d → IsAllOrNothing (origin_delta x d)
 all_by_origin x Same h = tt
@@ -351,10 +346,7 @@ module _ (o : Outline) where
       }
 
       pub none_changed : IsNameChanged c o.name
-      none_changed = record {
-        right = ap (λ d. applied d (val old o.name)) none_delta;
-        fit = subst (λ d. FitsIn d (val old o.name)) (sym none_delta) tt;
-      }
+      none_changed = record { right = ap (λ d. applied d (val old o.name)) none_delta; fit = subst (λ d. FitsIn d (val old o.name)) (sym none_delta) tt }
 
       pub none_sound : IsNameSound c o.name
       none_sound = record { old = ready.sound (ap is_data is); new = subst (λ r. IfOk r IsArray) (sym none_shows) tt }

@@ -1,7 +1,6 @@
 -- What a list of names is with one of them bound anew.
 use Rattle.std.{proofs.Common.{◌≡◌, ℕ, Bool, true, false, cond, List, [], ◌∷◌, ◌++◌, Some, None, IsSome, refl, sym, ap, ◌∙◌}, specs.Str.{bytes_eq}, specs.Map.{lookup, keys_of}, specs.List.{IsDistinct, AllByRecursion}, proofs.lemmas.Bool.{false≢true}}
-use Rattle.indexmap.specs.IndexMap.{insert_entry}
-use Rattle.sheet_recalc.proofs.NameEquality.{names_equal, equal-true, equal-same}
+use Rattle.{indexmap.specs.IndexMap.{insert_entry}, sheet_recalc.proofs.NameEquality.{names_equal, equal-true, equal-same}}
 
 module _ {X : Type 0} (name : List ℕ) (v : X) where
   abbrev with_name : List (List ℕ × X) → List (List ℕ × X)

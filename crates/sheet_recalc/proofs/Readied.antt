@@ -1,9 +1,7 @@
 -- A change is ready to be planned, its plans cost what it costs, and the sheet can be so.
 use Rattle.std.{proofs.Common.{◌≡◌, ◌≤◌, false, ℕ, List, [], length, Option, Some, None, Ok, Err, IfOk, subst, refl, arith, ◌⊎◌}, specs.Str.{bytes_eq}, specs.List.{Contains, IsDistinct}, specs.Map.{keys_of}, specs.Option.{option_map, option_map_or}, specs.Prelude.{Vec}}
-use Rattle.arrays_core.{specs.Arrays.{IsArray}, specs.Outcomes.{Outcome}}
-use Rattle.change_rules.specs.Currency.{applied}
-use Rattle.dep_order.{specs.Reachability.{Reaches, IsAcyclic}, specs.Users.{Uses, EachFollowsUsers}}
-use Rattle.index_region.specs.declared.delta.Delta.{Delta}
+use Rattle.{arrays_core.{specs.Arrays.{IsArray}, specs.Outcomes.{Outcome}}, change_rules.specs.Currency.{applied}}
+use Rattle.{dep_order.{specs.Reachability.{Reaches, IsAcyclic}, specs.Users.{Uses, EachFollowsUsers}}, index_region.specs.declared.delta.Delta.{Delta}}
 use Rattle.sheet_recalc.{specs.Names.{Names, Binding, rebound, referred, Refers, most_names}, specs.Meaning.{val}, specs.Changes.{HasRoomForName}, specs.Costs.{AreAllThatReach}, specs.Entries.{names_of, binding_of}, specs.Live.{IsLive}}
 use Rattle.sheet_recalc.{specs.ProposedSheet.{Outline, is_data, data_entry, proposed_entry, proposed_references, own_entry, proposed_names, proposed_change, proposed_delta, proposed_cost}, specs.Planning.{IsProposed, IsProposalAt, names_cost, CanBe}, specs.declared.proposal.Proposal.{Proposal}}
 use Rattle.sheet_recalc.{proofs.Keeping.{name_order, distinct_once}, proofs.Putting.{distinct_put}, proofs.Removing.{distinct_others, few_others}, proofs.Refused.{few_put}, proofs.Rebound.{has_order, acyclic, settled, closed_new, all_that_reach, shown_still}, proofs.Deltas.{delta_is, delta_unreached}}

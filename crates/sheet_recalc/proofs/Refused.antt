@@ -1,10 +1,7 @@
 -- Why a change was refused, from why a name could not be bound so.
 use Rattle.std.{proofs.Common.{◌≡◌, ◌≤◌, ◌<◌, ◌+◌, ◌∙◌, ℕ, ℤ, List, [], ◌∷◌, length, is_some, IsSome, Option, Some, None, Ok, Err, sym, ap, subst, arith, refl, ⊎_elim}, specs.Option.{option_map, option_map_or}, proofs.lemmas.Bool.{false≢true}, proofs.lemmas.List.{length-map, length-append}}
-use Rattle.dep_order.specs.Reachability.{IsAcyclic}
-use Rattle.apl_expr.specs.Trees.{Tree, Literal}
-use Rattle.arrays_core.{specs.Arrays.{ArrayValue}, specs.Growth.{grown_by}}
-use Rattle.change_rules.specs.Currency.{applied}
-use Rattle.formula_core.specs.Meaning.{eval}
+use Rattle.{dep_order.specs.Reachability.{IsAcyclic}, apl_expr.specs.Trees.{Tree, Literal}, arrays_core.{specs.Arrays.{ArrayValue}, specs.Growth.{grown_by}}}
+use Rattle.{change_rules.specs.Currency.{applied}, formula_core.specs.Meaning.{eval}}
 use Rattle.index_region.{specs.Patches.{PatchValue, patched}, specs.Tails.{TailValue}, specs.declared.delta.Delta.TheVariants.{Patch, Grown}}
 use Rattle.sheet_recalc.{specs.Names.{Names, Binding, Data, Formula, binding, put, without, rebound, Refers, referred, most_names}, specs.Meaning.{val}, specs.Cells.{cell_put}, specs.Entries.{binding_of}, specs.ProposedSheet.{data_entry, names_with}, specs.Rows.{row_put}}
 use Rattle.sheet_recalc.{specs.Changes.{Define, Store, Put, SetCell, AddRow, Erase, Refuses, CannotBecome, CannotPut, IsCycleFrom, HasRoomForName}, specs.declared.refusal.Refusal.{Refusal}, proofs.Cycles.{no_cycle_anew}, proofs.Live.{val_data}, proofs.Putting.{keys_put, put_last}}

@@ -27,5 +27,4 @@ are_characters Chars (c ∷ cs) some = all_characters cs
 -- a row that passes each check is put
 pub row_is_put : (a : ArrayValue) (count : ℕ) (row : List Item) → items_in_row a.shape ≡ Some count → length row ≡ count → are_of_type a.item_type row ≡ true → IsWithinLimits (one_longer a.shape)
     → row_items_put a (items_in_row a.shape) row ≡ Ok (grown_by a row)
-row_is_put a count row has long typed limits =
-    rw (has, eq-eqb (length row) count long, typed, is_within_from (one_longer a.shape) limits) refl
+row_is_put a count row has long typed limits = rw (has, eq-eqb (length row) count long, typed, is_within_from (one_longer a.shape) limits) refl

@@ -1,8 +1,7 @@
 -- Where each name stands after all that it refers to, one step from what the names show gives what they show: a greater depth
 -- changes nothing. And then nothing reaches itself.
 use Rattle.std.{proofs.Common.{◌≡◌, ℕ, zero, suc, ◌<◌, List, [], ◌∷◌, take, length, slice_index_or, Option, Some, None, Err, IsSome, refl, sym, ap, ◌∙◌, subst, arith, ◌≤◌}, specs.List.{Contains}, proofs.lemmas.List.{get_or-take, get_or_default, length-take}}
-use Rattle.dep_order.specs.Reachability.{Chain, IsAcyclic}
-use Rattle.apl_expr.specs.Trees.{Tree}
+use Rattle.{dep_order.specs.Reachability.{Chain, IsAcyclic}, apl_expr.specs.Trees.{Tree}}
 use Rattle.arrays_core.{specs.declared.item.Kind.TheVariants.{Value}, specs.Outcomes.{Outcome, fault}}
 use Rattle.formula_core.{specs.Meaning.{names_in}, proofs.Alike.{eval_alike}}
 use Rattle.sheet_recalc.{specs.Names.{Names, Binding, Data, Formula, binding, Refers}, specs.Meaning.{shown_beside, with_origin, val_at, val}}

@@ -1,8 +1,7 @@
 -- What a change costs is what it costs at the names that are found; and counts that stay at the greatest number.
 use Rattle.std.{proofs.Common.{◌≡◌, ℕ, ◌+◌, Bool, true, false, List, [], ◌∷◌, Some, refl, sym, ap, ◌∙◌, subst, arith, ⊎_elim, if◌then◌else◌}, specs.Str.{bytes_eq}, specs.Map.{lookup, keys_of}, specs.Option.{option_map_or}, specs.List.{Contains, IsDistinct, AllByRecursion, sum_by}}
 use Rattle.std.{proofs.lemmas.Bool.{cond-false, false≢true}, proofs.lemmas.List.Sums.{sum_by-cons}, proofs.lemmas.Map.Views.{lookup-from_Contains}}
-use Rattle.index_region.specs.declared.delta.Delta.TheVariants.{Same}
-use Rattle.formula_core.{specs.Plans.{tree_cost}, proofs.Alike.{unchanged_tree_costs_nothing}}
+use Rattle.{index_region.specs.declared.delta.Delta.TheVariants.{Same}, formula_core.{specs.Plans.{tree_cost}, proofs.Alike.{unchanged_tree_costs_nothing}}}
 use Rattle.dep_order.{specs.Follows.{Follows, IsOnce}, proofs.Following.{contains_here, contains_there, contains_cases, contains_none}}
 use Rattle.sheet_recalc.{specs.Names.{Names, Binding, Data, Formula, binding, Refers}, specs.Costs.{binding_cost, formulas_cost}, proofs.NameEquality.{names_equal, equal-true, equal-same}, proofs.Deltas.{apart_from_found, not_named}}
 use Rattle.formula_core.specs.Changes as formula

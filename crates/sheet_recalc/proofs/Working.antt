@@ -145,10 +145,7 @@ module _ (o : Outline) where
           by (Some (entry.Formula f)) is = absurd (plain f is)
 
       pub plain_needs_none : NeedsNoPlan o x
-      plain_needs_none = record {
-        others = λ apart. by apart (bytes_eq x o.name) refl;
-        reads = λ t bound. absurd (no_formula t bound);
-      }
+      plain_needs_none = record { others = λ apart. by apart (bytes_eq x o.name) refl; reads = λ t bound. absurd (no_formula t bound) }
         where
           by : x ≢ o.name → (t : Bool) → bytes_eq x o.name ≡ t → IsUntouched o x
           by apart true is = absurd (apart (equal-true x o.name is))

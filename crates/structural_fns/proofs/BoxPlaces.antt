@@ -1,7 +1,6 @@
 -- The first and the last index list of a box.
 use Rattle.std.{proofs.Common.{◌≡◌, ◌≤◌, ℕ, List, [], ◌∷◌, arith, true, ◌&&◌, nat_le}, proofs.lemmas.Bool.{and_parts, and_from, leb-true, le-leb, false≢true}}
-use Rattle.arrays_core.specs.Shapes.{is_index_of, places_before}
-use Rattle.index_region.specs.Boxes.{Interval, fits, is_within}
+use Rattle.{arrays_core.specs.Shapes.{is_index_of, places_before}, index_region.specs.Boxes.{Interval, fits, is_within}}
 use Rattle.change_core.{specs.Places.{first_of_box, last_of_box}, proofs.UsedPlaces.{offset_between}}
 
 -- both are index lists of the array

@@ -1,8 +1,8 @@
 -- Counts and index lists, one axis after another.
-use Rattle.std.proofs.Common.{◌≡◌, ℕ, zero, suc, ◌+◌, ◌-◌, ◌<◌, ◌≤◌, ℤ, pos, unsigned_abs, Bool, true, false, if◌then◌else◌, ◌&&◌, nat_le, Result, Ok, Err, All, List, [], ◌∷◌, length, replicate, ap, get_or, drop, refl, subst, sym, ◌∙◌, arith}
-use Rattle.std.{proofs.lemmas.List.{drop_more, length-map, length-replicate, get_or-map, get_or-replicate}, proofs.lemmas.Bool.{lt-leb}, specs.List.{list_all}}
-use Rattle.arrays_core.{specs.declared.item.ItemType.{ItemType}, specs.declared.item.Kind.{Kind}, specs.declared.item.Kind.TheVariants.{Limit}, specs.Arrays.{ArrayValue}, specs.Shapes.{size, IsWithinLimits, is_index_of}, proofs.Shapes.{as_long, head_at}, proofs.NextIndex.{drop_inside}}
-use Rattle.index_region.{specs.Checks.{form_of, check, Form, limited}, specs.Arguments.{numbers, number_of, is_scalar}}
+use Rattle.std.proofs.Common.{◌≡◌, ℕ, zero, suc, ◌+◌, ◌-◌, ◌<◌, ◌≤◌, ℤ, pos, unsigned_abs, Bool, true, false, if◌then◌else◌, ◌&&◌, nat_le, Result, Ok, Err, All, List, [], ◌∷◌, length, replicate, ap, get_or, drop, refl, subst, sym, ◌∙◌, arith, w64, to_z, of_z, SFits}
+use Rattle.std.{proofs.lemmas.List.{drop_more, length-map, length-replicate, get_or-map, get_or-replicate}, proofs.lemmas.Bool.{lt-leb}, proofs.lemmas.Int.{to_z-of_z}, specs.List.{list_all}}
+use Rattle.arrays_core.{specs.declared.item.ItemType.{ItemType}, specs.declared.item.Kind.{Kind}, specs.declared.item.Kind.TheVariants.{Limit}, specs.Arrays.{ArrayValue}, specs.Shapes.{size, IsWithinLimits, is_index_of}, proofs.Shapes.{as_long}}
+use Rattle.index_region.{specs.Checks.{form_of, check, Form, limited}, specs.Arguments.{numbers, number_of, is_scalar}, proofs.OnAxes.{on_axis}}
 use Rattle.structural_fns.{specs.Reshape.{magnitudes}, specs.Take.{taken_place, taken_places}, specs.Drop.{dropped_shape, kept_place, kept_places}, specs.AxisCounts.{counted_shape}}
 
 pub numbers_long : (a : ArrayValue) → length (numbers a) ≡ length a.items
@@ -15,6 +15,10 @@ pub magnitude_at : (a : ArrayValue) (k : ℕ) → k < length a.items → get_or 
 magnitude_at a k h =
     let long = numbers_long a in
     get_or-map unsigned_abs (numbers a) k (pos 0) 0 (omega arith)
+
+-- a count that is read, as a number of 64 bits
+pub count_read : (a : ArrayValue) (count : ℤ) (k : ℕ) → SFits w64 count → count ≡ get_or (numbers a) (k + 1 - 1) (pos 0) → to_z w64 (of_z w64 count) ≡ get_or (numbers a) k (pos 0)
+count_read a count k fits e = to_z-of_z w64 count fits ∙ e ∙ ap (λ j. get_or (numbers a) j (pos 0)) (omega arith)
 
 -- a count of a shape that is within the limits, and an index of that shape
 pub record CountAt (a : ArrayValue) (index : List ℕ) (k : ℕ) : Type 0 where
@@ -29,11 +33,10 @@ count_at a index k within inside h =
     let shape = magnitudes a in
     let long = magnitudes_long a in
     let same = as_long shape index inside in
-    let head = head_at shape index k (omega arith) (omega arith) (drop_inside k shape index inside) in
+    let head = on_axis shape index k inside (omega arith) in
     let e = magnitude_at a k h in
-    let bound : get_or shape k 0 ≤ 1048576 = within.axes k 0 (omega arith) in
     record {
-      count = subst (λ n. n ≤ 1048576) e bound;
+      count = subst (λ n. n ≤ 1048576) e (within.axes k 0 (omega arith));
       there = omega arith;
       low = head.low;
       high = subst (λ n. get_or index k 0 ≤ n) e head.high;
@@ -83,7 +86,7 @@ left_at a b index k within long limits inside h =
     let counts = numbers_long a in
     let same = as_long left index inside in
     let as_left = dropped_long shape (numbers a) (omega arith) in
-    let head = head_at left index k (omega arith) (omega arith) (drop_inside k left index inside) in
+    let head = on_axis left index k inside (omega arith) in
     let e = dropped_at shape (numbers a) k (omega arith) (omega arith) in
     let high : get_or index k 0 ≤ get_or shape k 0 - unsigned_abs (get_or (numbers a) k (pos 0)) = subst (λ n. get_or index k 0 ≤ n) e head.high in
     let bound : get_or shape k 0 ≤ 1048576 = counted_within a b within k 0 (omega arith) in

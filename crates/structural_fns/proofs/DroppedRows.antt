@@ -1,8 +1,8 @@
 -- The rows of what is left of an array.
 use Rattle.std.{proofs.Common.{◌≡◌, ℕ, suc, ◌+◌, ◌-◌, ◌<◌, ◌≤◌, ℤ, pos, negsuc, nat_eq, true, List, [], ◌∷◌, ◌++◌, length, get_or, Ok, refl, ap, sym, ◌∙◌, arith}, proofs.lemmas.Bool.{eqb-true}}
-use Rattle.arrays_core.{specs.declared.item.ItemType.{ItemType}, specs.Items.{fill}, specs.Arrays.{ArrayValue, IsArray}, specs.Shapes.{is_index_of, places_before}, specs.Building.{IsRowOf}, proofs.Shapes.{places_below}, proofs.Rows.{row_end, places_in_row}}
+use Rattle.arrays_core.{specs.declared.item.ItemType.{ItemType}, specs.Items.{fill}, specs.Arrays.{ArrayValue, IsArray}, specs.Shapes.{is_index_of, places_before}, specs.Building.{IsRowOf}, proofs.Shapes.{places_below}}
 use Rattle.index_region.{specs.Answers.{IsRowIn}, specs.Arguments.{numbers, is_list, counts_as_numbers}, proofs.Passing.{row_passed, row_inside}, proofs.Placed.{right_placed}}
-use Rattle.structural_fns.{specs.AxisCounts.{counted_shape, uncounted}, specs.Drop.{drop_form, drop_item, dropped_shape, kept_place, kept_places}, proofs.Counting.{numbers_long, dropped_long}, proofs.SourcePlaces.{kept_inside, uncounted_inside}, proofs.TakenRows.{uncounted_place}}
+use Rattle.structural_fns.{specs.AxisCounts.{counted_shape, uncounted}, specs.Drop.{drop_form, drop_item, dropped_shape, kept_place, kept_places}, proofs.Counting.{numbers_long, dropped_long}, proofs.SourcePlaces.{kept_inside, uncounted_inside}, proofs.SteppedRows.{place_beside}, proofs.TakenRows.{uncounted_place}}
 
 -- what is known of a row of what is left
 record LeftRow (a b : ArrayValue) (row : List ℕ) (count : ℕ) (item_type : ItemType) : Type 0 where
@@ -53,19 +53,9 @@ module _ (a b : ArrayValue) (row : List ℕ) (count : ℕ) (item_type : ItemType
   place_at : (j : ℕ) → j < count → places_before b.shape (uncounted b (at_index (0 + j + 1))) ≡ first + j
   place_at j h =
       let places = places_of_row (numbers a) row (left_row a b row count item_type is).long in
-      let shape = counted_shape a b in
-      let others = kept_places (numbers a) row in
-      let z = get_or (numbers a) (length row) (pos 0) in
-      let begin : is_index_of shape (at_index 1) ≡ true = inside_at 0 (omega arith) in
-      let here : is_index_of shape (others ++ kept_place z 1 ∷ []) ≡ true = ap (is_index_of shape) (sym (places.is 1)) ∙ begin in
-      let there : is_index_of shape (others ++ kept_place z (0 + j + 1) ∷ []) ≡ true = ap (is_index_of shape) (sym (places.is (0 + j + 1))) ∙ inside_at j h in
-      let beside = places_in_row shape others (kept_place z 1) (kept_place z (0 + j + 1)) here (row_end shape others (kept_place z (0 + j + 1)) there).low in
-      let next = next_kept z j in
-      let now : places_before shape (at_index 1) ≡ places_before shape (others ++ kept_place z 1 ∷ []) = ap (places_before shape) (places.is 1) in
-      let then : places_before shape (at_index (0 + j + 1)) ≡ places_before shape (others ++ kept_place z (0 + j + 1) ∷ []) = ap (places_before shape) (places.is (0 + j + 1)) in
-      let counted_now = uncounted_place a b (at_index 1) begin in
-      let counted_then = uncounted_place a b (at_index (0 + j + 1)) (inside_at j h) in
-      omega arith
+      uncounted_place a b (at_index (0 + j + 1)) (inside_at j h)
+      ∙ place_beside (counted_shape a b) at_index (kept_places (numbers a) row) (kept_place (get_or (numbers a) (length row) (pos 0))) count inside_at places.is (next_kept _) j h
+      ∙ ap (λ p. p + j) (sym (uncounted_place a b (at_index 1) (inside_at 0 (omega arith))))
 
   pub left_item : (j : ℕ) → j < count → drop_item a b (row ++ (0 + j + 1) ∷ []) ≡ Ok (get_or b.items (first + j) (fill b.item_type))
   left_item j h =

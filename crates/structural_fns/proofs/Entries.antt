@@ -1,7 +1,6 @@
 -- The entries of a dyadic transpose.
 use Rattle.std.{proofs.Common.{◌≡◌, ℕ, suc, ◌+◌, ◌-◌, ◌<◌, nat_eq, List, ◌∷◌, length, refl, arith}, specs.List.{range_with_len}, proofs.lemmas.Bool.{eqb-true}}
-use Rattle.arrays_core.specs.Arrays.{ArrayValue}
-use Rattle.index_region.{specs.Arguments.{is_list}, specs.Answers.{IsPlaceOf}, proofs.Passing.{passed}}
+use Rattle.{arrays_core.specs.Arrays.{ArrayValue}, index_region.{specs.Arguments.{is_list}, specs.Answers.{IsPlaceOf}, proofs.Passing.{passed}}}
 use Rattle.structural_fns.specs.DyadicTranspose.{transpose_by_form}
 
 -- the next of some numbers in a row

@@ -1,12 +1,13 @@
 -- The rows of a catenation.
 use Rattle.std.{proofs.Common.{◌≡◌, ℕ, ◌+◌, ◌-◌, ◌*◌, ◌<◌, ◌≤◌, min, nat_eq, nat_le, Bool, true, false, cond, if◌then◌else◌, List, [], ◌∷◌, ◌++◌, length, get_or, set, insert, remove, Some, None, Result, Ok, refl, ap, sym, subst, ◌∙◌, ◌⊎◌, inl, inr, arith}, specs.Prelude.{unwrap_or, not, ◌&&◌}}
-use Rattle.std.{proofs.lemmas.Bool.{eqb-true, eqb-false, le-leb, leb-true}, proofs.lemmas.List.{set-append_left, get_or_append_left, append-nil}, proofs.lemmas.List.Edits.{remove-append_left, remove-append_right, length-insert, get_or-insert_at}, proofs.Math.Seq.{set-append_seam}}
+use Rattle.std.{proofs.lemmas.Bool.{eqb-true, eqb-false, le-leb, lt-leb, not_from_false, false_from_ne_true}, proofs.lemmas.List.{set-append_left, get_or_append_left, get_or_push, append-nil}, proofs.lemmas.List.Edits.{remove-append_left, remove-append_right, length-insert, get_or-insert_at}}
+use Rattle.std.proofs.Math.Seq.{set-append_seam}
 use Rattle.arrays_core.{specs.declared.item.Item.{Item}, specs.declared.item.ItemType.{ItemType}, specs.declared.item.Kind.{Kind}, specs.Items.{fill}, specs.Arrays.{ArrayValue, IsArray, item_of}, specs.Building.{listed, with_row}, specs.Shapes.{is_index_of, places_before}, proofs.Shapes.{places_below}}
 use Rattle.arrays_core.proofs.Rows.{places_in_row, with_row_none, with_row_more}
 use Rattle.function_names.{specs.declared.along.Along.{Along}, specs.Axes.{is_axis, axis_at}}
 use Rattle.index_region.{specs.Answers.{IsRowIn}, specs.Arguments.{is_scalar, has_items}, specs.Sources.{Place, item_from}, proofs.Passing.{RowInside, row_passed, row_inside, place_of_row}}
 use Rattle.structural_fns.{specs.Catenate.{joined_rank, joined_places, other_axes, ranks_join, axes_agree, types_join, joined_type, joined_shape, in_side, in_side_of_row, catenate_form, catenate_item}, specs.Laws.SharedAxes.{shared_long}, proofs.Sides.{right_typed}, proofs.SidePlaces.{JoinFacts, join_facts}}
-use Rattle.structural_fns.proofs.SteppedRows.{listed_same, step_of_two, at_end}
+use Rattle.structural_fns.proofs.SteppedRows.{listed_same, step_of_two}
 
 -- all places of a row come from one place of a side, or from places one after another
 record Stays (at : ℕ → List ℕ) : Type 0 where
@@ -34,7 +35,7 @@ along_row false true row axis skipped before below low = decide (nat_eq axis (le
           others = row;
           skipped = skipped;
           low = low last;
-          is = λ x. ap (λ i. set (row ++ x ∷ []) axis (i - skipped)) (at_end row x axis last)
+          is = λ x. ap (λ i. set (row ++ x ∷ []) axis (i - skipped)) (get_or_push row x 0 axis (sym last))
               ∙ ap (λ k. set (row ++ x ∷ []) k (x - skipped)) last ∙ set-append_seam row x [] (x - skipped);
         })
     decide false e =
@@ -58,12 +59,11 @@ along_row false false row axis skipped before below low = decide (nat_eq axis (l
         inl (record { is = λ x y. removed x ∙ sym (removed y) })
     decide false e =
         let other = eqb-false axis (length row) e in
-        let there : axis < length row = omega arith in
         inr (record {
           others = remove row axis;
           skipped = 0;
           low = omega arith;
-          is = λ x. remove-append_left row (x ∷ []) axis there ∙ ap (λ i. remove row axis ++ i ∷ []) (omega arith);
+          is = λ x. remove-append_left row (x ∷ []) axis (omega arith) ∙ ap (λ i. remove row axis ++ i ∷ []) (omega arith);
         })
 
 -- the step of a part of a row
@@ -102,11 +102,8 @@ module _ (s : ArrayValue) (axis skipped : ℕ) (row : List ℕ) (before kept : �
     place_of : (k : ℕ) → k < kept → places_before s.shape (at (before + (k + 1))) ≡ first + k * (second - first)
     place_of k h =
         let back : k + 1 - 1 ≡ k = omega arith in
-        let there = of_part.is (k + 1) (omega arith) (omega arith) in
-        let far : second ≡ first + (m - 1) * of_part.stride = rw (begins, goes_on) (of_part.is m (omega arith) (omega arith)) in
-        let step = step_of_two first second of_part.stride m kept (k + 1) (omega arith) (omega arith) least far in
-        let both : k * of_part.stride ≡ k * (second - first) = rw back at step in
-        there ∙ rw (back, both, ← begins) refl
+        let step = step_of_two first second of_part.stride m kept (k + 1) (omega arith) (omega arith) least (rw (begins, goes_on) (of_part.is m (omega arith) (omega arith))) in
+        (of_part.is (k + 1) (omega arith) (omega arith)) ∙ rw (back, rw back at step, ← begins) refl
 
     pub side_inside : IsArray s → (k : ℕ) → k < kept → first + k * (second - first) < length s.items
     side_inside sound k h =
@@ -120,14 +117,11 @@ module _ (s : ArrayValue) (axis skipped : ℕ) (row : List ℕ) (before kept : �
 
 -- an array with an index list has items
 pub some_items : (s : ArrayValue) (index : List ℕ) → IsArray s → is_index_of s.shape index ≡ true → has_items s ≡ true
-some_items s index sound h = decide (nat_eq (length s.items) 0) refl
-  where
-    decide : (w : Bool) → nat_eq (length s.items) 0 ≡ w → not w ≡ true
-    decide true e =
-        let none = eqb-true (length s.items) 0 e in
-        let below = places_below s.shape index h in
-        absurd (omega (arith, sound.one_item_a_place))
-    decide false e = refl
+some_items s index sound h =
+    not_from_false _ (false_from_ne_true _ (λ e.
+    let none = eqb-true (length s.items) 0 e in
+    let below = places_below s.shape index h in
+    omega (arith, sound.one_item_a_place)))
 
 -- ---- a row of the result
 
@@ -141,13 +135,6 @@ abbrev of_sides : ArrayValue → ArrayValue → List ℕ → ℕ → ℕ → Boo
 of_sides a b index rank axis first =
     let i = get_or index axis 0 in
     item_from a b (joined_type a b) (if first then Place 0 (in_side rank axis a index i) else Place 1 (in_side rank axis b index (i - joined_places rank axis a)))
-
-not_within : (x q : ℕ) → q < x → nat_le x q ≡ false
-not_within x q h = decide (nat_le x q) refl
-  where
-    decide : (w : Bool) → nat_le x q ≡ w → w ≡ false
-    decide true e = let no = leb-true x q e in absurd (omega arith)
-    decide false e = refl
 
 record Checked (along : Along) (a b : ArrayValue) (row : List ℕ) (count : ℕ) (item_type : ItemType) : Type 0 where
   ranks : ranks_join a b ≡ true
@@ -200,8 +187,7 @@ module _ {along : Along} {a b : ArrayValue} {row : List ℕ} {count : ℕ} {item
       let there = get_or-insert_at others (axis_at (joined_rank a b) along) both_places 0 (omega (arith, shared, within)) in
       let end : axis_at (joined_rank a b) along ≡ length row = sym meant ∙ last in
       let all : both_places ≡ count = sym there ∙ ap (λ k. get_or (insert others (axis_at (joined_rank a b) along) both_places) k 0) end ∙ checks.inside.row_of.whole in
-      let first : places ≡ joined_places (joined_rank a b) (axis_at (joined_rank a b) along) a = as_many ∙ ap (λ k. joined_places (joined_rank a b) k a) meant in
-      omega (arith, all, first)
+      omega (arith, all, as_many ∙ ap (λ k. joined_places (joined_rank a b) k a) meant)
 
   many : places ≡ joined_places (length row + 1) axis a
   many = as_many ∙ ap (λ r. joined_places r axis a) rank_of_row
@@ -228,8 +214,7 @@ module _ {along : Along} {a b : ArrayValue} {row : List ℕ} {count : ℕ} {item
 
   pub left_inside : (i : ℕ) → 1 ≤ i → i ≤ count → along_axis i ≤ places → is_index_of a.shape (in_side_of_row axis 0 a row i) ≡ true
   left_inside i low high small =
-      let same : along_axis i ≡ along_axis i - 0 = omega arith in
-      subst (λ k. is_index_of a.shape (in_side (length row + 1) axis a (row ++ i ∷ []) k) ≡ true) same (left_at i low high small)
+      subst (λ k. is_index_of a.shape (in_side (length row + 1) axis a (row ++ i ∷ []) k) ≡ true) (omega arith) (left_at i low high small)
 
   pub right_inside : (i : ℕ) → 1 ≤ i → i ≤ count → places < along_axis i → is_index_of b.shape (in_side_of_row axis places b row i) ≡ true
   right_inside i low high great = right_at i low high great
@@ -242,16 +227,15 @@ module _ {along : Along} {a b : ArrayValue} {row : List ℕ} {count : ℕ} {item
 
   pub left_item : (i : ℕ) → 1 ≤ i → i ≤ count → along_axis i ≤ places → catenate_item along a b (row ++ i ∷ []) ≡ Ok (item_of a (in_side_of_row axis 0 a row i))
   left_item i low high small =
-      let same : along_axis i ≡ along_axis i - 0 = omega arith in
       given i
       ∙ ap (λ w. of_sides a b (row ++ i ∷ []) (length row + 1) axis w) (le-leb (along_axis i) (joined_places (length row + 1) axis a) (omega (arith, many, small)))
       ∙ item_at_left a b (joined_type a b) (in_side (length row + 1) axis a (row ++ i ∷ []) (along_axis i)) (left_at i low high small)
-      ∙ ap (λ k. Ok (item_of a (in_side (length row + 1) axis a (row ++ i ∷ []) k))) same
+      ∙ ap (λ k. Ok (item_of a (in_side (length row + 1) axis a (row ++ i ∷ []) k))) (omega arith)
 
   pub right_item : (i : ℕ) → 1 ≤ i → i ≤ count → places < along_axis i → catenate_item along a b (row ++ i ∷ []) ≡ Ok (item_of b (in_side_of_row axis places b row i))
   right_item i low high great =
       given i
-      ∙ ap (λ w. of_sides a b (row ++ i ∷ []) (length row + 1) axis w) (not_within (along_axis i) (joined_places (length row + 1) axis a) (omega (arith, many, great)))
+      ∙ ap (λ w. of_sides a b (row ++ i ∷ []) (length row + 1) axis w) (lt-leb (along_axis i) (joined_places (length row + 1) axis a) (omega (arith, many, great)))
       ∙ ap (λ m. item_from a b (joined_type a b) (Place 1 (in_side (length row + 1) axis b (row ++ i ∷ []) (along_axis i - m)))) (sym many)
       ∙ item_at_right a b (joined_type a b) (in_side (length row + 1) axis b (row ++ i ∷ []) (along_axis i - places)) (right_at i low high great)
 
@@ -269,10 +253,10 @@ module _ {along : Along} {a b : ArrayValue} {row : List ℕ} {count : ℕ} {item
       let fits = places_within last in
       let on_left : with_row items (λ i. catenate_item along a b (row ++ i ∷ [])) places ≡ Ok mid =
       with_row_more items items (λ i. catenate_item along a b (row ++ i ∷ [])) (λ k. item_of a (in_side_of_row axis 0 a row (0 + k + 1))) 0 places places (omega arith)
-      (λ j there. left_item (0 + j + 1) (omega arith) (omega arith) (let e = at_end row (0 + j + 1) axis last in omega (arith, e)))
+      (λ j there. left_item (0 + j + 1) (omega arith) (omega arith) (let e = get_or_push row (0 + j + 1) 0 axis (sym last) in omega (arith, e)))
       (with_row_none items (λ i. catenate_item along a b (row ++ i ∷ []))) ∙ ap (λ xs. Ok xs) (sym made) in
       with_row_more items mid (λ i. catenate_item along a b (row ++ i ∷ [])) (λ k. item_of b (in_side_of_row axis places b row (places + k + 1))) places (count - places) count (omega arith)
-      (λ j there. right_item (places + j + 1) (omega arith) (omega arith) (let e = at_end row (places + j + 1) axis last in omega (arith, e))) on_left
+      (λ j there. right_item (places + j + 1) (omega arith) (omega arith) (let e = get_or_push row (places + j + 1) 0 axis (sym last) in omega (arith, e))) on_left
 
   pub row_of_left : (items : List Item) → axis < length row → get_or row axis 0 ≤ places
       → with_row items (λ i. catenate_item along a b (row ++ i ∷ [])) count ≡ Ok (items ++ listed count (λ k. item_of a (in_side_of_row axis 0 a row (0 + k + 1))))

@@ -2,8 +2,7 @@
 use Rattle.std.{proofs.Common.{◌≡◌, ℕ, zero, suc, ◌+◌, ◌-◌, ◌*◌, ◌/◌, ◌%◌, ◌<◌, ◌≤◌, Bool, true, false, ◌||◌, if◌then◌else◌, nat_eq, List, [], ◌∷◌, ◌++◌, length, get_or, Ok, refl, sym, ap, subst, ◌∙◌, inl, inr, arith}, specs.Prelude.{bytes_eq}, proofs.lemmas.Bool.{le-leb, lt-leb, cases_lt}}
 use Rattle.std.{proofs.lemmas.Bool.Decides.{nat_tests}, proofs.lemmas.Slice.Eq.{bytes_eq-Decides}, proofs.lemmas.Nat.{div_below}, proofs.Math.Nat.{mul-add-div_right, mul-add-mod_self_right, mod-eq_of_lt}, proofs.lemmas.List.{get_or_append_left, get_or-append_right, get_or_default, length-append}}
 use Rattle.arrays_core.{specs.declared.item.Item.{Item}, specs.declared.item.ItemType.{ItemType}, specs.declared.item.Kind.TheVariants.{Axis as AxisKind, Rank, Length, Domain}, specs.Items.{fill, and_then}, specs.Shapes.{size, index_after}, specs.Arrays.{ArrayValue, IsArray, collect, with_items}}
-use Rattle.arrays_core.proofs.Order.{given_in_order}
-use Rattle.function_names.{specs.declared.along.Along.{Along}, specs.Axes.{is_axis, axis_at}}
+use Rattle.{arrays_core.proofs.Order.{given_in_order}, function_names.{specs.declared.along.Along.{Along}, specs.Axes.{is_axis, axis_at}}}
 use Rattle.index_region.{specs.Arguments.{is_scalar}, specs.Checks.{form_of}, proofs.Passing.{gives}}
 use Rattle.structural_fns.{specs.Catenate.{joined_rank, joined_places, other_axes, ranks_join, axes_agree, joined_type, joined_shape, types_join, in_side, catenate_item, catenate_form, catenate_whole}, proofs.Runs.{item_after, limited_is, positive}, specs.Laws.SharedAxes.{shared_long}}
 
@@ -101,10 +100,8 @@ module _ (along : Along) (a b : ArrayValue) (others : List ℕ) (first : axis_at
       let m = joined_places (joined_rank a b) 0 a in
       let t = size others in
       let j = k - length a.items in
-      let inside : j < joined_places (joined_rank a b) 0 b * t = omega arith in
-      let some = second_positive (joined_places (joined_rank a b) 0 b) t j inside in
       let split : k ≡ m * t + j = omega arith in
-      let quotient : k / t ≡ m + j / t = ap (λ n. n / t) split ∙ mul-add-div_right {m = t} some m j in
+      let quotient : k / t ≡ m + j / t = ap (λ n. n / t) split ∙ mul-add-div_right {m = t} (second_positive (joined_places (joined_rank a b) 0 b) t j (omega arith)) m j in
       let remainder : k % t ≡ j % t = ap (λ n. n % t) split ∙ mul-add-mod_self_right m t j in
       let place : k / t + 1 - m ≡ j / t + 1 = omega arith in
       let there : j < size b.shape = omega arith in
@@ -146,10 +143,9 @@ module _ (along : Along) (a b : ArrayValue) (shape : List ℕ) (item_type : Item
       let right = right_whole a b ranks.test (ap (λ n. axes_agree rank n a b) (sym first) ∙ agree.test) right_run in
       let sized : length a.items + length b.items ≡ size (more ∷ result_axes a b) = omega arith in
       let typed : catenate_form along a b ≡ Ok (form_of shape (joined_type a b)) = form ∙ ap (λ t. Ok (form_of shape t)) parts.1 in
-      let formed : catenate_form along a b ≡ Ok (form_of (more ∷ result_axes a b) (joined_type a b)) = typed ∙ ap (λ xs. Ok (form_of xs (joined_type a b))) shaped in
       record {
         as_many = sized ∙ ap size (sym shaped);
-        whole = ap (λ r. and_then r (λ f. collect f.item_type f.shape (catenate_item along a b))) formed
+        whole = ap (λ r. and_then r (λ f. collect f.item_type f.shape (catenate_item along a b))) (typed ∙ ap (λ xs. Ok (form_of xs (joined_type a b))) shaped)
             ∙ runs_collected along a b (result_axes a b) first left right left_sound.one_item_a_place right_sound.one_item_a_place more sized
             ∙ ap (λ xs. Ok (record { item_type = joined_type a b; shape = xs; items = a.items ++ b.items })) (sym shaped);
       }

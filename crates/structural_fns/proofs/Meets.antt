@@ -1,9 +1,7 @@
 -- Intervals that go to one axis, met one by one.
 use Rattle.std.{proofs.Common.{◌≡◌, ℕ, zero, suc, ◌-◌, ◌<◌, List, [], ◌∷◌, length, drop, get_or, unsigned_abs, arith, ◌∙◌}, proofs.lemmas.List.{length-map}, proofs.lemmas.Bool.{cond-false, false_from_ne_true, eqb-true}}
-use Rattle.arrays_core.specs.Arrays.{ArrayValue}
-use Rattle.index_region.{specs.Arguments.{number_of, numbers}, specs.Boxes.{Interval}}
-use Rattle.change_core.specs.Ways.{meet_at}
-use Rattle.structural_fns.specs.DyadicTranspose.{axes_to, axes_from_zero}
+use Rattle.{arrays_core.specs.Arrays.{ArrayValue}, index_region.{specs.Arguments.{number_of, numbers}, specs.Boxes.{Interval}}}
+use Rattle.{change_core.specs.Ways.{meet_at}, structural_fns.specs.DyadicTranspose.{axes_to, axes_from_zero}}
 
 -- one axis for each entry
 pub axes_long : (a : ArrayValue) → length (axes_from_zero a) ≡ length a.items

@@ -1,7 +1,6 @@
 -- Intervals that take and drop move, one axis after another.
-use Rattle.std.{proofs.Common.{◌≡◌, ◌+◌, ◌<◌, ◌≤◌, ℕ, zero, suc, ℤ, pos, List, [], ◌∷◌, length, get_or, drop, refl, true, ◌&&◌, nat_le, arith}, proofs.lemmas.Bool.{and_parts, leb-true, false≢true}, proofs.lemmas.List.{drop_more}}
-use Rattle.index_region.specs.Boxes.{Interval, fits}
-use Rattle.change_core.specs.Ways.{images}
+use Rattle.std.{proofs.Common.{◌≡◌, ◌+◌, ◌<◌, ◌≤◌, ℕ, zero, suc, ℤ, pos, List, [], ◌∷◌, length, get_or, drop, refl, true, arith}, proofs.lemmas.Bool.{and_parts, leb-true, false≢true}, proofs.lemmas.List.{drop_more}}
+use Rattle.{index_region.specs.Boxes.{Interval, fits}, change_core.specs.Ways.{images}}
 use Rattle.structural_fns.{specs.Take.{taken, taken_axes}, specs.Drop.{kept, kept_axes}}
 
 pub taken_more : (shape : List ℕ) (counts : List ℤ) (region : List Interval) (k : ℕ) → k < length shape → k < length counts → k < length region
@@ -27,9 +26,3 @@ interval_on (s ∷ region) (n ∷ shape) zero h l =
     let parts = and_parts _ _ (and_parts _ _ h).0 in
     record { order = leb-true s.0 s.1 (and_parts _ _ parts.0).1; high = leb-true s.1 n parts.1 }
 interval_on (s ∷ region) (n ∷ shape) (suc k) h l = interval_on region shape k (and_parts _ _ h).1 (omega arith)
-
-pub fits_long : (region : List Interval) (shape : List ℕ) → fits region shape ≡ true → length region ≡ length shape
-fits_long [] [] h = refl
-fits_long [] (n ∷ shape) h = absurd (false≢true h)
-fits_long (s ∷ region) [] h = absurd (false≢true h)
-fits_long (s ∷ region) (n ∷ shape) h = let k = fits_long region shape (and_parts (nat_le 1 s.0 && nat_le s.0 s.1 && nat_le s.1 n) (fits region shape) h).1 in omega (arith, k)

@@ -1,8 +1,7 @@
 -- Worked cases of the boxes of ravel, reshape, take, drop and catenate, computed.
 use Rattle.std.proofs.Common.{◌≡◌, refl, ℕ, pos, negsuc, List, [], ◌∷◌, Some, None}
 use Rattle.arrays_core.{specs.Arrays.{ArrayValue}, proofs.CaseWords.{◌⇒◌, AllSame, nums, ints, chars, scalar, no_text}}
-use Rattle.function_names.specs.declared.along.Along.TheVariants.{First, Last, Axis}
-use Rattle.index_region.specs.Boxes.{Interval}
+use Rattle.{function_names.specs.declared.along.Along.TheVariants.{First, Last, Axis}, index_region.specs.Boxes.{Interval}}
 use Rattle.change_core.{specs.declared.reach.Reach.{Reach}, specs.declared.reach.Reach.TheVariants.{Unmoved, Inside, Anew}, specs.RuleModels.{RuleModel}, specs.Reaches.{reach_of}}
 use Rattle.structural_fns.{specs.Ravel.{ravel_rule}, specs.Reshape.{reshape_rule}, specs.Take.{take_rule}, specs.Drop.{drop_rule}, specs.Catenate.{catenate_rule}}
 

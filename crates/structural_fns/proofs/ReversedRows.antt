@@ -1,11 +1,15 @@
 -- The rows of an array whose places along an axis stand the other way round.
 use Rattle.std.{proofs.Common.{◌≡◌, ℕ, suc, ◌+◌, ◌-◌, ◌<◌, ◌≤◌, true, List, [], ◌∷◌, ◌++◌, length, get_or, set, Ok, ap, sym, ◌∙◌, arith}, proofs.lemmas.List.{get_or_default}}
-use Rattle.arrays_core.{specs.declared.item.ItemType.{ItemType}, specs.Items.{fill}, specs.Arrays.{ArrayValue, IsArray}, specs.Shapes.{is_index_of, places_before}, specs.Building.{IsRowOf}, proofs.Shapes.{places_below}, proofs.Rows.{places_in_row}}
+use Rattle.arrays_core.{specs.declared.item.ItemType.{ItemType}, specs.Items.{fill}, specs.Arrays.{ArrayValue, IsArray}, specs.Shapes.{is_index_of, places_before}, specs.Building.{IsRowOf}, proofs.Rows.{places_in_row}}
 use Rattle.index_region.{specs.Answers.{IsRowIn}, specs.Axes.{places_along}, proofs.Passing.{row_passed, row_inside}, proofs.Placed.{left_placed}, proofs.RowIndices.{set_before, get_before, set_last, get_last, axis_below}}
 use Rattle.function_names.{specs.Axes.{is_axis, axis_at}, specs.declared.along.Along.{Along}}
-use Rattle.structural_fns.{specs.Reverse.{reverse_form, reverse_item}, proofs.SourcePlaces.{reversed_inside}}
+use Rattle.structural_fns.{specs.Reverse.{reverse_form, reverse_item}, proofs.SourcePlaces.{reversed_inside}, proofs.SteppedRows.{place_beside, row_fits}}
 
-module _ (along : Along) (b : ArrayValue) (row : List ℕ) (count : ℕ) (item_type : ItemType) (is : IsRowIn (reverse_form along b) row count item_type) where
+-- a row of what is reversed
+pub record ReversedRow (along : Along) (b : ArrayValue) (row : List ℕ) (count : ℕ) (item_type : ItemType) : Type 0 where
+  pub row_in : IsRowIn (reverse_form along b) row count item_type
+
+module _ (along : Along) (b : ArrayValue) (row : List ℕ) (count : ℕ) (item_type : ItemType) (is : ReversedRow along b row count item_type) where
   abbrev pub axis : ℕ
   axis = axis_at (length b.shape) along
 
@@ -16,8 +20,7 @@ module _ (along : Along) (b : ArrayValue) (row : List ℕ) (count : ℕ) (item_t
   first = places_before b.shape (at_index 1)
 
   row_of : IsRowOf b.shape row count
-  row_of =
-      (row_inside b.shape b.item_type row count item_type (row_passed (is_axis (length b.shape) along) _ _ row count item_type is).row_in).row_of
+  row_of = (row_inside b.shape b.item_type row count item_type (row_passed (is_axis (length b.shape) along) _ _ row count item_type is.row_in).row_in).row_of
 
   inside_at : (j : ℕ) → j < count → is_index_of b.shape (at_index (0 + j + 1)) ≡ true
   inside_at j h = reversed_inside b.shape (row ++ (0 + j + 1) ∷ []) axis (row_of.places (0 + j + 1) (omega arith) (omega arith))
@@ -28,7 +31,7 @@ module _ (along : Along) (b : ArrayValue) (row : List ℕ) (count : ℕ) (item_t
   -- an axis that is not the last is before it
   pub below_last : (k : ℕ) → k ≡ axis → (k ≡ length row → ⊥) → axis < length row
   below_last k e not_last =
-      let checked = row_passed (is_axis (length b.shape) along) _ _ row count item_type is in
+      let checked = row_passed (is_axis (length b.shape) along) _ _ row count item_type is.row_in in
       let below = axis_below (length b.shape) along checked.test (omega (arith, row_of.long)) in
       omega (arith, row_of.long)
 
@@ -42,34 +45,19 @@ module _ (along : Along) (b : ArrayValue) (row : List ℕ) (count : ℕ) (item_t
         set_before row i axis (suc (places_along b.shape axis) - get_or (row ++ i ∷ []) axis 1) other
         ∙ ap (λ n. set row axis (suc (places_along b.shape axis) - n) ++ i ∷ []) (get_before row i axis 1 other)
 
-    place_other : (j : ℕ) → j < count → places_before b.shape (at_index (0 + j + 1)) ≡ first + j
-    place_other j h =
-        let begin : is_index_of b.shape (others ++ 1 ∷ []) ≡ true = ap (is_index_of b.shape) (sym (at_other 1)) ∙ inside_at 0 (omega arith) in
-        let beside = places_in_row b.shape others 1 (0 + j + 1) begin (omega arith) in
-        let now : first ≡ places_before b.shape (others ++ 1 ∷ []) = ap (places_before b.shape) (at_other 1) in
-        let then : places_before b.shape (at_index (0 + j + 1)) ≡ places_before b.shape (others ++ (0 + j + 1) ∷ []) = ap (places_before b.shape) (at_other (0 + j + 1)) in
-        omega arith
-
     pub other_item : (j : ℕ) → j < count → reverse_item along b (row ++ (0 + j + 1) ∷ []) ≡ Ok (get_or b.items (first + j) (fill b.item_type))
-    other_item j h = item_at j (first + j) h (place_other j h)
+    other_item j h = item_at j (first + j) h (place_beside b.shape at_index others (λ i. i) count inside_at at_other (λ k. omega arith) j h)
 
     pub other_fits : IsArray b → first + count ≤ length b.items
-    other_fits sound =
-        let some = row_of.some in
-        let last : count - 1 < count = omega arith in
-        let below = places_below b.shape (at_index (0 + (count - 1) + 1)) (inside_at (count - 1) last) in
-        let place = place_other (count - 1) last in
-        omega (arith, sound.one_item_a_place)
+    other_fits sound = let fits = row_fits b.shape at_index others (λ i. i) count inside_at at_other (λ k. omega arith) row_of.some in omega (arith, sound.one_item_a_place)
 
   -- along the last axis it is one that is read from its end
   module _ (last_axis : axis ≡ length row) where
     at_last : (i : ℕ) → at_index i ≡ row ++ (suc count - i) ∷ []
     at_last i =
-        let whole = row_of.whole in
-        let n : places_along b.shape (length row) ≡ count = get_or_default b.shape (length row) 1 0 (omega (arith, row_of.long)) ∙ whole in
         ap (λ k. set (row ++ i ∷ []) k (suc (places_along b.shape k) - get_or (row ++ i ∷ []) k 1)) last_axis
         ∙ set_last row i (suc (places_along b.shape (length row)) - get_or (row ++ i ∷ []) (length row) 1)
-        ∙ ap (λ m. row ++ (suc m - get_or (row ++ i ∷ []) (length row) 1) ∷ []) n
+        ∙ ap (λ m. row ++ (suc m - get_or (row ++ i ∷ []) (length row) 1) ∷ []) (get_or_default b.shape (length row) 1 0 (omega (arith, row_of.long)) ∙ row_of.whole)
         ∙ ap (λ m. row ++ (suc count - m) ∷ []) (get_last row i 1)
 
     place_last : (j : ℕ) → j < count → places_before b.shape (at_index (0 + j + 1)) + j ≡ first
@@ -77,9 +65,8 @@ module _ (along : Along) (b : ArrayValue) (row : List ℕ) (count : ℕ) (item_t
         let same : suc count - 1 ≡ count = omega arith in
         let begin : is_index_of b.shape (row ++ count ∷ []) ≡ true = ap (λ n. is_index_of b.shape (row ++ n ∷ [])) (sym same) ∙ ap (is_index_of b.shape) (sym (at_last 1)) ∙ inside_at 0 (omega arith) in
         let beside = places_in_row b.shape row count (suc count - (0 + j + 1)) begin (omega arith) in
-        let now : first ≡ places_before b.shape (row ++ (suc count - 1) ∷ []) = ap (places_before b.shape) (at_last 1) in
         let then : places_before b.shape (at_index (0 + j + 1)) ≡ places_before b.shape (row ++ (suc count - (0 + j + 1)) ∷ []) = ap (places_before b.shape) (at_last (0 + j + 1)) in
-        let here : first ≡ places_before b.shape (row ++ count ∷ []) = now ∙ ap (λ n. places_before b.shape (row ++ n ∷ [])) same in
+        let here : first ≡ places_before b.shape (row ++ count ∷ []) = (ap (places_before b.shape) (at_last 1)) ∙ ap (λ n. places_before b.shape (row ++ n ∷ [])) same in
         omega arith
 
     pub last_item : (j : ℕ) → j < count → reverse_item along b (row ++ (0 + j + 1) ∷ []) ≡ Ok (get_or b.items (first - j) (fill b.item_type))

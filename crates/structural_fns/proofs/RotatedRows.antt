@@ -2,10 +2,9 @@
 use Rattle.std.{proofs.Common.{◌≡◌, ℕ, zero, suc, pos, negsuc, ◌+◌, ◌-◌, ◌*◌, ◌/◌, ◌%◌, ◌<◌, ◌≤◌, ◌⊎◌, inl, inr, ℤ, ◌+ℤ◌, ◌-ℤ◌, unsigned_abs, nat_eq, ◌||◌, bytes_eq, if◌then◌else◌, true, List, [], ◌∷◌, ◌++◌, length, get_or, set, remove, Ok, ap, sym, subst, ◌∙◌, arith}, specs.Int.{int_rem_euclid}}
 use Rattle.std.{proofs.lemmas.Bool.{cases_lt, eq-eqb}, proofs.lemmas.Int.{ints}, proofs.lemmas.List.{get_or_default}, proofs.lemmas.Nat.{mod-mul-add}}
 use Rattle.arrays_core.{specs.declared.item.ItemType.{ItemType}, specs.Items.{fill}, specs.Arrays.{ArrayValue, IsArray}, specs.Shapes.{size, is_index_of, places_before}, proofs.Shapes.{places_below}, proofs.Rows.{places_in_row}}
-use Rattle.scalar_fns.specs.ScalarExtension.{extended}
-use Rattle.function_names.{specs.declared.along.Along.{Along}, specs.Axes.{is_axis, axis_at}}
+use Rattle.{scalar_fns.specs.ScalarExtension.{extended}, function_names.{specs.declared.along.Along.{Along}, specs.Axes.{is_axis, axis_at}}}
 use Rattle.index_region.{specs.Answers.{IsRowIn}, specs.Arguments.{has_one_item, counts_as_numbers, number_of}, specs.Axes.{places_along}, proofs.Passing.{RowInside, row_passed, row_inside}, proofs.Placed.{right_placed}, proofs.RowIndices.{set_before, get_before, set_last, get_last, remove_last, axis_below}}
-use Rattle.structural_fns.{specs.Rotate.{rotate_form, rotate_item, rotated_place, rotation}, proofs.SourcePlaces.{rotated_inside}, proofs.Turning.{residue_euclid}}
+use Rattle.structural_fns.{specs.Rotate.{rotate_form, rotate_item, rotated_place, rotation}, proofs.SourcePlaces.{rotated_inside}, proofs.SteppedRows.{place_beside, row_fits}, proofs.Turning.{residue_euclid}}
 
 -- ---- the place after a place, counted round the end of an axis
 
@@ -17,8 +16,7 @@ next_mod a n some =
     elim (cases_lt (a % n + 1) n) [
       | inl less ↦ inl (next_mod_of (a / n) (a % n + 1) n (a + 1) less (omega arith), less)
       | inr more ↦
-          let all : a % n + 1 ≡ n = omega arith in
-          inr (next_mod_of (a / n + 1) 0 n (a + 1) some (omega arith), all)
+          inr (next_mod_of (a / n + 1) 0 n (a + 1) some (omega arith), omega arith)
     ]
 
 -- the place of a number that is counted round the end of an axis of n places, and of the next number
@@ -95,6 +93,15 @@ turned n amount (suc j) some h =
 
 -- ---- the items of a row
 
+-- the items of a row along the last axis are a line from a place on, and then what stands before that
+pub record TurnedLine (along : Along) (a b : ArrayValue) (row : List ℕ) (count first from : ℕ) : Type 0 where
+  pub low : 1 ≤ from
+  pub high : from ≤ count
+  pub there : from - 1 ≤ first
+  pub fits : first + (count - (from - 1)) ≤ length b.items
+  pub end_item : (j : ℕ) → j < count - (from - 1) → rotate_item along a b (row ++ (0 + j + 1) ∷ []) ≡ Ok (get_or b.items (first + j) (fill b.item_type))
+  pub begin_item : (j : ℕ) → j < from - 1 → rotate_item along a b (row ++ (count - (from - 1) + j + 1) ∷ []) ≡ Ok (get_or b.items (first - (from - 1) + j) (fill b.item_type))
+
 one_amount : (axis : ℕ) (a : ArrayValue) (index : List ℕ) → size a.shape ≡ 1 → rotation axis a index ≡ number_of (get_or a.items 0 (fill a.item_type))
 one_amount axis a index e = ap (λ w. number_of (get_or a.items (if w then 0 else places_before a.shape (remove index axis)) (fill a.item_type))) (eq-eqb (size a.shape) 1 e)
 
@@ -139,37 +146,23 @@ module _ (along : Along) (a b : ArrayValue) (row : List ℕ) (count : ℕ) (item
         ∙ set_before row i axis (rotated_place (places_along b.shape axis) (number_of (get_or a.items 0 (fill a.item_type))) (get_or (row ++ i ∷ []) axis 1)) (below_last not_last)
         ∙ ap (λ n. set row axis (rotated_place (places_along b.shape axis) (number_of (get_or a.items 0 (fill a.item_type))) n) ++ i ∷ []) (get_before row i axis 1 (below_last not_last))
 
-    place_other : (j : ℕ) → j < count → places_before b.shape (at_index (0 + j + 1)) ≡ first + j
-    place_other j h =
-        let begin : is_index_of b.shape (others ++ 1 ∷ []) ≡ true = ap (is_index_of b.shape) (sym (at_other 1)) ∙ inside_at 0 (omega arith) in
-        let beside = places_in_row b.shape others 1 (0 + j + 1) begin (omega arith) in
-        let now : first ≡ places_before b.shape (others ++ 1 ∷ []) = ap (places_before b.shape) (at_other 1) in
-        let later : places_before b.shape (at_index (0 + j + 1)) ≡ places_before b.shape (others ++ (0 + j + 1) ∷ []) = ap (places_before b.shape) (at_other (0 + j + 1)) in
-        omega arith
-
     pub other_item : (j : ℕ) → j < count → rotate_item along a b (row ++ (0 + j + 1) ∷ []) ≡ Ok (get_or b.items (first + j) (fill b.item_type))
-    other_item j h = item_at j (first + j) h (place_other j h)
+    other_item j h = item_at j (first + j) h (place_beside b.shape at_index others (λ i. i) count inside_at at_other (λ k. omega arith) j h)
 
     pub other_fits : IsArray b → first + count ≤ length b.items
-    other_fits sound =
-        let some = passed_row.row_of.some in
-        let last : count - 1 < count = omega arith in
-        let below = places_below b.shape (at_index (0 + (count - 1) + 1)) (inside_at (count - 1) last) in
-        let place = place_other (count - 1) last in
-        omega (arith, sound.one_item_a_place)
+    other_fits sound = let fits = row_fits b.shape at_index others (λ i. i) count inside_at at_other (λ k. omega arith) passed_row.row_of.some in omega (arith, sound.one_item_a_place)
 
   -- along the last axis it is a line from some place on, and then from its begin
   module _ (last_axis : axis ≡ length row) where
     abbrev amount : ℤ
     amount = number_of (extended a row)
 
-    abbrev pub from : ℕ
+    abbrev from : ℕ
     from = rotated_place count amount 1
 
-    pub at_last : (i : ℕ) → at_index i ≡ row ++ rotated_place count amount i ∷ []
+    at_last : (i : ℕ) → at_index i ≡ row ++ rotated_place count amount i ∷ []
     at_last i =
-        let whole = passed_row.row_of.whole in
-        let n : places_along b.shape (length row) ≡ count = get_or_default b.shape (length row) 1 0 (omega (arith, passed_row.row_of.long)) ∙ whole in
+        let n : places_along b.shape (length row) ≡ count = get_or_default b.shape (length row) 1 0 (omega (arith, passed_row.row_of.long)) ∙ passed_row.row_of.whole in
         ap (λ k. set (row ++ i ∷ []) k (rotated_place (places_along b.shape k) (rotation k a (row ++ i ∷ [])) (get_or (row ++ i ∷ []) k 1))) last_axis
         ∙ set_last row i (rotated_place (places_along b.shape (length row)) (rotation (length row) a (row ++ i ∷ [])) (get_or (row ++ i ∷ []) (length row) 1))
         ∙ ap (λ m. row ++ rotated_place m (rotation (length row) a (row ++ i ∷ [])) (get_or (row ++ i ∷ []) (length row) 1) ∷ []) n
@@ -181,20 +174,19 @@ module _ (along : Along) (a b : ArrayValue) (row : List ℕ) (count : ℕ) (item
 
     beside : (j : ℕ) → j < count → places_before b.shape (at_index (0 + j + 1)) + from ≡ first + rotated_place count amount (0 + j + 1)
     beside j h =
-        let begin : is_index_of b.shape (row ++ from ∷ []) ≡ true = ap (is_index_of b.shape) (sym (at_last 1)) ∙ inside_at 0 (omega arith) in
         let t = turn j h in
-        let pair = places_in_row b.shape row from (rotated_place count amount (0 + j + 1)) begin t.low in
+        let pair = places_in_row b.shape row from (rotated_place count amount (0 + j + 1)) (ap (is_index_of b.shape) (sym (at_last 1)) ∙ inside_at 0 (omega arith)) t.low in
         let now : first ≡ places_before b.shape (row ++ from ∷ []) = ap (places_before b.shape) (at_last 1) in
         let later : places_before b.shape (at_index (0 + j + 1)) ≡ places_before b.shape (row ++ rotated_place count amount (0 + j + 1) ∷ []) = ap (places_before b.shape) (at_last (0 + j + 1)) in
         omega arith
 
-    pub from_low : 1 ≤ from
+    from_low : 1 ≤ from
     from_low = (next_place count amount 1 passed_row.row_of.some).low
 
-    pub from_high : from ≤ count
+    from_high : from ≤ count
     from_high = (next_place count amount 1 passed_row.row_of.some).high
 
-    pub end_item : (j : ℕ) → j < count - (from - 1) → rotate_item along a b (row ++ (0 + j + 1) ∷ []) ≡ Ok (get_or b.items (first + j) (fill b.item_type))
+    end_item : (j : ℕ) → j < count - (from - 1) → rotate_item along a b (row ++ (0 + j + 1) ∷ []) ≡ Ok (get_or b.items (first + j) (fill b.item_type))
     end_item j h =
         let low = from_low in
         let t = turn j (omega arith) in
@@ -202,16 +194,15 @@ module _ (along : Along) (a b : ArrayValue) (row : List ℕ) (count : ℕ) (item
         let same = t.inside (omega arith) in
         item_at j (first + j) (omega arith) (omega arith)
 
-    pub begin_there : from - 1 ≤ first
+    begin_there : from - 1 ≤ first
     begin_there =
         let low = from_low in
         let high = from_high in
         let place : first ≡ places_before b.shape (row ++ from ∷ []) = ap (places_before b.shape) (at_last 1) in
-        let begin : is_index_of b.shape (row ++ from ∷ []) ≡ true = ap (is_index_of b.shape) (sym (at_last 1)) ∙ inside_at 0 (omega (arith, passed_row.row_of.some)) in
-        let pair = places_in_row b.shape row from 1 begin (omega arith) in
+        let pair = places_in_row b.shape row from 1 (ap (is_index_of b.shape) (sym (at_last 1)) ∙ inside_at 0 (omega (arith, passed_row.row_of.some))) (omega arith) in
         omega arith
 
-    pub begin_item : (j : ℕ) → j < from - 1 → rotate_item along a b (row ++ (count - (from - 1) + j + 1) ∷ []) ≡ Ok (get_or b.items (first - (from - 1) + j) (fill b.item_type))
+    begin_item : (j : ℕ) → j < from - 1 → rotate_item along a b (row ++ (count - (from - 1) + j + 1) ∷ []) ≡ Ok (get_or b.items (first - (from - 1) + j) (fill b.item_type))
     begin_item j h =
         let low = from_low in
         let high = from_high in
@@ -221,10 +212,9 @@ module _ (along : Along) (a b : ArrayValue) (row : List ℕ) (count : ℕ) (item
         let t = turn k below in
         let pair = beside k below in
         let same = t.around (omega arith) in
-        let one : 0 + k + 1 ≡ k + 1 = omega arith in
-        ap (λ i. rotate_item along a b (row ++ i ∷ [])) (sym one) ∙ item_at k (first - (from - 1) + j) below (omega arith)
+        ap (λ i. rotate_item along a b (row ++ i ∷ [])) (sym (omega arith)) ∙ item_at k (first - (from - 1) + j) below (omega arith)
 
-    pub end_fits : IsArray b → first + (count - (from - 1)) ≤ length b.items
+    end_fits : IsArray b → first + (count - (from - 1)) ≤ length b.items
     end_fits sound =
         let low = from_low in
         let high = from_high in
@@ -234,3 +224,7 @@ module _ (along : Along) (a b : ArrayValue) (row : List ℕ) (count : ℕ) (item
         let pair = beside (count - from) last in
         let same = t.inside (omega arith) in
         omega (arith, sound.one_item_a_place)
+
+    pub turned_line : (place : ℕ) (at : List ℕ) → place ≡ first → at ≡ at_index 1 → IsArray b → TurnedLine along a b row count place (get_or at (length row) 0)
+    turned_line place at e f sound =
+        rw (e, f ∙ at_last 1, get_last row from 0) (record { low = from_low; high = from_high; there = begin_there; fits = end_fits sound; end_item = end_item; begin_item = begin_item })

@@ -105,8 +105,7 @@ reshape_answer (a ∷ c ∷ []) b v shape item_type two same passed as_many few 
     let passed = reshape_passed a b shape item_type here in
     let shaped = passed.shaped in
     let fits : size (magnitudes a) ≤ length b.items = subst (λ xs. size xs ≤ length b.items) shaped few in
-    let form : reshape_form a b ≡ Ok (form_of (magnitudes a) b.item_type) = here ∙ ap (λ xs. Ok (form_of xs item_type)) shaped ∙ ap (λ t. Ok (form_of (magnitudes a) t)) passed.typed in
-    ap (λ x. reshape_whole a x) (sym same) ∙ reshaped a b as_many fits form
+    ap (λ x. reshape_whole a x) (sym same) ∙ reshaped a b as_many fits (here ∙ ap (λ xs. Ok (form_of xs item_type)) shaped ∙ ap (λ t. Ok (form_of (magnitudes a) t)) passed.typed)
     ∙ ap (λ xs. Ok (record { item_type = b.item_type; shape = xs; items = take (size xs) (drop 0 b.items) })) (sym shaped) ∙ ap (λ w. Ok w) (sym made)
 
 -- ---- reshape, where items are needed again
@@ -123,11 +122,10 @@ module _ (a b : ArrayValue) (as_many : length b.items ≡ size b.shape) where
           ap (λ w. item_from a b b.item_type (cond (not w) (Place 1 (index_after b.shape (places_before (magnitudes a) (index_after (magnitudes a) k) % size b.shape))) Fill)) e
           ∙ ap (λ (x : Item). Ok x) (sym (get_or-eq_default b.items (fill b.item_type) (omega (arith, eqb-true (length b.items) 0 e))))
       decide false e =
-          let some = eqb-false (length b.items) 0 e in
           let before : places_before (magnitudes a) (index_after (magnitudes a) k) % size b.shape ≡ k % size b.shape = ap (λ n. n % size b.shape) (places_before-index_after (magnitudes a) k h) in
           ap (λ w. item_from a b b.item_type (cond (not w) (Place 1 (index_after b.shape (places_before (magnitudes a) (index_after (magnitudes a) k) % size b.shape))) Fill)) e
           ∙ ap (λ n. item_from a b b.item_type (Place 1 (index_after b.shape n))) before
-          ∙ ap (λ o. Ok (unwrap_or o (fill b.item_type))) (item_after b (k % size b.shape) (mod_below k (size b.shape) (omega (arith, as_many, some))))
+          ∙ ap (λ o. Ok (unwrap_or o (fill b.item_type))) (item_after b (k % size b.shape) (mod_below k (size b.shape) (omega (arith, as_many, eqb-false (length b.items) 0 e))))
           ∙ ap (λ n. Ok (get_or b.items (k % n) (fill b.item_type))) (sym as_many)
 
   recycles : reshape_form a b ≡ Ok (form_of (magnitudes a) b.item_type) → reshape_whole a b ≡ Ok (again_under b (magnitudes a))

@@ -1,6 +1,7 @@
 -- The place in a side that an item of a catenation comes from lies in that side.
-use Rattle.std.{proofs.Common.{◌≡◌, ℕ, zero, suc, ◌+◌, ◌<◌, ◌≤◌, Bool, true, false, ◌||◌, if◌then◌else◌, nat_eq, List, [], ◌∷◌, length, get_or, set, insert, remove, bytes_eq, refl, ap, sym, subst, ◌∙◌, arith}, proofs.lemmas.Bool.{and_parts, and_from, eqb-true, false≢true}, proofs.lemmas.Slice.Eq.{bytes_eq-Decides}}
-use Rattle.arrays_core.{specs.Arrays.{ArrayValue}, specs.Shapes.{is_index_of}, proofs.Shapes.{head_of}}
+use Rattle.std.{proofs.Common.{◌≡◌, ℕ, zero, suc, ◌+◌, ◌<◌, ◌≤◌, Bool, true, false, ◌||◌, if◌then◌else◌, nat_eq, List, [], ◌∷◌, length, get_or, set, insert, remove, bytes_eq, refl, ap, sym, subst, ◌∙◌, arith}, proofs.lemmas.Bool.{and_parts, and_from, eqb-true, false≢true}, proofs.lemmas.List.Edits.{length-insert}}
+use Rattle.std.proofs.lemmas.Slice.Eq.{bytes_eq-Decides}
+use Rattle.arrays_core.{specs.Arrays.{ArrayValue}, specs.Shapes.{is_index_of}, proofs.Shapes.{as_long, head_of}}
 use Rattle.function_names.{specs.declared.along.Along.{Along}, specs.Axes.{is_axis, axis_at}}
 use Rattle.index_region.{specs.Arguments.{is_scalar}, specs.Answers.{IsPlaceOf}, proofs.Passing.{passed, place_inside}, proofs.OnAxes.{OnAxis, scalar_inside, one_more_inside}}
 use Rattle.structural_fns.{specs.Catenate.{joined_rank, joined_places, other_axes, ranks_join, axes_agree, types_join, joined_type, joined_shape, in_side, catenate_form}, specs.Laws.SharedAxes.{shared_long}}
@@ -51,6 +52,7 @@ in_side_inside rank axis s index i below there others on = decide (is_scalar s) 
 
 -- what is known of an index list of a catenation
 pub record JoinFacts (rank axis : ℕ) (a b : ArrayValue) (index : List ℕ) : Type 0 where
+  pub long : length index ≡ rank
   pub on : OnAxis (joined_places rank axis a + joined_places rank axis b) (get_or index axis 0)
   pub left : (i : ℕ) → OnAxis (joined_places rank axis a) i → is_index_of a.shape (in_side rank axis a index i) ≡ true
   pub right : (i : ℕ) → OnAxis (joined_places rank axis b) i → is_index_of b.shape (in_side rank axis b index i) ≡ true
@@ -76,6 +78,7 @@ join_facts along a b index below h =
     let shared = shared_long a b axis below ranks.test in
     let more = of_more others (joined_places rank axis a + joined_places rank axis b) index axis (omega arith) inside in
     record {
+      long = as_long (joined_shape rank axis a b) index inside ∙ length-insert others axis (joined_places rank axis a + joined_places rank axis b) (omega arith) ∙ shared;
       on = more.on;
       left = λ i on. in_side_inside rank axis a index i below more.there
           (λ f. subst (λ w. is_index_of (other_axes rank axis (if w then b else a)) (remove index axis) ≡ true) f more.rest) on;

@@ -1,9 +1,9 @@
 -- The two sides of a catenation.
-use Rattle.std.{proofs.Common.{◌≡◌, ℕ, ◌+◌, ◌<◌, Bool, true, false, not, ◌&&◌, ◌||◌, if◌then◌else◌, List, length, refl, ◌∙◌, arith}, proofs.lemmas.Bool.{false≢true}, proofs.lemmas.List.Edits.{length-insert}}
-use Rattle.arrays_core.{specs.declared.item.Item.{Item}, specs.declared.item.ItemType.{ItemType}, specs.declared.item.ItemType.TheVariants.{Nums, Chars}, specs.declared.item.Kind.TheVariants.{Axis as AxisKind, Rank, Length, Domain}, specs.Items.{type_of}, specs.Arrays.{ArrayValue}, proofs.Shapes.{as_long}}
+use Rattle.std.{proofs.Common.{◌≡◌, ℕ, Bool, true, false, not, ◌&&◌, ◌||◌, if◌then◌else◌, List, refl}, proofs.lemmas.Bool.{false≢true}}
+use Rattle.arrays_core.{specs.declared.item.Item.{Item}, specs.declared.item.ItemType.{ItemType}, specs.declared.item.ItemType.TheVariants.{Nums, Chars}, specs.declared.item.Kind.TheVariants.{Axis as AxisKind, Rank, Length, Domain}, specs.Items.{type_of}, specs.Arrays.{ArrayValue}}
 use Rattle.function_names.{specs.declared.along.Along.{Along}, specs.Axes.{is_axis, axis_at}}
-use Rattle.index_region.{specs.Checks.{check, limited}, specs.Arguments.{is_scalar, has_items, is_same_type}, specs.Answers.{IsPlaceOf, HasTypeOf}, proofs.Passing.{passed, place_inside, typed_check, typed_limited}}
-use Rattle.structural_fns.{specs.Catenate.{joined_rank, joined_places, other_axes, ranks_join, axes_agree, types_join, joined_type, joined_shape, catenate_form}, specs.Laws.SharedAxes.{shared_long}}
+use Rattle.index_region.{specs.Checks.{check, limited}, specs.Arguments.{has_items, is_same_type}, specs.Answers.{IsPlaceOf, HasTypeOf}, proofs.Passing.{passed, typed_check, typed_limited}}
+use Rattle.structural_fns.specs.Catenate.{joined_rank, ranks_join, axes_agree, types_join, joined_type, joined_shape, catenate_form}
 
 same_types : (left right : Bool) (s t : ItemType)
     → ((not left || not right) || is_same_type s t) ≡ true → right ≡ true
@@ -24,23 +24,6 @@ join_types along a b index h =
     let rank = joined_rank a b in
     let ranks = passed (ranks_join a b) _ _ index (passed (is_axis rank along) _ _ index h).place in
     (passed (types_join a b) _ _ index (passed (axes_agree rank (axis_at rank along) a b) _ _ index ranks.place).place).test
-
--- an index list of the result has an index for each of its axes
-pub join_long : (along : Along) (a b : ArrayValue) (index : List ℕ) → axis_at (joined_rank a b) along < joined_rank a b
-    → IsPlaceOf (catenate_form along a b) index → length index ≡ joined_rank a b
-join_long along a b index below h =
-    let rank = joined_rank a b in
-    let axis = axis_at rank along in
-    let shape = joined_shape rank axis a b in
-    let on_axis = passed (is_axis rank along) _ _ index h in
-    let ranks = passed (ranks_join a b) _ _ index on_axis.place in
-    let axes = passed (axes_agree rank axis a b) _ _ index ranks.place in
-    let types = passed (types_join a b) _ _ index axes.place in
-    let inside = place_inside shape (joined_type a b) index types.place in
-    let shared = shared_long a b axis below ranks.test in
-    let others = other_axes rank axis (if is_scalar a then b else a) in
-    let long : length shape ≡ length others + 1 = length-insert others axis (joined_places rank axis a + joined_places rank axis b) (omega arith) in
-    as_long shape index inside ∙ long ∙ shared
 
 pub join_typed : (along : Along) (a b : ArrayValue) (item : Item) → type_of item ≡ joined_type a b → HasTypeOf (catenate_form along a b) item
 join_typed along a b item h =

@@ -102,8 +102,7 @@ later_at_most m (k ∷ lengths) n h = record { some = omega arith; low = omega (
 least_at : (axes shape : List ℕ) (k j : ℕ) → k < length axes → k < length shape → get_or axes k 0 ≡ j → HasAtMost (lengths_at axes shape j) (get_or shape k 0)
 least_at [] shape k j a s e = absurd (omega arith)
 least_at (x ∷ axes) [] k j a s e = absurd (omega arith)
-least_at (x ∷ axes) (n ∷ shape) zero j a s e =
-    rw (eq-eqb x j e) (first_at_most n (lengths_at axes shape j))
+least_at (x ∷ axes) (n ∷ shape) zero j a s e = rw (eq-eqb x j e) (first_at_most n (lengths_at axes shape j))
 least_at (x ∷ axes) (n ∷ shape) (suc k) j a s e = later (nat_eq x j) (least_at axes shape k j (omega arith) (omega arith) e)
   where
     others : List (ℕ × ℕ)
@@ -131,7 +130,6 @@ gathered_inside a b index h =
     let list = passed (is_list a) _ _ index h in
     let named = passed (counts_as_numbers a && are_axes (numbers a)) _ _ index (passed (nat_eq (length a.items) (length b.shape)) _ _ index list.place).place in
     let all = and_parts _ _ (and_parts (counts_as_numbers a) (are_axes (numbers a)) named.test).1 in
-    let inside = place_inside (transposed_shape axes b.shape) b.item_type index named.place in
     let long = entries_long a b index h in
     let many = magnitudes_long a in
     let numbered = numbers_long a in
@@ -139,11 +137,10 @@ gathered_inside a b index h =
     inside_by_axes b.shape (gathered axes index) (omega arith) (λ k below.
     let j : ℕ = get_or axes k 0 in
     let there : k < length axes = omega arith in
-    let value = magnitude_at a k (omega arith) in
-    let low : 1 ≤ j = omega (arith, value, entry_positive (numbers a) k all.0 (omega arith)) in
+    let low : 1 ≤ j = omega (arith, magnitude_at a k (omega arith), entry_positive (numbers a) k all.0 (omega arith)) in
     let high : j ≤ greatest_of axes = at_most_greatest axes k there in
     let shape_long = length-map-range_with_len (λ j. least_of (lengths_at axes b.shape j)) 1 (greatest_of axes) in
-    let on = on_axis (transposed_shape axes b.shape) index (j - 1) inside (omega arith) in
+    let on = on_axis (transposed_shape axes b.shape) index (j - 1) (place_inside (transposed_shape axes b.shape) b.item_type index named.place) (omega arith) in
     let least_here = get_or-map-range_with_len (λ j. least_of (lengths_at axes b.shape j)) 1 (greatest_of axes) (j - 1) j 0 (omega arith) (omega arith) in
     let at_most = least_at axes b.shape k j there below refl in
     let read = get_or-map (λ j. get_or index (j - 1) 0) axes k 0 0 there in

@@ -1,15 +1,10 @@
 -- Rows of a result whose items are evenly spaced in an argument.
-use Rattle.std.{proofs.Common.{◌≡◌, ℕ, zero, suc, ◌+◌, ◌-◌, ◌*◌, ◌<◌, ◌≤◌, true, cond, List, [], ◌∷◌, ◌++◌, length, get_or, drop, reverse, Some, None, Result, Ok, refl, ap, ◌∙◌, arith, min, nat_eq, Bool, false, map, Err}, specs.Prelude.{unwrap_or}, specs.List.{range_with_len}}
-use Rattle.std.{proofs.lemmas.Bool.{false≢true, eqb-true, eqb-false}, proofs.lemmas.List.{length-reverse, reverse-append}}
+use Rattle.std.{proofs.Common.{◌≡◌, ℕ, zero, suc, ◌+◌, ◌-◌, ◌*◌, ◌<◌, ◌≤◌, true, cond, List, [], ◌∷◌, ◌++◌, length, get_or, drop, reverse, Result, Ok, refl, ap, sym, ◌∙◌, arith, min, nat_eq, Bool, false, map, Err}, specs.List.{range_with_len}, proofs.lemmas.Bool.{false≢true, eqb-true, eqb-false}}
+use Rattle.std.proofs.lemmas.List.{length-reverse, reverse-append, get_or_push}
 use Rattle.arrays_core.{specs.declared.item.Item.{Item}, specs.declared.item.ItemType.{ItemType}, specs.declared.item.Kind.{Kind}, specs.Items.{fill}, specs.Arrays.{ArrayValue, IsArray}, specs.Building.{listed, with_row}, specs.Shapes.{size, is_index_of, places_before, IsWithinLimits}}
-use Rattle.arrays_core.{proofs.Shapes.{places_below, head_of}, proofs.Rows.{with_row_none, with_row_more}}
-use Rattle.index_region.{specs.Checks.{Form}, specs.Answers.{IsRowIn}, specs.Sources.{Place, item_from}, proofs.Passing.{row_inside, place_of_row}}
+use Rattle.arrays_core.{proofs.Shapes.{places_below, head_of}, proofs.Rows.{row_end, places_in_row, with_row_none, with_row_more}}
+use Rattle.index_region.{specs.Checks.{Form}, specs.Answers.{IsRowIn}, proofs.Passing.{row_inside, place_of_row}, proofs.Placed.{left_placed, right_placed}}
 use Rattle.structural_fns.{specs.Transpose.{transpose_form, transpose_item}, specs.DyadicTranspose.{axes_to, gathered, transpose_by_form, transpose_by_item}, proofs.SourcePlaces.{transpose_inside, gathered_inside}}
-
-pub one_argument : (args : List ArrayValue) (b : ArrayValue) → length args ≡ 1 → b ≡ get_or args 0 b → args ≡ b ∷ []
-one_argument [] b h e = absurd (omega arith)
-one_argument (x ∷ []) b h e = rw e refl
-one_argument (x ∷ y ∷ rest) b h e = absurd (omega arith)
 
 -- lists of the same values
 range_same : {A : Type 0} (f g : ℕ → A) (a n : ℕ) → ((i : ℕ) → a ≤ i → i < a + n → f i ≡ g i) → map f (range_with_len a n) ≡ map g (range_with_len a n)
@@ -20,19 +15,28 @@ range_same f g a (suc n) h =
 pub listed_same : {A : Type 0} (n : ℕ) (f g : ℕ → A) → ((k : ℕ) → k < n → f k ≡ g k) → listed n f ≡ listed n g
 listed_same n f g h = range_same f g 0 n (λ i low high. h i (omega arith))
 
--- the item at a place of the left argument, or of the right one
-pub item_left : (a b : ArrayValue) (at : List ℕ) → is_index_of a.shape at ≡ true
-    → item_from a b a.item_type (Place 0 at) ≡ Ok (get_or a.items (places_before a.shape at) (fill a.item_type))
-item_left a b at h = ap (λ w. Ok (unwrap_or (cond w (Some (get_or a.items (places_before a.shape at) (fill a.item_type))) None) (fill a.item_type))) h
-
-pub item_right : (a b : ArrayValue) (at : List ℕ) → is_index_of b.shape at ≡ true
-    → item_from a b b.item_type (Place 1 at) ≡ Ok (get_or b.items (places_before b.shape at) (fill b.item_type))
-item_right a b at h = ap (λ w. Ok (unwrap_or (cond w (Some (get_or b.items (places_before b.shape at) (fill b.item_type))) None) (fill b.item_type))) h
-
 -- a row has places
 pub row_some : (form : Result Form Kind) (row : List ℕ) (count : ℕ) (item_type : ItemType) → IsRowIn form row count item_type → 0 < count
 row_some (Ok form) row count item_type h = h.0.some
 row_some (Err kind) row count item_type h = absurd h
+
+-- ---- a row whose items stand one after another in an array
+
+module _ (shape : List ℕ) (at : ℕ → List ℕ) (others : List ℕ) (place : ℕ → ℕ) (count : ℕ) (inside : (j : ℕ) → j < count → is_index_of shape (at (0 + j + 1)) ≡ true)
+    (is : (i : ℕ) → at i ≡ others ++ place i ∷ []) (next : (j : ℕ) → place (0 + j + 1) ≡ place 1 + j) where
+  pub place_beside : (j : ℕ) → j < count → places_before shape (at (0 + j + 1)) ≡ places_before shape (at 1) + j
+  place_beside j h =
+      let begin : is_index_of shape (others ++ place 1 ∷ []) ≡ true = ap (is_index_of shape) (sym (is 1)) ∙ inside 0 (omega arith) in
+      let there : is_index_of shape (others ++ place (0 + j + 1) ∷ []) ≡ true = ap (is_index_of shape) (sym (is (0 + j + 1))) ∙ inside j h in
+      let beside = places_in_row shape others (place 1) (place (0 + j + 1)) begin (row_end shape others (place (0 + j + 1)) there).low in
+      rw (is (0 + j + 1), is 1) (omega (arith, next j))
+
+  pub row_fits : 0 < count → places_before shape (at 1) + count ≤ size shape
+  row_fits some =
+      let last : count - 1 < count = omega arith in
+      let below = places_below shape (at (0 + (count - 1) + 1)) (inside (count - 1) last) in
+      let place = place_beside (count - 1) last in
+      omega arith
 
 -- ---- a row whose items stand at these index lists of an array, which are evenly spaced
 
@@ -113,17 +117,11 @@ module _ (b : ArrayValue) (row : List ℕ) (count : ℕ) (item_type : ItemType) 
       → with_row items (λ i. transpose_item b (row ++ i ∷ [])) count ≡ Ok (items ++ listed count (λ k. get_or b.items (first + k * size (drop 1 b.shape)) (fill b.item_type)))
   transposed_items items =
       steps_row b (λ i. reverse (row ++ i ∷ [])) count (size (drop 1 b.shape)) of_row.inside (λ i low high. place_stepped b.shape row i of_row.axes low) first begins items
-      (λ i. transpose_item b (row ++ i ∷ [])) (λ i there. item_left b b (reverse (row ++ i ∷ [])) there)
+      (λ i. transpose_item b (row ++ i ∷ [])) (λ i there. left_placed b b (reverse (row ++ i ∷ [])) there)
 
 -- ---- dyadic transpose
 
--- the last index of an index list, and those before it
-pub at_end : (xs : List ℕ) (x k : ℕ) → k ≡ length xs → get_or (xs ++ x ∷ []) k 0 ≡ x
-at_end [] x zero e = refl
-at_end [] x (suc k) e = absurd (omega arith)
-at_end (y ∷ xs) x zero e = absurd (omega arith)
-at_end (y ∷ xs) x (suc k) e = at_end xs x k (omega arith)
-
+-- an index before the last
 before_end : (xs : List ℕ) (x y k : ℕ) → (k ≡ length xs → ⊥) → get_or (xs ++ x ∷ []) k 0 ≡ get_or (xs ++ y ∷ []) k 0
 before_end [] x y zero h = absurd (h refl)
 before_end [] x y (suc k) h = refl
@@ -149,7 +147,7 @@ gathered_steps (n ∷ shape) [] row i = omega arith
 gathered_steps (n ∷ shape) (j ∷ axes) row i =
     one_axis_more (nat_eq (j - 1) (length row)) (size shape) (places_before shape (gathered axes (row ++ i ∷ []))) (places_before shape (gathered axes (row ++ 1 ∷ [])))
     (stride_to shape axes (length row)) i (get_or (row ++ i ∷ []) (j - 1) 0) (get_or (row ++ 1 ∷ []) (j - 1) 0) (gathered_steps shape axes row i)
-    (λ e. let same = eqb-true (j - 1) (length row) e in (at_end row i (j - 1) same, at_end row 1 (j - 1) same))
+    (λ e. let same = eqb-true (j - 1) (length row) e in (get_or_push row i 0 (j - 1) (sym same), get_or_push row 1 0 (j - 1) (sym same)))
     (λ e. before_end row i 1 (j - 1) (eqb-false (j - 1) (length row) e))
 
 -- the first two places of a row give its step
@@ -192,4 +190,4 @@ module _ (a b : ArrayValue) (row : List ℕ) (count : ℕ) (item_type : ItemType
   pub transposed_by_items : (items : List Item)
       → with_row items (λ i. transpose_by_item a b (row ++ i ∷ [])) count ≡ Ok (items ++ listed count (λ k. get_or b.items (first + k * (second - first)) (fill b.item_type)))
   transposed_by_items items =
-      steps_row b index_at count (second - first) inside_at step_at first begins items (λ i. transpose_by_item a b (row ++ i ∷ [])) (λ i there. item_right a b (index_at i) there)
+      steps_row b index_at count (second - first) inside_at step_at first begins items (λ i. transpose_by_item a b (row ++ i ∷ [])) (λ i there. right_placed a b (index_at i) there)

@@ -1,10 +1,10 @@
 -- The rows of what is taken.
 use Rattle.std.{proofs.Common.{◌≡◌, ℕ, zero, suc, ◌+◌, ◌-◌, ◌<◌, ◌≤◌, min, ℤ, pos, negsuc, unsigned_abs, nat_eq, Bool, true, false, cond, if◌then◌else◌, List, [], ◌∷◌, ◌++◌, length, get_or, replicate, Some, None, Result, Ok, refl, ap, sym, subst, ◌∙◌, arith}, specs.Prelude.{unwrap_or, int_le}}
-use Rattle.std.proofs.lemmas.Bool.{eqb-true, false≢true, le-leb}
+use Rattle.std.proofs.lemmas.Bool.{eqb-true, false≢true, false_from_ne_true, le-leb}
 use Rattle.arrays_core.{specs.declared.item.Item.{Item}, specs.declared.item.ItemType.{ItemType}, specs.declared.item.Kind.{Kind}, specs.Items.{fill}, specs.Arrays.{ArrayValue, IsArray}, specs.Building.{listed, with_row}, specs.Shapes.{size, is_index_of, places_before}, proofs.Shapes.{places_below}}
 use Rattle.arrays_core.proofs.Rows.{row_end, same_row, places_in_row, with_row_none, with_row_more, with_row_then}
 use Rattle.index_region.{specs.Answers.{IsRowIn, IsPlaceOf}, specs.Arguments.{numbers, is_scalar, is_list, counts_as_numbers}, specs.Sources.{Place, Fill, item_from}, proofs.Passing.{passed, place_inside, row_passed, row_inside}}
-use Rattle.structural_fns.{specs.AxisCounts.{counted_shape, uncounted}, specs.Reshape.{magnitudes}, specs.Take.{take_form, take_item, taken_place, taken_places, AreOnLastAxis}, proofs.Counting.{numbers_long, magnitudes_long, magnitude_at}, proofs.SourcePlaces.{uncounted_inside}}
+use Rattle.structural_fns.{specs.AxisCounts.{counted_shape, uncounted}, specs.Reshape.{magnitudes}, specs.Take.{take_form, take_item, take_source, taken_place, taken_places, AreOnLastAxis}, proofs.Counting.{numbers_long, magnitudes_long, magnitude_at}, proofs.SourcePlaces.{uncounted_inside}}
 
 -- what is known of a row of what is taken
 pub record TakenRow (a b : ArrayValue) (row : List ℕ) (count : ℕ) (item_type : ItemType) : Type 0 where
@@ -78,13 +78,12 @@ uncounted_place a b at inside = by_test (is_scalar b) inside
         none_before b.shape ∙ omega arith
     by_test false h = refl
 
-pub item_taken : (a b : ArrayValue) (index : List ℕ) → is_index_of (counted_shape a b) (taken_places (counted_shape a b) (numbers a) index) ≡ true
+item_taken : (a b : ArrayValue) (index : List ℕ) → is_index_of (counted_shape a b) (taken_places (counted_shape a b) (numbers a) index) ≡ true
     → take_item a b index ≡ Ok (get_or b.items (places_before (counted_shape a b) (taken_places (counted_shape a b) (numbers a) index)) (fill b.item_type))
 item_taken a b index h =
     let at = taken_places (counted_shape a b) (numbers a) index in
-    let there = uncounted_inside a b at h in
     ap (λ w. item_from a b b.item_type (cond w (Place 1 (uncounted b at)) Fill)) h
-    ∙ ap (λ w. Ok (unwrap_or (cond w (Some (get_or b.items (places_before b.shape (uncounted b at)) (fill b.item_type))) None) (fill b.item_type))) there
+    ∙ ap (λ w. Ok (unwrap_or (cond w (Some (get_or b.items (places_before b.shape (uncounted b at)) (fill b.item_type))) None) (fill b.item_type))) (uncounted_inside a b at h)
     ∙ ap (λ k. Ok (get_or b.items k (fill b.item_type))) (uncounted_place a b at h)
 
 pub fill_taken : (a b : ArrayValue) (index : List ℕ) → is_index_of (counted_shape a b) (taken_places (counted_shape a b) (numbers a) index) ≡ false
@@ -92,15 +91,15 @@ pub fill_taken : (a b : ArrayValue) (index : List ℕ) → is_index_of (counted_
 fill_taken a b index h = ap (λ w. item_from a b b.item_type (cond w (Place 1 (uncounted b (taken_places (counted_shape a b) (numbers a) index))) Fill)) h
 
 -- a place that a source names lies in the array
-pub record SourceThere (inside : Bool) (at wanted : List ℕ) : Type 0 where
-  pub there : inside ≡ true
-  pub is : at ≡ wanted
+record SourceThere (inside : Bool) (at wanted : List ℕ) : Type 0 where
+  there : inside ≡ true
+  is : at ≡ wanted
 
-pub source_there : (inside : Bool) (arg : ℕ) (at wanted : List ℕ) → Place arg at ≡ (if inside then Place 1 wanted else Fill) → SourceThere inside at wanted
+source_there : (inside : Bool) (arg : ℕ) (at wanted : List ℕ) → Place arg at ≡ (if inside then Place 1 wanted else Fill) → SourceThere inside at wanted
 source_there true arg at wanted e = record { there = refl; is = cc }
 source_there false arg at wanted e = let no : ⊥ = cc in absurd no
 
-pub no_source_there : (inside : Bool) (wanted : List ℕ) → Fill ≡ (if inside then Place 1 wanted else Fill) → inside ≡ false
+no_source_there : (inside : Bool) (wanted : List ℕ) → Fill ≡ (if inside then Place 1 wanted else Fill) → inside ≡ false
 no_source_there true wanted e = let no : ⊥ = cc in absurd no
 no_source_there false wanted e = refl
 
@@ -115,6 +114,11 @@ next_on_axis : (n : ℕ) (z : ℤ) (before kept j : ℕ) → j < kept → 1 ≤ 
     → NextOnAxis n (taken_place n z (before + 1)) (taken_place n z (before + (0 + j + 1))) j
 next_on_axis n (pos c) before kept j h low high = record { is = omega arith; low = omega arith; high = omega arith }
 next_on_axis n (negsuc c) before kept j h low high = record { is = omega arith; low = omega arith; high = omega arith }
+
+-- a part of a row whose items stand one after another in the array
+pub record KeptRow (a b : ArrayValue) (row : List ℕ) (before kept place : ℕ) : Type 0 where
+  pub inside : 0 < kept → IsArray b → place + kept ≤ length b.items
+  pub item : (j : ℕ) → j < kept → take_item a b (row ++ (before + (0 + j + 1)) ∷ []) ≡ Ok (get_or b.items (place + j) (fill b.item_type))
 
 -- the places of a row of what is taken
 module _ (a b : ArrayValue) (row : List ℕ) (axes : length (counted_shape a b) ≡ length row + 1) (counts : length a.items ≡ length row + 1) where
@@ -138,11 +142,8 @@ module _ (a b : ArrayValue) (row : List ℕ) (axes : length (counted_shape a b) 
 
   -- no place of the last axis
   pub outside : (i : ℕ) → (1 ≤ on_last i → on_last i ≤ get_or (counted_shape a b) (length row) 0 → ⊥) → is_index_of (counted_shape a b) (at_index i) ≡ false
-  outside i not_on = decide (is_index_of (counted_shape a b) (at_index i)) refl
-    where
-      decide : (w : Bool) → is_index_of (counted_shape a b) (at_index i) ≡ w → w ≡ false
-      decide true e = let end = row_end (counted_shape a b) others (on_last i) (inside_at i e) in absurd (not_on end.low (subst (λ n. on_last i ≤ n) length_axis end.high))
-      decide false e = refl
+  outside i not_on = false_from_ne_true _ (λ e.
+      let end = row_end (counted_shape a b) others (on_last i) (inside_at i e) in not_on end.low (subst (λ n. on_last i ≤ n) length_axis end.high))
 
   -- two places of the last axis
   pub both_inside : (i j : ℕ) → is_index_of (counted_shape a b) (at_index i) ≡ true → 1 ≤ on_last j → on_last j ≤ get_or (counted_shape a b) (length row) 0
@@ -163,28 +164,23 @@ module _ (a b : ArrayValue) (row : List ℕ) (axes : length (counted_shape a b) 
     next : (j : ℕ) → j < kept → NextOnAxis (get_or (counted_shape a b) (length row) 0) (on_last (before + 1)) (on_last (before + (0 + j + 1))) j
     next j h = next_on_axis _ (get_or (numbers a) (length row) (pos 0)) before kept j h on.0 on.1
 
-    pub kept_item : (j : ℕ) → j < kept → is_index_of (counted_shape a b) (at_index (before + 1)) ≡ true
+    kept_item : (j : ℕ) → j < kept → is_index_of (counted_shape a b) (at_index (before + 1)) ≡ true
         → take_item a b (row ++ (before + (0 + j + 1)) ∷ []) ≡ Ok (get_or b.items (places_before (counted_shape a b) (at_index (before + 1)) + j) (fill b.item_type))
     kept_item j h there =
         let on_axis = next j h in
         let inside = both_inside (before + 1) (before + (0 + j + 1)) there on_axis.low on_axis.high in
         let beside = side_by_side (before + 1) (before + (0 + j + 1)) there on_axis.low in
-        let place : places_before (counted_shape a b) (at_index (before + (0 + j + 1))) ≡ places_before (counted_shape a b) (at_index (before + 1)) + j = omega (arith, on_axis.is) in
-        item_taken a b (row ++ (before + (0 + j + 1)) ∷ []) inside ∙ ap (λ k. Ok (get_or b.items k (fill b.item_type))) place
+        item_taken a b (row ++ (before + (0 + j + 1)) ∷ []) inside ∙ ap (λ k. Ok (get_or b.items k (fill b.item_type))) (omega (arith, on_axis.is))
 
-    pub kept_fill : (j : ℕ) → j < kept → is_index_of (counted_shape a b) (at_index (before + 1)) ≡ false
-        → take_item a b (row ++ (before + (0 + j + 1)) ∷ []) ≡ Ok (fill b.item_type)
-    kept_fill j h none = fill_taken a b (row ++ (before + (0 + j + 1)) ∷ []) (decide (is_index_of (counted_shape a b) (at_index (before + (0 + j + 1)))) refl)
-      where
-        decide : (w : Bool) → is_index_of (counted_shape a b) (at_index (before + (0 + j + 1))) ≡ w → w ≡ false
-        decide true e = let there = both_inside (before + (0 + j + 1)) (before + 1) e on.0 (let n = next j h in omega (arith, n.is, n.high)) in absurd (false≢true (sym none ∙ there))
-        decide false e = refl
+    pub kept_fill : Fill ≡ take_source a b (row ++ (before + 1) ∷ []) → (j : ℕ) → j < kept → take_item a b (row ++ (before + (0 + j + 1)) ∷ []) ≡ Ok (fill b.item_type)
+    kept_fill from j h = fill_taken a b (row ++ (before + (0 + j + 1)) ∷ []) (false_from_ne_true _ (λ e.
+        let there = both_inside (before + (0 + j + 1)) (before + 1) e on.0 (let n = next j h in omega (arith, n.is, n.high)) in
+        false≢true (sym (no_source_there _ (uncounted b (at_index (before + 1))) from) ∙ there)))
 
-    pub kept_inside : 0 < kept → IsArray b → is_index_of (counted_shape a b) (at_index (before + 1)) ≡ true
+    kept_inside : 0 < kept → IsArray b → is_index_of (counted_shape a b) (at_index (before + 1)) ≡ true
         → places_before (counted_shape a b) (at_index (before + 1)) + kept ≤ length b.items
     kept_inside some sound there =
-        let last : kept - 1 < kept = omega arith in
-        let on_axis = next (kept - 1) last in
+        let on_axis = next (kept - 1) (omega arith) in
         let inside = both_inside (before + 1) (before + (0 + (kept - 1) + 1)) there on_axis.low on_axis.high in
         let beside = side_by_side (before + 1) (before + (0 + (kept - 1) + 1)) there on_axis.low in
         let at = at_index (before + (0 + (kept - 1) + 1)) in
@@ -192,8 +188,11 @@ module _ (a b : ArrayValue) (row : List ℕ) (axes : length (counted_shape a b) 
         let same = uncounted_place a b at inside in
         omega (arith, on_axis.is, sound.one_item_a_place)
 
-    pub first_place : is_index_of (counted_shape a b) (at_index (before + 1)) ≡ true → places_before b.shape (uncounted b (at_index (before + 1))) ≡ places_before (counted_shape a b) (at_index (before + 1))
-    first_place there = uncounted_place a b (at_index (before + 1)) there
+    pub kept_row : (arg : ℕ) (at : List ℕ) → Place arg at ≡ take_source a b (row ++ (before + 1) ∷ []) → KeptRow a b row before kept (places_before b.shape at)
+    kept_row arg at from =
+        let source = source_there _ arg at (uncounted b (at_index (before + 1))) from in
+        rw (source.is, uncounted_place a b (at_index (before + 1)) source.there)
+        (record { inside = λ some sound. kept_inside some sound source.there; item = λ j h. kept_item j h source.there })
 
 -- ---- a whole row
 

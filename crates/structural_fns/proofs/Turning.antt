@@ -13,10 +13,8 @@ not_zero a = false_from_ne_true _ (λ t. let e : suc a ≡ 0 = ap nat_abs ((Deci
 -- the residue of a positive number is what is left of a division that rounds down
 pub residue_euclid : (n : ℕ) (z : ℤ) → 0 < n → residue (pos n) z ≡ int_rem_euclid z (pos n)
 residue_euclid zero z h = absurd (omega arith)
-residue_euclid (suc a) (pos b) h =
-    rw (not_zero a) (both_positive b a)
-residue_euclid (suc a) (negsuc b) h =
-    rw (not_zero a, pos-*ℤ-negsuc (suc a) (b / suc a)) (omega (arith, ints))
+residue_euclid (suc a) (pos b) h = rw (not_zero a) (both_positive b a)
+residue_euclid (suc a) (negsuc b) h = rw (not_zero a, pos-*ℤ-negsuc (suc a) (b / suc a)) (omega (arith, ints))
 
 pub rotation_typed : (along : Along) (a b : ArrayValue) (item : Item) → type_of item ≡ b.item_type → HasTypeOf (rotate_form along a b) item
 rotation_typed along a b item h =

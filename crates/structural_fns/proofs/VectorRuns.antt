@@ -52,10 +52,8 @@ taken_item item_type n items a z skipped k counted place below =
     rw (counted, place, index_after-within (n ∷ []) (skipped + k) inside, item_after (of_vector item_type n items) (skipped + k) inside) refl
 
 place_moves : (n : ℕ) (z : ℤ) (k : ℕ) → unsigned_abs z ≤ n → taken_place n z (k / 1 + 1) ≡ (taken_place n z 1 - 1 + k) / 1 + 1
-place_moves n (pos c) k h =
-    omega arith
-place_moves n (negsuc c) k h =
-    omega arith
+place_moves n (pos c) k h = omega arith
+place_moves n (negsuc c) k h = omega arith
 
 first_fits : (n : ℕ) (z : ℤ) → unsigned_abs z ≤ n → taken_place n z 1 - 1 + unsigned_abs z ≤ n
 first_fits n (pos c) h = omega arith
@@ -89,8 +87,7 @@ taken_run a b shape form one_axis sound few =
     let sized : size shape ≡ unsigned_abs z * 1 = ap size shaped in
     let whole : length b.items ≡ n * 1 = sound.one_item_a_place ∙ ap size (only b.shape 0 one_axis) in
     let long : n ≡ length b.items = omega arith in
-    let fits : unsigned_abs z ≤ n = omega arith in
-    ap (λ x. take_whole a x) is ∙ taken_whole b.item_type n b.items a z counted long fits (here ∙ ap (λ xs. Ok (form_of xs b.item_type)) shaped)
+    ap (λ x. take_whole a x) is ∙ taken_whole b.item_type n b.items a z counted long (omega arith) (here ∙ ap (λ xs. Ok (form_of xs b.item_type)) shaped)
     ∙ ap (λ xs. Ok (run_of b xs (taken_place n z 1 - 1))) (sym shaped) ∙ ap (λ m. Ok (run_of b shape (taken_place m z 1 - 1))) long
 
 -- ---- drop
@@ -98,15 +95,11 @@ taken_run a b shape form one_axis sound few =
 kept_item : (item_type : ItemType) (n : ℕ) (items : List Item) (a : ArrayValue) (z : ℤ) (skipped k : ℕ) → numbers a ≡ z ∷ []
     → kept_place z (k / 1 + 1) ≡ (skipped + k) / 1 + 1 → skipped + k < n
     → drop_item a (of_vector item_type n items) ((k / 1 + 1) ∷ []) ≡ Ok (get_or items (skipped + k) (fill item_type))
-kept_item item_type n items a z skipped k counted place below =
-    let inside : skipped + k < n * 1 = omega arith in
-    rw (counted, place, item_after (of_vector item_type n items) (skipped + k) inside) refl
+kept_item item_type n items a z skipped k counted place below = rw (counted, place, item_after (of_vector item_type n items) (skipped + k) (omega arith)) refl
 
 kept_moves : (z : ℤ) (k : ℕ) → kept_place z (k / 1 + 1) ≡ (kept_place z 1 - 1 + k) / 1 + 1
-kept_moves (pos c) k =
-    omega arith
-kept_moves (negsuc c) k =
-    omega arith
+kept_moves (pos c) k = omega arith
+kept_moves (negsuc c) k = omega arith
 
 kept_fits : (n : ℕ) (z : ℤ) → unsigned_abs z ≤ n → kept_place z 1 - 1 + (n - unsigned_abs z) ≤ n
 kept_fits n (pos c) h = omega arith
@@ -135,8 +128,7 @@ pub dropped_vector : (a b : ArrayValue) (shape : List ℕ) → drop_form a b ≡
 dropped_vector a b shape form one_axis sound =
     let n = get_or b.shape 0 0 in
     let v = of_vector b.item_type n b.items in
-    let here : drop_form a v ≡ Ok (form_of shape b.item_type) = ap (λ x. drop_form a x) (sym (vector_is b one_axis)) ∙ form in
-    let passed = counts_passed (dropped_shape (counted_shape a v) (numbers a)) a v shape b.item_type here in
+    let passed = counts_passed (dropped_shape (counted_shape a v) (numbers a)) a v shape b.item_type (ap (λ x. drop_form a x) (sym (vector_is b one_axis)) ∙ form) in
     let counted = one_number a passed.long in
     let whole : length b.items ≡ n * 1 = sound.one_item_a_place ∙ ap size (only b.shape 0 one_axis) in
     let long : n ≡ length b.items = omega arith in
@@ -158,8 +150,7 @@ pub first_kept : (a b : ArrayValue) (shape : List ℕ) → drop_form a b ≡ Ok 
 first_kept a b shape form one_axis sound some =
     let z = get_or (numbers a) 0 (pos 0) in
     let sized : size shape ≡ (length b.items - unsigned_abs z) * 1 = ap size (dropped_vector a b shape form one_axis sound).shaped in
-    let below : unsigned_abs z ≤ length b.items = omega arith in
-    let fits = kept_fits (length b.items) z below in
+    let fits = kept_fits (length b.items) z (omega arith) in
     record { bound = omega arith; fits = omega arith }
 
 pub kept_run : (a b : ArrayValue) (shape : List ℕ) (skipped : ℕ) → drop_form a b ≡ Ok (form_of shape b.item_type) → length b.shape ≡ 1 → IsArray b

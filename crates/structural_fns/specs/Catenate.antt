@@ -20,8 +20,7 @@ other_axes rank axis a = if nat_eq (length a.shape) rank then remove a.shape axi
 
 -- a scalar joins any array; else the ranks differ by at most 1
 abbrev pub ranks_join : ArrayValue → ArrayValue → Bool
-ranks_join a b =
-    (is_scalar a || is_scalar b) || (nat_le (length a.shape) (suc (length b.shape)) && nat_le (length b.shape) (suc (length a.shape)))
+ranks_join a b = (is_scalar a || is_scalar b) || (nat_le (length a.shape) (suc (length b.shape)) && nat_le (length b.shape) (suc (length a.shape)))
 
 -- a scalar is repeated over the other axes; else these are the same
 abbrev pub axes_agree : ℕ → ℕ → ArrayValue → ArrayValue → Bool
@@ -37,8 +36,7 @@ joined_type a b = if not (has_items a) && has_items b then b.item_type else a.it
 
 -- the other axes, with the places of both sides along the axis
 abbrev pub joined_shape : ℕ → ℕ → ArrayValue → ArrayValue → List ℕ
-joined_shape rank axis a b =
-    insert (other_axes rank axis (if is_scalar a then b else a)) axis (joined_places rank axis a + joined_places rank axis b)
+joined_shape rank axis a b = insert (other_axes rank axis (if is_scalar a then b else a)) axis (joined_places rank axis a + joined_places rank axis b)
 
 -- the checks of two sides, and what follows them
 abbrev pub sides_checked : ℕ → ℕ → ArrayValue → ArrayValue → Result Form Kind → Result Form Kind
@@ -58,8 +56,7 @@ catenate_form along a b =
 
 -- a side's index list at place i along the axis; a scalar is repeated over the others
 abbrev pub in_side : ℕ → ℕ → ArrayValue → List ℕ → ℕ → List ℕ
-in_side rank axis a index i =
-    if is_scalar a then [] else (if nat_eq (length a.shape) rank then set index axis i else remove index axis)
+in_side rank axis a index i = if is_scalar a then [] else (if nat_eq (length a.shape) rank then set index axis i else remove index axis)
 
 -- a side's index list for place i of a row of the result, where so many places along the axis are the other side's
 abbrev pub in_side_of_row : ℕ → ℕ → ArrayValue → List ℕ → ℕ → List ℕ

@@ -17,8 +17,7 @@ reshape_form a b =
 
 -- the ravel of b, again and again
 abbrev pub reshape_source : List ℕ → ArrayValue → List ℕ → Source
-reshape_source shape b index =
-    if has_items b then Place 1 (index_after b.shape (places_before shape index % size b.shape)) else Fill
+reshape_source shape b index = if has_items b then Place 1 (index_after b.shape (places_before shape index % size b.shape)) else Fill
 
 -- the items of b, again and again, under a shape; fill where b has none
 abbrev pub again_under : ArrayValue → List ℕ → ArrayValue

@@ -1,14 +1,14 @@
 -- The lines of an array in which each of some lines has one new number.
 use Rattle.std.{proofs.Common.{◌≡◌, ◌≢◌, ℕ, ◌+◌, ◌-◌, ◌*◌, ◌/◌, ◌<◌, ◌≤◌, ℤ, pos, true, false, List, length, get_or, set, map, remove, insert, refl, ap, sym, subst, ◌∙◌, arith, nat_eq, inl, inr}, proofs.lemmas.Bool.{cases_Bool, cond-true, cond-false, eqb-true, eqb-false}}
-use Rattle.std.{proofs.lemmas.List.{length-map, ext_get_or, get_or_default, get_or-set_same, get_or-set_other}, proofs.lemmas.List.FromFn.{length-map-range_with_len, get_or-map-range_with_len}, proofs.Math.ListN.{get_or-map}, proofs.Math.Nat.{mul-div_cancel}}
+use Rattle.std.{proofs.lemmas.List.{length-map, get_or_default, get_or-set_same, get_or-set_other}, proofs.Math.ListN.{get_or-map}, proofs.Math.Nat.{mul-div_cancel}}
 use Rattle.arrays_core.{specs.declared.item.Item.{Item}, specs.declared.item.Item.TheVariants.{Num, Char}, specs.declared.item.ItemType.TheVariants.{Nums}, specs.Arrays.{ArrayValue, item_of}, specs.Items.{fill, type_of}, specs.Shapes.{size, is_index_of, places_before}, proofs.Shapes.{places_below}}
 use Rattle.function_names.{specs.declared.scalar.Scalar2.{Scalar2}, specs.declared.along.Along.{Along}}
-use Rattle.item_fns.{specs.Folds.{strided, line_start}, proofs.RightFolds.{length-strided, get_or-strided}, specs.RightFold.{fold_right}}
-use Rattle.index_region.{specs.Arguments.{number_of}, specs.Axes.{places_along}, specs.Boxes.{Interval, box_size, box_offset, is_within, walk_at}, specs.Patches.{PatchValue, IsPatch, FitsPatch, patched, patched_item}, proofs.Boxes.{fits_length}, proofs.Patched.{fits_within, patched_at}}
+use Rattle.item_fns.{specs.Folds.{strided, line_start}, specs.RightFold.{fold_right}}
+use Rattle.index_region.{specs.Arguments.{number_of}, specs.Boxes.{Interval, box_size, box_offset, is_within, walk_at}, specs.Patches.{PatchValue, IsPatch, FitsPatch, patched, patched_item}, proofs.Boxes.{fits_length}, proofs.Patched.{fits_within, patched_at}}
 use Rattle.index_region.proofs.Walks.{offset_below, offset_of_walk, walk_of_offset, walk_within}
 use Rattle.fold_trees.specs.ArrayLines.{TreesValue, line_through, numbers_through, with_number}
 use Rattle.reduce_fns.{specs.Laws.LineIndices.{inside}, proofs.Lines.{long_with_axis, remove_inserted, stride}, proofs.Reduced.{start_is}, specs.Lines.{line}}
-use Rattle.sum_rules.{specs.LineSums.{StandFor, array_of_shape, line_length, line_step}, specs.Totals.{StoodFor, is_one_a_line, box_of_lines}, proofs.OneAxis.{FitsAxis, fits_axis, size_with_one, walk_with_one, within_axis}, proofs.Lines.{line_through_place, some_step}}
+use Rattle.sum_rules.{specs.LineSums.{StandFor, array_of_shape, line_length, line_step}, specs.Totals.{StoodFor, is_one_a_line, box_of_lines}, proofs.OneAxis.{FitsAxis, fits_axis, size_with_one, walk_with_one, within_axis}, proofs.KeptLines.{line_of_numbers}, proofs.Lines.{line_through_place, some_step}}
 
 -- an item of numbers is its number
 number_item_is : (x : Item) → type_of x ≡ Nums → x ≡ Num (number_of x)
@@ -90,14 +90,12 @@ module _ (axis : ℕ) (t : TreesValue) (a : ArrayValue) (p : PatchValue) (stand 
 
     place_at : (k : ℕ) → places_before a.shape (insert index axis (k + 1)) ≡ first + k * step
     place_at k =
-        let less : k + 1 - 1 ≡ k = omega arith in
-        stride axis a.shape index (k + 1) stand.there (long before below) ∙ ap (λ m. first + m * step) less
+        stride axis a.shape index (k + 1) stand.there (long before below) ∙ ap (λ m. first + m * step) (omega arith)
 
     -- where the new number lies
     new_place : place ≡ first + (s.0 - 1) * step
     new_place =
-        let one_more : s.0 ≡ s.0 - 1 + 1 = omega (arith, low_high.0) in
-        ap (places_before a.shape) (new_index before below ∙ ap (insert index axis) one_more) ∙ place_at (s.0 - 1)
+        ap (places_before a.shape) (new_index before below ∙ ap (insert index axis) (omega (arith, low_high.0))) ∙ place_at (s.0 - 1)
 
     -- the line on which it lies
     first_is : line_start t.step t.count (line_through t.count t.step place) ≡ first
@@ -148,16 +146,14 @@ module _ (axis : ℕ) (t : TreesValue) (a : ArrayValue) (p : PatchValue) (stand 
     item_now k under = elim (cases_Bool (nat_eq (k + 1) s.0)) [
       | inl w ↦
           let e : k + 1 ≡ s.0 = eqb-true _ _ w in
-          let here : k ≡ s.0 - 1 = omega (arith, e) in
-          let at : first + k * step ≡ place = ap (λ m. first + m * step) here ∙ sym new_place in
+          let at : first + k * step ≡ place = ap (λ m. first + m * step) (omega (arith, e)) ∙ sym new_place in
           ap (λ j. item_of (patched a p) (insert index axis j)) e
           ∙ new_item
           ∙ ap (λ (y : ℤ). Num y) (sym (ap (λ m. get_or numbers_now m (pos 0)) at ∙ get_or-set_same t.numbers place z (pos 0) place_below))
       | inr f ↦
           let away : k + 1 ≢ s.0 = eqb-false _ _ f in
           let apart : first + k * step ≢ place = λ e.
-          let same : k ≡ s.0 - 1 = same_steps first step k (s.0 - 1) some (e ∙ new_place) in
-          away (omega (arith, same, low_high.0)) in
+          away (omega (arith, same_steps first step k (s.0 - 1) some (e ∙ new_place), low_high.0)) in
           patched_at a p (insert index axis (k + 1)) (inside_shape (k + 1) (omega arith) (omega (arith, under)))
           ∙ cond-false _ _ _ (outside (k + 1) away)
           ∙ old_item k
@@ -166,17 +162,7 @@ module _ (axis : ℕ) (t : TreesValue) (a : ArrayValue) (p : PatchValue) (stand 
 
     -- the line, as the numbers tell it
     changed_line : line (patched a p) axis index ≡ map (λ (y : ℤ). Num y) (strided (pos 0) numbers_now first step n)
-    changed_line =
-        let item = λ (j : ℕ). item_of (patched a p) (insert index axis j) in
-        let along : places_along a.shape axis ≡ n = get_or_default a.shape axis 1 0 stand.there in
-        let many = length-map-range_with_len item 1 (places_along a.shape axis) in
-        let numbers = strided (pos 0) numbers_now first step n in
-        let as_many : length (map (λ (y : ℤ). Num y) numbers) ≡ n = length-map numbers (λ (y : ℤ). Num y) ∙ length-strided (pos 0) numbers_now first step n in
-        ext_get_or (Num (pos 0)) (line (patched a p) axis index) (map (λ (y : ℤ). Num y) numbers) (many ∙ along ∙ sym as_many) (λ k h.
-        let under : k < n = omega (arith, h, many, along) in
-        get_or-map-range_with_len item 1 (places_along a.shape axis) k (k + 1) (Num (pos 0)) (omega (arith, under, along)) (omega arith)
-        ∙ item_now k under
-        ∙ sym (get_or-map (λ (y : ℤ). Num y) numbers k (pos 0) ∙ ap (λ (y : ℤ). Num y) (get_or-strided (pos 0) numbers_now first step n k (pos 0) under)))
+    changed_line = line_of_numbers (patched a p) axis index numbers_now first step n (get_or_default a.shape axis 1 0 stand.there) item_now
 
     -- the total of a line is what its tree says of the new number
     total_there : (f h : Scalar2) → h ≡ f → (at : ℕ) (item : Item) → at ≡ place → item ≡ get_or p.items before (fill p.item_type)
@@ -185,8 +171,7 @@ module _ (axis : ℕ) (t : TreesValue) (a : ArrayValue) (p : PatchValue) (stand 
         let told : numbers_through (with_number t at (number_of item)) at ≡ strided (pos 0) numbers_now first step n =
         (λ i. numbers_through (with_number t (at_is i) (number_of (item_is i))) (at_is i))
         ∙ (λ i. strided (pos 0) numbers_now (first_is i) (stand.apart i) (stand.counted i)) in
-        let line_is = changed_line ∙ ap (map (λ (y : ℤ). Num y)) (sym told) in
-        λ i. fold_right (sym same i) (line_is i)
+        λ i. fold_right (sym same i) ((changed_line ∙ ap (map (λ (y : ℤ). Num y)) (sym told)) i)
 
   -- the same of a place of the box that its index list tells
   module _ (sound : IsPatch p) (index : List ℕ) (within : is_within p.region index ≡ true) where

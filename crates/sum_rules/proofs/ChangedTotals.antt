@@ -1,12 +1,11 @@
 -- The totals of which one number of the line is new.
-use Rattle.std.{proofs.Common.{◌≡◌, ℕ, ◌-◌, ◌*◌, ◌<◌, ◌≤◌, Bool, true, false, ◌&&◌, not, if◌then◌else◌, nat_eq, is_ok, List, [], ◌∷◌, length, map, remove, Option, Some, None, Result, Ok, Err, IfOk, OnOk, refl, ap, sym, subst, ◌∙◌, arith}, specs.Prelude.{◌==◌}, specs.List.{range_with_len}}
+use Rattle.std.{proofs.Common.{◌≡◌, ℕ, ◌-◌, ◌*◌, ◌≤◌, Bool, true, false, ◌&&◌, not, if◌then◌else◌, nat_eq, is_ok, List, [], ◌∷◌, length, map, remove, Option, Some, None, Result, Ok, Err, IfOk, OnOk, refl, ap, sym, subst, ◌∙◌, arith}, specs.Prelude.{◌==◌}, specs.List.{range_with_len}}
 use Rattle.std.{specs.declared.alloc.AllocError.{AllocError}, proofs.lemmas.Bool.{cond-false, false≢true}}
 use Rattle.arrays_core.{specs.Arrays.{ArrayValue, collect}, specs.Items.{all_or_first_error, and_then}, specs.declared.item.ItemType.TheVariants.{Nums}, specs.declared.item.Item.{Item}, specs.declared.item.Kind.{Kind}, specs.declared.item.ItemType.{ItemType}, specs.Outcomes.{Outcome}}
 use Rattle.index_region.{specs.Axes.{places_along}, specs.Boxes.{Interval, box_size, walk_at, met, unless_empty, join_boxes}, specs.Checks.{Form, form_of}, specs.Patches.{PatchValue, patched}, specs.Tails.{TailValue}, specs.declared.delta.Delta.{Delta}}
 use Rattle.index_region.specs.declared.delta.Delta.TheVariants.{Same, Patch, Grown, Whole}
 use Rattle.reduce_fns.{specs.declared.reduce.Reduce.{Reduce}, specs.Reduce.{reduce_form, reduce_item, reduce_whole}, specs.Laws.ReducedShapes.{reduce_facts}, specs.Growth.{is_along_a_later_axis}}
-use Rattle.function_names.{specs.Axes.{axis_at, is_axis}, specs.declared.along.Along.{Along}}
-use Rattle.fold_trees.specs.ArrayLines.{TreesValue}
+use Rattle.{function_names.{specs.Axes.{axis_at, is_axis}, specs.declared.along.Along.{Along}}, fold_trees.specs.ArrayLines.{TreesValue}}
 use Rattle.change_core.{specs.declared.reach.Reach.TheVariants.{Inside, Unmoved}, specs.Parts.{items_in}, specs.Reaches.{as_reach, reach_by, reach_of}, proofs.Filling.{few_places}, specs.RuleModels.{form_size}, specs.Meters.{ticked}, proofs.Regions.{fit_some, met_fit}}
 use Rattle.change_rules.{specs.Nodes.{Argument, all_patched_at_most, all_same, is_patched_at_most, is_same, is_error, moved_by, node_cost, node_delta, node_grows, reached_cost, reached_delta, size_in}, specs.Evaluation.{evaluation}, proofs.Nodes.{delta_reached}}
 use Rattle.sum_rules.{specs.LineSums.{array_of_shape, length_along}, specs.Totals.{AreFolds, HasAllJoins, StoodFor, is_by_trees, is_narrow, is_one_a_line, box_of_lines, total_rule}, proofs.ChangedLines.{as_many_lines, fits_axes, line_there, now_is}}
@@ -21,8 +20,7 @@ pub items_now : (fold : Reduce) (t : TreesValue) (p : PatchValue) (now : ArrayVa
     → items_in (reduce_item fold.function fold.along (patched (array_of_shape shape t.numbers) p)) (box_of_lines (axis_at (length shape) fold.along) p.region) ≡ items_in (reduce_item fold.function fold.along now) region
 items_now fold t p now shape region stood shaped is =
     let same : patched (array_of_shape shape t.numbers) p ≡ now = ap (λ (axes : List ℕ). patched (array_of_shape axes t.numbers) p) shaped ∙ now_is fold.along t p now stood in
-    let box : box_of_lines (axis_at (length shape) fold.along) p.region ≡ region = ap (λ (axes : List ℕ). box_of_lines (axis_at (length axes) fold.along) p.region) shaped ∙ sym is in
-    λ i. items_in (reduce_item fold.function fold.along (same i)) (box i)
+    λ i. items_in (reduce_item fold.function fold.along (same i)) ((ap (λ (axes : List ℕ). box_of_lines (axis_at (length axes) fold.along) p.region) shaped ∙ sym is) i)
 
 module _ (fold : Reduce) (t : TreesValue) (p : PatchValue) (now : ArrayValue) (stood : StoodFor fold.along t p now) (one : is_one_a_line (axis_at (length now.shape) fold.along) p.region ≡ true) where
   abbrev axis : ℕ
@@ -49,11 +47,9 @@ module _ (fold : Reduce) (t : TreesValue) (p : PatchValue) (now : ArrayValue) (s
       → items_in (reduce_item fold.function fold.along now) region ≡ all_or_first_error (total ∷ [])
   one_total shape region shaped is single index first total total_is =
       let same : patched (array_of_shape shape t.numbers) p ≡ now = ap (λ (axes : List ℕ). patched (array_of_shape axes t.numbers) p) shaped ∙ now_is fold.along t p now stood in
-      let before_is : axis_at (length shape) fold.along ≡ axis = ap (λ (axes : List ℕ). axis_at (length axes) fold.along) shaped ∙ axis_is in
-      let some : 0 < box_size (box_of_lines axis p.region) = omega (arith, single, ap box_size is, ap (λ k. box_size (box_of_lines k p.region)) axis_is) in
       let there : remove index (axis_at (length shape) fold.along) ≡ walk_at region 0 =
-      (λ i. remove (first i) (before_is i))
-      ∙ line_there axis t stood.before p stood.lines stood.fit one_before 0 some
+      (λ i. remove (first i) ((ap (λ (axes : List ℕ). axis_at (length axes) fold.along) shaped ∙ axis_is) i))
+      ∙ line_there axis t stood.before p stood.lines stood.fit one_before 0 (omega (arith, single, ap box_size is, ap (λ k. box_size (box_of_lines k p.region)) axis_is))
       ∙ ap (λ k. walk_at (box_of_lines k p.region) 0) (sym axis_is)
       ∙ ap (λ (r : List Interval). walk_at r 0) (sym is) in
       ap (λ k. all_or_first_error (map (λ before. (reduce_item fold.function fold.along now) (walk_at region before)) (range_with_len 0 k))) single
@@ -65,8 +61,7 @@ module _ (fold : Reduce) (t : TreesValue) (p : PatchValue) (now : ArrayValue) (s
     met_is =
         let fit = fits_axes axis t stood.before p stood.lines stood.fit one_before in
         let now_shape : now.shape ≡ stood.before.shape = ap (λ (a : ArrayValue). a.shape) stood.is in
-        let others : shape ≡ remove stood.before.shape axis = (reduce_facts fold.along now shape type form).shaped ∙ (λ i. remove (now_shape i) (axis_is i)) in
-        (λ i. unless_empty (met (others i) (remove p.region (axis_is i))))
+        (λ i. unless_empty (met (((reduce_facts fold.along now shape type form).shaped ∙ (λ i. remove (now_shape i) (axis_is i))) i) (remove p.region (axis_is i))))
         ∙ ap unless_empty (met_fit _ (box_of_lines axis p.region) fit.rest)
         ∙ cond-false _ _ _ (fit_some (box_of_lines axis p.region) _ fit.rest)
         ∙ ap (λ k. Some (box_of_lines k p.region)) (sym axis_is)
@@ -87,8 +82,7 @@ module _ (fold : Reduce) (t : TreesValue) (p : PatchValue) (now : ArrayValue) (s
 
     pub few_lines : (region : List Interval) → Inside region ≡ reach_of (total_rule fold) (now ∷ []) (Some p.region ∷ []) → box_size region ≤ 1048576
     few_lines region is =
-        let few = few_places p.region stood.before.shape stood.fit.inside stood.lines.sound.within in
-        omega (arith, few, ap box_size (reached_box region is), as_many_lines_now)
+        omega (arith, few_places p.region stood.before.shape stood.fit.inside stood.lines.sound.within, ap box_size (reached_box region is), as_many_lines_now)
 
 -- the change of the totals where they were an array and a box of the argument is new
 pub delta_is : (fold : Reduce) (arg : Argument) (p : PatchValue) (old : Outcome) → arg.1.now ≡ Patch p → is_ok old ≡ true
@@ -157,10 +151,9 @@ same_type false t h = refl
 pub whole_now : (fold : Reduce) (t : TreesValue) (p : PatchValue) (now : ArrayValue) → StoodFor fold.along t p now → (shape : List ℕ) (type : ItemType) → reduce_form fold.along now ≡ Ok (form_of shape type)
     → (axes : List ℕ) → axes ≡ now.shape → reduce_whole fold.function fold.along now ≡ collect Nums shape (reduce_item fold.function fold.along (patched (array_of_shape axes t.numbers) p))
 whole_now fold t p now stood shape type form axes shaped =
-    let same : patched (array_of_shape axes t.numbers) p ≡ now = ap (λ (s : List ℕ). patched (array_of_shape s t.numbers) p) shaped ∙ now_is fold.along t p now stood in
     let numbers : now.item_type ≡ Nums = ap (λ (a : ArrayValue). a.item_type) stood.is ∙ ap (λ (a : ArrayValue). a.item_type) stood.lines.is in
     let typed : type ≡ Nums = (reduce_facts fold.along now shape type form).typed ∙ same_type (nat_eq (places_along now.shape (axis_at (length now.shape) fold.along)) 1) now.item_type numbers in
     let items = reduce_item fold.function fold.along in
     ap (λ (r : Result Form Kind). and_then r (λ g. collect g.item_type g.shape (items now))) form
     ∙ ap (λ (u : ItemType). collect u shape (items now)) typed
-    ∙ ap (λ (a : ArrayValue). collect Nums shape (items a)) (sym same)
+    ∙ ap (λ (a : ArrayValue). collect Nums shape (items a)) (sym (ap (λ (s : List ℕ). patched (array_of_shape s t.numbers) p) shaped ∙ now_is fold.along t p now stood))

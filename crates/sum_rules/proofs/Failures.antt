@@ -5,9 +5,7 @@ use Rattle.arrays_core.{specs.declared.item.Item.{Item}, specs.declared.item.Ite
 use Rattle.arrays_core.{specs.Items.{after, all_or_first_error, and_then, fill, type_of}, specs.Shapes.{indices, index_after, size, places_before}, proofs.Order.{get_or-indices, length-indices}}
 use Rattle.function_names.{specs.Axes.{axis_at}, specs.declared.along.Along.{Along}, specs.declared.scalar.Scalar2.{Scalar2}, specs.declared.scalar.Scalar2.TheVariants.{Plus, Times, Maximum, Minimum, And, Or}}
 use Rattle.item_fns.{specs.Identities.{identity_of}, specs.Items.{dyadic_on_items, number_item}, specs.Numbers.{as_truth, dyadic_on_numbers, is_number, number_or_limit, on_truths}, specs.RightFold.{fold_right, identity_item}}
-use Rattle.index_region.specs.Axes.{places_along}
-use Rattle.reduce_fns.specs.Reduce.{reduce_item}
-use Rattle.fold_trees.specs.FoldTrees.{has_trees}
+use Rattle.{index_region.specs.Axes.{places_along}, reduce_fns.specs.Reduce.{reduce_item}, fold_trees.specs.FoldTrees.{has_trees}}
 
 -- ---- one fold has one error
 -- a number, a truth value or an item that is a number, or this error

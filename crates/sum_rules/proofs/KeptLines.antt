@@ -1,5 +1,5 @@
 -- The lines of an array in which a patch that has one place a line changes nothing.
-use Rattle.std.{proofs.Common.{◌≡◌, ◌∙◌, ℕ, zero, suc, ◌+◌, ◌-◌, ◌*◌, ◌/◌, ◌<◌, ℤ, pos, true, false, List, [], ◌∷◌, length, get_or, map, remove, insert, refl, ap, sym, subst, arith, inl, inr, Result}, specs.List.{range_with_len}, proofs.lemmas.Bool.{and_from, and_parts, cases_Bool, cond-false, eqb-true, false≢true}}
+use Rattle.std.{proofs.Common.{◌≡◌, ◌∙◌, ℕ, zero, suc, ◌+◌, ◌*◌, ◌/◌, ◌<◌, ℤ, pos, true, false, List, [], ◌∷◌, length, get_or, map, remove, insert, refl, ap, sym, subst, arith, inl, inr, Result}, specs.List.{range_with_len}, proofs.lemmas.Bool.{and_from, and_parts, cases_Bool, cond-false, eqb-true, false≢true}}
 use Rattle.std.{proofs.lemmas.List.{length-map, ext_get_or, get_or_default}, proofs.lemmas.List.FromFn.{length-map-range_with_len, get_or-map-range_with_len}, proofs.Math.ListN.{get_or-map}, proofs.Math.Nat.{mul-div_cancel}}
 use Rattle.arrays_core.{specs.declared.item.Kind.{Kind}, specs.Items.{all_or_first_error, fill}, specs.declared.item.Item.{Item}, specs.declared.item.Item.TheVariants.{Num}, specs.Arrays.{ArrayValue, item_of}, specs.Shapes.{indices, is_index_of, places_before, size}, proofs.Shapes.{places_below}}
 use Rattle.change_core.{proofs.Collected.{along as items_along, collected, collected_is}, proofs.Walking.{box_size-whole, walk_is}}
@@ -31,15 +31,18 @@ within_one axis region index on one within =
     walk_with_one axis region before on same below ∙ ap (λ (i : List ℕ). insert i axis (get_or region axis (1, 0)).0) (walk_of_offset rest index within) in
     subst (λ (i : List ℕ). is_within region i ≡ true) at (walk_within region before (omega (arith, below, size_with_one axis region on same)))
 
--- a line is one of those that have trees
-pub line_below : (axis : ℕ) (t : TreesValue) (a : ArrayValue) → StandFor t axis a → (index : List ℕ) → is_index_of (remove a.shape axis) index ≡ true → places_before (remove a.shape axis) index < line_count t
-line_below axis t a stand index on =
+-- each line has a tree
+pub lines_counted : (axis : ℕ) (t : TreesValue) (a : ArrayValue) → StandFor t axis a → line_count t ≡ size (remove a.shape axis)
+lines_counted axis t a stand =
     let others = remove a.shape axis in
     let parts = lines_whole axis a.shape others t.count t.step stand.there refl stand.counted stand.apart stand.some in
     let places : length t.numbers ≡ size others * t.count =
     sym (length-map t.numbers (λ (y : ℤ). Num y)) ∙ sym (ap (λ (b : ArrayValue). length b.items) stand.is) ∙ stand.sound.one_item_a_place ∙ sym parts.1 in
-    let many : line_count t ≡ size others = ap (λ k. k / t.count) places ∙ mul-div_cancel (size others) parts.0 in
-    omega (arith, many, places_below others index on)
+    ap (λ k. k / t.count) places ∙ mul-div_cancel (size others) parts.0
+
+-- a line is one of those that have trees
+pub line_below : (axis : ℕ) (t : TreesValue) (a : ArrayValue) → StandFor t axis a → (index : List ℕ) → is_index_of (remove a.shape axis) index ≡ true → places_before (remove a.shape axis) index < line_count t
+line_below axis t a stand index on = omega (arith, lines_counted axis t a stand, places_below (remove a.shape axis) index on)
 
 -- the items of all index lists are those of the walk of the whole
 pub items_walked : (shape : List ℕ) (item : List ℕ → Result Item Kind) → all_or_first_error (map item (indices shape)) ≡ collected (map (λ (q : ℕ). item (walk_at (whole_of shape) q)) (range_with_len 0 (size shape)))
@@ -47,6 +50,21 @@ items_walked shape item =
     ap (λ (rs : List (Result Item Kind)). all_or_first_error rs) (sym (walk_is shape item))
     ∙ sym (collected_is (items_along item (whole_of shape)))
     ∙ ap (λ k. collected (map (λ (q : ℕ). item (walk_at (whole_of shape) q)) (range_with_len 0 k))) (box_size-whole shape)
+
+-- a line whose items are numbers, as many steps apart in a list
+pub line_of_numbers : (a : ArrayValue) (axis : ℕ) (index : List ℕ) (numbers : List ℤ) (first step n : ℕ) → places_along a.shape axis ≡ n
+    → ((k : ℕ) → k < n → item_of a (insert index axis (k + 1)) ≡ Num (get_or numbers (first + k * step) (pos 0)))
+    → line a axis index ≡ map (λ (y : ℤ). Num y) (strided (pos 0) numbers first step n)
+line_of_numbers a axis index numbers first step n along items =
+    let item = λ (j : ℕ). item_of a (insert index axis j) in
+    let many = length-map-range_with_len item 1 (places_along a.shape axis) in
+    let all = strided (pos 0) numbers first step n in
+    let as_many : length (map (λ (y : ℤ). Num y) all) ≡ n = length-map all (λ (y : ℤ). Num y) ∙ length-strided (pos 0) numbers first step n in
+    ext_get_or (Num (pos 0)) (line a axis index) (map (λ (y : ℤ). Num y) all) (many ∙ along ∙ sym as_many) (λ k h.
+    let under : k < n = omega (arith, h, many, along) in
+    get_or-map-range_with_len item 1 (places_along a.shape axis) k (k + 1) (Num (pos 0)) (omega (arith, under, along)) (omega arith)
+    ∙ items k under
+    ∙ sym (get_or-map (λ (y : ℤ). Num y) all k (pos 0) ∙ ap (λ (y : ℤ). Num y) (get_or-strided (pos 0) numbers first step n k (pos 0) under)))
 
 module _ (axis : ℕ) (t : TreesValue) (a : ArrayValue) (p : PatchValue) (stand : StandFor t axis a) (fit : FitsPatch a p) (index : List ℕ) (on : is_index_of (remove a.shape axis) index ≡ true)
     (away : is_within (box_of_lines axis p.region) index ≡ false) where
@@ -69,8 +87,7 @@ module _ (axis : ℕ) (t : TreesValue) (a : ArrayValue) (p : PatchValue) (stand 
   as_many_axes = fits_length p.region a.shape fit.inside
 
   place_at : (k : ℕ) → places_before a.shape (insert index axis (k + 1)) ≡ first + k * step
-  place_at k =
-      stride axis a.shape index (k + 1) stand.there long ∙ ap (λ m. first + m * step) (omega arith)
+  place_at k = stride axis a.shape index (k + 1) stand.there long ∙ ap (λ m. first + m * step) (omega arith)
 
   outside : (j : ℕ) → is_within p.region (insert index axis j) ≡ false
   outside j = elim (cases_Bool (is_within p.region (insert index axis j))) [
@@ -87,17 +104,7 @@ module _ (axis : ℕ) (t : TreesValue) (a : ArrayValue) (p : PatchValue) (stand 
       ∙ get_or-map (λ (y : ℤ). Num y) t.numbers (first + k * step) (pos 0)
 
   kept_line : line (patched a p) axis index ≡ map (λ (y : ℤ). Num y) (strided (pos 0) t.numbers first step n)
-  kept_line =
-      let item = λ (j : ℕ). item_of (patched a p) (insert index axis j) in
-      let along : places_along a.shape axis ≡ n = get_or_default a.shape axis 1 0 stand.there in
-      let many = length-map-range_with_len item 1 (places_along a.shape axis) in
-      let numbers = strided (pos 0) t.numbers first step n in
-      let as_many : length (map (λ (y : ℤ). Num y) numbers) ≡ n = length-map numbers (λ (y : ℤ). Num y) ∙ length-strided (pos 0) t.numbers first step n in
-      ext_get_or (Num (pos 0)) (line (patched a p) axis index) (map (λ (y : ℤ). Num y) numbers) (many ∙ along ∙ sym as_many) (λ k h.
-      let under : k < n = omega (arith, h, many, along) in
-      get_or-map-range_with_len item 1 (places_along a.shape axis) k (k + 1) (Num (pos 0)) (omega (arith, under, along)) (omega arith)
-      ∙ item_now k under
-      ∙ sym (get_or-map (λ (y : ℤ). Num y) numbers k (pos 0) ∙ ap (λ (y : ℤ). Num y) (get_or-strided (pos 0) t.numbers first step n k (pos 0) under)))
+  kept_line = line_of_numbers (patched a p) axis index t.numbers first step n (get_or_default a.shape axis 1 0 stand.there) item_now
 
   told : numbers_of_line t which ≡ strided (pos 0) t.numbers first step n
   told =
@@ -106,8 +113,7 @@ module _ (axis : ℕ) (t : TreesValue) (a : ArrayValue) (p : PatchValue) (stand 
 
   -- its total is what its tree tells
   pub kept_total : (f h : Scalar2) → h ≡ f → fold_right f (line (patched a p) axis index) ≡ fold_right h (map (λ (y : ℤ). Num y) (numbers_of_line t which))
-  kept_total f h same =
-      λ i. fold_right (sym same i) ((kept_line ∙ ap (map (λ (y : ℤ). Num y)) (sym told)) i)
+  kept_total f h same = λ i. fold_right (sym same i) ((kept_line ∙ ap (map (λ (y : ℤ). Num y)) (sym told)) i)
 
 some_factor : (n m k : ℕ) → n * m ≡ k → 0 < k → 0 < n
 some_factor zero m k e h = absurd (omega (arith, e, h))

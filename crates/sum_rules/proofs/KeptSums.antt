@@ -4,8 +4,7 @@ use Rattle.arrays_core.{specs.Arrays.{ArrayValue}, specs.Shapes.{size}, specs.de
 use Rattle.index_region.{specs.Arguments.{is_of_numbers}, specs.Patches.{PatchValue, FitsPatch, patched}}
 use Rattle.function_names.{specs.Axes.{is_axis, axis_at}, specs.declared.along.Along.{Along}}
 use Rattle.sum_rules.{proofs.Lines.{has_axis}, specs.LineSums.{SummedValue, StandFor, keeps_sums, length_along, line_length, most_without_tree, summed}, specs.Totals.{StoodFor}}
-use Rattle.reduce_fns.specs.declared.reduce.Reduce.{Reduce}
-use Rattle.fold_trees.specs.ArrayLines.{TreesValue}
+use Rattle.{reduce_fns.specs.declared.reduce.Reduce.{Reduce}, fold_trees.specs.ArrayLines.{TreesValue}}
 
 -- what holds of them: numbers, some, an axis and long lines
 pub record HasLongLines (along : Along) (a : ArrayValue) : Type 0 where

@@ -1,10 +1,7 @@
 -- Where the lines of an array along an axis lie.
 use Rattle.std.{proofs.Common.{◌≡◌, ℕ, zero, suc, ◌+◌, ◌*◌, ◌/◌, ◌%◌, ◌<◌, List, [], ◌∷◌, length, sym, ap, ◌∙◌, arith}, proofs.lemmas.Nat.{div-add-mod', div-mul-add, mod-mul-add, mod_below, mul-add-lt}, proofs.Math.Nat.{mul-mod_left}}
-use Rattle.arrays_core.specs.Shapes.{size}
-use Rattle.item_fns.specs.Folds.{line_start}
-use Rattle.fold_trees.specs.ArrayLines.{line_through}
-use Rattle.reduce_fns.{proofs.Lines.{size-drop-le}, proofs.Reduced.{sizes}}
-use Rattle.sum_rules.specs.LineSums.{line_length, line_step}
+use Rattle.{arrays_core.specs.Shapes.{size}, item_fns.specs.Folds.{line_start}, fold_trees.specs.ArrayLines.{line_through}}
+use Rattle.{reduce_fns.{proofs.Lines.{size-drop-le}, proofs.Reduced.{sizes}}, sum_rules.specs.LineSums.{line_length, line_step}}
 
 -- lines that have items lie along an axis that there is
 pub has_axis : (axis : ℕ) (shape : List ℕ) → 0 < line_length axis shape → axis < length shape

@@ -118,8 +118,7 @@ module _ (fold : Reduce) (t : TreesValue) (tail : TailValue) (now : ArrayValue) 
 
   pub lines_are : line_count t ≡ length tail.items
   lines_are =
-      let turned : t.count * t.step ≡ t.step * t.count = grind arith in
-      ap (λ k. k / t.count) (old_places ∙ turned) ∙ mul-div_cancel t.step some_count ∙ sym items_are
+      ap (λ k. k / t.count) (old_places ∙ (grind arith)) ∙ mul-div_cancel t.step some_count ∙ sym items_are
 
   -- and as many numbers
   pub as_many_numbers : (numbers : List ℤ) → tail.items ≡ map (λ (z : ℤ). Num z) numbers → length numbers ≡ length tail.items
@@ -131,8 +130,7 @@ module _ (fold : Reduce) (t : TreesValue) (tail : TailValue) (now : ArrayValue) 
   -- the lines have two numbers and more
   pub long_now : 1 < length_along fold.along now.shape
   long_now =
-      let on : length_along fold.along now.shape ≡ line_length (axis_at (length now.shape) fold.along) now.shape = along_axis fold.along now.shape (ap (λ n. is_axis n fold.along) rank ∙ stood.on_axis) in
-      omega (arith, on, ap (λ k. line_length k now.shape) first, now_longer, some_count)
+      omega (arith, along_axis fold.along now.shape (ap (λ n. is_axis n fold.along) rank ∙ stood.on_axis), ap (λ k. line_length k now.shape) first, now_longer, some_count)
 
   -- so one join a total is no more than their length has binary digits
   pub joins_within : (old new : ℕ) → new ≤ old + length tail.items → AreJoinsWithin (length tail.items) (length_along fold.along now.shape) old new
@@ -159,7 +157,6 @@ module _ (fold : Reduce) (t : TreesValue) (tail : TailValue) (now : ArrayValue) 
         let n = t.count + 1 in
         let s = t.step in
         let given = λ (place : ℕ). number_item (folded (dyadic_on_numbers f) (strided (pos 0) xs (line_start s n place) s n)) in
-        let many = as_many_numbers numbers are in
         let items : now.items ≡ map (λ (z : ℤ). Num z) xs =
         ap (λ (a : ArrayValue). a.items) stood.is ∙ (λ i. (stand.is i).items ++ are i) ∙ sym (map-append (λ (z : ℤ). Num z) t.numbers numbers) in
         let typed : now.item_type ≡ Nums = ap (λ (a : ArrayValue). a.item_type) stood.is ∙ ap (λ (a : ArrayValue). a.item_type) stand.is in
@@ -175,4 +172,4 @@ module _ (fold : Reduce) (t : TreesValue) (tail : TailValue) (now : ArrayValue) 
         ∙ collected_same Nums shape (λ index. given (places_before shape index)) (λ index. longer_total f t numbers (places_before shape index)) (λ index inside.
         alike (places_before shape index) (places_below shape index inside))
         ∙ ap (λ (rs : List (Result Item Kind)). with_items Nums shape (all_or_first_error rs)) (items_by_place shape (longer_total f t numbers))
-        ∙ ap (λ (k : ℕ). with_items Nums shape (all_or_first_error (map (longer_total f t numbers) (range_with_len 0 k)))) (places_are ∙ sym many)
+        ∙ ap (λ (k : ℕ). with_items Nums shape (all_or_first_error (map (longer_total f t numbers) (range_with_len 0 k)))) (places_are ∙ sym (as_many_numbers numbers are))

@@ -18,8 +18,7 @@ pub walk_with_one : (axis : ℕ) (region : List Interval) (before : ℕ) → axi
     → walk_at region before ≡ insert (walk_at (remove region axis) before) axis (on_axis region axis).0
 walk_with_one axis [] before h one below = absurd (omega arith)
 walk_with_one zero (s ∷ region) before h one below =
-    let here : s.0 + before / box_size region ≡ s.0 = ap (λ k. s.0 + k) (div-eq_of_lt below) ∙ (let e : s.0 + 0 ≡ s.0 = omega arith in e) in
-    λ i. here i ∷ walk_at region ((mod-eq_of_lt below) i)
+    λ i. (ap (λ k. s.0 + k) (div-eq_of_lt below) ∙ (let e : s.0 + 0 ≡ s.0 = omega arith in e)) i ∷ walk_at region ((mod-eq_of_lt below) i)
 walk_with_one (suc axis) (s ∷ region) before h one below =
     let same = size_with_one axis region (omega arith) one in
     let others = remove region axis in

@@ -96,23 +96,16 @@ module _ (lines : List Interval) (shape : List ℕ) (fit : fits lines shape ≡ 
             omega (arith, here, order);
         behind = λ j there before. elim (cases_order (places_before shape (walk_at lines j)) line) [
           | inl e ↦
-              let same = ap (box_offset lines) (at_place j line there e) in
-              let offset = offset_of_walk lines j there in
-              let all = enough o refl in
-              omega (arith, same, offset, all)
+              omega (arith, ap (box_offset lines) (at_place j line there e), offset_of_walk lines j there, enough o refl)
           | inr w ↦ elim w [
             | inl l ↦ let less = passed.behind j there l in omega (arith, less)
             | inr m ↦ absurd (omega (arith, before, m))
           ]
         ];
         most = λ digits h.
-            let so_far = passed.most digits h in
-            let more = joins digits h in
-            omega (arith, so_far, more);
+            omega (arith, passed.most digits h, joins digits h);
         least = λ two.
-            let so_far = passed.least two in
-            let more = from two in
-            omega (arith, so_far, more);
+            omega (arith, passed.least two, from two);
       }
 
   -- no more than the lines of the box

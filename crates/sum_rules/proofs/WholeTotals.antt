@@ -1,13 +1,12 @@
 -- The totals of all lines of an array, as the trees of the lines tell them.
-use Rattle.std.{proofs.Common.{◌≡◌, ◌∙◌, ℕ, zero, suc, ◌*◌, ◌/◌, ◌%◌, ◌<◌, ◌≤◌, ℤ, pos, List, length, map, refl, ap, sym, subst, arith, Result, Ok, Some}, specs.List.{range_with_len}, proofs.lemmas.List.{length-map}, proofs.Math.Nat.{mul-div_cancel}}
+use Rattle.std.{proofs.Common.{◌≡◌, ◌∙◌, ℕ, ◌*◌, ◌%◌, ◌<◌, ◌≤◌, ℤ, pos, List, length, map, refl, ap, sym, subst, arith, Result, Ok, Some}, specs.List.{range_with_len}}
 use Rattle.arrays_core.{specs.declared.item.Item.{Item}, specs.declared.item.Item.TheVariants.{Num}, specs.declared.item.ItemType.{ItemType}, specs.declared.item.ItemType.TheVariants.{Nums}, specs.declared.item.Kind.{Kind}, specs.Arrays.{ArrayValue, with_items}, specs.Items.{all_or_first_error}}
-use Rattle.arrays_core.specs.Shapes.{size, places_before}
-use Rattle.function_names.{specs.declared.scalar.Scalar2.{Scalar2}, specs.Axes.{axis_at}}
+use Rattle.{arrays_core.specs.Shapes.{size, places_before}, function_names.{specs.declared.scalar.Scalar2.{Scalar2}, specs.Axes.{axis_at}}}
 use Rattle.item_fns.{specs.Folds.{strided, folded, line_start}, specs.Items.{number_item}, specs.Numbers.{dyadic_on_numbers}, proofs.RightFolds.{length-strided}, specs.RightFold.{fold_right}, proofs.ItemFolds.{number_items_folded}}
 use Rattle.index_region.specs.Checks.{form_of}
 use Rattle.reduce_fns.{specs.Reduce.{reduce_form, reduce_whole}, specs.declared.reduce.Reduce.{Reduce}, proofs.Placewise.{collected_same}, specs.Laws.ReducedShapes.{reduce_facts}, proofs.Reduced.{lines_whole, reduced_whole}}
 use Rattle.fold_trees.specs.ArrayLines.{TreesValue, line_count, numbers_of_line}
-use Rattle.sum_rules.{specs.LineSums.{StandFor, SummedValue, summed}, specs.Totals.{all_totals}, proofs.KeptSums.{summed_is}, proofs.LongerTotals.{items_by_place}}
+use Rattle.sum_rules.{specs.LineSums.{StandFor, SummedValue, summed}, specs.Totals.{all_totals}, proofs.KeptLines.{lines_counted, some_lines as some_kept}, proofs.KeptSums.{summed_is}, proofs.LongerTotals.{items_by_place}}
 
 -- the total of one of them
 abbrev pub total_of_line : Scalar2 → TreesValue → ℕ → Result Item Kind
@@ -31,20 +30,13 @@ module _ (fold : Reduce) (a : ArrayValue) (s : SummedValue) (t : TreesValue) (is
   parts : (1 ≤ t.count) × (size shape * t.count ≡ size a.shape) × (size shape % t.step ≡ 0)
   parts = lines_whole axis a.shape shape t.count t.step stand.there (reduce_facts fold.along a shape type form).shaped stand.counted stand.apart stand.some
 
-  places : length t.numbers ≡ size shape * t.count
-  places = sym (length-map t.numbers (λ (z : ℤ). Num z)) ∙ sym (ap (λ (b : ArrayValue). length b.items) stand.is) ∙ stand.sound.one_item_a_place ∙ sym parts.1
-
   -- the result has a place for each line
   pub places_are : size shape ≡ line_count t
-  places_are = sym (ap (λ k. k / t.count) places ∙ mul-div_cancel (size shape) parts.0)
+  places_are = ap size (reduce_facts fold.along a shape type form).shaped ∙ sym (lines_counted axis t a stand)
 
   -- and there are some
   pub some_lines : 0 < line_count t
-  some_lines = subst (λ k. 0 < k) places_are (some_factor (size shape) t.count (size a.shape) parts.1 stand.some)
-    where
-      some_factor : (n m k : ℕ) → n * m ≡ k → 0 < k → 0 < n
-      some_factor zero m k e h = absurd (omega (arith, e, h))
-      some_factor (suc n) m k e h = omega arith
+  some_lines = rw (lines_counted axis t a stand) (some_kept axis t a stand)
 
   -- and these are its totals
   pub whole_is : reduce_whole fold.function fold.along a ≡ with_items Nums shape (all_or_first_error (all_totals fold.function t))
@@ -52,9 +44,7 @@ module _ (fold : Reduce) (a : ArrayValue) (s : SummedValue) (t : TreesValue) (is
       let f = fold.function in
       let given = λ (place : ℕ). number_item (folded (dyadic_on_numbers f) (strided (pos 0) t.numbers (line_start t.step t.count place) t.step t.count)) in
       let alike = λ (place : ℕ).
-      let zs = numbers_of_line t place in
-      let long : length zs ≡ t.count = length-strided (pos 0) t.numbers (line_start t.step t.count place) t.step t.count in
-      sym (number_items_folded f zs (omega (arith, long, parts.0))) in
+      sym (number_items_folded f (numbers_of_line t place) (omega (arith, length-strided (pos 0) t.numbers (line_start t.step t.count place) t.step t.count, parts.0))) in
       reduced_whole f a t.numbers (ap (λ (b : ArrayValue). b.items) stand.is) (ap (λ (b : ArrayValue). b.item_type) stand.is) fold.along shape type axis t.count t.step form refl stand.there stand.counted stand.apart stand.some
       ∙ collected_same Nums shape (λ index. given (places_before shape index)) (λ index. total_of_line f t (places_before shape index)) (λ index inside. alike (places_before shape index))
       ∙ ap (λ (rs : List (Result Item Kind)). with_items Nums shape (all_or_first_error rs)) (items_by_place shape (total_of_line f t))

@@ -1,5 +1,4 @@
-use Rattle.std.{proofs.Common.{◌∷◌}, proofs.lemmas.Result.{err_from_is_err_and}}
-use Rattle.apl_tokens.specs.Lexemes.{lexemes, Named, Sign}
+use Rattle.{std.{proofs.Common.{◌∷◌}, proofs.lemmas.Result.{err_from_is_err_and}}, apl_tokens.specs.Lexemes.{lexemes, Named, Sign}}
 use Rattle.apl_expr.{specs.Changes.{IsChangeOf}, proofs.Changes.{cell_ok, cell_err, exits}}
 use Rattle.apl_expr.proofs.command.cell.Goals as goal
 

@@ -1,5 +1,4 @@
-use Rattle.std.{proofs.Common.{rules, w64, SFits}, proofs.lemmas.Int.{to_z-of_z}}
-use Rattle.apl_expr.proofs.ReadEdits.{edit_answers}
+use Rattle.{std.{proofs.Common.{rules, w64, SFits}, proofs.lemmas.Int.{to_z-of_z}}, apl_expr.proofs.ReadEdits.{edit_answers}}
 use Rattle.apl_expr.proofs.command.cell_of.Goals as goal
 
 pub returns : goal.returns

@@ -1,5 +1,4 @@
-use Rattle.std.{proofs.Common.{length, ap, arith}, proofs.lemmas.List.{length-map}}
-use Rattle.apl_tokens.specs.Lexemes.{lexemes}
+use Rattle.{std.{proofs.Common.{length, ap, arith}, proofs.lemmas.List.{length-map}}, apl_tokens.specs.Lexemes.{lexemes}}
 use Rattle.apl_expr.proofs.Fronts.{command_word_is}
 use Rattle.apl_expr.proofs.command.change_of.Goals as goal
 

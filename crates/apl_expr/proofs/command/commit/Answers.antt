@@ -1,5 +1,4 @@
-use Rattle.std.{proofs.Common.{rules, w64, SFits}, proofs.lemmas.Int.{to_z-of_z}, proofs.lemmas.List.{length-map}}
-use Rattle.apl_tokens.specs.Lexemes.{lexemes}
+use Rattle.{std.{proofs.Common.{rules, w64, SFits}, proofs.lemmas.Int.{to_z-of_z}, proofs.lemmas.List.{length-map}}, apl_tokens.specs.Lexemes.{lexemes}}
 use Rattle.apl_expr.proofs.Commands.{commit_ok, commit_none}
 use Rattle.apl_expr.proofs.command.commit.Goals as goal
 

@@ -1,6 +1,5 @@
 use Rattle.std.{proofs.Common.{length, ap, arith}, proofs.lemmas.List.{length-map, nil_from_length}, proofs.lemmas.Grind.{common_steps}}
-use Rattle.apl_tokens.specs.Lexemes.{lexemes}
-use Rattle.apl_expr.{proofs.Editing.{not_none}, proofs.Commands.{cost_ok, cost_none}}
+use Rattle.{apl_tokens.specs.Lexemes.{lexemes}, apl_expr.{proofs.Editing.{not_none}, proofs.Commands.{cost_ok, cost_none}}}
 use Rattle.apl_expr.proofs.command.cost.Goals as goal
 
 pub returns-then-is_empty : goal.returns-then-is_empty

@@ -1,6 +1,4 @@
-use Rattle.std.proofs.lemmas.List.{length-map}
-use Rattle.apl_tokens.specs.Lexemes.{lexemes}
-use Rattle.apl_expr.proofs.Commands.{csv_ok, csv_none}
+use Rattle.{std.proofs.lemmas.List.{length-map}, apl_tokens.specs.Lexemes.{lexemes}, apl_expr.proofs.Commands.{csv_ok, csv_none}}
 use Rattle.apl_expr.proofs.command.csv.Goals as goal
 
 pub returns-in-Some : goal.returns-in-Some

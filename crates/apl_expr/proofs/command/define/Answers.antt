@@ -1,6 +1,5 @@
 use Rattle.std.{proofs.Common.{◌∷◌}, proofs.lemmas.List.{length-map}, proofs.lemmas.Result.{err_from_is_err_and}}
-use Rattle.apl_tokens.specs.Lexemes.{lexemes, Named, Sign}
-use Rattle.apl_expr.{specs.Changes.{IsChangeOf}, proofs.Changes.{define_ok, define_err, exits}}
+use Rattle.{apl_tokens.specs.Lexemes.{lexemes, Named, Sign}, apl_expr.{specs.Changes.{IsChangeOf}, proofs.Changes.{define_ok, define_err, exits}}}
 use Rattle.apl_expr.proofs.command.define.Goals as goal
 
 pub returns-in_err-formula : goal.returns-in_err-formula

@@ -1,6 +1,4 @@
-use Rattle.std.{proofs.Common.{refl}, proofs.lemmas.List.{length-map}}
-use Rattle.apl_tokens.specs.Lexemes.{lexemes}
-use Rattle.apl_expr.proofs.Changes.{define_ok, define_err}
+use Rattle.{std.{proofs.Common.{refl}, proofs.lemmas.List.{length-map}}, apl_tokens.specs.Lexemes.{lexemes}, apl_expr.proofs.Changes.{define_ok, define_err}}
 use Rattle.apl_expr.specs.declared.command.Change.TheVariants as changed
 use Rattle.apl_expr.proofs.command.define_into.Goals as goal
 

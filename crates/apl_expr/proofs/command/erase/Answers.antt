@@ -1,5 +1,4 @@
-use Rattle.apl_tokens.specs.Lexemes.{lexemes}
-use Rattle.apl_expr.proofs.Changes.{erase_ok, erase_none}
+use Rattle.{apl_tokens.specs.Lexemes.{lexemes}, apl_expr.proofs.Changes.{erase_ok, erase_none}}
 use Rattle.apl_expr.proofs.command.erase.Goals as goal
 
 pub returns-in-Some : goal.returns-in-Some

@@ -1,5 +1,4 @@
-use Rattle.std.{proofs.Common.{◌∷◌}, proofs.lemmas.Result.{err_from_is_err_and}}
-use Rattle.apl_tokens.specs.Lexemes.{lexemes, Named, Sign}
+use Rattle.{std.{proofs.Common.{◌∷◌}, proofs.lemmas.Result.{err_from_is_err_and}}, apl_tokens.specs.Lexemes.{lexemes, Named, Sign}}
 use Rattle.apl_expr.{specs.Lines.{row_word}, specs.Changes.{IsChangeOf}, proofs.Changes.{row_none, row_ok, row_err, exits}}
 use Rattle.apl_expr.proofs.command.row.Goals as goal
 

@@ -1,6 +1,4 @@
-use Rattle.std.proofs.lemmas.List.{length-map}
-use Rattle.apl_tokens.specs.Lexemes.{lexemes}
-use Rattle.apl_expr.proofs.Commands.{show_ok, show_err}
+use Rattle.{std.proofs.lemmas.List.{length-map}, apl_tokens.specs.Lexemes.{lexemes}, apl_expr.proofs.Commands.{show_ok, show_err}}
 use Rattle.apl_expr.proofs.command.show.Goals as goal
 
 pub returns-in-Ok : goal.returns-in-Ok

@@ -1,6 +1,4 @@
-use Rattle.std.{proofs.Common.{◌∙◌}, proofs.lemmas.List.{length-map}}
-use Rattle.apl_tokens.specs.Lexemes.{lexemes}
-use Rattle.apl_expr.proofs.Commands.{other_word}
+use Rattle.{std.{proofs.Common.{◌∙◌}, proofs.lemmas.List.{length-map}}, apl_tokens.specs.Lexemes.{lexemes}, apl_expr.proofs.Commands.{other_word}}
 use Rattle.apl_expr.proofs.command.worded.Goals as goal
 
 pub returns-in_default : goal.returns-in_default

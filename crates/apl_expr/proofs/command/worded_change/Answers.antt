@@ -1,6 +1,4 @@
-use Rattle.std.proofs.Common.{◌∙◌}
-use Rattle.apl_tokens.specs.Lexemes.{lexemes}
-use Rattle.apl_expr.proofs.Changes.{no_word_of_change}
+use Rattle.{std.proofs.Common.{◌∙◌}, apl_tokens.specs.Lexemes.{lexemes}, apl_expr.proofs.Changes.{no_word_of_change}}
 use Rattle.apl_expr.proofs.command.worded_change.Goals as goal
 
 pub returns-in_default : goal.returns-in_default

@@ -1,6 +1,4 @@
-use Rattle.std.proofs.Common.{◌≡◌, Some, drop}
-use Rattle.apl_tokens.specs.Lexemes.{lexemes}
-use Rattle.apl_expr.specs.Edits.{edit_of, edits}
+use Rattle.{std.proofs.Common.{◌≡◌, Some, drop}, apl_tokens.specs.Lexemes.{lexemes}, apl_expr.specs.Edits.{edit_of, edits}}
 use Rattle.apl_expr.proofs.edit.read_on.Given as goal
 
 abbrev pub invariant-loop-spanned : goal.invariant-loop-spanned

@@ -1,5 +1,4 @@
-use Rattle.apl_tokens.specs.Lexemes.{lexemes}
-use Rattle.apl_expr.{specs.Trees.{literal_of}, proofs.CellEdits.{no_positions}}
+use Rattle.{apl_tokens.specs.Lexemes.{lexemes}, apl_expr.{specs.Trees.{literal_of}, proofs.CellEdits.{no_positions}}}
 use Rattle.apl_expr.proofs.edit.whole_literal.Goals as goal
 
 pub returns : goal.returns

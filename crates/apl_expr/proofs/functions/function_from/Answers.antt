@@ -1,5 +1,4 @@
-use Rattle.std.proofs.Common.{◌∙◌, ◌≤◌, length, ap, subst, sym}
-use Rattle.apl_tokens.specs.Lexemes.{Sign, lexeme, lexemes}
+use Rattle.{std.proofs.Common.{◌∙◌, ◌≤◌, length, ap, subst, sym}, apl_tokens.specs.Lexemes.{Sign, lexeme, lexemes}}
 use Rattle.apl_expr.{specs.declared.functions.Function.{Function}, specs.Functions.{function_from}, proofs.FunctionsRead.{more_short}}
 use Rattle.apl_expr.proofs.functions.function_from.Goals as goal
 

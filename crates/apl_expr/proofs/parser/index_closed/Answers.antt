@@ -1,5 +1,4 @@
-use Rattle.std.proofs.Common.{ap, sym, ◌∙◌, Some}
-use Rattle.apl_expr.{specs.Trees.{Tree}, proofs.Rows.{index_made}}
+use Rattle.{std.proofs.Common.{ap, sym, ◌∙◌, Some}, apl_expr.{specs.Trees.{Tree}, proofs.Rows.{index_made}}}
 use Rattle.apl_expr.proofs.parser.index_closed.Goals as goal
 
 pub returns : goal.returns

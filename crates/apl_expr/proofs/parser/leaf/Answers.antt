@@ -1,5 +1,4 @@
-use Rattle.std.{proofs.Common.{rules, w64, SFits}, proofs.lemmas.Int.{to_z-of_z}}
-use Rattle.apl_expr.specs.Grammar.{one, nums, ref, name}
+use Rattle.{std.{proofs.Common.{rules, w64, SFits}, proofs.lemmas.Int.{to_z-of_z}}, apl_expr.specs.Grammar.{one, nums, ref, name}}
 use Rattle.apl_expr.proofs.parser.leaf.Goals as goal
 
 pub returns-in-Num : goal.returns-in-Num

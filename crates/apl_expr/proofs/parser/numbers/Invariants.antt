@@ -1,5 +1,4 @@
-use Rattle.std.proofs.Common.{◌≡◌, take, map}
-use Rattle.apl_tokens.specs.Lexemes.{Number, lexemes}
+use Rattle.{std.proofs.Common.{◌≡◌, take, map}, apl_tokens.specs.Lexemes.{Number, lexemes}}
 use Rattle.apl_expr.proofs.parser.numbers.Given as goal
 
 abbrev pub invariant-loop-spanned : goal.invariant-loop-spanned

@@ -1,5 +1,4 @@
-use Rattle.std.{proofs.Common.{◌<◌, List, length, ap, arith}, proofs.lemmas.List.{length-map}}
-use Rattle.apl_tokens.specs.Lexemes.{lexemes}
+use Rattle.{std.{proofs.Common.{◌<◌, List, length, ap, arith}, proofs.lemmas.List.{length-map}}, apl_tokens.specs.Lexemes.{lexemes}}
 use Rattle.apl_expr.proofs.Pairs.{strand_read}
 use Rattle.apl_expr.proofs.parser.operand.Goals as goal
 

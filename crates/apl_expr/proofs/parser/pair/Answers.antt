@@ -1,6 +1,4 @@
-use Rattle.std.proofs.Common.{sym, ap}
-use Rattle.apl_tokens.specs.Lexemes.{lexeme}
-use Rattle.apl_expr.{specs.Trees.{tree_of}, proofs.Pairs.{pair_tree}}
+use Rattle.{std.proofs.Common.{sym, ap}, apl_tokens.specs.Lexemes.{lexeme}, apl_expr.{specs.Trees.{tree_of}, proofs.Pairs.{pair_tree}}}
 use Rattle.apl_expr.proofs.parser.pair.Goals as goal
 
 pub returns-clause-tree : goal.returns-clause-tree

@@ -1,5 +1,4 @@
-use Rattle.std.{proofs.Common.{arith}, proofs.lemmas.List.{length-map}}
-use Rattle.apl_tokens.specs.Lexemes.{lexemes}
+use Rattle.{std.{proofs.Common.{arith}, proofs.lemmas.List.{length-map}}, apl_tokens.specs.Lexemes.{lexemes}}
 use Rattle.apl_expr.{specs.Trees.{tree_of}, proofs.FewTokens.{few_tokens}}
 use Rattle.apl_expr.proofs.parser.parse.Goals as goal
 

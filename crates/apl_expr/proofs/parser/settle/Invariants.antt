@@ -1,5 +1,4 @@
-use Rattle.std.proofs.Common.{◌≡◌, length}
-use Rattle.apl_expr.{specs.Machine.{settle}, specs.Parsing.{stack}, specs.Trees.{tree_of}}
+use Rattle.{std.proofs.Common.{◌≡◌, length}, apl_expr.{specs.Machine.{settle}, specs.Parsing.{stack}, specs.Trees.{tree_of}}}
 use Rattle.apl_expr.proofs.parser.settle.Given as goal
 
 abbrev pub invariant-loop-frame : goal.invariant-loop-frame

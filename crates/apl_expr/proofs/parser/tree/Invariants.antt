@@ -1,5 +1,4 @@
-use Rattle.std.proofs.Common.{◌≡◌, Some, [], length}
-use Rattle.apl_tokens.specs.Lexemes.{lexemes}
+use Rattle.{std.proofs.Common.{◌≡◌, Some, [], length}, apl_tokens.specs.Lexemes.{lexemes}}
 use Rattle.apl_expr.{specs.Machine.{run, state, Nothing}, specs.Parsing.{stack, reading_of}}
 use Rattle.apl_expr.proofs.parser.tree.Given as goal
 

@@ -1,5 +1,4 @@
-use Rattle.std.proofs.Common.{◌≡◌, length}
-use Rattle.apl_tokens.{specs.Reading.{Reads}, proofs.EditBytes.{open_positions}}
+use Rattle.{std.proofs.Common.{◌≡◌, length}, apl_tokens.{specs.Reading.{Reads}, proofs.EditBytes.{open_positions}}}
 use Rattle.apl_tokens.proofs.cell_edit.positions_front.Given as goal
 
 abbrev pub invariant-loop : goal.invariant-loop

@@ -1,6 +1,5 @@
 use Rattle.std.{proofs.Common.{◌≡◌, ℕ, ◌++◌, List, Bool, true, rules, tests, sym, ap, ◌∙◌, refl}, specs.Prelude.{encode_utf8, ◌&&◌}, specs.Str.{chars, IsUtf8}, specs.List.{list_all}, proofs.lemmas.Str.{chars_past_char, IsUtf8-past_char}, proofs.lemmas.Iterator.{YieldsList-from_chars}}
-use Rattle.std.proofs.lemmas.Iterator.Search.{all_from_yields_List}
-use Rattle.apl_tokens.specs.Characters.{is_letter, is_name_part, spells_name}
+use Rattle.{std.proofs.lemmas.Iterator.Search.{all_from_yields_List}, apl_tokens.specs.Characters.{is_letter, is_name_part, spells_name}}
 use Rattle.apl_tokens.proofs.characters.spells_name.Goals as goal
 
 spells : (bs rest : List ℕ) (c : ℕ) (r : Bool) → IsUtf8 bs → bs ≡ encode_utf8 c ++ rest → is_letter c ≡ true → r ≡ list_all is_name_part (chars rest) → r ≡ spells_name (chars bs)

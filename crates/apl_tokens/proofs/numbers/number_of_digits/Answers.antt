@@ -1,5 +1,4 @@
-use Rattle.std.proofs.Common.{arith}
-use Rattle.apl_tokens.proofs.Decimals.{too_great}
+use Rattle.{std.proofs.Common.{arith}, apl_tokens.proofs.Decimals.{too_great}}
 use Rattle.apl_tokens.proofs.numbers.number_of_digits.Goals as goal
 
 pub returns-in_err-checked_mul : goal.returns-in_err-checked_mul

@@ -1,5 +1,4 @@
-use Rattle.std.proofs.Common.{◌≡◌, drop}
-use Rattle.apl_tokens.specs.Characters.{decimal_from}
+use Rattle.{std.proofs.Common.{◌≡◌, drop}, apl_tokens.specs.Characters.{decimal_from}}
 use Rattle.apl_tokens.proofs.numbers.number_of_digits.Given as goal
 
 abbrev pub invariant-loop-digit : goal.invariant-loop-digit

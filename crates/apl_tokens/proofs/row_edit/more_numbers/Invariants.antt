@@ -1,5 +1,4 @@
-use Rattle.std.proofs.Common.{◌≡◌, ◌+◌, length, vec_capacity}
-use Rattle.apl_tokens.specs.Reading.{GoesOn}
+use Rattle.{std.proofs.Common.{◌≡◌, ◌+◌, length, vec_capacity}, apl_tokens.specs.Reading.{GoesOn}}
 use Rattle.apl_tokens.proofs.row_edit.more_numbers.Given as goal
 
 abbrev pub invariant-loop : goal.invariant-loop

@@ -1,5 +1,4 @@
-use Rattle.std.{proofs.Common.{◌≡◌, ◌++◌, sym, ◌∙◌}, specs.Prelude.{codes}}
-use Rattle.apl_tokens.{specs.NumberEdits.{row_numbers_of}, proofs.EditBytes.{row_read}}
+use Rattle.{std.{proofs.Common.{◌≡◌, ◌++◌, sym, ◌∙◌}, specs.Prelude.{codes}}, apl_tokens.{specs.NumberEdits.{row_numbers_of}, proofs.EditBytes.{row_read}}}
 use Rattle.apl_tokens.proofs.row_edit.number_row.Goals as goal
 
 pub returns-clause-row : goal.returns-clause-row

@@ -1,5 +1,4 @@
-use Rattle.std.{proofs.Common.{◌≡◌, List, [], ◌∷◌, length, subst, arith, rules}, specs.Prelude.{ℤ}}
-use Rattle.apl_tokens.specs.Reading.{GoesOn}
+use Rattle.{std.{proofs.Common.{◌≡◌, List, [], ◌∷◌, length, subst, arith, rules}, specs.Prelude.{ℤ}}, apl_tokens.specs.Reading.{GoesOn}}
 use Rattle.apl_tokens.proofs.row_edit.several_numbers.Goals as goal
 
 pub returns-clause-reads : goal.returns-clause-reads

@@ -1,5 +1,4 @@
-use Rattle.std.{proofs.lemmas.Str.{is_utf8-from_IsUtf8}, proofs.Common.{subst}}
-use Rattle.apl_tokens.specs.Scanning.{IsReading}
+use Rattle.{std.{proofs.lemmas.Str.{is_utf8-from_IsUtf8}, proofs.Common.{subst}}, apl_tokens.specs.Scanning.{IsReading}}
 use Rattle.apl_tokens.proofs.scanner.ended.Goals as goal
 
 pub of_letters-requires : goal.of_letters-requires

@@ -1,5 +1,4 @@
-use Rattle.std.{proofs.Common.{◌≡◌, ◌+◌, drop}, specs.List.{prefix_len}}
-use Rattle.apl_tokens.specs.Characters.{is_blank}
+use Rattle.{std.{proofs.Common.{◌≡◌, ◌+◌, drop}, specs.List.{prefix_len}}, apl_tokens.specs.Characters.{is_blank}}
 use Rattle.array_text.proofs.fields.blanks_at.Given as goal
 
 abbrev pub invariant-loop-offset : goal.invariant-loop-offset

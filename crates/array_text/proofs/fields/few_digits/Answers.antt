@@ -1,5 +1,4 @@
-use Rattle.std.proofs.Common.{◌^◌, ◌<◌, arith}
-use Rattle.array_text.proofs.Decimals.{below_power}
+use Rattle.{std.proofs.Common.{◌^◌, ◌<◌, arith}, array_text.proofs.Decimals.{below_power}}
 use Rattle.array_text.proofs.fields.few_digits.Goals as goal
 
 pub overflow_mul-magnitude : goal.overflow_mul-magnitude

@@ -1,5 +1,4 @@
-use Rattle.std.{proofs.Common.{◌≡◌, ◌+◌, ◌^◌, ◌<◌, drop}, specs.List.{prefix_len}, specs.Char.{is_ascii_digit}}
-use Rattle.apl_tokens.specs.Characters.{decimal_from}
+use Rattle.{std.{proofs.Common.{◌≡◌, ◌+◌, ◌^◌, ◌<◌, drop}, specs.List.{prefix_len}, specs.Char.{is_ascii_digit}}, apl_tokens.specs.Characters.{decimal_from}}
 use Rattle.array_text.proofs.fields.few_digits.Given as goal
 
 abbrev pub invariant-loop-byte : goal.invariant-loop-byte

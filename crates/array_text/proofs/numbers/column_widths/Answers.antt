@@ -10,5 +10,4 @@ loop-column-preserved c =
 
 pub returns : goal.returns
 unfolding column_widths
-returns c =
-    c.loop-column.invariant ∙ ap (λ (n : ℕ). map (column_width c.args.rows c.args.columns c.args.numbers.now) (range_with_len 0 n)) (omega arith)
+returns c = c.loop-column.invariant ∙ ap (λ (n : ℕ). map (column_width c.args.rows c.args.columns c.args.numbers.now) (range_with_len 0 n)) (omega arith)

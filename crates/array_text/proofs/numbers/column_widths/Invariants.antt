@@ -1,5 +1,4 @@
-use Rattle.std.{proofs.Common.{◌≡◌, map}, specs.List.{range_with_len}}
-use Rattle.array_text.specs.Text.{column_width}
+use Rattle.{std.{proofs.Common.{◌≡◌, map}, specs.List.{range_with_len}}, array_text.specs.Text.{column_width}}
 use Rattle.array_text.proofs.numbers.column_widths.Given as goal
 
 abbrev pub invariant-loop-column : goal.invariant-loop-column

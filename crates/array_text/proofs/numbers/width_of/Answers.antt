@@ -1,5 +1,4 @@
-use Rattle.std.proofs.Common.{◌+◌, ◌∙◌, ap, sym, length}
-use Rattle.array_text.proofs.Numerals.{number_text-minus, number_text-plus}
+use Rattle.{std.proofs.Common.{◌+◌, ◌∙◌, ap, sym, length}, array_text.proofs.Numerals.{number_text-minus, number_text-plus}}
 use Rattle.array_text.proofs.numbers.width_of.Goals as goal
 
 pub returns-then-number-lt0-clause-value : goal.returns-then-number-lt0-clause-value

@@ -1,6 +1,5 @@
 use Rattle.std.{proofs.Common.{◌≡◌, ◌+◌, ◌*◌, ◌∙◌, ap, sym, get_or, pos, rules, w64, arith}, proofs.lemmas.Int.{to_z-of_z}}
 use Rattle.array_text.{specs.Text.{number_width}, proofs.Numerals.{column_width-none, column_width-more}, proofs.numbers.width_of_column.Goals.{then-width-widest, else-width-widest}}
-use mir.Val.{SFits}
 use Rattle.array_text.proofs.numbers.width_of_column.Goals as goal
 
 pub loop-row-init : goal.loop-row-init

@@ -1,5 +1,4 @@
-use Rattle.std.proofs.Common.{◌≡◌}
-use Rattle.array_text.specs.Text.{column_width}
+use Rattle.{std.proofs.Common.{◌≡◌}, array_text.specs.Text.{column_width}}
 use Rattle.array_text.proofs.numbers.width_of_column.Given as goal
 
 abbrev pub invariant-loop-row : goal.invariant-loop-row

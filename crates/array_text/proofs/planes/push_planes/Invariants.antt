@@ -1,5 +1,4 @@
-use Rattle.std.{proofs.Common.{◌≡◌, ◌++◌, ◌*◌}, specs.Prelude.{string_bytes}, specs.List.{join_by, range_with_len}}
-use Rattle.array_text.specs.Text.{part_of, line_end}
+use Rattle.{std.{proofs.Common.{◌≡◌, ◌++◌, ◌*◌}, specs.Prelude.{string_bytes}, specs.List.{join_by, range_with_len}}, array_text.specs.Text.{part_of, line_end}}
 use Rattle.array_text.proofs.planes.push_planes.Given as goal
 
 abbrev pub invariant-loop-part : goal.invariant-loop-part

@@ -1,5 +1,4 @@
-use Rattle.csv.specs.Records.{fields_of}
-use Rattle.array_text.proofs.Reading.{read_on}
+use Rattle.{csv.specs.Records.{fields_of}, array_text.proofs.Reading.{read_on}}
 use Rattle.array_text.proofs.records.read_next.Goals as goal
 
 pub returns-in-Ok : goal.returns-in-Ok

@@ -1,13 +1,10 @@
 use Rattle.std.{proofs.Common.{◌<◌, ◌∙◌, ◌++◌, ◌∷◌, [], ℤ, sym, ap, length, arith, rules, w64}, proofs.lemmas.Int.{to_z-of_z}, proofs.lemmas.Option.{none-some}}
-use Rattle.csv.specs.Records.{fields_of}
-use Rattle.array_text.proofs.Tables.{bad_found, field_there, good_found, number_found}
-use mir.Val.{SFits}
+use Rattle.{csv.specs.Records.{fields_of}, array_text.proofs.Tables.{bad_found, field_there, good_found, number_found}}
 use Rattle.array_text.proofs.table_reader.push_fields.Goals as goal
 
 pub unreachable-requires : goal.unreachable-requires
 unreachable-requires c =
-    let inside : c.loop-column.column < length (fields_of c.args.row.now) = omega (arith, c.len-column-end.ensures) in
-    none-some _ (rw c.in_default.is at c.get.ensures.value ∙ field_there (fields_of c.args.row.now) c.loop-column.column inside)
+    none-some _ (rw c.in_default.is at c.get.ensures.value ∙ field_there (fields_of c.args.row.now) c.loop-column.column (omega (arith, c.len-column-end.ensures)))
 
 pub returns-in_default-field_number : goal.returns-in_default-field_number
 returns-in_default-field_number c =

@@ -1,6 +1,4 @@
-use Rattle.std.proofs.Common.{◌≡◌, ◌+◌, ◌++◌, drop}
-use Rattle.csv.specs.Records.{fields_of}
-use Rattle.array_text.specs.Tables.{first_bad, numbers_of}
+use Rattle.{std.proofs.Common.{◌≡◌, ◌+◌, ◌++◌, drop}, csv.specs.Records.{fields_of}, array_text.specs.Tables.{first_bad, numbers_of}}
 use Rattle.array_text.proofs.table_reader.push_fields.Given as goal
 
 abbrev pub invariant-loop-column : goal.invariant-loop-column

@@ -1,5 +1,4 @@
-use Rattle.std.{proofs.Common.{subst, arith}, proofs.lemmas.Result.{err_from_is_err_and}}
-use Rattle.csv.specs.Records.{fields_of}
+use Rattle.{std.{proofs.Common.{subst, arith}, proofs.lemmas.Result.{err_from_is_err_and}}, csv.specs.Records.{fields_of}}
 use Rattle.array_text.proofs.Tables.{Stands, all_read, fault_here, first_record, next_record_in, none_read, stands_on, too_many}
 use Rattle.array_text.proofs.table_reader.push_records.Goals as goal
 

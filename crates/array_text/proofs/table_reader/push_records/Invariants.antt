@@ -1,5 +1,4 @@
-use Rattle.std.proofs.Common.{Bor, List, ℕ, Some, ◌≤◌}
-use Rattle.array_text.{specs.Reading.{AreLeft}, specs.Tables.{Fields}, proofs.Tables.{Stands}}
+use Rattle.{std.proofs.Common.{Bor, List, ℕ, Some, ◌≤◌}, array_text.{specs.Reading.{AreLeft}, specs.Tables.{Fields}, proofs.Tables.{Stands}}}
 use Rattle.array_text.proofs.table_reader.push_records.Given as goal
 
 abbrev pub invariant-loop-count : goal.invariant-loop-count

@@ -1,5 +1,4 @@
-use Rattle.std.{proofs.Common.{◌∙◌, rules}, proofs.lemmas.Result.{err_from_is_err_and}}
-use Rattle.array_text.{specs.Tables.{records_of}, proofs.Tables.{table_is}}
+use Rattle.{std.{proofs.Common.{◌∙◌, rules}, proofs.lemmas.Result.{err_from_is_err_and}}, array_text.{specs.Tables.{records_of}, proofs.Tables.{table_is}}}
 use Rattle.array_text.proofs.table_reader.read_table.Goals as goal
 
 pub returns-in_err-rows : goal.returns-in_err-rows

@@ -1,7 +1,6 @@
 use lib.Utf8.{encode}
-use Rattle.std.{proofs.Common.{◌≡◌, ◌++◌, ◌∙◌, ◌∷◌, [], ap, List, ℕ, pos, get_or, append_assoc, rules, w64}, specs.Prelude.{string_bytes}, specs.Fmt.{signed_decimal}, specs.List.{join_by}, proofs.lemmas.List.{take_all}, proofs.lemmas.Int.{to_z-of_z}}
-use Rattle.array_text.{specs.Tables.{between_fields, record_text}, proofs.Writing.{pushed, grown_twice, join_by-more}}
-use mir.Val.{SFits}
+use Rattle.std.{proofs.Common.{◌++◌, ◌∙◌, ◌∷◌, [], ap, List, ℕ, pos, get_or, rules, w64}, specs.Prelude.{string_bytes}, specs.Fmt.{signed_decimal}, specs.List.{join_by}, proofs.lemmas.List.{take_all}, proofs.lemmas.Int.{to_z-of_z}}
+use Rattle.array_text.{specs.Tables.{between_fields, record_text}, proofs.Writing.{pushed_behind, grown_twice, join_by-more}}
 use Rattle.array_text.proofs.table_writer.push_record.Goals as goal
 
 pub loop-column-preserved : goal.loop-column-preserved
@@ -14,9 +13,5 @@ loop-column-preserved c =
 pub returns : goal.returns
 unfolding record_text encode
 returns c =
-    let zs = c.args.numbers.now in
-    let before = string_bytes c.args.out.now in
-    let all : string_bytes c.loop-column.out ≡ before ++ join_by signed_decimal between_fields zs =
-    c.loop-column.invariant ∙ ap (λ t. before ++ join_by signed_decimal between_fields t) (take_all c.loop-column.column zs c.loop-column-test.false) in
-    pushed c.push.result _ (string_bytes c.loop-column.out) (10 ∷ []) _ c.push.ensures.bytes
-    (ap (λ (t : List ℕ). t ++ 10 ∷ []) all ∙ append_assoc before (join_by signed_decimal between_fields zs) (10 ∷ []))
+    pushed_behind c.push.result _ _ _ _ _ (10 ∷ []) c.push.ensures.bytes c.loop-column.invariant
+    (ap (join_by signed_decimal between_fields) (take_all c.loop-column.column c.args.numbers.now c.loop-column-test.false))

@@ -5,8 +5,7 @@ use Rattle.array_text.proofs.table_writer.push_records.Goals as goal
 pub loop-row-preserved : goal.loop-row-preserved
 loop-row-preserved c =
     let columns = c.args.columns in
-    let before = string_bytes c.loop-row.out in
-    let width = ap (λ (n : ℕ). before ++ record_text (take n (drop (c.loop-row.row * columns) c.args.numbers.now))) (part_width c.loop-row.row columns) in
+    let width = ap (λ (n : ℕ). (string_bytes c.loop-row.out) ++ record_text (take n (drop (c.loop-row.row * columns) c.args.numbers.now))) (part_width c.loop-row.row columns) in
     grown _ _ _ _ _ _ (c.in_ok-push_record.ensures ∙ width) c.loop-row.invariant (flat_map-range_step _ c.loop-row.row)
 
 pub returns : goal.returns

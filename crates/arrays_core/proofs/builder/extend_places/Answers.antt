@@ -1,4 +1,4 @@
-use Rattle.std.{proofs.Common.{◌≡◌, ◌∙◌, ◌+◌, ◌++◌, ap, get_or, length, arith}, proofs.lemmas.List.{get_or_default}}
+use Rattle.std.{proofs.Common.{◌∙◌, ◌+◌, ◌++◌, ap, get_or, arith}, proofs.lemmas.List.{get_or_default}}
 use Rattle.arrays_core.{specs.Building.{listed}, proofs.Building.{listed_more}}
 use Rattle.arrays_core.proofs.builder.extend_places.Goals as goal
 
@@ -16,5 +16,4 @@ loop-k-preserved g c =
 
 pub returns : goal.returns
 returns g c =
-    let e : c.loop-k.k ≡ length c.args.places.now = omega arith in
-    λ d. c.loop-k.invariant.made d ∙ ap (λ n. c.args.items.now.items ++ listed n (λ j. get_or c.args.from.now (c.args.first + get_or c.args.places.now j 0) d)) e
+    λ d. c.loop-k.invariant.made d ∙ ap (λ n. c.args.items.now.items ++ listed n (λ j. get_or c.args.from.now (c.args.first + get_or c.args.places.now j 0) d)) (omega arith)

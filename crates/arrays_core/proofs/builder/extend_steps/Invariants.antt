@@ -1,5 +1,4 @@
-use Rattle.std.proofs.Common.{◌≡◌, ◌≤◌, ◌+◌, ◌*◌, ◌++◌, get_or, vec_len, vec_capacity}
-use Rattle.arrays_core.specs.Building.{listed}
+use Rattle.{std.proofs.Common.{◌≡◌, ◌≤◌, ◌+◌, ◌*◌, ◌++◌, get_or, vec_len, vec_capacity}, arrays_core.specs.Building.{listed}}
 use Rattle.arrays_core.proofs.builder.extend_steps.Given as goal
 
 abbrev pub invariant-loop-k : goal.invariant-loop-k

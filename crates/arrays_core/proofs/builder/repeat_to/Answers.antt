@@ -4,8 +4,7 @@ use Rattle.arrays_core.proofs.builder.repeat_to.Goals as goal
 
 pub loop-items-init : goal.loop-items-init
 loop-items-init g c =
-    let old = c.args.items.now.items in
-    record { low = omega arith; high = c.requires.more; whole = λ h. mod_self (length old); made = λ d. first_round old d }
+    record { low = omega arith; high = c.requires.more; whole = λ h. mod_self (length c.args.items.now.items); made = λ d. first_round c.args.items.now.items d }
 
 pub loop-items-preserved : goal.loop-items-preserved
 loop-items-preserved g c =
@@ -17,13 +16,11 @@ loop-items-preserved g c =
     let few : m ≤ length xs = omega (arith, c.min-more.ensures, c.len-in-loop-items.ensures) in
     let long : length new ≡ length xs + m = ap length put ∙ length-append xs (take m (drop 0 xs)) ∙ ap (λ k. length xs + k) (length-take-le m xs few) in
     let round : length xs % length old ≡ 0 = c.loop-items.invariant.whole (omega (arith, c.loop-items-test.true, c.len.ensures)) in
-    let now = c.len-in-loop-items.ensures in
-    let then = c.len-in-loop-items-2.ensures in
     record {
       low = omega (arith, long, c.loop-items.invariant.low);
-      high = omega (arith, long, c.min-more.ensures, now, then, c.loop-items.invariant.high);
+      high = omega (arith, long, c.min-more.ensures, c.len-in-loop-items.ensures, c.len-in-loop-items-2.ensures, c.loop-items.invariant.high);
       whole = λ h.
-          let all : m ≡ length xs = omega (arith, long, c.min-more.ensures, now, then, h) in
+          let all : m ≡ length xs = omega (arith, long, c.min-more.ensures, c.len-in-loop-items.ensures, c.len-in-loop-items-2.ensures, h) in
           ap (λ j. j % length old) (omega (arith, long, all)) ∙ two_rounds (length xs) (length old) round;
       made = λ d. put ∙ again_listed xs old d (length old) m (length xs) (length new) refl long few round (c.loop-items.invariant.made d);
     }

@@ -1,5 +1,4 @@
-use Rattle.std.proofs.Common.{◌≡◌, ◌≤◌, ◌<◌, ◌-◌, ◌%◌, get_or, length}
-use Rattle.arrays_core.specs.Building.{listed}
+use Rattle.{std.proofs.Common.{◌≡◌, ◌≤◌, ◌<◌, ◌-◌, ◌%◌, get_or, length}, arrays_core.specs.Building.{listed}}
 use Rattle.arrays_core.proofs.builder.repeat_to.Given as goal
 
 abbrev pub invariant-loop-items : goal.invariant-loop-items

@@ -13,10 +13,9 @@ extend_rows-requires-clause-within g c =
 pub extend_rows-requires-clause-some : goal.extend_rows-requires-clause-some
 extend_rows-requires-clause-some g c =
     let shape = c.args.shape.now.items in
-    let split : shape ≡ c.in-Some.others.now ++ c.in-Some.count.now ∷ [] = sym c.as_slice-axes.ensures ∙ c.in-Some.ensures.cases.0 in
     let e : size_of shape ≡ c.size-places.result = ap size_of (sym c.as_slice-axes.ensures) ∙ sym c.size-places.ensures in
     let positive : 0 < size_of shape = let no = c.if-places-eq0.false in omega arith in
-    rw c.shape_of.ensures.items (some_rows c.in-Some.others.now c.in-Some.count.now (rw split at positive))
+    rw c.shape_of.ensures.items (some_rows c.in-Some.others.now c.in-Some.count.now (rw (sym c.as_slice-axes.ensures ∙ c.in-Some.ensures.cases.0) at positive))
 
 pub into_array-requires-clause-one_item_a_place : goal.into_array-requires-clause-one_item_a_place
 into_array-requires-clause-one_item_a_place g c =

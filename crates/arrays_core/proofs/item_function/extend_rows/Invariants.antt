@@ -1,5 +1,4 @@
-use Rattle.std.proofs.Common.{◌≡◌, ◌<◌, ◌*◌, true}
-use Rattle.arrays_core.{specs.Shapes.{is_index_of, places_before, size as size_of}, proofs.Order.{CollectedTo}}
+use Rattle.{std.proofs.Common.{◌≡◌, ◌<◌, ◌*◌, true}, arrays_core.{specs.Shapes.{is_index_of, places_before, size as size_of}, proofs.Order.{CollectedTo}}}
 use Rattle.arrays_core.proofs.item_function.extend_rows.Given as goal
 
 abbrev pub invariant-loop-before : goal.invariant-loop-before

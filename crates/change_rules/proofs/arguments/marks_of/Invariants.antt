@@ -1,5 +1,4 @@
-use Rattle.std.proofs.Common.{◌≡◌, map, take}
-use Rattle.change_rules.specs.Nodes.{is_grown}
+use Rattle.{std.proofs.Common.{◌≡◌, map, take}, change_rules.specs.Nodes.{is_grown}}
 use Rattle.change_rules.proofs.arguments.marks_of.Given as goal
 
 abbrev pub invariant-loop-delta : goal.invariant-loop-delta

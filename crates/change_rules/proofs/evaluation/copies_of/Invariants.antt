@@ -1,5 +1,4 @@
-use Rattle.std.proofs.Common.{take}
-use Rattle.change_rules.specs.Copies.{AreCopies}
+use Rattle.{std.proofs.Common.{take}, change_rules.specs.Copies.{AreCopies}}
 use Rattle.change_rules.proofs.evaluation.copies_of.Given as goal
 
 abbrev pub invariant-loop-arg : goal.invariant-loop-arg

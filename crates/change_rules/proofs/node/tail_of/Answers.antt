@@ -1,8 +1,5 @@
-use Rattle.std.proofs.Common.{◌≡◌, ◌∙◌, List, ℕ, true, arith, subst, sym}
-use Rattle.arrays_core.specs.Shapes.{IsWithinLimits}
-use Rattle.index_region.specs.Boxes.{fits}
-use Rattle.change_core.proofs.Filling.{few_places}
-use Rattle.change_rules.proofs.GrownRight.{last_fit}
+use Rattle.{std.proofs.Common.{◌≡◌, ◌∙◌, List, ℕ, true, arith, subst, sym}, arrays_core.specs.Shapes.{IsWithinLimits}, index_region.specs.Boxes.{fits}}
+use Rattle.{change_core.proofs.Filling.{few_places}, change_rules.proofs.GrownRight.{last_fit}}
 use Rattle.change_rules.proofs.node.tail_of.Goals as goal
 
 pub size-cost-requires : goal.size-cost-requires

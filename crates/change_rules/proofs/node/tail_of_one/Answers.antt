@@ -1,6 +1,4 @@
-use Rattle.std.proofs.Common.{arith, sym, ◌∙◌}
-use Rattle.change_core.proofs.Filling.{place_of}
-use Rattle.change_rules.proofs.GrownRight.{last_fit}
+use Rattle.{std.proofs.Common.{arith, sym, ◌∙◌}, change_core.proofs.Filling.{place_of}, change_rules.proofs.GrownRight.{last_fit}}
 use Rattle.change_rules.proofs.node.tail_of_one.Goals as goal
 
 pub item-requires-clause-place : goal.item-requires-clause-place

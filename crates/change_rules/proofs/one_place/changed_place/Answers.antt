@@ -1,5 +1,4 @@
-use Rattle.std.proofs.Common.{◌∙◌, sym, arith}
-use Rattle.change_rules.proofs.KeptPlace.{held_array, few_changed, place_checked, kept_delta, kept_cost}
+use Rattle.{std.proofs.Common.{◌∙◌, sym, arith}, change_rules.proofs.KeptPlace.{held_array, few_changed, place_checked, kept_delta, kept_cost}}
 use Rattle.change_rules.proofs.one_place.changed_place.Goals as goal
 
 pub size-requires : goal.size-requires

@@ -1,8 +1,5 @@
-use Rattle.std.proofs.Common.{arith, ◌≡◌, ◌∙◌, sym, ap}
-use Rattle.arrays_core.specs.Shapes.{size}
-use Rattle.index_region.specs.Boxes.{box_size}
-use Rattle.change_core.proofs.Filling.{few_places}
-use Rattle.change_rules.proofs.Items.{all_places, all_holds}
+use Rattle.{std.proofs.Common.{arith, ◌≡◌, ◌∙◌, sym, ap}, arrays_core.specs.Shapes.{size}, index_region.specs.Boxes.{box_size}}
+use Rattle.{change_core.proofs.Filling.{few_places}, change_rules.proofs.Items.{all_places, all_holds}}
 use Rattle.change_rules.proofs.patch.items_of.Goals as goal
 
 pub size-requires : goal.size-requires

@@ -1,6 +1,4 @@
-use Rattle.std.proofs.Common.{◌∙◌, arith}
-use Rattle.change_core.proofs.Filling.{few_places}
-use Rattle.index_region.specs.Checks.{form_of}
+use Rattle.{std.proofs.Common.{◌∙◌, arith}, change_core.proofs.Filling.{few_places}, index_region.specs.Checks.{form_of}}
 use Rattle.change_rules.proofs.Items.{as_many, given_items}
 use Rattle.change_rules.proofs.patch.patch_of.Goals as goal
 

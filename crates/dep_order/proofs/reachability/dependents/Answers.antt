@@ -18,16 +18,15 @@ loop-next-preserved c =
     let v = c.loop-next.invariant in
     let marks = c.loop-next.marks.items in
     let next = c.in-Some.next in
-    let xs = c.loop-next.found.items in
     let same : c.deref.result.now ≡ marks = c.deref.ensures.value in
     let left = subst (λ (ms : List Bool). IsUnplaced ms next) same c.in-Some.ensures.left in
     let hit = subst (λ (ms : List Bool). (b : ℕ) × Points c.args.graph.now next b × IsHit ms c.args.node b) same c.in-Some.ensures.hit in
     let more = c.in_ok-push.ensures.items in
     record {
       size = length-set marks next true ∙ v.size;
-      placed = λ a p. subst (λ ys. Contains ys a) (sym more) (now_listed marks next left xs v.placed a p);
-      listed = subst (λ ys. (i : ℕ) → i < length ys → IsPlaced (set marks next true) (slice_index ys i)) (sym more) (now_marked marks next left xs v.listed);
-      once = subst (IsDistinct nat_eq) (sym more) (still_once marks next left xs v.listed v.once);
+      placed = λ a p. subst (λ ys. Contains ys a) (sym more) (now_listed marks next left c.loop-next.found.items v.placed a p);
+      listed = subst (λ ys. (i : ℕ) → i < length ys → IsPlaced (set marks next true) (slice_index ys i)) (sym more) (now_marked marks next left c.loop-next.found.items v.listed);
+      once = subst (IsDistinct nat_eq) (sym more) (still_once marks next left c.loop-next.found.items v.listed v.once);
       reach = now_reach c.args.graph.now c.args.node marks next v.reach hit;
     }
 
@@ -37,7 +36,6 @@ returns-clause-reach c = λ a h.
 
 pub returns-clause-all : goal.returns-clause-all
 returns-clause-all c = λ a r.
-    let marks = c.loop-next.marks.items in
     let none = subst (λ (ms : List Bool). (a b : ℕ) → a < length c.args.graph.now → Points c.args.graph.now a b → IsHit ms c.args.node b → IsPlaced ms a) c.deref.ensures.value c.in_default.ensures.none in
     c.loop-next.invariant.placed a
-    (back_along (Points c.args.graph.now) (IsPlaced marks) c.args.node (λ x y p h. none x y (points_from c.args.graph.now x y p) p h) a r.0 r.1)
+    (back_along (Points c.args.graph.now) (IsPlaced c.loop-next.marks.items) c.args.node (λ x y p h. none x y (points_from c.args.graph.now x y p) p h) a r.0 r.1)

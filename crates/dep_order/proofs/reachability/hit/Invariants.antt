@@ -1,5 +1,4 @@
-use Rattle.std.proofs.Common.{ℕ, ◌<◌, slice_index}
-use Rattle.dep_order.specs.TopologicalOrder.{IsHit}
+use Rattle.{std.proofs.Common.{ℕ, ◌<◌, slice_index}, dep_order.specs.TopologicalOrder.{IsHit}}
 use Rattle.dep_order.proofs.reachability.hit.Given as goal
 
 abbrev pub invariant-loop-next : goal.invariant-loop-next

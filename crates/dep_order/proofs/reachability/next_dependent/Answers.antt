@@ -1,5 +1,4 @@
-use Rattle.std.proofs.Common.{arith, below_more}
-use Rattle.dep_order.proofs.Marks.{of_none}
+use Rattle.{std.proofs.Common.{arith, below_more}, dep_order.proofs.Marks.{of_none}}
 use Rattle.dep_order.proofs.reachability.next_dependent.Goals as goal
 
 pub loop-next-preserved-then-marks-next : goal.loop-next-preserved-then-marks-next

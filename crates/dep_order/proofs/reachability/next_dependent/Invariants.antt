@@ -1,5 +1,4 @@
-use Rattle.std.proofs.Common.{ℕ, ◌<◌}
-use Rattle.dep_order.specs.TopologicalOrder.{IsHit, IsPlaced, Points}
+use Rattle.{std.proofs.Common.{ℕ, ◌<◌}, dep_order.specs.TopologicalOrder.{IsHit, IsPlaced, Points}}
 use Rattle.dep_order.proofs.reachability.next_dependent.Given as goal
 
 abbrev pub invariant-loop-next : goal.invariant-loop-next

@@ -1,5 +1,4 @@
-use Rattle.std.proofs.Common.{List, length, ap, arith, inl}
-use Rattle.dep_order.proofs.Roomed.{asked_more, list_more}
+use Rattle.{std.proofs.Common.{List, length, ap, arith, inl}, dep_order.proofs.Roomed.{asked_more, list_more}}
 use Rattle.dep_order.proofs.room.add_list.Goals as goal
 
 pub returns : goal.returns

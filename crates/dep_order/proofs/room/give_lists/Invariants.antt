@@ -1,5 +1,4 @@
-use Rattle.std.proofs.Common.{◌≤◌, ◌↔◌, List, length}
-use Rattle.indexmap.specs.IndexMap.{spare}
+use Rattle.{std.proofs.Common.{◌≤◌, ◌↔◌, List, length}, indexmap.specs.IndexMap.{spare}}
 use Rattle.dep_order.{specs.Users.{Uses, HasNoEmptyBut}, specs.Room.{AreListsFor}}
 use Rattle.dep_order.proofs.room.give_lists.Given as goal
 

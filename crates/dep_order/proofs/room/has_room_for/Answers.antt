@@ -1,5 +1,4 @@
-use Rattle.std.{proofs.Common.{◌≡◌, ◌+◌, ◌∙◌, [], ◌∷◌, ◌++◌, take, sym, ap, subst}, proofs.lemmas.List.{take_more}}
-use Rattle.dep_order.specs.Users.{HasRoomFor}
+use Rattle.{std.{proofs.Common.{◌≡◌, ◌+◌, ◌∙◌, [], ◌∷◌, ◌++◌, take, sym, ap, subst}, proofs.lemmas.List.{take_more}}, dep_order.specs.Users.{HasRoomFor}}
 use Rattle.dep_order.proofs.room.has_room_for.Goals as goal
 
 pub loop-reference-preserved : goal.loop-reference-preserved

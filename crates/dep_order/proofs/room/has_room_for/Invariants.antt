@@ -1,5 +1,4 @@
-use Rattle.std.proofs.Common.{take}
-use Rattle.dep_order.specs.Users.{HasRoomFor}
+use Rattle.{std.proofs.Common.{take}, dep_order.specs.Users.{HasRoomFor}}
 use Rattle.dep_order.proofs.room.has_room_for.Given as goal
 
 abbrev pub invariant-loop-reference : goal.invariant-loop-reference

@@ -1,5 +1,4 @@
-use Rattle.std.proofs.Common.{take}
-use Rattle.dep_order.specs.Room.{AreListsFor}
+use Rattle.{std.proofs.Common.{take}, dep_order.specs.Room.{AreListsFor}}
 use Rattle.dep_order.proofs.room.lists_for.Given as goal
 
 abbrev pub invariant-loop-reference : goal.invariant-loop-reference

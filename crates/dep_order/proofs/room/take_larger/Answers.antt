@@ -1,6 +1,4 @@
-use Rattle.std.proofs.Common.{◌≡◌, ◌∙◌, ap, List}
-use Rattle.indexmap.specs.IndexMap.{insert_all}
-use Rattle.dep_order.proofs.Moving.{entries_moved}
+use Rattle.{std.proofs.Common.{◌≡◌, ◌∙◌, ap, List}, indexmap.specs.IndexMap.{insert_all}, dep_order.proofs.Moving.{entries_moved}}
 use Rattle.dep_order.proofs.room.take_larger.Goals as goal
 
 pub returns-in-Some-clause-entries : goal.returns-in-Some-clause-entries

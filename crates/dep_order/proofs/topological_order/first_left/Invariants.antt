@@ -1,5 +1,4 @@
-use Rattle.std.proofs.Common.{ℕ, ◌<◌}
-use Rattle.dep_order.specs.TopologicalOrder.{IsPlaced}
+use Rattle.{std.proofs.Common.{ℕ, ◌<◌}, dep_order.specs.TopologicalOrder.{IsPlaced}}
 use Rattle.dep_order.proofs.topological_order.first_left.Given as goal
 
 abbrev pub invariant-loop-node : goal.invariant-loop-node

@@ -1,5 +1,4 @@
-use Rattle.std.proofs.Common.{◌≡◌, ℕ, ◌<◌, slice_index, slice_index_or, []}
-use Rattle.dep_order.specs.TopologicalOrder.{IsPlaced}
+use Rattle.{std.proofs.Common.{◌≡◌, ℕ, ◌<◌, slice_index, slice_index_or, []}, dep_order.specs.TopologicalOrder.{IsPlaced}}
 use Rattle.dep_order.proofs.topological_order.missing.Given as goal
 
 abbrev pub invariant-loop-next : goal.invariant-loop-next

@@ -1,5 +1,4 @@
-use Rattle.std.proofs.Common.{ℕ, ◌<◌}
-use Rattle.dep_order.specs.TopologicalOrder.{IsUnplaced, Points}
+use Rattle.{std.proofs.Common.{ℕ, ◌<◌}, dep_order.specs.TopologicalOrder.{IsUnplaced, Points}}
 use Rattle.dep_order.proofs.topological_order.next_ready.Given as goal
 
 abbrev pub invariant-loop-node : goal.invariant-loop-node

@@ -1,5 +1,4 @@
-use Rattle.std.proofs.Common.{◌↔◌, drop}
-use Rattle.dep_order.specs.Users.{Uses, HasNoEmptyBut}
+use Rattle.{std.proofs.Common.{◌↔◌, drop}, dep_order.specs.Users.{Uses, HasNoEmptyBut}}
 use Rattle.dep_order.proofs.users.drop_unused.Given as goal
 
 abbrev pub invariant-loop-reference : goal.invariant-loop-reference

@@ -6,10 +6,8 @@ returns-then-is_found g c = ((c.loop-reference.reference-index, c.loop-reference
 
 pub loop-reference-preserved : goal.loop-reference-preserved
 loop-reference-preserved g c = λ y.
-    let i = c.loop-reference.reference-index in
-    let there = get_or_default c.args.references.now i y c.reference-item.result c.loop-reference-test.true ∙ sym c.reference-item.is in
-    let not_found = rw c.if-is_found.false at c.is_found.ensures in
-    below_more _ _ (c.loop-reference.invariant y) (λ h. not_found (subst (λ z. Contains (keys_of c.args.found.now.entries) z) there h))
+    let there = get_or_default c.args.references.now c.loop-reference.reference-index y c.reference-item.result c.loop-reference-test.true ∙ sym c.reference-item.is in
+    below_more _ _ (c.loop-reference.invariant y) (λ h. (rw c.if-is_found.false at c.is_found.ensures) (subst (λ z. Contains (keys_of c.args.found.now.entries) z) there h))
 
 pub returns : goal.returns
 returns g c = λ b h k.

@@ -25,8 +25,7 @@ loop-reference-2-init g c =
 
 pub note-requires-clause-ready : goal.note-requires-clause-ready
 note-requires-clause-ready g c = λ b h.
-    let x = c.reference-item-in-loop-reference-2.result in
-    c.loop-reference-2.invariant.ready b (subst (λ (y : _). Contains c.args.references.now y) (sym (contains_one x b h))
+    c.loop-reference-2.invariant.ready b (subst (λ (y : _). Contains c.args.references.now y) (sym (contains_one c.reference-item-in-loop-reference-2.result b h))
     (c.loop-reference-2.reference-index, c.loop-reference-2-test.true, sym c.reference-item-in-loop-reference-2.is))
 
 pub loop-reference-2-preserved : goal.loop-reference-2-preserved

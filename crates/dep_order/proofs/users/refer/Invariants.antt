@@ -1,5 +1,4 @@
-use Rattle.std.{proofs.Common.{◌≡◌, ◌⊎◌, ◌↔◌, ◌++◌, take}, specs.List.{Contains}}
-use Rattle.dep_order.specs.Users.{Uses, HasRoomFor, IsReadyFor, HasNoEmptyBut}
+use Rattle.{std.{proofs.Common.{◌≡◌, ◌⊎◌, ◌↔◌, ◌++◌, take}, specs.List.{Contains}}, dep_order.specs.Users.{Uses, HasRoomFor, IsReadyFor, HasNoEmptyBut}}
 use Rattle.dep_order.proofs.users.refer.Given as goal
 
 abbrev pub invariant-loop-reference : goal.invariant-loop-reference

@@ -1,5 +1,4 @@
-use Rattle.std.proofs.Common.{sym, arith}
-use Rattle.fold_trees.proofs.LinePlaces.{line_counted, lines_before}
+use Rattle.{std.proofs.Common.{sym, arith}, fold_trees.proofs.LinePlaces.{line_counted, lines_before}}
 use Rattle.fold_trees.proofs.line.line_through.Goals as goal
 
 pub overflow_mul-result : goal.overflow_mul-result

@@ -1,5 +1,4 @@
-use Rattle.std.proofs.Common.{◌/◌, arith}
-use Rattle.fold_trees.proofs.Fours.{four_before}
+use Rattle.{std.proofs.Common.{◌/◌, arith}, fold_trees.proofs.Fours.{four_before}}
 use Rattle.fold_trees.proofs.line_block.begin_from.Goals as goal
 
 pub last_row-requires-clause-from : goal.last_row-requires-clause-from

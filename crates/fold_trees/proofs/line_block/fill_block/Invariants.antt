@@ -1,5 +1,4 @@
-use Rattle.std.proofs.Common.{◌≡◌, ℕ, ◌+◌, ◌*◌, ◌<◌, ◌≤◌, ◌⊎◌, length, get_or}
-use Rattle.fold_trees.specs.LineBlocks.{nodes_end, ArePartsKeptFrom}
+use Rattle.{std.proofs.Common.{◌≡◌, ℕ, ◌+◌, ◌*◌, ◌<◌, ◌≤◌, ◌⊎◌, length, get_or}, fold_trees.specs.LineBlocks.{nodes_end, ArePartsKeptFrom}}
 use Rattle.fold_trees.proofs.line_block.fill_block.Given as goal
 
 abbrev pub invariant-loop-fours : goal.invariant-loop-fours

@@ -1,5 +1,4 @@
-use Rattle.std.{proofs.Common.{◌∙◌, suc, ◌*◌, ◌/◌, refl, ap, sym, arith, inl, inr}, proofs.lemmas.Nat.{div-add-mod'}}
-use Rattle.fold_trees.proofs.BlockParts.{end_from}
+use Rattle.{std.{proofs.Common.{◌∙◌, suc, ◌*◌, ◌/◌, refl, ap, sym, arith, inl, inr}, proofs.lemmas.Nat.{div-add-mod'}}, fold_trees.proofs.BlockParts.{end_from}}
 use Rattle.fold_trees.proofs.line_block.fill_from.Goals as goal
 
 pub loop-half-init : goal.loop-half-init

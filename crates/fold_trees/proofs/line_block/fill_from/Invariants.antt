@@ -1,5 +1,4 @@
-use Rattle.std.proofs.Common.{◌≡◌, ℕ, ◌-◌, ◌*◌, ◌^◌, ◌<◌, ◌≤◌, ◌⊎◌, length, get_or}
-use Rattle.fold_trees.specs.LineBlocks.{nodes_end, ArePartsKeptBehind}
+use Rattle.{std.proofs.Common.{◌≡◌, ℕ, ◌-◌, ◌*◌, ◌^◌, ◌<◌, ◌≤◌, ◌⊎◌, length, get_or}, fold_trees.specs.LineBlocks.{nodes_end, ArePartsKeptBehind}}
 use Rattle.fold_trees.proofs.line_block.fill_from.Given as goal
 
 abbrev pub invariant-loop-half : goal.invariant-loop-half

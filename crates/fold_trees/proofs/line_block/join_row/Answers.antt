@@ -1,4 +1,4 @@
-use Rattle.std.proofs.Common.{◌∙◌, ◌+◌, ◌-◌, ◌*◌, ◌≤◌, sym, ap, subst, arith}
+use Rattle.std.proofs.Common.{◌∙◌, ◌+◌, ◌*◌, ◌≤◌, sym, ap, subst, arith}
 use Rattle.fold_trees.{specs.LineTrees.{slot_of, segment, node_of}, specs.LineBlocks.{line_of}, proofs.Segments.{segment_split}, proofs.BlockParts.{kept_on, rows_outside, quarter, half_told, later_told}}
 use Rattle.fold_trees.proofs.line_block.join_row.Goals as goal
 
@@ -32,13 +32,12 @@ returns-else-first-from-clause-kept g c =
     let tells = g.P.Part.tells in
     let blank = g.P.Part.blank in
     let nodes = c.args.nodes.now in
-    let after = c.halves_row.new.nodes in
     let low = quarter half c.requires.half.0 c.requires.half.1 (λ e. let no : ⊥ = omega (arith, e, c.requires.wide) in no) in
     let full : from + 2 * half ≤ first.count = omega (arith, c.if-first-from.false, c.requires.short) in
-    kept_on blank tells first numbers nodes after c.requires.half.0 c.requires.from.0 from half c.requires.half.1 c.requires.from.1 c.halves_row.ensures.others
+    kept_on blank tells first numbers nodes c.halves_row.new.nodes c.requires.half.0 c.requires.from.0 from half c.requires.half.1 c.requires.from.1 c.halves_row.ensures.others
     (λ column below.
     let x = slot_of (line_of first column) numbers in
-    subst (tells (node_of blank (line_of first column) after (from + half))) (sym (segment_split x from half half) ∙ ap (segment x from) (omega (arith, full)))
+    subst (tells (node_of blank (line_of first column) c.halves_row.new.nodes (from + half))) (sym (segment_split x from half half) ∙ ap (segment x from) (omega (arith, full)))
     (c.halves_row.ensures.told column below (segment x from half) (segment x (from + half) half)
     (half_told blank tells from half low.0 c.requires.from.0 first numbers nodes low.1 c.requires.from.1 full c.requires.kept column below)
     (later_told blank tells from half low.0 c.requires.from.0 first numbers nodes low.1 c.requires.from.1 full c.requires.kept column below)))

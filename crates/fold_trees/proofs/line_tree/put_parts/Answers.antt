@@ -1,18 +1,11 @@
-use Rattle.std.{proofs.Common.{◌≡◌, ◌∙◌, ℕ, suc, ◌+◌, ◌*◌, ◌/◌, ◌^◌, ◌<◌, ◌≤◌, ◌⊎◌, set, get_or, length, sym, ap, subst, arith, inl, inr, refl}, proofs.lemmas.List.{get_or_default}, proofs.lemmas.Nat.{pow_pos}}
-use Rattle.fold_trees.{specs.LineTrees.{numbers_of_block, node_of, block_up}, proofs.LineParts.{climb_start, climb_up}, proofs.LineNodes.{IsStepUp, others_stay, step_up, kept_first, all_kept}, proofs.LineJoins.{level_below, meeting_near, ends_here}, proofs.line_tree.put_parts.Given.{Over}}
+use Rattle.std.{proofs.Common.{◌≡◌, ◌∙◌, ℕ, suc, ◌+◌, ◌*◌, ◌/◌, ◌^◌, ◌<◌, set, get_or, length, sym, ap, subst, arith, inl, inr, refl}, proofs.lemmas.List.{get_or_default}}
+use Rattle.fold_trees.{specs.LineTrees.{numbers_of_block, node_of, block_up}, proofs.LineParts.{climb_start, climb_up}, proofs.LineNodes.{IsStepUp, some_meeting, others_stay, step_up, kept_first, all_kept}, proofs.LineJoins.{level_below, meeting_near, ends_here}, proofs.line_tree.put_parts.Given.{Over}}
 use Rattle.fold_trees.proofs.line_tree.put_parts.Goals.{In-loop-width, then-meeting-line, else-meeting-line}
 use Rattle.fold_trees.proofs.line_tree.put_parts.Goals as goal
 
-some_meeting : (g : Over) (c : In-loop-width g) → 1 ≤ (c.loop-width.block / 2 * 2 + 1) * c.loop-width.width
-some_meeting g c =
-    let width = c.loop-width.width in
-    let is : (c.loop-width.block / 2 * 2 + 1) * width ≡ 2 * (c.loop-width.block / 2 * width) + width = grind arith in
-    omega (arith, is, pow_pos c.loop-width.level, c.loop-width.invariant.wide)
-
 below : (g : Over) (c : In-loop-width g) → c.loop-width.level < length c.args.parts.now
 below g c =
-    let inv = c.loop-width.invariant in
-    level_below c.loop-width.level (length c.args.parts.now) c.args.line.count (omega (arith, inv.wide, c.loop-width-test.true)) c.requires.joined
+    level_below c.loop-width.level (length c.args.parts.now) c.args.line.count (omega (arith, c.loop-width.invariant.wide, c.loop-width-test.true)) c.requires.joined
 
 pub loop-width-init : goal.loop-width-init
 loop-width-init g c = record {
@@ -36,7 +29,7 @@ pub bounds-parts-level : goal.bounds-parts-level
 bounds-parts-level g c = below g (goal.at.bounds-parts-level g c).In-loop-width
 
 pub nth_node-requires-clause-some : goal.nth_node-requires-clause-some
-nth_node-requires-clause-some g c = some_meeting g (goal.at.nth_node-requires-clause-some g c).In-loop-width
+nth_node-requires-clause-some g c = some_meeting c.loop-width.block c.loop-width.width c.loop-width.level c.loop-width.invariant.wide
 
 pub overflow_add-level : goal.overflow_add-level
 overflow_add-level g c =
@@ -56,9 +49,8 @@ loop-width-preserved g c =
     let after = c.if-meeting-line.nodes in
     let parts = c.args.parts.now in
     let inv = c.loop-width.invariant in
-    let here = (goal.at.loop-width-preserved g c).In-loop-width in
-    let inside = below g here in
-    let some = some_meeting g here in
+    let inside = below g (goal.at.loop-width-preserved g c).In-loop-width in
+    let some = some_meeting block width level inv.wide in
     let s = get_or parts level blank in
     let next : suc level ≡ level + 1 = omega arith in
     let double : 2 * 2 ^ level ≡ 2 ^ suc level = grind arith in
@@ -67,14 +59,10 @@ loop-width-preserved g c =
       | then-meeting-line w ↦
           let there = c.requires.nodes.node ((block / 2 * 2 + 1) * width) some w.if-meeting-line.true in
           let read = w.index-parts-level.is ∙ get_or_default parts level w.index-parts-level.result blank inside in
-          inl (w.nodes-is ∙ (λ i. set nodes (w.nth_node.ensures i) (read i)), omega (arith, there, inv.sized))
+          inl (w.nodes-is ∙ (λ i. set nodes (w.nth_node.ensures i) (read i)), omega (arith, there, inv.sized), w.if-meeting-line.true)
       | else-meeting-line w ↦
           let last = ends_here place block width inv.climb line.count c.requires.place w.if-meeting-line.false in
           inr (w.nodes-is, last.0, last.1)
-    ] in
-    let within : after ≡ nodes ⊎ (block / 2 * 2 + 1) * width < line.count = elim c.if-meeting-line.branch [
-      | then-meeting-line w ↦ inr w.if-meeting-line.true
-      | else-meeting-line w ↦ inl w.nodes-is
     ] in
     record {
       climb = climb_up place block width inv.climb;
@@ -83,7 +71,7 @@ loop-width-preserved g c =
       kept = λ x beside joined.
           let told = subst (tells s) (λ i. numbers_of_block line.count x (sym inv.up i / 2) (sym wider i)) (joined.each level blank inside) in
           step_up blank tells line nodes after x place block width level s inv.climb inv.wide c.requires.apart (inv.kept x beside joined) told new;
-      others = others_stay blank line nodes after c.args.nodes.now block width s new some within inv.others;
+      others = others_stay blank line nodes after c.args.nodes.now block width s new some inv.others;
       sized = c.if-meeting-line.auto.nodes ∙ inv.sized;
     }
 

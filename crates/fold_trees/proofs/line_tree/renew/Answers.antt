@@ -1,17 +1,15 @@
-use Rattle.std.{proofs.Common.{◌≡◌, ◌∙◌, ◌+◌, ◌-◌, ◌*◌, ◌/◌, ◌<◌, ◌≤◌, ◌⊎◌, ◌∷◌, [], set, min, sym, ap, subst, arith, inl, inr, refl, w64, get_or, pos, rules}, proofs.lemmas.Int.{to_z-of_z}, proofs.lemmas.Nat.{pow_pos}}
-use Rattle.fold_trees.{specs.LineTrees.{slot_of, segment, node_of}, proofs.LineParts.{climb_start, climb_up}, proofs.LineNodes.{IsStepUp, others_stay, step_up, kept_first, all_kept, kept_beside}, proofs.line_tree.renew.Goals.{then-joined-eq1, else-joined-eq1}}
+use Rattle.std.{proofs.Common.{◌∙◌, ◌+◌, ◌*◌, ◌/◌, set, ap, arith, inl, inr, refl, w64, get_or, pos, rules}, proofs.lemmas.Int.{to_z-of_z}}
+use Rattle.fold_trees.{specs.LineTrees.{slot_of, node_of}, proofs.LineParts.{climb_start, climb_up, told_place}, proofs.LineNodes.{IsStepUp, some_meeting, others_stay, step_up, kept_first, all_kept, kept_beside}, proofs.line_tree.renew.Goals.{then-joined-eq1, else-joined-eq1}}
 use Rattle.fold_trees.proofs.line_tree.renew.Goals as goal
 
 pub loop-width-init : goal.loop-width-init
 loop-width-init g c =
     let place = c.args.place in
     let x = slot_of c.args.line c.args.numbers.now in
-    let start : place * 1 ≡ place = omega arith in
-    let one : min 1 (c.args.line.count - place * 1) ≡ 1 = omega (arith, c.requires.place) in
     let number = to_z-of_z w64 _ (search rules) ∙ ap (λ k. get_or c.args.numbers.now k (pos 0)) c.slot_at.ensures in
     record {
       climb = climb_start place;
-      told = subst (g.P.Part.tells c.of-kept.result) (ap (λ y. y ∷ []) number ∙ sym (λ i. segment x (start i) (one i))) c.of-kept.ensures;
+      told = told_place g.P.Part.tells c.args.line.count place x c.of-kept.result _ c.requires.place number c.of-kept.ensures;
       kept = kept_first g.P.Part.tells place c.args.line.count x (node_of g.P.Part.blank c.args.line c.args.nodes.now) c.requires.kept;
       others = λ p h. refl;
       sized = refl;
@@ -34,30 +32,22 @@ loop-width-preserved g c =
     let joined = c.widened-wider.ensures in
     let told = joined.is x (λ i low high. refl) inv.told in
     let meeting = (block / 2 * 2 + 1) * width in
-    let some : 1 ≤ meeting =
-    let is : meeting ≡ 2 * (block / 2 * width) + width = grind arith in
-    let p = pow_pos inv.climb.level in
-    let width_is = inv.climb.width_is in
-    omega (arith, is, p, width_is) in
+    let some = some_meeting block width inv.climb.level inv.climb.width_is in
     let new : IsStepUp line nodes after block width c.widened-wider.result.0 = elim c.if-joined-eq1.branch [
       | then-joined-eq1 w ↦
           let inside = c.requires.inside.nodes.node meeting some (joined.one w.if-joined-eq1.true) in
-          inl (w.nodes-is ∙ ap (λ p. set nodes p c.widened-wider.result.0) w.nth_node.ensures, omega (arith, inside, inv.sized))
+          inl (w.nodes-is ∙ ap (λ p. set nodes p c.widened-wider.result.0) w.nth_node.ensures, omega (arith, inside, inv.sized), joined.one w.if-joined-eq1.true)
       | else-joined-eq1 w ↦
           let other = w.if-joined-eq1.false in
           let none = joined.none (omega (arith, other, joined.joins)) in
           inr (w.nodes-is, none.0, none.1)
-    ] in
-    let within : after ≡ nodes ⊎ meeting < line.count = elim c.if-joined-eq1.branch [
-      | then-joined-eq1 w ↦ inr (joined.one w.if-joined-eq1.true)
-      | else-joined-eq1 w ↦ inl w.nodes-is
     ] in
     record {
       climb = climb_up c.args.place block width inv.climb;
       told = told;
       kept = step_up g.P.Part.blank g.P.Part.tells line nodes after x c.args.place block width inv.climb.level c.widened-wider.result.0 inv.climb
           inv.climb.width_is c.requires.inside.slots.apart inv.kept told new;
-      others = others_stay g.P.Part.blank line nodes after c.args.nodes.now block width c.widened-wider.result.0 new some within inv.others;
+      others = others_stay g.P.Part.blank line nodes after c.args.nodes.now block width c.widened-wider.result.0 new some inv.others;
       sized = c.if-joined-eq1.auto.nodes ∙ inv.sized;
     }
 

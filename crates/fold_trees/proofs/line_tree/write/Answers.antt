@@ -13,9 +13,8 @@ renew-requires-clause-kept g c =
     let line = c.args.line in
     let place = c.args.place in
     let numbers = c.args.numbers.now in
-    let here = (goal.at.renew-requires-clause-kept g c).After-slot_at in
     kept_replaced g.P.Part.tells place line.count (slot_of line numbers) (slot_of line (set numbers c.slot_at.result (to_z w64 (of_z w64 c.args.number)))) (node_of g.P.Part.blank line c.args.nodes.now)
-    (λ i below apart. numbers_put g here i ∙ replaced_other (slot_of line numbers) place c.args.number i apart)
+    (λ i below apart. numbers_put g ((goal.at.renew-requires-clause-kept g c).After-slot_at) i ∙ replaced_other (slot_of line numbers) place c.args.number i apart)
     c.requires.kept
 
 pub returns-in-Some-clause-numbers : goal.returns-in-Some-clause-numbers

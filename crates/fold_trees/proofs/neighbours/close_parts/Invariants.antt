@@ -1,5 +1,4 @@
-use Rattle.std.proofs.Common.{◌≡◌, ℕ, ℤ, ◌-◌, ◌*◌, ◌^◌, ◌<◌, ◌≤◌, length, get_or}
-use Rattle.fold_trees.specs.LineTrees.{node_of, ArePartsKeptUpTo}
+use Rattle.{std.proofs.Common.{◌≡◌, ℕ, ℤ, ◌-◌, ◌*◌, ◌^◌, ◌<◌, ◌≤◌, length, get_or}, fold_trees.specs.LineTrees.{node_of, ArePartsKeptUpTo}}
 use Rattle.fold_trees.proofs.neighbours.close_parts.Given as goal
 
 abbrev pub invariant-loop-half : goal.invariant-loop-half

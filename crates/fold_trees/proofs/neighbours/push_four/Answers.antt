@@ -1,5 +1,5 @@
 use Rattle.std.{proofs.Common.{◌≡◌, ◌∙◌, ℕ, ◌+◌, ◌<◌, ◌++◌, ◌∷◌, [], List, length, drop, get_or, ap, sym, subst, arith, rules}, proofs.lemmas.List.{take_at, length-append, get_or_append_left, get_or_push}}
-use Rattle.fold_trees.{specs.LineTrees.{nth_node, slot_of, segment, node_of, ArePartsKeptIn, ArePartsKeptUpTo}, proofs.LineEnds.{near_node}, proofs.Segments.{segment_split}, proofs.Fours.{four_more}, proofs.neighbours.push_four.Goals.{After-deref_mut}, proofs.neighbours.push_four.Given.{Over}}
+use Rattle.fold_trees.{specs.LineTrees.{nth_node, slot_of, segment, node_of, ArePartsKeptUpTo}, proofs.LineEnds.{near_node}, proofs.Segments.{segment_split}, proofs.Fours.{four_more}, proofs.neighbours.push_four.Goals.{After-deref_mut}, proofs.neighbours.push_four.Given.{Over}}
 use Rattle.fold_trees.proofs.neighbours.push_four.Goals as goal
 
 -- what lies where, of four more nodes
@@ -48,10 +48,9 @@ pushed g c =
 -- what was there before
 before : (g : Over) (c : After-deref_mut g) (p : ℕ) → p < c.args.line.node + c.args.from → get_or c.deref_mut.result.now p g.P.Part.blank ≡ get_or c.args.nodes.now.items p g.P.Part.blank
 before g c p below =
-    let nodes = c.args.nodes.now.items in
-    let long : length nodes ≡ c.args.line.node + c.args.from = search rules in
+    let long : length c.args.nodes.now.items ≡ c.args.line.node + c.args.from = search rules in
     ap (λ ns. get_or ns p g.P.Part.blank) (pushed g c)
-    ∙ old_ones g.P.Part.blank nodes c.two_from-first.result c.join.result c.two_from-second.result c.two_from-second.result p (omega (arith, long, below))
+    ∙ old_ones g.P.Part.blank c.args.nodes.now.items c.two_from-first.result c.join.result c.two_from-second.result c.two_from-second.result p (omega (arith, long, below))
 
 kept : (g : Over) (c : After-deref_mut g)
     → ArePartsKeptUpTo g.P.Part.tells (c.args.from + 4) 4 c.args.line.count (slot_of c.args.line c.args.numbers.now) (node_of g.P.Part.blank c.args.line c.deref_mut.result.now)
@@ -95,15 +94,10 @@ close_parts-requires-clause-kept g c = (slot_of c.args.line c.args.numbers.now, 
 
 pub returns-clause-kept : goal.returns-clause-kept
 returns-clause-kept g c =
-    let x = slot_of c.args.line c.args.numbers.now in
-    let long : length c.close_parts.new.nodes ≡ c.push_reserved-4.new.self.len = c.close_parts.ensures.length ∙ c.deref_mut.ensures.len in
-    subst (λ ns. ArePartsKeptIn g.P.Part.tells 0 (c.args.from + 4) c.args.line.count x (node_of g.P.Part.blank c.args.line ns))
-    (sym (take_at c.close_parts.new.nodes (drop (length c.close_parts.new.nodes) c.push_reserved-4.new.self.items) c.push_reserved-4.new.self.len long))
-    (c.close_parts.ensures.kept x (kept g (goal.at.returns-clause-kept g c).After-deref_mut))
+    rw (take_at c.close_parts.new.nodes (drop (length c.close_parts.new.nodes) c.push_reserved-4.new.self.items) c.push_reserved-4.new.self.len (c.close_parts.ensures.length ∙ c.deref_mut.ensures.len))
+    (c.close_parts.ensures.kept (slot_of c.args.line c.args.numbers.now) (kept g (goal.at.returns-clause-kept g c).After-deref_mut))
 
 pub returns-clause-others : goal.returns-clause-others
 returns-clause-others g c p below =
-    let nodes = c.close_parts.new.nodes in
-    let long : length nodes ≡ c.push_reserved-4.new.self.len = c.close_parts.ensures.length ∙ c.deref_mut.ensures.len in
-    ap (λ ns. get_or ns p g.P.Part.blank) (take_at nodes (drop (length nodes) c.push_reserved-4.new.self.items) c.push_reserved-4.new.self.len long)
-    ∙ c.close_parts.ensures.others p below ∙ before g (goal.at.returns-clause-others g c).After-deref_mut p (omega (arith, below))
+    rw (take_at c.close_parts.new.nodes (drop (length c.close_parts.new.nodes) c.push_reserved-4.new.self.items) c.push_reserved-4.new.self.len (c.close_parts.ensures.length ∙ c.deref_mut.ensures.len))
+    (c.close_parts.ensures.others p below ∙ before g (goal.at.returns-clause-others g c).After-deref_mut p (omega (arith, below)))

@@ -1,5 +1,4 @@
-use Rattle.std.proofs.Common.{◌≡◌, ℕ, ◌+◌, ◌*◌, ◌<◌, ◌≤◌, get_or, vec_len, vec_capacity}
-use Rattle.fold_trees.specs.LineTrees.{slot_of, node_of, ArePartsKeptIn}
+use Rattle.{std.proofs.Common.{◌≡◌, ℕ, ◌+◌, ◌*◌, ◌<◌, ◌≤◌, get_or, vec_len, vec_capacity}, fold_trees.specs.LineTrees.{slot_of, node_of, ArePartsKeptIn}}
 use Rattle.fold_trees.proofs.neighbours.push_fours.Given as goal
 
 abbrev pub invariant-loop-four : goal.invariant-loop-four

@@ -5,13 +5,12 @@ use Rattle.fold_trees.proofs.neighbours.push_line.Goals as goal
 -- what was there before the last one
 before : (g : Over) (c : After-deref_mut g) (p : ℕ) → p < c.args.line.node + 2 * ((c.args.line.count - 1) / 2) → get_or c.deref_mut.result.now p g.P.Part.blank ≡ get_or c.push_fours.new.nodes.items p g.P.Part.blank
 before g c p below =
-    let nodes = c.push_fours.new.nodes.items in
-    let long : length nodes ≡ c.args.line.node + 2 * ((c.args.line.count - 1) / 2) = search rules in
+    let long : length c.push_fours.new.nodes.items ≡ c.args.line.node + 2 * ((c.args.line.count - 1) / 2) = search rules in
     ap (λ ns. get_or ns p g.P.Part.blank) c.deref_mut.ensures.value
     ∙ elim c.if-last-eq1.branch [
       | then-last-eq1 w ↦
           ap (λ v. get_or v.items p g.P.Part.blank) w.nodes-is ∙ ap (λ ns. get_or ns p g.P.Part.blank) w.push_reserved.ensures.items
-          ∙ get_or_append_left nodes (w.of.result ∷ []) g.P.Part.blank p (omega (arith, long, below))
+          ∙ get_or_append_left c.push_fours.new.nodes.items (w.of.result ∷ []) g.P.Part.blank p (omega (arith, long, below))
       | else-last-eq1 w ↦ ap (λ v. get_or v.items p g.P.Part.blank) w.nodes-is
     ]
 

@@ -1,5 +1,5 @@
 use Rattle.std.{proofs.Common.{◌≡◌, ◌∙◌, ℕ, ◌+◌, ◌<◌, ◌++◌, ◌∷◌, [], length, drop, get_or, ap, sym, subst, arith, rules}, proofs.lemmas.List.{take_at, length-append, get_or_append_left, get_or_push}}
-use Rattle.fold_trees.{specs.LineTrees.{slot_of, nth_node, segment, node_of, ArePartsKeptIn, ArePartsKeptUpTo}, proofs.LineEnds.{near_node, least_more}, proofs.neighbours.push_pair.Goals.{After-deref_mut}, proofs.neighbours.push_pair.Given.{Over}}
+use Rattle.fold_trees.{specs.LineTrees.{slot_of, nth_node, segment, node_of, ArePartsKeptUpTo}, proofs.LineEnds.{near_node, least_more}, proofs.neighbours.push_pair.Goals.{After-deref_mut}, proofs.neighbours.push_pair.Given.{Over}}
 use Rattle.fold_trees.proofs.neighbours.push_pair.Goals as goal
 
 -- the nodes that are pushed
@@ -44,15 +44,10 @@ close_parts-requires-clause-kept g c = (slot_of c.args.line c.args.numbers.now, 
 
 pub returns-clause-kept : goal.returns-clause-kept
 returns-clause-kept g c =
-    let x = slot_of c.args.line c.args.numbers.now in
-    let long : length c.close_parts.new.nodes ≡ c.push_reserved-2.new.self.len = c.close_parts.ensures.length ∙ c.deref_mut.ensures.len in
-    subst (λ ns. ArePartsKeptIn g.P.Part.tells 0 (c.args.from + 2) c.args.line.count x (node_of g.P.Part.blank c.args.line ns))
-    (sym (take_at c.close_parts.new.nodes (drop (length c.close_parts.new.nodes) c.push_reserved-2.new.self.items) c.push_reserved-2.new.self.len long))
-    (c.close_parts.ensures.kept x (kept g (goal.at.returns-clause-kept g c).After-deref_mut))
+    rw (take_at c.close_parts.new.nodes (drop (length c.close_parts.new.nodes) c.push_reserved-2.new.self.items) c.push_reserved-2.new.self.len (c.close_parts.ensures.length ∙ c.deref_mut.ensures.len))
+    (c.close_parts.ensures.kept (slot_of c.args.line c.args.numbers.now) (kept g (goal.at.returns-clause-kept g c).After-deref_mut))
 
 pub returns-clause-others : goal.returns-clause-others
 returns-clause-others g c p below =
-    let nodes = c.close_parts.new.nodes in
-    let long : length nodes ≡ c.push_reserved-2.new.self.len = c.close_parts.ensures.length ∙ c.deref_mut.ensures.len in
-    ap (λ ns. get_or ns p g.P.Part.blank) (take_at nodes (drop (length nodes) c.push_reserved-2.new.self.items) c.push_reserved-2.new.self.len long)
-    ∙ c.close_parts.ensures.others p below ∙ before g (goal.at.returns-clause-others g c).After-deref_mut p (omega (arith, below))
+    rw (take_at c.close_parts.new.nodes (drop (length c.close_parts.new.nodes) c.push_reserved-2.new.self.items) c.push_reserved-2.new.self.len (c.close_parts.ensures.length ∙ c.deref_mut.ensures.len))
+    (c.close_parts.ensures.others p below ∙ before g (goal.at.returns-clause-others g c).After-deref_mut p (omega (arith, below)))

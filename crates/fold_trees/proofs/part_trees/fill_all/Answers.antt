@@ -1,5 +1,5 @@
-use Rattle.std.proofs.Common.{◌≡◌, ◌<◌, ◌≤◌, ◌*◌, ◌/◌, ◌^◌, ◌∙◌, ◌⊎◌, ℕ, length, get_or, rules, sym, subst, arith}
-use Rattle.fold_trees.{proofs.BlockLines.{block_count, block_ends, have_slots, have_nodes, block_kept}, proofs.LineSpots.{lines_are}, specs.declared.line.Line.{Line}, specs.LineTrees.{slot_of, node_of, ArePartsKept}, specs.LineBlocks.{line_of, HaveSlots, nodes_end, HaveNodes}}
+use Rattle.std.proofs.Common.{◌≡◌, ◌<◌, ◌*◌, ◌/◌, ◌^◌, ◌∙◌, length, rules, sym, arith}
+use Rattle.fold_trees.{proofs.BlockLines.{block_count, block_ends, have_slots, have_nodes, block_kept}, proofs.LineSpots.{lines_are}}
 use Rattle.fold_trees.proofs.part_trees.fill_all.Goals as goal
 
 pub nth_block-requires-clause-fit : goal.nth_block-requires-clause-fit
@@ -10,33 +10,21 @@ nth_block-requires-clause-fit g c =
 
 pub fill_block-requires-clause-slots : goal.fill_block-requires-clause-slots
 fill_block-requires-clause-slots g c =
-    let long = length c.args.numbers.now in
-    subst (λ (l : Line). HaveSlots l long) (sym c.nth_block.ensures)
-    (have_slots c.args.count c.args.step long c.requires.lines c.loop-block.block c.loop-block-test.true (search rules))
+    rw c.nth_block.ensures (have_slots c.args.count c.args.step (length c.args.numbers.now) c.requires.lines c.loop-block.block c.loop-block-test.true (search rules))
 
 pub fill_block-requires-clause-nodes : goal.fill_block-requires-clause-nodes
 fill_block-requires-clause-nodes g c =
-    let long = length c.args.numbers.now in
-    let nodes = length c.loop-block.nodes in
-    let small : long < 2 ^ 62 = search rules in
-    subst (λ (l : Line). HaveNodes l nodes) (sym c.nth_block.ensures)
-    (have_nodes c.args.count c.args.step long c.requires.lines c.loop-block.block c.loop-block-test.true nodes (c.loop-block.invariant.sized ∙ c.requires.sized) small)
+    let small : length c.args.numbers.now < 2 ^ 62 = search rules in
+    rw c.nth_block.ensures (have_nodes c.args.count c.args.step _ c.requires.lines c.loop-block.block c.loop-block-test.true _ (c.loop-block.invariant.sized ∙ c.requires.sized) small)
 
 pub loop-block-preserved : goal.loop-block-preserved
 loop-block-preserved g c =
-    let blank = g.P.Part.blank in
-    let tells = g.P.Part.tells in
-    let numbers = c.args.numbers.now in
-    let after = c.fill_block.new.nodes in
     let inv = c.loop-block.invariant in
     let told = c.fill_block.ensures in
-    let is = c.nth_block.ensures in
-    let here =
-    subst (λ (l : Line). (column : ℕ) → column < l.step → ArePartsKept tells l.count (slot_of (line_of l column) numbers) (node_of blank (line_of l column) after)) is
-    told.kept in
-    let others = subst (λ (l : Line). (p : ℕ) → (p < l.node ⊎ nodes_end l ≤ p) → get_or after p blank ≡ get_or c.loop-block.nodes p blank) is told.others in
+    let here = rw c.nth_block.ensures at told.kept in
+    let others = rw c.nth_block.ensures at told.others in
     record {
-      kept = block_kept blank tells c.args.count c.args.step numbers c.loop-block.nodes after c.loop-block.block c.requires.lines.apart here others inv.kept;
+      kept = block_kept g.P.Part.blank g.P.Part.tells c.args.count c.args.step c.args.numbers.now c.loop-block.nodes c.fill_block.new.nodes c.loop-block.block c.requires.lines.apart here others inv.kept;
       sized = told.length ∙ inv.sized;
     }
 

@@ -1,5 +1,4 @@
-use Rattle.std.proofs.Common.{◌≡◌, ℕ, ◌*◌, ◌<◌, length}
-use Rattle.fold_trees.{specs.LineTrees.{slot_of, node_of, ArePartsKept}, specs.LineBlocks.{line_at}}
+use Rattle.{std.proofs.Common.{◌≡◌, ℕ, ◌*◌, ◌<◌, length}, fold_trees.{specs.LineTrees.{slot_of, node_of, ArePartsKept}, specs.LineBlocks.{line_at}}}
 use Rattle.fold_trees.proofs.part_trees.fill_all.Given as goal
 
 abbrev pub invariant-loop-block : goal.invariant-loop-block

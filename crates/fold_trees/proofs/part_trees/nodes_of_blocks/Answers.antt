@@ -1,5 +1,4 @@
-use Rattle.std.{proofs.Common.{◌≡◌, ◌∙◌, length, drop, sym, subst}, proofs.lemmas.List.{take_at}}
-use Rattle.fold_trees.specs.LineBlocks.{AreAllKept}
+use Rattle.{std.{proofs.Common.{◌≡◌, ◌∙◌, length, drop, sym, subst}, proofs.lemmas.List.{take_at}}, fold_trees.specs.LineBlocks.{AreAllKept}}
 use Rattle.fold_trees.proofs.part_trees.nodes_of_blocks.Goals as goal
 
 pub returns-clause-kept : goal.returns-clause-kept

@@ -1,6 +1,4 @@
-use Rattle.std.proofs.Common.{◌≡◌, ◌∙◌, [], ◌∷◌, sym}
-use Rattle.change_rules.specs.Evaluation.{evaluation}
-use Rattle.index_region.specs.declared.delta.Delta.TheVariants.{Whole}
+use Rattle.{std.proofs.Common.{◌≡◌, ◌∙◌, [], ◌∷◌, sym}, change_rules.specs.Evaluation.{evaluation}, index_region.specs.declared.delta.Delta.TheVariants.{Whole}}
 use Rattle.formula_core.{specs.Rules.{both_rule}, proofs.Meant.{both_meant}}
 use Rattle.formula_core.proofs.application.of_both.Goals as goal
 

@@ -1,8 +1,5 @@
-use Rattle.std.proofs.Common.{◌≡◌, ◌∙◌, [], ◌∷◌, ap, sym}
-use Rattle.arrays_core.specs.Arrays.{ArrayValue}
-use Rattle.change_rules.specs.Evaluation.{evaluation}
-use Rattle.index_region.specs.declared.delta.Delta.TheVariants.{Whole}
-use Rattle.formula_core.{specs.Rules.{right_rule}, proofs.Meant.{right_meant}}
+use Rattle.{std.proofs.Common.{◌≡◌, ◌∙◌, [], ◌∷◌, ap, sym}, arrays_core.specs.Arrays.{ArrayValue}, change_rules.specs.Evaluation.{evaluation}}
+use Rattle.{index_region.specs.declared.delta.Delta.TheVariants.{Whole}, formula_core.{specs.Rules.{right_rule}, proofs.Meant.{right_meant}}}
 use Rattle.formula_core.proofs.application.of_right.Goals as goal
 
 pub returns : goal.returns

@@ -1,10 +1,8 @@
 use Rattle.std.{proofs.Common.{◌≡◌, ◌+◌, ◌-◌, ◌<◌, ◌≤◌, [], ◌∷◌, to_z, of_z, w64, SFits, length, get_or, drop, List, Option, Some, None, Result, Ok, Err, is_ok, ◌∙◌, ap, sym, subst, map, arith, rules}, proofs.lemmas.Bool.{false≢true}, proofs.lemmas.Int.{to_z-of_z}}
 use Rattle.apl_expr.{specs.declared.expr.Expr.{Expr}, specs.declared.functions.Function2.TheVariants.{Dyad}, specs.declared.expr.Dyadic.TheVariants.{Scalar}, specs.Trees.{Tree, Numbers, Const, Index, before_argument, between_arguments, tree_of, position_of, positions_of}, proofs.Rows.{tree_index}}
-use Rattle.arrays_core.{specs.Arrays.{scalar_of}, specs.declared.fault.Fault.{Fault}, specs.Outcomes.{Outcome}}
-use Rattle.selection_fns.specs.Index.{Position}
+use Rattle.{arrays_core.{specs.Arrays.{scalar_of}, specs.declared.fault.Fault.{Fault}, specs.Outcomes.{Outcome}}, selection_fns.specs.Index.{Position}}
 use Rattle.formula_core.{specs.Counts.{cost_in, cost_in_positions, ArePositionsCounted, IsTreeCounted}, specs.Evaluated.{outcome_of, position_in, positions_in}, specs.Meaning.{eval, eval_positions, applied1, applied2, indexed}, proofs.Applied.{eval_before, eval_between}}
-use Rattle.formula_core.{proofs.Counted.{literal_counted, monad_counted, dyad_counted, index_counted, index_cost, cost_from, cost_written, cost_empty, cost_left, failed_at}, proofs.Indexing.{there}}
-use Rattle.formula_core.proofs.evaluation.+value.Goals.{position_operands-in-Some+in_ok-operand-in-Some+in-Ok, position_operands-in-None}
+use Rattle.formula_core.{proofs.Counted.{literal_counted, monad_counted, dyad_counted, index_counted, index_cost, cost_from, cost_written, cost_empty, cost_left, failed_at}, proofs.Indexing.{there}, proofs.evaluation.+value.Goals.{position_operands-in-Some+in_ok-operand-in-Some+in-Ok, position_operands-in-None}}
 use Rattle.formula_core.proofs.evaluation.+value.Goals as goal
 
 pub before-returns-clause-counted : goal.before-returns-clause-counted
@@ -76,8 +74,7 @@ between-returns-clause-counted g t c =
     let second : IsTreeCounted names a now then_now (Ok c.in_ok-left-2.left) = c.in_ok-left-2.ensures.counted in
     let right : outcome_of c.in_ok-right-2.right ≡ eval b names = c.in_ok-right-2.ensures.value in
     let left : outcome_of c.in_ok-left-2.left ≡ eval a names = c.in_ok-left-2.ensures.value in
-    let given : outcome_of c.in_ok-given-3.given ≡ applied2 f (outcome_of c.in_ok-right-2.right) (outcome_of c.in_ok-left-2.left) =
-    c.in_ok-given-3.ensures in
+    let given : outcome_of c.in_ok-given-3.given ≡ applied2 f (outcome_of c.in_ok-right-2.right) (outcome_of c.in_ok-left-2.left) = c.in_ok-given-3.ensures in
     let is : outcome_of c.in_ok-given-3.given ≡ eval (between_arguments f a b) names =
     given ∙ ap (λ (o : Outcome). applied2 f o (outcome_of c.in_ok-left-2.left)) right ∙ ap (applied2 f (eval b names)) left ∙ sym (eval_between names f a b) in
     dyad_counted names f a b before now then_now after c.in_ok-right-2.right c.in_ok-left-2.left c.in_ok-given-3.given c.counted-2.result first second is c.counted-2.ensures.items

@@ -1,6 +1,4 @@
-use Rattle.std.proofs.Common.{◌≡◌, ◌+◌, ◌≤◌, drop, map, length, Ok}
-use Rattle.apl_expr.specs.Trees.{position_of, positions_of}
-use Rattle.change_core.specs.Meters.{ticked}
+use Rattle.{std.proofs.Common.{◌≡◌, ◌+◌, ◌≤◌, drop, map, length, Ok}, apl_expr.specs.Trees.{position_of, positions_of}, change_core.specs.Meters.{ticked}}
 use Rattle.formula_core.{specs.Evaluated.{position_in}, specs.Meaning.{eval_positions}, proofs.Counted.{cost_from}}
 use Rattle.formula_core.proofs.evaluation.+value.Given as goal
 

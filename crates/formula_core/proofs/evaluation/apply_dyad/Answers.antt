@@ -1,6 +1,4 @@
-use Rattle.std.proofs.Common.{◌∙◌, sym}
-use Rattle.arrays_core.specs.Outcomes.{given}
-use Rattle.formula_core.{specs.Evaluated.{outcome_of}, specs.Meaning.{of_both, applied2}}
+use Rattle.{std.proofs.Common.{◌∙◌, sym}, arrays_core.specs.Outcomes.{given}, formula_core.{specs.Evaluated.{outcome_of}, specs.Meaning.{of_both, applied2}}}
 use Rattle.formula_core.proofs.evaluation.apply_dyad.Goals as goal
 
 pub returns-in-Ok-left : goal.returns-in-Ok-left

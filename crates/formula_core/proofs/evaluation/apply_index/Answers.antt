@@ -1,6 +1,4 @@
-use Rattle.std.proofs.Common.{◌≡◌, sym, subst, map, IfOk, Ok}
-use Rattle.arrays_core.specs.Arrays.{IsAnswerTo, ArrayValue}
-use Rattle.selection_fns.specs.Index.{index_whole}
+use Rattle.{std.proofs.Common.{◌≡◌, sym, subst, map, IfOk, Ok}, arrays_core.specs.Arrays.{IsAnswerTo, ArrayValue}, selection_fns.specs.Index.{index_whole}}
 use Rattle.formula_core.{specs.Evaluated.{outcome_of, array_in, position_in, positions_in}, specs.Meaning.{indexed}}
 use Rattle.formula_core.proofs.evaluation.apply_index.Goals as goal
 

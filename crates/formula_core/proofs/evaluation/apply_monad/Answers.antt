@@ -1,5 +1,4 @@
-use Rattle.std.proofs.Common.{◌∙◌, ap, sym}
-use Rattle.arrays_core.{specs.Arrays.{ArrayValue}, specs.Outcomes.{given}}
+use Rattle.{std.proofs.Common.{◌∙◌, ap, sym}, arrays_core.{specs.Arrays.{ArrayValue}, specs.Outcomes.{given}}}
 use Rattle.formula_core.{specs.Evaluated.{outcome_of}, specs.Meaning.{of_right, applied1}}
 use Rattle.formula_core.proofs.evaluation.apply_monad.Goals as goal
 

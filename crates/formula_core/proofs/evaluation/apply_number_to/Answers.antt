@@ -1,7 +1,6 @@
 use Rattle.std.{proofs.Common.{◌≡◌, ℤ, sym, subst, IfOk, Ok, to_z, of_z, w64, SFits, rules}, proofs.lemmas.Int.{to_z-of_z}}
 use Rattle.apl_expr.{specs.declared.expr.Dyadic.TheVariants.{Scalar}, specs.declared.functions.Function2.TheVariants.{Dyad}}
-use Rattle.arrays_core.specs.Arrays.{IsAnswerTo, ArrayValue, scalar_of}
-use Rattle.scalar_fns.specs.ScalarExtension.{dyadic_on_arrays}
+use Rattle.{arrays_core.specs.Arrays.{IsAnswerTo, ArrayValue, scalar_of}, scalar_fns.specs.ScalarExtension.{dyadic_on_arrays}}
 use Rattle.formula_core.{specs.Evaluated.{outcome_of, array_in}, specs.Meaning.{of_both, applied2}}
 use Rattle.formula_core.proofs.evaluation.apply_number_to.Goals as goal
 

@@ -1,5 +1,4 @@
-use Rattle.std.proofs.Common.{◌≡◌, ◌∷◌, ◌++◌, drop}
-use Rattle.formula_core.specs.Evaluated.{written_arrays}
+use Rattle.{std.proofs.Common.{◌≡◌, ◌∷◌, ◌++◌, drop}, formula_core.specs.Evaluated.{written_arrays}}
 use Rattle.formula_core.proofs.evaluation.arguments_of.Given as goal
 
 abbrev pub invariant-loop-position : goal.invariant-loop-position

@@ -1,6 +1,5 @@
 use Rattle.std.{proofs.Common.{◌≡◌, ◌+◌, ◌∙◌, ap, sym, ℕ, List, [], ◌∷◌, ◌++◌, map, take}, proofs.lemmas.List.{take_more, map-append}}
-use Rattle.arrays_core.specs.declared.fault.Fault.{Fault}
-use Rattle.formula_core.specs.Outcomes.{error_in}
+use Rattle.{arrays_core.specs.declared.fault.Fault.{Fault}, formula_core.specs.Outcomes.{error_in}}
 use Rattle.formula_core.proofs.evaluation.errors_shown.Goals as goal
 
 pub loop-reference-preserved : goal.loop-reference-preserved

@@ -1,5 +1,4 @@
-use Rattle.std.proofs.Common.{◌≡◌, ℕ, List, map, take}
-use Rattle.formula_core.specs.Outcomes.{error_in}
+use Rattle.{std.proofs.Common.{◌≡◌, ℕ, List, map, take}, formula_core.specs.Outcomes.{error_in}}
 use Rattle.formula_core.proofs.evaluation.errors_shown.Given as goal
 
 abbrev pub invariant-loop-reference : goal.invariant-loop-reference

@@ -1,5 +1,4 @@
-use Rattle.std.{proofs.Common.{ℕ, List, take}, specs.List.{Contains}}
-use Rattle.formula_core.{specs.Changes.{at_rest}, specs.Plans.{AreInputs, IsNameSound}}
+use Rattle.{std.{proofs.Common.{ℕ, List, take}, specs.List.{Contains}}, formula_core.{specs.Changes.{at_rest}, specs.Plans.{AreInputs, IsNameSound}}}
 use Rattle.formula_core.proofs.evaluation.inputs_at_rest.Given as goal
 
 abbrev pub invariant-loop-place : goal.invariant-loop-place

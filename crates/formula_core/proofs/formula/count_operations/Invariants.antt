@@ -1,5 +1,4 @@
-use Rattle.std.{proofs.Common.{◌≡◌, ◌≤◌, take}, specs.List.{count_by}}
-use Rattle.formula_core.specs.Tables.{applies}
+use Rattle.{std.{proofs.Common.{◌≡◌, ◌≤◌, take}, specs.List.{count_by}}, formula_core.specs.Tables.{applies}}
 use Rattle.formula_core.proofs.formula.count_operations.Given as goal
 
 abbrev pub invariant-loop-kept : goal.invariant-loop-kept

@@ -1,5 +1,4 @@
-use Rattle.std.proofs.Common.{ap}
-use Rattle.apl_expr.specs.Trees.{tree_of}
+use Rattle.{std.proofs.Common.{ap}, apl_expr.specs.Trees.{tree_of}}
 use Rattle.formula_core.{specs.declared.kept.Kept.{Kept}, specs.Holdings.{nodes_of, holding}, proofs.Rooted.{rooted_node, rooted_literal, rooted_name, nodes_pushed, none_worked_out, new_pushed}}
 use Rattle.formula_core.specs.declared.table.Node.TheVariants as node
 use Rattle.formula_core.proofs.formula.lower_whole.Goals as goal

@@ -1,5 +1,4 @@
-use Rattle.std.proofs.Common.{◌≡◌, ◌∷◌, ◌++◌, drop}
-use Rattle.formula_core.specs.Inputs.{arrays_among, written_inputs}
+use Rattle.{std.proofs.Common.{◌≡◌, ◌∷◌, ◌++◌, drop}, formula_core.specs.Inputs.{arrays_among, written_inputs}}
 use Rattle.formula_core.proofs.index_change.arguments_of.Given as goal
 
 abbrev pub invariant-loop-position : goal.invariant-loop-position

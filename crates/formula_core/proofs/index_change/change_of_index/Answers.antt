@@ -1,8 +1,5 @@
-use Rattle.std.proofs.Common.{◌≡◌, ◌∷◌, sym, ◌∙◌, subst, map, is_some, None, Some}
-use Rattle.arrays_core.specs.Arrays.{ArrayValue}
-use Rattle.change_core.specs.Reaches.{AllFit}
-use Rattle.change_rules.{specs.Currency.{HasAxis}, specs.Nodes.{views, moved}}
-use Rattle.selection_fns.specs.Index.{index_rule}
+use Rattle.{std.proofs.Common.{◌≡◌, ◌∷◌, sym, ◌∙◌, subst, map, is_some, None, Some}, arrays_core.specs.Arrays.{ArrayValue}, change_core.specs.Reaches.{AllFit}}
+use Rattle.{change_rules.{specs.Currency.{HasAxis}, specs.Nodes.{views, moved}}, selection_fns.specs.Index.{index_rule}}
 use Rattle.formula_core.{specs.declared.input.Input.{Input}, specs.declared.input.Input.TheVariants.{Good}, specs.Rules.{with_change, IsRefreshed}, specs.Inputs.{HasFit, IsOperationChange, arrays_among, last_error, written_inputs}}
 use Rattle.formula_core.proofs.Gathered.{none_with_array, refreshed_change, error_behind, error_in_front, error_change, written_fit, arrays_fit, arrays_have_axes, arrays_count}
 use Rattle.formula_core.proofs.index_change.change_of_index.Goals as goal

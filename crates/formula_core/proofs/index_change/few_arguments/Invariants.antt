@@ -1,5 +1,4 @@
-use Rattle.std.proofs.Common.{◌≡◌, ◌≤◌, ◌+◌, ◌∷◌, ◌++◌, drop, take, length}
-use Rattle.formula_core.specs.Inputs.{arrays_among, written_inputs}
+use Rattle.{std.proofs.Common.{◌≡◌, ◌≤◌, ◌+◌, ◌∷◌, ◌++◌, drop, take, length}, formula_core.specs.Inputs.{arrays_among, written_inputs}}
 use Rattle.formula_core.proofs.index_change.few_arguments.Given as goal
 
 abbrev pub invariant-loop-position : goal.invariant-loop-position

@@ -1,5 +1,4 @@
-use Rattle.std.{proofs.Common.{◌≡◌, drop}, specs.Option.{option_or}}
-use Rattle.formula_core.specs.Inputs.{last_error, written_inputs}
+use Rattle.{std.{proofs.Common.{◌≡◌, drop}, specs.Option.{option_or}}, formula_core.specs.Inputs.{last_error, written_inputs}}
 use Rattle.formula_core.proofs.index_change.last_fault.Given as goal
 
 abbrev pub invariant-loop-position : goal.invariant-loop-position

@@ -1,6 +1,4 @@
-use Rattle.std.proofs.Common.{◌≡◌, ◌∙◌, [], ◌∷◌, Some, sym, subst}
-use Rattle.reduce_fns.specs.declared.reduce.Reduce.{Reduce}
-use Rattle.change_core.specs.RuleModels.{RuleModel}
+use Rattle.{std.proofs.Common.{◌≡◌, ◌∙◌, [], ◌∷◌, Some, sym, subst}, reduce_fns.specs.declared.reduce.Reduce.{Reduce}, change_core.specs.RuleModels.{RuleModel}}
 use Rattle.formula_core.{specs.Inputs.{shown, delta_of, IsOperationChange}, specs.Stages.{AreTotalsJoined}, specs.Sums.{AreSumsKept}, proofs.Totalled.{total_is}, specs.Rules.{with_change}}
 use Rattle.formula_core.proofs.operation_change.change_of_monad.Goals as goal
 

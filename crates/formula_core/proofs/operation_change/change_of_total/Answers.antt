@@ -1,6 +1,5 @@
 use Rattle.std.proofs.Common.{◌≡◌, ◌∙◌, false, Ok, Some, None, Option, IfOk, [], ◌∷◌, sym, ap, subst}
-use Rattle.arrays_core.{specs.Arrays.{ArrayValue}, specs.Outcomes.{Outcome}}
-use Rattle.change_rules.specs.Nodes.{is_error}
+use Rattle.{arrays_core.{specs.Arrays.{ArrayValue}, specs.Outcomes.{Outcome}}, change_rules.specs.Nodes.{is_error}}
 use Rattle.sum_rules.{specs.LineSums.{SummedValue, length_along}, specs.Totals.{AreFolds, AreFoldsWithin, HasAllJoins, HasJoins, StoodBefore, StoodFor, total_rule}}
 use Rattle.formula_core.{specs.declared.input.Input.{Input}, specs.Changes.{FitsNow, operation_cost}, specs.Inputs.{shown, delta_of, HasFit}, specs.Rules.{with_change}, specs.Stages.{AreTotalsJoined}, proofs.Gathered.{in_place}, specs.Sums.{summed_in, AreSumsKept, IsSummedFor, WasGrown, WasPatched}}
 use Rattle.formula_core.{proofs.Summed.{kept_of, stood_before, stood_for}, proofs.Totalled.{totalled_by_folds, totalled_by_trees}}

@@ -1,7 +1,5 @@
-use Rattle.std.{proofs.Common.{[], ◌∷◌, Ok, sym, subst}, proofs.lemmas.Option.{IfSome_then}}
-use Rattle.arrays_core.specs.Arrays.{ArrayValue}
-use Rattle.change_rules.specs.Nodes.{delta_of_place}
-use Rattle.scalar_fns.specs.EachMonadic.{each_monadic_rule}
+use Rattle.{std.{proofs.Common.{[], ◌∷◌, Ok, sym, subst}, proofs.lemmas.Option.{IfSome_then}}, arrays_core.specs.Arrays.{ArrayValue}}
+use Rattle.{change_rules.specs.Nodes.{delta_of_place}, scalar_fns.specs.EachMonadic.{each_monadic_rule}}
 use Rattle.formula_core.{specs.declared.input.Input.{Input}, specs.Inputs.{IsOperationChange}, specs.Rules.{IsRefreshed}, proofs.Places.{refreshed_before}}
 use Rattle.formula_core.proofs.operation_change.place_of_each.Goals as goal
 

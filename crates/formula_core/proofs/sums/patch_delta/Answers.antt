@@ -1,6 +1,4 @@
-use Rattle.std.proofs.Common.{◌<◌, List, sym, subst, arith}
-use Rattle.index_region.specs.Boxes.{Interval, box_size}
-use Rattle.change_core.proofs.Filling.{few_places}
+use Rattle.{std.proofs.Common.{◌<◌, List, sym, subst, arith}, index_region.specs.Boxes.{Interval, box_size}, change_core.proofs.Filling.{few_places}}
 use Rattle.formula_core.proofs.sums.patch_delta.Goals as goal
 
 pub size-requires : goal.size-requires

@@ -1,8 +1,8 @@
 use Rattle.std.{proofs.Common.{◌∙◌, List, Option, map, take, sym, ap, subst}, specs.Prelude.{IfOk}}
 use Rattle.apl_expr.{specs.Trees.{Tree, Index, before_argument, between_arguments, tree_of, position_of, positions_of}, specs.declared.expr.Expr.{Expr}, proofs.Rows.{tree_index}}
 use Rattle.formula_core.{specs.Holdings.{nodes_of}, specs.Tables.{IsLowered, ArePositionsLowered}, proofs.Tabled.{lowered_monad, lowered_dyad, lowered_index, as_lowered, pushed_anew, position_more, filled_position, empty_position}}
-use Rattle.formula_core.specs.declared.table.Node.TheVariants as node
 use Rattle.formula_core.proofs.table.+lower.Goals.{lower_positions-in-Some+in_ok-lower-in-Some, lower_positions-in-None}
+use Rattle.formula_core.specs.declared.table.Node.TheVariants as node
 use Rattle.formula_core.proofs.table.+lower.Goals as goal
 
 pub lower-returns-in-Const-clause-lowered : goal.lower-returns-in-Const-clause-lowered

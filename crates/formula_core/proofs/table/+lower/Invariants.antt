@@ -1,5 +1,4 @@
-use Rattle.std.proofs.Common.{take, map}
-use Rattle.apl_expr.specs.Trees.{position_of}
+use Rattle.{std.proofs.Common.{take, map}, apl_expr.specs.Trees.{position_of}}
 use Rattle.formula_core.{specs.Holdings.{nodes_of, AreNotWorkedOut}, specs.Tables.{ArePositionsLowered}}
 use Rattle.formula_core.proofs.table.+lower.Given as goal
 

@@ -1,5 +1,4 @@
-use Rattle.std.{proofs.Common.{List, ℕ, subst, sym}, proofs.lemmas.Bool.{both_ways}}
-use Rattle.arrays_core.specs.Shapes.{IsWithinLimits}
+use Rattle.{std.{proofs.Common.{List, ℕ, subst, sym}, proofs.lemmas.Bool.{both_ways}}, arrays_core.specs.Shapes.{IsWithinLimits}}
 use Rattle.index_region.proofs.Passing.{limited_passes, limited_fails}
 use Rattle.index_region.proofs.checks.limited.Goals as goal
 
@@ -10,6 +9,5 @@ returns-then-is_within_limits c =
 
 pub returns-else-is_within_limits : goal.returns-else-is_within_limits
 returns-else-is_within_limits c =
-    let slice = sym c.as_slice.ensures in
     limited_fails c.args.shape.items c.args.item_type
-    (λ within. both_ways _ c.if-is_within_limits.false (c.is_within_limits.ensures.1 (subst (λ (shape : List ℕ). IsWithinLimits shape) slice within)))
+    (λ within. both_ways _ c.if-is_within_limits.false (c.is_within_limits.ensures.1 (subst (λ (shape : List ℕ). IsWithinLimits shape) (sym c.as_slice.ensures) within)))

@@ -1,5 +1,4 @@
-use Rattle.std.{proofs.Common.{◌≡◌, ◌&&◌, nat_le, drop}, specs.List.{list_all}}
-use Rattle.index_region.specs.Boxes.{Interval}
+use Rattle.{std.{proofs.Common.{◌≡◌, ◌&&◌, nat_le, drop}, specs.List.{list_all}}, index_region.specs.Boxes.{Interval}}
 use Rattle.index_region.proofs.index_box.are_filled.Given as goal
 
 abbrev pub invariant-loop-first : goal.invariant-loop-first

@@ -1,5 +1,4 @@
-use Rattle.std.proofs.Common.{◌≡◌, length, ◌++◌, drop}
-use Rattle.index_region.specs.Boxes.{cover_between}
+use Rattle.{std.proofs.Common.{◌≡◌, length, ◌++◌, drop}, index_region.specs.Boxes.{cover_between}}
 use Rattle.index_region.proofs.index_box.covered.Given as goal
 
 abbrev pub invariant-loop-axis : goal.invariant-loop-axis

@@ -1,5 +1,4 @@
-use Rattle.std.{proofs.Common.{◌∙◌, ap, map, arith, sym}, proofs.lemmas.List.{take_all}}
-use Rattle.index_region.proofs.OnePlace.{walk_first}
+use Rattle.{std.{proofs.Common.{◌∙◌, ap, map, arith, sym}, proofs.lemmas.List.{take_all}}, index_region.proofs.OnePlace.{walk_first}}
 use Rattle.index_region.proofs.index_box.first_of.Goals as goal
 
 pub returns : goal.returns

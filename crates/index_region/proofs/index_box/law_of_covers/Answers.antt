@@ -1,5 +1,4 @@
-use Rattle.std.proofs.Common.{List, ℕ, ◌≤◌, ◌<◌}
-use Rattle.arrays_core.specs.Shapes.{size}
+use Rattle.{std.proofs.Common.{List, ℕ, ◌≤◌, ◌<◌}, arrays_core.specs.Shapes.{size}}
 use Rattle.index_region.{proofs.Boxes.{fits-cover}, proofs.Least.{cover_holds, cover_least}}
 use Rattle.index_region.proofs.index_box.law_of_covers.Goals as goal
 

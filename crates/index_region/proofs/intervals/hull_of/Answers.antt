@@ -1,5 +1,4 @@
-use Rattle.std.proofs.Common.{arith, rules}
-use Rattle.index_region.proofs.Boxes.{hull_more}
+use Rattle.{std.proofs.Common.{arith, rules}, index_region.proofs.Boxes.{hull_more}}
 use Rattle.index_region.proofs.intervals.hull_of.Goals as goal
 
 pub loop-axis-preserved : goal.loop-axis-preserved

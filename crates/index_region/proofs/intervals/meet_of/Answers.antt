@@ -1,5 +1,4 @@
-use Rattle.std.proofs.Common.{arith, rules}
-use Rattle.index_region.proofs.Boxes.{meet_more}
+use Rattle.{std.proofs.Common.{arith, rules}, index_region.proofs.Boxes.{meet_more}}
 use Rattle.index_region.proofs.intervals.meet_of.Goals as goal
 
 pub loop-axis-preserved : goal.loop-axis-preserved

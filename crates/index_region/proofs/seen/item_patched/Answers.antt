@@ -1,6 +1,4 @@
-use Rattle.std.proofs.Common.{sym, ◌∙◌, ap, List, ℕ, ◌-◌}
-use Rattle.arrays_core.specs.Shapes.{index_after}
-use Rattle.index_region.proofs.Patched.{some_is, none_is}
+use Rattle.{std.proofs.Common.{sym, ◌∙◌, ap, List, ℕ, ◌-◌}, arrays_core.specs.Shapes.{index_after}, index_region.proofs.Patched.{some_is, none_is}}
 use Rattle.index_region.proofs.seen.item_patched.Goals as goal
 
 pub returns-in-Some-clause-is : goal.returns-in-Some-clause-is

@@ -1,5 +1,4 @@
-use Rattle.std.proofs.Common.{◌≡◌, ◌+◌, ◌≤◌, drop, length, Ok}
-use Rattle.item_fns.specs.Folds.{folded}
+use Rattle.{std.proofs.Common.{◌≡◌, ◌+◌, ◌≤◌, drop, length, Ok}, item_fns.specs.Folds.{folded}}
 use Rattle.item_fns.proofs.folds.fold_list.Given as goal
 
 abbrev pub invariant-loop-before : goal.invariant-loop-before

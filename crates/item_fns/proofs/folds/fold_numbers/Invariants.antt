@@ -1,5 +1,4 @@
-use Rattle.std.proofs.Common.{◌≡◌, ◌+◌, ◌≤◌, drop, pos, Ok}
-use Rattle.item_fns.specs.Folds.{strided, folded}
+use Rattle.{std.proofs.Common.{◌≡◌, ◌+◌, ◌≤◌, drop, pos, Ok}, item_fns.specs.Folds.{strided, folded}}
 use Rattle.item_fns.proofs.folds.fold_numbers.Given as goal
 
 abbrev pub invariant-loop-before : goal.invariant-loop-before

@@ -1,5 +1,4 @@
-use Rattle.std.proofs.Common.{◌≡◌, ◌≤◌, length, take, map, Ok, vec_len, vec_capacity}
-use Rattle.arrays_core.specs.Items.{all_or_first_error}
+use Rattle.{std.proofs.Common.{◌≡◌, ◌≤◌, length, take, map, Ok, vec_len, vec_capacity}, arrays_core.specs.Items.{all_or_first_error}}
 use Rattle.item_fns.proofs.loops.on_each.Given as goal
 
 abbrev pub invariant-loop-number : goal.invariant-loop-number

@@ -1,4 +1,4 @@
-use Rattle.std.{proofs.Common.{◌≡◌, get_or, pos, to_z, of_z, w64, SFits, rules}, proofs.lemmas.Int.{to_z-of_z}}
+use Rattle.std.{proofs.Common.{get_or, pos, to_z, of_z, w64, SFits, rules}, proofs.lemmas.Int.{to_z-of_z}}
 use Rattle.item_fns.proofs.Lists.{results_of_one_left, results_of_one_right}
 use Rattle.item_fns.proofs.loops.on_lists.Goals as goal
 
@@ -6,13 +6,11 @@ pub returns-then-left-eq1-clause-is : goal.returns-then-left-eq1-clause-is
 returns-then-left-eq1-clause-is g c =
     let first = get_or c.args.left.now 0 (pos 0) in
     let fits : SFits w64 first = search rules in
-    let same : to_z w64 (of_z w64 first) ≡ first = to_z-of_z w64 _ fits in
-    rw (results_of_one_left (g.S.TwoNumbers.gives c.args.step) c.args.left.now c.args.right.now c.if-left-eq1.true) (rw same at c.on_each.ensures.is)
+    rw (results_of_one_left (g.S.TwoNumbers.gives c.args.step) c.args.left.now c.args.right.now c.if-left-eq1.true) (rw (to_z-of_z w64 _ fits) at c.on_each.ensures.is)
 
 pub returns-then-right-eq1-clause-is : goal.returns-then-right-eq1-clause-is
 returns-then-right-eq1-clause-is g c =
     let first = get_or c.args.right.now 0 (pos 0) in
     let fits : SFits w64 first = search rules in
-    let same : to_z w64 (of_z w64 first) ≡ first = to_z-of_z w64 _ fits in
     rw (results_of_one_right (g.S.TwoNumbers.gives c.args.step) c.args.left.now c.args.right.now c.if-left-eq1.false c.if-right-eq1.true)
-    (simp same at c.on_each-then-right-eq1.ensures.is)
+    (simp (to_z-of_z w64 _ fits) at c.on_each-then-right-eq1.ensures.is)

@@ -1,5 +1,4 @@
-use Rattle.std.proofs.Common.{◌≡◌, ◌≤◌, length, take, Ok, vec_len, vec_capacity}
-use Rattle.arrays_core.specs.Items.{all_or_first_error}
+use Rattle.{std.proofs.Common.{◌≡◌, ◌≤◌, length, take, Ok, vec_len, vec_capacity}, arrays_core.specs.Items.{all_or_first_error}}
 use Rattle.item_fns.specs.NumberLists.{results_by}
 use Rattle.item_fns.proofs.loops.on_pairs.Given as goal
 

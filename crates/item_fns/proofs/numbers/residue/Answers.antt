@@ -7,14 +7,11 @@ returns-then-rest-a c =
     let a = c.args.a in
     let b = c.args.b in
     let rest = c.wrapping_rem-rest.result in
-    let rest_fits : SFits w64 rest = record { sfits = c.wrapping_rem-rest.type_inv } in
     let same_a : to_z w64 (of_z w64 a) ≡ a = to_z-of_z w64 a c.ranges.a in
-    let same_b : to_z w64 (of_z w64 b) ≡ b = to_z-of_z w64 b c.ranges.b in
-    let same_rest : to_z w64 (of_z w64 rest) ≡ rest = to_z-of_z w64 rest rest_fits in
-    let is : rest ≡ int_rem b a = rw (same_a, same_b) at c.wrapping_rem-rest.ensures in
+    let same_rest : to_z w64 (of_z w64 rest) ≡ rest = to_z-of_z w64 rest (record { sfits = c.wrapping_rem-rest.type_inv }) in
+    let is : rest ≡ int_rem b a = rw (same_a, to_z-of_z w64 b c.ranges.b) at c.wrapping_rem-rest.ensures in
     let sum_fits : SFits w64 (to_z w64 (of_z w64 rest) +ℤ to_z w64 (of_z w64 a)) = search rules in
-    let differ = rw (same_rest, same_a) at c.if-rest-a.true in
-    let value = to_z-of_z w64 _ sum_fits ∙ (rw (same_rest, same_a) (corrected a b rest c.if-a-eq0.false is c.if-rest-ne0.true differ)) in
+    let value = to_z-of_z w64 _ sum_fits ∙ (rw (same_rest, same_a) (corrected a b rest c.if-a-eq0.false is c.if-rest-ne0.true (rw (same_rest, same_a) at c.if-rest-a.true))) in
     record { is = value; rest = rest_by a b _ value }
 
 pub returns-else-rest-ne0 : goal.returns-else-rest-ne0

@@ -1,4 +1,4 @@
-use Rattle.std.{proofs.Common.{◌≡◌, ◌≢◌, ◌∙◌, ◌+◌, ◌-◌, ◌*◌, ◌++◌, ◌∷◌, [], ap, sym, get_or, arith}, proofs.lemmas.List.Edits.{insert_end}}
+use Rattle.std.{proofs.Common.{◌≡◌, ◌≢◌, ◌∙◌, ◌+◌, ◌-◌, ◌++◌, ◌∷◌, [], ap, sym, get_or, arith}, proofs.lemmas.List.Edits.{insert_end}}
 use Rattle.arrays_core.{specs.Items.{fill}, specs.Shapes.{size, places_before}}
 use Rattle.operator_fns.{specs.InnerProduct.{row_length}, specs.Laws.InnerPlaces.{row_place, extended_many}}
 use Rattle.operator_fns.proofs.inner_product.row_line.Goals as goal
@@ -19,8 +19,7 @@ returns-clause-is c k h =
     let here = row_place a row k many c.requires.inside (omega arith) in
     let same = c.as_slice.ensures ∙ c.with_axis-first.ensures.is ∙ insert_end row 1 in
     let start : c.position.result ≡ places_before a.shape (row ++ 1 ∷ []) + 1 = rw (← same, ← c.shape-shape.ensures.is) c.position.ensures.is in
-    let place : c.position.result - 1 + k * 1 ≡ places_before a.shape (row ++ (k + 1) ∷ []) = omega (arith, first.place, here.place) in
-    ap (λ m. get_or a.items m (fill a.item_type)) place ∙ sym (extended_many a (row ++ (k + 1) ∷ []) many)
+    ap (λ m. get_or a.items m (fill a.item_type)) (omega (arith, first.place, here.place)) ∙ sym (extended_many a (row ++ (k + 1) ∷ []) many)
 
 pub returns-clause-there : goal.returns-clause-there
 returns-clause-there c k h =

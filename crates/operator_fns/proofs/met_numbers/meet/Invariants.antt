@@ -1,5 +1,4 @@
-use Rattle.std.proofs.Common.{◌≡◌, ◌≤◌, length, drop, pos, Ok}
-use Rattle.operator_fns.{specs.InnerProduct.{all_or_last_error}, specs.RowByColumn.{entry, all_met}}
+use Rattle.{std.proofs.Common.{◌≡◌, ◌≤◌, length, drop, pos, Ok}, operator_fns.{specs.InnerProduct.{all_or_last_error}, specs.RowByColumn.{entry, all_met}}}
 use Rattle.operator_fns.proofs.met_numbers.meet.Given as goal
 
 abbrev pub invariant-loop-place : goal.invariant-loop-place

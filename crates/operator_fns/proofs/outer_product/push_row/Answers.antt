@@ -1,6 +1,5 @@
-use Rattle.std.{proofs.Common.{◌≡◌, ◌∙◌, ◌++◌, ◌∷◌, [], append_assoc, ap, sym, length, get_or, map, arith, Ok, Err, pos, to_z, of_z, w64, SFits, rules}, proofs.lemmas.List.{length-map, get_or-map, take_all}, proofs.lemmas.Int.{to_z-of_z}}
-use Rattle.arrays_core.{specs.Items.{all_or_first_error, and_then}, proofs.Order.{front_more, front_error}}
-use Rattle.operator_fns.proofs.OuterRows.{RowTo, left_error}
+use Rattle.std.{proofs.Common.{◌≡◌, ◌∙◌, ◌++◌, ◌∷◌, [], append_assoc, ap, sym, length, get_or, map, arith, Ok, Err, pos, to_z, of_z, w64, rules}, proofs.lemmas.List.{length-map, get_or-map, take_all}, proofs.lemmas.Int.{to_z-of_z}}
+use Rattle.{arrays_core.{specs.Items.{all_or_first_error, and_then}, proofs.Order.{front_more, front_error}}, operator_fns.proofs.OuterRows.{RowTo, left_error}}
 use Rattle.operator_fns.proofs.outer_product.push_row.Goals as goal
 
 pub returns-in_err-result : goal.returns-in_err-result
@@ -11,11 +10,9 @@ returns-in_err-result g c =
     let rs = map f ys in
     let long : length rs ≡ length ys = length-map ys f in
     let left : to_z w64 (of_z w64 c.args.left) ≡ c.args.left = to_z-of_z w64 _ c.ranges.left in
-    let fits : SFits w64 (get_or ys k (pos 0)) = search rules in
-    let same : to_z w64 (of_z w64 (get_or ys k (pos 0))) ≡ get_or ys k (pos 0) = to_z-of_z w64 _ fits in
+    let same : to_z w64 (of_z w64 (get_or ys k (pos 0))) ≡ get_or ys k (pos 0) = to_z-of_z w64 _ (search rules) in
     let e = c.in_err-result.field-0.0 in
-    let gave : f (get_or ys k (pos 0)) ≡ Err e = rw (same, left) at (sym c.in_err-result.ensures) in
-    let here = get_or-map f ys k (pos 0) (Err e) c.loop-number-test.true ∙ gave in
+    let here = get_or-map f ys k (pos 0) (Err e) c.loop-number-test.true ∙ (rw (same, left) at (sym c.in_err-result.ensures)) in
     let so_far : RowTo c.args.row.now.items rs k c.loop-number.row.items = rw left at c.loop-number.invariant in
     left_error _ e _ _ (ap (λ r. and_then r (λ more. Ok (c.args.row.now.items ++ more))) (front_error rs k so_far.new e (omega arith) here so_far.made))
     c.from_residual.ensures
@@ -28,18 +25,15 @@ loop-number-preserved g c =
     let rs = map f ys in
     let long : length rs ≡ length ys = length-map ys f in
     let left : to_z w64 (of_z w64 c.args.left) ≡ c.args.left = to_z-of_z w64 _ c.ranges.left in
-    let fits : SFits w64 (get_or ys k (pos 0)) = search rules in
-    let same : to_z w64 (of_z w64 (get_or ys k (pos 0))) ≡ get_or ys k (pos 0) = to_z-of_z w64 _ fits in
+    let same : to_z w64 (of_z w64 (get_or ys k (pos 0))) ≡ get_or ys k (pos 0) = to_z-of_z w64 _ (search rules) in
     let z = c.in_ok-result.result in
-    let z_fits : SFits w64 z = search rules in
-    let z_same : to_z w64 (of_z w64 z) ≡ z = to_z-of_z w64 _ z_fits in
+    let z_same : to_z w64 (of_z w64 z) ≡ z = to_z-of_z w64 _ (search rules) in
     let gave : f (get_or ys k (pos 0)) ≡ Ok z = rw (same, left) at (sym c.in_ok-result.ensures) in
     let so_far : RowTo c.args.row.now.items rs k c.loop-number.row.items = rw left at c.loop-number.invariant in
-    let items : c.push.new.self.items ≡ c.loop-number.row.items ++ z ∷ [] = rw z_same at c.in_ok-push.ensures.items in
     rw left (record {
       new = so_far.new ++ z ∷ [];
       made = front_more rs k so_far.new z (omega arith) (get_or-map f ys k (pos 0) (Ok z) c.loop-number-test.true ∙ gave) so_far.made;
-      is = items ∙ ap (λ zs. zs ++ z ∷ []) so_far.is ∙ append_assoc c.args.row.now.items so_far.new (z ∷ []);
+      is = (rw z_same at c.in_ok-push.ensures.items) ∙ ap (λ zs. zs ++ z ∷ []) so_far.is ∙ append_assoc c.args.row.now.items so_far.new (z ∷ []);
     })
 
 pub returns : goal.returns
@@ -49,7 +43,6 @@ returns g c =
     let k = c.loop-number.number-index in
     let rs = map f ys in
     let long : length rs ≡ length ys = length-map ys f in
-    let left : to_z w64 (of_z w64 c.args.left) ≡ c.args.left = to_z-of_z w64 _ c.ranges.left in
-    let so_far : RowTo c.args.row.now.items rs k c.loop-number.row.items = rw left at c.loop-number.invariant in
+    let so_far : RowTo c.args.row.now.items rs k c.loop-number.row.items = rw (to_z-of_z w64 _ c.ranges.left) at c.loop-number.invariant in
     ap (λ r. and_then r (λ more. Ok (c.args.row.now.items ++ more))) (ap all_or_first_error (sym (take_all k rs (omega arith))) ∙ so_far.made)
     ∙ ap Ok (sym so_far.is)

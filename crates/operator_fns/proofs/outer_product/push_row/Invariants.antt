@@ -1,5 +1,4 @@
-use Rattle.std.proofs.Common.{map}
-use Rattle.operator_fns.proofs.OuterRows.{RowTo}
+use Rattle.{std.proofs.Common.{map}, operator_fns.proofs.OuterRows.{RowTo}}
 use Rattle.operator_fns.proofs.outer_product.push_row.Given as goal
 
 abbrev pub invariant-loop-number : goal.invariant-loop-number

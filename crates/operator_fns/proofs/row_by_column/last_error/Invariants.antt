@@ -1,5 +1,4 @@
-use Rattle.std.proofs.Common.{◌≡◌, ◌≤◌}
-use Rattle.operator_fns.{specs.RowByColumn.{last_error_or}, proofs.Meetings.{firsts}}
+use Rattle.{std.proofs.Common.{◌≡◌, ◌≤◌}, operator_fns.{specs.RowByColumn.{last_error_or}, proofs.Meetings.{firsts}}}
 use Rattle.operator_fns.proofs.row_by_column.last_error.Given as goal
 
 abbrev pub invariant-loop-place : goal.invariant-loop-place

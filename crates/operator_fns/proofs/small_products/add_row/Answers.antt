@@ -1,4 +1,4 @@
-use Rattle.std.{proofs.Common.{◌≡◌, ◌∙◌, ◌<◌, ◌≢◌, ap, get_or, length, pos, arith, to_z, of_z, ◌+ℤ◌, ◌*ℤ◌, w64, SFits, rules, below_more, get_or-set_same, get_or-set_other}, proofs.Math.ListN.{length-set}, proofs.lemmas.Int.{to_z-of_z}}
+use Rattle.std.{proofs.Common.{◌≡◌, ◌∙◌, ◌≢◌, ap, get_or, length, pos, arith, to_z, of_z, ◌+ℤ◌, ◌*ℤ◌, w64, rules, below_more, get_or-set_same, get_or-set_other}, proofs.Math.ListN.{length-set}, proofs.lemmas.Int.{to_z-of_z}}
 use Rattle.operator_fns.proofs.small_products.add_row.Goals as goal
 
 pub loop-column-preserved : goal.loop-column-preserved
@@ -10,20 +10,15 @@ loop-column-preserved c =
     let m = c.args.factor in
     let fits = c.requires.fits k c.loop-column-test.true in
     let old : s ≡ get_or c.args.sums.now k (pos 0) = c.loop-column.invariant.left k (omega arith) in
-    let x_fits : SFits w64 x = search rules in
-    let x_is : to_z w64 (of_z w64 x) ≡ x = to_z-of_z w64 _ x_fits in
-    let s_fits : SFits w64 s = search rules in
-    let s_is : to_z w64 (of_z w64 s) ≡ s = to_z-of_z w64 _ s_fits in
+    let x_is : to_z w64 (of_z w64 x) ≡ x = to_z-of_z w64 _ (search rules) in
+    let s_is : to_z w64 (of_z w64 s) ≡ s = to_z-of_z w64 _ (search rules) in
     let m_is : to_z w64 (of_z w64 m) ≡ m = to_z-of_z w64 _ c.ranges.factor in
-    let p_is : to_z w64 (of_z w64 (m *ℤ x)) ≡ m *ℤ x = to_z-of_z w64 _ fits.product in
-    let t_fits : SFits w64 (s +ℤ m *ℤ x) = rw old fits.total in
-    let t_is : to_z w64 (of_z w64 (s +ℤ m *ℤ x)) ≡ s +ℤ m *ℤ x = to_z-of_z w64 _ t_fits in
-    let inside : k < length sums = omega arith in
-    rw (x_is, s_is, m_is, p_is, t_is)
+    let t_is : to_z w64 (of_z w64 (s +ℤ m *ℤ x)) ≡ s +ℤ m *ℤ x = to_z-of_z w64 _ (rw old fits.total) in
+    rw (x_is, s_is, m_is, (to_z-of_z w64 _ fits.product), t_is)
     (record {
       long = length-set sums k (s +ℤ m *ℤ x) ∙ c.loop-column.invariant.long;
       made = below_more _ _
           (λ j below. let other : j ≢ k = omega arith in get_or-set_other sums k j (s +ℤ m *ℤ x) (pos 0) other ∙ (rw m_is at (c.loop-column.invariant.made j below)))
-          (get_or-set_same sums k (s +ℤ m *ℤ x) (pos 0) inside ∙ ap (λ z. z +ℤ m *ℤ x) old);
+          (get_or-set_same sums k (s +ℤ m *ℤ x) (pos 0) (omega arith) ∙ ap (λ z. z +ℤ m *ℤ x) old);
       left = λ j above. let other : j ≢ k = omega arith in get_or-set_other sums k j (s +ℤ m *ℤ x) (pos 0) other ∙ c.loop-column.invariant.left j (omega arith);
     })

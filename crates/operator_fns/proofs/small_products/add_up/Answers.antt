@@ -1,5 +1,4 @@
-use Rattle.std.proofs.Common.{arith}
-use Rattle.operator_fns.proofs.ProductSums.{no_further}
+use Rattle.{std.proofs.Common.{arith}, operator_fns.proofs.ProductSums.{no_further}}
 use Rattle.operator_fns.proofs.small_products.add_up.Goals as goal
 
 pub returns-then-are_within-2 : goal.returns-then-are_within-2

@@ -22,7 +22,4 @@ loop-row-preserved c =
     let ends : EndsInSums (take (r * n + n - r * n) (drop (r * n) c.args.left.now)) (take (n * m) ys) m before all.items = c.in_ok-push_sums.ensures in
     let long : length before ≡ r * m = sym c.loop-row.sums.ok.0 ∙ c.loop-row.invariant.long in
     let joined : length all.items ≡ length before + length ends.sums = ap length ends.is ∙ length-append before ends.sums in
-    record {
-      long = all.ok.0 ∙ omega arith;
-      made = row_more c.args.left.now ys m n r before all.items (omega arith) long ends c.loop-row.invariant.made;
-    }
+    record { long = all.ok.0 ∙ omega arith; made = row_more c.args.left.now ys m n r before all.items (omega arith) long ends c.loop-row.invariant.made }

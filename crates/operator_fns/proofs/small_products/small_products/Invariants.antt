@@ -1,5 +1,4 @@
-use Rattle.std.proofs.Common.{◌≡◌, ℕ, ◌*◌, ◌<◌, get_or, pos, vec_len}
-use Rattle.operator_fns.specs.SmallProducts.{IsProduct}
+use Rattle.{std.proofs.Common.{◌≡◌, ℕ, ◌*◌, ◌<◌, get_or, pos, vec_len}, operator_fns.specs.SmallProducts.{IsProduct}}
 use Rattle.operator_fns.proofs.small_products.small_products.Given as goal
 
 abbrev pub invariant-loop-row : goal.invariant-loop-row

@@ -1,5 +1,4 @@
-use Rattle.std.proofs.Common.{◌≡◌, get_or, pos}
-use Rattle.operator_fns.specs.SmallProducts.{sum_of_products}
+use Rattle.{std.proofs.Common.{◌≡◌, get_or, pos}, operator_fns.specs.SmallProducts.{sum_of_products}}
 use Rattle.operator_fns.proofs.small_products.sum_of_pairs.Given as goal
 
 abbrev pub invariant-loop-place : goal.invariant-loop-place

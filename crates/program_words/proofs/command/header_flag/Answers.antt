@@ -1,5 +1,4 @@
-use Rattle.std.proofs.Common.{ap, ◌∙◌, codes, Some}
-use Rattle.clap.{specs.Words.{Rule, rule_of}, specs.declared.builder.action.ArgAction.TheVariants.{SetTrue}}
+use Rattle.{std.proofs.Common.{ap, ◌∙◌, codes, Some}, clap.{specs.Words.{Rule, rule_of}, specs.declared.builder.action.ArgAction.TheVariants.{SetTrue}}}
 use Rattle.program_words.proofs.command.header_flag.Goals as goal
 
 pub returns-clause-rule : goal.returns-clause-rule

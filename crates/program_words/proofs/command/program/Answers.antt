@@ -1,5 +1,4 @@
-use Rattle.std.{proofs.Common.{ap, ◌∙◌}, proofs.lemmas.Result.{IfOk-weaker}}
-use Rattle.clap.specs.Simple.{app_of_fields}
+use Rattle.{std.{proofs.Common.{ap, ◌∙◌}, proofs.lemmas.Result.{IfOk-weaker}}, clap.specs.Simple.{app_of_fields}}
 use Rattle.program_words.{specs.Program.{aplsheet}, proofs.Commands.{command_added}}
 use Rattle.program_words.proofs.command.program.Goals as goal
 

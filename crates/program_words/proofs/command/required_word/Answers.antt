@@ -1,5 +1,4 @@
-use Rattle.std.proofs.Common.{ap, ◌∙◌, true}
-use Rattle.clap.specs.Words.{Rule, rule_of}
+use Rattle.{std.proofs.Common.{ap, ◌∙◌, true}, clap.specs.Words.{Rule, rule_of}}
 use Rattle.program_words.proofs.command.required_word.Goals as goal
 
 pub returns-clause-rule : goal.returns-clause-rule

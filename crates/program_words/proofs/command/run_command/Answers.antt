@@ -1,6 +1,4 @@
-use Rattle.std.{proofs.Common.{ap₂, ◌∙◌}, proofs.lemmas.Result.{IfOk-weaker}}
-use Rattle.clap.specs.Simple.{with_rule}
-use Rattle.program_words.specs.Program.{run_command}
+use Rattle.{std.{proofs.Common.{ap₂, ◌∙◌}, proofs.lemmas.Result.{IfOk-weaker}}, clap.specs.Simple.{with_rule}, program_words.specs.Program.{run_command}}
 use Rattle.program_words.proofs.command.run_command.Goals as goal
 
 pub returns-clause-app : goal.returns-clause-app

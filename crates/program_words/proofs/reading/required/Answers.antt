@@ -1,6 +1,5 @@
 use Rattle.std.{proofs.Common.{ap, sym, ◌∙◌, is_some, option_map}, specs.Borrow.{Bor}}
-use Rattle.clap.{specs.Words.{Text, found_of}, proofs.WalkLemmas.{first_value-rows}}
-use Rattle.program_words.proofs.Matches.{is_some_text}
+use Rattle.{clap.{specs.Words.{Text, found_of}, proofs.WalkLemmas.{first_value-rows}}, program_words.proofs.Matches.{is_some_text}}
 use Rattle.program_words.proofs.reading.required.Goals as goal
 
 pub unwrap-requires : goal.unwrap-requires

@@ -1,5 +1,4 @@
-use Rattle.std.proofs.Common.{ap, ◌∙◌, codes, Some}
-use Rattle.clap.{specs.Words.{found_of}, proofs.WalkLemmas.{first_value-rows}}
+use Rattle.{std.proofs.Common.{ap, ◌∙◌, codes, Some}, clap.{specs.Words.{found_of}, proofs.WalkLemmas.{first_value-rows}}}
 use Rattle.program_words.proofs.reading.script_of.Goals as goal
 
 pub returns-in-None : goal.returns-in-None

@@ -1,5 +1,4 @@
-use Rattle.std.proofs.Common.{ap, sym, subst, ◌∙◌, codes, Some}
-use Rattle.clap.{specs.Words.{found_of, one_of, rows_of}, proofs.WalkLemmas.{one_text-rows}}
+use Rattle.{std.proofs.Common.{ap, sym, subst, ◌∙◌, codes, Some}, clap.{specs.Words.{found_of, one_of, rows_of}, proofs.WalkLemmas.{one_text-rows}}}
 use Rattle.program_words.{specs.Asked.{IsName}, proofs.Matches.{flag_set}}
 use Rattle.program_words.proofs.reading.table_of.Goals as goal
 

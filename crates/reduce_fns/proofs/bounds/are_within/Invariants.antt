@@ -1,5 +1,4 @@
-use Rattle.std.proofs.Common.{◌<◌, ◌/◌, get_or, pos, ℕ}
-use Rattle.reduce_fns.specs.Sum.{IsWithinBound}
+use Rattle.{std.proofs.Common.{◌<◌, ◌/◌, get_or, pos, ℕ}, reduce_fns.specs.Sum.{IsWithinBound}}
 use Rattle.reduce_fns.proofs.bounds.are_within.Given as goal
 
 abbrev pub invariant-loop-number : goal.invariant-loop-number

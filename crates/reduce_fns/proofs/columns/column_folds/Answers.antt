@@ -26,14 +26,12 @@ loop-block-preserved g c =
     let first = c.loop-block.block * (n * s) in
     let before = c.loop-block.folds.items in
     let all = c.push_folds.new.folds in
-    let size : first + n * s - first ≡ n * s = omega arith in
     let ends : EndsInFolds f (take (n * s) (drop first xs)) s n before all.items =
-    subst (λ m. EndsInFolds f (take m (drop first xs)) s n before all.items) size c.in_ok-push_folds.ensures in
-    let long : length before ≡ c.loop-block.block * s = sym c.loop-block.folds.ok.0 ∙ c.loop-block.invariant.long in
+    subst (λ m. EndsInFolds f (take m (drop first xs)) s n before all.items) (omega arith) c.in_ok-push_folds.ensures in
     let joined : length all.items ≡ length before + length ends.folds = ap length ends.is ∙ length-append before ends.folds in
     record {
       long = all.ok.0 ∙ omega arith;
-      made = block_more f xs s n c.loop-block.block before all.items long ends c.loop-block.invariant.made;
+      made = block_more f xs s n c.loop-block.block before all.items (sym c.loop-block.folds.ok.0 ∙ c.loop-block.invariant.long) ends c.loop-block.invariant.made;
     }
 
 pub returns-clause-is : goal.returns-clause-is

@@ -1,5 +1,4 @@
-use Rattle.std.proofs.Common.{◌≡◌, ℕ, ◌*◌, ◌<◌, get_or, pos, Ok, vec_len}
-use Rattle.reduce_fns.specs.AxisLines.{fold_at}
+use Rattle.{std.proofs.Common.{◌≡◌, ℕ, ◌*◌, ◌<◌, get_or, pos, Ok, vec_len}, reduce_fns.specs.AxisLines.{fold_at}}
 use Rattle.reduce_fns.proofs.columns.column_folds.Given as goal
 
 abbrev pub invariant-loop-block : goal.invariant-loop-block

@@ -21,13 +21,12 @@ loop-before-preserved g c =
     let s = length c.args.folds.now in
     let n = c.args.count in
     let k = c.loop-before.before - 1 in
-    let e : c.loop-before.before ≡ k + 1 = omega arith in
     let high : k + 1 < n = omega (arith, c.loop-before.invariant.below) in
     record {
       long = c.in_ok-put_over.ensures.long ∙ c.loop-before.invariant.long;
       folded = λ column below.
           let y = get_or c.loop-before.folds column (pos 0) in
-          let later = subst (λ j. folded f (drop j (strided (pos 0) rows column s n)) ≡ Ok y) e (c.loop-before.invariant.folded column below) in
+          let later = subst (λ j. folded f (drop j (strided (pos 0) rows column s n)) ≡ Ok y) (omega arith) (c.loop-before.invariant.folded column below) in
           let place : k * s + column ≡ column + k * s = omega arith in
           let entry : get_or (take (k * s + s - k * s) (drop (k * s) rows)) column (pos 0) ≡ get_or rows (column + k * s) (pos 0) =
           get_or-take (k * s + s - k * s) (drop (k * s) rows) column (pos 0) (omega arith) ∙ get_or-drop (k * s) rows column (pos 0) ∙ ap (λ p. get_or rows p (pos 0)) place in

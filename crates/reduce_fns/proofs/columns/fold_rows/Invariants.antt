@@ -1,5 +1,4 @@
-use Rattle.std.proofs.Common.{◌≡◌, ℕ, ◌+◌, ◌<◌, ◌≤◌, get_or, drop, length, pos, Ok}
-use Rattle.item_fns.specs.Folds.{strided, folded}
+use Rattle.{std.proofs.Common.{◌≡◌, ℕ, ◌+◌, ◌<◌, ◌≤◌, get_or, drop, length, pos, Ok}, item_fns.specs.Folds.{strided, folded}}
 use Rattle.reduce_fns.proofs.columns.fold_rows.Given as goal
 
 abbrev pub invariant-loop-before : goal.invariant-loop-before

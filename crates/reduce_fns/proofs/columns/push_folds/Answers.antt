@@ -13,12 +13,10 @@ fold_rows-requires-clause-last g c =
     let p = (n - 1) * columns in
     let back = take (length rows - p) (drop p rows) in
     let is : c.deref_mut.result.now ≡ c.args.folds.now.items ++ back = c.deref_mut.ensures.value ∙ c.in_ok-extend_from_slice.ensures.items in
-    let front : c.len-before.result ≡ length c.args.folds.now.items = c.len-before.ensures ∙ c.args.folds.now.ok.0 in
     let e : n * columns ≡ p + columns = (let one : n ≡ n - 1 + 1 = omega (arith, c.requires.some) in ap (λ m. m * columns) one ∙ mul_more (n - 1) columns) in
-    let long : length (drop p rows) ≡ columns = omega (arith, length-drop p rows, c.requires.whole) in
     let last : take (length rows - p) (drop p rows) ≡ drop p rows = take_all (length rows - p) (drop p rows) (omega (arith, length-drop p rows)) in
-    let here = back_is c.args.folds.now.items back c.deref_mut.result.now is c.len-before.result front ∙ last in
-    here ∙ ap (λ m. drop ((n - 1) * m) rows) (sym (ap length here ∙ long))
+    let here = back_is c.args.folds.now.items back c.deref_mut.result.now is c.len-before.result (c.len-before.ensures ∙ c.args.folds.now.ok.0) ∙ last in
+    here ∙ ap (λ m. drop ((n - 1) * m) rows) (sym (ap length here ∙ (omega (arith, length-drop p rows, c.requires.whole))))
 
 pub returns : goal.returns
 returns g c =
@@ -34,12 +32,10 @@ returns g c =
     let is : items ≡ before ++ back = c.deref_mut.ensures.value ∙ c.in_ok-extend_from_slice.ensures.items in
     let front : b ≡ length before = c.len-before.ensures ∙ c.args.folds.now.ok.0 in
     let e : n * columns ≡ p + columns = (let one : n ≡ n - 1 + 1 = omega (arith, c.requires.some) in ap (λ m. m * columns) one ∙ mul_more (n - 1) columns) in
-    let last : back ≡ drop p rows = take_all (length rows - p) (drop p rows) (omega (arith, length-drop p rows)) in
-    let long : length back ≡ columns = ap length last ∙ omega (arith, length-drop p rows, c.requires.whole) in
     let same : length folds ≡ length back = c.in_ok-fold_rows.ensures.long ∙ ap length (back_is before back items is b front) in
     record {
       folds = folds;
-      long = same ∙ long;
+      long = same ∙ (ap length (take_all (length rows - p) (drop p rows) (omega (arith, length-drop p rows))) ∙ omega (arith, length-drop p rows, c.requires.whole));
       is = written before back items is b folds c.extend_from_slice.new.self.items _ front same (c.extend_from_slice.new.self.ok.0 ∙ ap length (sym c.deref_mut.ensures.value));
       folded = c.in_ok-fold_rows.ensures.is;
     }

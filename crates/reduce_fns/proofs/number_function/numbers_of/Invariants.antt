@@ -1,5 +1,4 @@
-use Rattle.std.{proofs.Common.{◌≡◌, take, map, Ok, vec_len}, specs.List.{range_with_len}}
-use Rattle.arrays_core.specs.Items.{all_or_first_error}
+use Rattle.{std.{proofs.Common.{◌≡◌, take, map, Ok, vec_len}, specs.List.{range_with_len}}, arrays_core.specs.Items.{all_or_first_error}}
 use Rattle.reduce_fns.proofs.number_function.numbers_of.Given as goal
 
 abbrev pub invariant-loop-place : goal.invariant-loop-place

@@ -1,8 +1,5 @@
-use Rattle.std.proofs.Common.{rules, ◌≡◌, sym, subst}
-use Rattle.arrays_core.specs.Arrays.{IsAnswerTo}
-use Rattle.function_names.specs.declared.scalar.Scalar2.TheVariants.{Plus}
-use Rattle.item_fns.specs.Numbers.{dyadic_on_numbers}
-use Rattle.reduce_fns.specs.AxisLines.{line_folds}
+use Rattle.{std.proofs.Common.{rules, ◌≡◌, sym, subst}, arrays_core.specs.Arrays.{IsAnswerTo}, function_names.specs.declared.scalar.Scalar2.TheVariants.{Plus}}
+use Rattle.{item_fns.specs.Numbers.{dyadic_on_numbers}, reduce_fns.specs.AxisLines.{line_folds}}
 use Rattle.reduce_fns.proofs.reduce.folds.Goals as goal
 
 pub returns-then-eq : goal.returns-then-eq

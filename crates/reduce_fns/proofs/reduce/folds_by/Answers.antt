@@ -1,14 +1,11 @@
-use Rattle.std.{proofs.Common.{◌≡◌, ◌∙◌, ap, sym, map, Ok}, specs.List.{range_with_len}}
-use Rattle.arrays_core.{specs.Items.{all_or_first_error}, specs.Shapes.{size}, specs.Arrays.{with_items}, specs.declared.item.ItemType.TheVariants.{Nums}}
-use Rattle.item_fns.specs.NumberLists.{number_items}
-use Rattle.reduce_fns.{specs.AxisLines.{fold_at}, proofs.Placewise.{numbers_collected}}
+use Rattle.std.{proofs.Common.{◌∙◌, ap, sym, map, Ok}, specs.List.{range_with_len}}
+use Rattle.arrays_core.{specs.Items.{all_or_first_error}, specs.Arrays.{with_items}, specs.declared.item.ItemType.TheVariants.{Nums}}
+use Rattle.{item_fns.specs.NumberLists.{number_items}, reduce_fns.{specs.AxisLines.{fold_at}, proofs.Placewise.{numbers_collected}}}
 use Rattle.reduce_fns.proofs.reduce.folds_by.Goals as goal
 
 pub returns-in_ok-from_numbers-in-Ok : goal.returns-in_ok-from_numbers-in-Ok
 returns-in_ok-from_numbers-in-Ok g c =
     let rule = fold_at (g.S.TwoNumbers.gives c.args.step.now) c.args.lines.now in
-    let made : all_or_first_error (map rule (range_with_len 0 (size c.args.shape.now.items))) ≡ Ok c.in-Ok.folds.items =
-    ap (λ n. all_or_first_error (map rule (range_with_len 0 n))) c.requires.shaped ∙ c.in-Ok.ensures.is in
     numbers_collected c.args.shape.now.items rule
-    ∙ ap (λ r. with_items Nums c.args.shape.now.items (number_items r)) made
+    ∙ ap (λ r. with_items Nums c.args.shape.now.items (number_items r)) (ap (λ n. all_or_first_error (map rule (range_with_len 0 n))) c.requires.shaped ∙ c.in-Ok.ensures.is)
     ∙ ap Ok (sym c.in_ok-from_numbers-in-Ok.ensures)

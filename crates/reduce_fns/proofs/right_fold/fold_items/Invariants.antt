@@ -1,5 +1,4 @@
-use Rattle.std.proofs.Common.{◌≡◌, ◌+◌, ◌-◌, ◌≤◌, ◌<◌, drop, Ok}
-use Rattle.arrays_core.{specs.Items.{fill, type_of}, specs.declared.item.ItemType.TheVariants.{Nums}}
+use Rattle.{std.proofs.Common.{◌≡◌, ◌+◌, ◌-◌, ◌≤◌, ◌<◌, drop, Ok}, arrays_core.{specs.Items.{fill, type_of}, specs.declared.item.ItemType.TheVariants.{Nums}}}
 use Rattle.item_fns.{specs.Items.{dyadic_on_items}, specs.Folds.{strided, folded}}
 use Rattle.reduce_fns.proofs.right_fold.fold_items.Given as goal
 

@@ -6,15 +6,12 @@ pub loop-before-preserved : goal.loop-before-preserved
 loop-before-preserved c =
     let zs = numbers c.args.array.now in
     let from = c.args.first - 1 in
-    let before = c.loop-before.before in
     let s = c.args.stride in
-    let same = to_z-of_z w64 c.number.result (search rules) in
-    let read : c.number.result ≡ get_or zs (from + before * s) (pos 0) = c.number.ensures ∙ ap (λ m. get_or zs m (pos 0)) (omega (arith, c.requires.low)) in
-    let items : c.push_reserved.new.self.items ≡ c.loop-before.numbers.items ++ c.number.result ∷ [] = rw same at c.push_reserved.ensures.items in
+    let read : c.number.result ≡ get_or zs (from + c.loop-before.before * s) (pos 0) = c.number.ensures ∙ ap (λ m. get_or zs m (pos 0)) (omega (arith, c.requires.low)) in
     record {
-      read = items
+      read = (rw (to_z-of_z w64 c.number.result (search rules)) at c.push_reserved.ensures.items)
           ∙ ap (λ ys. ys ++ c.number.result ∷ []) c.loop-before.invariant.read
-          ∙ (rw read (sym (map-range_with_len_more (λ k. get_or zs (from + k * s) (pos 0)) 0 before before (omega arith))));
+          ∙ (rw read (sym (map-range_with_len_more (λ k. get_or zs (from + k * s) (pos 0)) 0 c.loop-before.before c.loop-before.before (omega arith))));
       long = omega (arith, c.push_reserved.ensures.len, c.loop-before.invariant.long);
       room = omega (arith, c.push_reserved.ensures.capacity, c.loop-before.invariant.room);
     }

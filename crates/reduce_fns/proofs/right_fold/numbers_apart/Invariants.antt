@@ -1,6 +1,4 @@
-use Rattle.std.proofs.Common.{◌≡◌, ◌-◌, ◌≤◌, pos, vec_len, vec_capacity}
-use Rattle.item_fns.specs.Folds.{strided}
-use Rattle.index_region.specs.Arguments.{numbers}
+use Rattle.{std.proofs.Common.{◌≡◌, ◌-◌, ◌≤◌, pos, vec_len, vec_capacity}, item_fns.specs.Folds.{strided}, index_region.specs.Arguments.{numbers}}
 use Rattle.reduce_fns.proofs.right_fold.numbers_apart.Given as goal
 
 abbrev pub invariant-loop-before : goal.invariant-loop-before

@@ -1,5 +1,4 @@
-use Rattle.std.proofs.Common.{◌+◌}
-use Rattle.reduce_fns.proofs.Lines.{within_drop, size-drop-le}
+use Rattle.{std.proofs.Common.{◌+◌}, reduce_fns.proofs.Lines.{within_drop, size-drop-le}}
 use Rattle.reduce_fns.proofs.right_fold.stride.Goals as goal
 
 pub size-requires : goal.size-requires

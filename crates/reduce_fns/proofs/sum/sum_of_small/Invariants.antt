@@ -1,5 +1,4 @@
-use Rattle.std.proofs.Common.{◌≡◌, ◌≤ℤ◌, ◌+ℤ◌, ◌*◌, drop, pos, neg_ℤ}
-use Rattle.reduce_fns.specs.Sum.{sum_of}
+use Rattle.{std.proofs.Common.{◌≡◌, ◌≤ℤ◌, ◌+ℤ◌, ◌*◌, drop, pos, neg_ℤ}, reduce_fns.specs.Sum.{sum_of}}
 use Rattle.reduce_fns.proofs.sum.sum_of_small.Given as goal
 
 abbrev pub invariant-loop-number : goal.invariant-loop-number

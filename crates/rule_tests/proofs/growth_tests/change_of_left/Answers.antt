@@ -1,5 +1,4 @@
-use Rattle.std.proofs.Common.{◌≡◌, ◌∙◌, ◌<◌, length, sym, ap, subst}
-use Rattle.arrays_core.{specs.Arrays.{ArrayValue}, proofs.Growing.{rank_longer}}
+use Rattle.{std.proofs.Common.{◌≡◌, ◌∙◌, ◌<◌, length, sym, ap, subst}, arrays_core.{specs.Arrays.{ArrayValue}, proofs.Growing.{rank_longer}}}
 use Rattle.rule_tests.proofs.growth_tests.change_of_left.Goals as goal
 
 pub refresh_with_cost-cost-requires-clause-axes : goal.refresh_with_cost-cost-requires-clause-axes

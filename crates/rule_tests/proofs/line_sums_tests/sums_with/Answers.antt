@@ -1,8 +1,5 @@
-use Rattle.std.proofs.Common.{◌≡◌, sym, subst, rules}
-use Rattle.arrays_core.specs.Arrays.{ArrayValue}
-use Rattle.function_names.specs.declared.along.Along.TheVariants.{Last}
-use Rattle.index_region.specs.Patches.{PatchValue}
-use Rattle.sum_rules.{specs.LineSums.{length_along}, specs.Totals.{AreAllAsLong, all_trees, StoodFor}}
+use Rattle.{std.proofs.Common.{◌≡◌, sym, subst, rules}, arrays_core.specs.Arrays.{ArrayValue}, function_names.specs.declared.along.Along.TheVariants.{Last}}
+use Rattle.{index_region.specs.Patches.{PatchValue}, sum_rules.{specs.LineSums.{length_along}, specs.Totals.{AreAllAsLong, all_trees, StoodFor}}}
 use Rattle.rule_tests.proofs.TwoLines.{summed_by_lines}
 use Rattle.rule_tests.proofs.line_sums_tests.sums_with.Goals as goal
 

@@ -1,6 +1,4 @@
-use Rattle.std.proofs.Common.{◌≡◌, ◌∙◌, rules, sym, ap, subst}
-use Rattle.arrays_core.specs.Arrays.{ArrayValue}
-use Rattle.index_region.specs.Patches.{PatchValue}
+use Rattle.{std.proofs.Common.{◌≡◌, ◌∙◌, rules, sym, ap, subst}, arrays_core.specs.Arrays.{ArrayValue}, index_region.specs.Patches.{PatchValue}}
 use Rattle.sum_rules.{specs.LineSums.{SummedValue}, specs.Totals.{StoodFor}, proofs.KeptSums.{stood_for, summed_is}}
 use Rattle.rule_tests.proofs.line_sums_tests.totals_with.Goals as goal
 

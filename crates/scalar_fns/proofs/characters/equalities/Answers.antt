@@ -1,5 +1,4 @@
-use Rattle.std.{proofs.Common.{◌≡◌, ◌==◌, ◌∙◌, sym, arith, length, get_or}, proofs.lemmas.List.{get_or_default}}
-use Rattle.arrays_core.specs.Building.{listed}
+use Rattle.{std.{proofs.Common.{◌≡◌, ◌==◌, ◌∙◌, sym, arith, length, get_or}, proofs.lemmas.List.{get_or_default}}, arrays_core.specs.Building.{listed}}
 use Rattle.scalar_fns.{proofs.Equalities.{of_items, told_beside_one, told_before_one, told_in_pairs}, specs.Characters.{told, AreTold}}
 use Rattle.scalar_fns.proofs.characters.equalities.Goals as goal
 

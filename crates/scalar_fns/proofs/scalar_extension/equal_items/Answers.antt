@@ -1,4 +1,4 @@
-use Rattle.std.proofs.Common.{◌≡◌, ◌∙◌, ℕ, sym, ap, refl, subst, Ok}
+use Rattle.std.proofs.Common.{◌∙◌, ℕ, sym, ap, refl, subst, Ok}
 use Rattle.scalar_fns.{specs.Laws.Extension.{common_extends}, proofs.Joint.{IsOf, as_long_as}, specs.Characters.{AreTold}, proofs.Equalities.{of_characters, of_other_types}}
 use Rattle.arrays_core.{specs.declared.item.Item.TheVariants.{Char}, specs.Shapes.{size}}
 use Rattle.scalar_fns.proofs.scalar_extension.equal_items.Goals as goal
@@ -25,7 +25,6 @@ equalities-requires-clause-right_long c =
 
 pub returns : goal.returns
 returns c =
-    let shape = c.args.shape.now.items in
     let equal = c.args.equal in
     let a = c.args.left.now in
     let b = c.args.right.now in
@@ -34,6 +33,5 @@ returns c =
     let zs = c.in_ok-answers.answers.items in
     let is_a : IsOf (λ x. Char x) a characters = record { items = c.in-Some.ensures.is.1; long = c.requires.left_sound.one_item_a_place } in
     let is_b : IsOf (λ x. Char x) b others = record { items = c.in-Some-characters.ensures.is.1; long = c.requires.right_sound.one_item_a_place } in
-    let places : c.size-places.result ≡ size shape = c.size-places.ensures ∙ ap size c.as_slice.ensures in
-    let answers = subst (λ (n : ℕ). AreTold equal characters others n zs) places c.in_ok-answers.ensures in
-    of_characters equal a b characters others shape zs is_a is_b c.requires.shaped answers ∙ ap Ok (sym c.in_ok-from_numbers.ensures)
+    let answers = subst (λ (n : ℕ). AreTold equal characters others n zs) (c.size-places.ensures ∙ ap size c.as_slice.ensures) c.in_ok-answers.ensures in
+    of_characters equal a b characters others c.args.shape.now.items zs is_a is_b c.requires.shaped answers ∙ ap Ok (sym c.in_ok-from_numbers.ensures)

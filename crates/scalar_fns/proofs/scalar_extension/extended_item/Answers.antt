@@ -1,5 +1,4 @@
-use Rattle.std.proofs.Common.{◌∙◌, length, ap, arith}
-use Rattle.scalar_fns.proofs.Extended.{found, one_alone, alone}
+use Rattle.{std.proofs.Common.{◌∙◌, length, ap, arith}, scalar_fns.proofs.Extended.{found, one_alone, alone}}
 use Rattle.scalar_fns.proofs.scalar_extension.extended_item.Goals as goal
 
 pub returns-in-Some : goal.returns-in-Some
@@ -12,5 +11,4 @@ item-requires-clause-high c =
 
 pub returns-then-len-index : goal.returns-then-len-index
 returns-then-len-index c =
-    let long = c.len.ensures.value ∙ ap length c.shape-shape.ensures.is in
-    c.item.ensures.is ∙ alone c.args.array.now c.args.index.now c.requires (λ same. c.if-len-index.true (long ∙ same))
+    c.item.ensures.is ∙ alone c.args.array.now c.args.index.now c.requires (λ same. c.if-len-index.true ((c.len.ensures.value ∙ ap length c.shape-shape.ensures.is) ∙ same))

@@ -1,5 +1,4 @@
-use Rattle.std.proofs.Common.{◌≡◌, ◌<◌, ℕ}
-use Rattle.index_region.specs.Boxes.{box_size, walk_at}
+use Rattle.{std.proofs.Common.{◌≡◌, ◌<◌, ℕ}, index_region.specs.Boxes.{box_size, walk_at}}
 use Rattle.scan_fns.{specs.Scan.{scan_item}, specs.BoxLines.{FillsBox}, proofs.BoxTables.{line_begins}, proofs.BoxErrors.{IsDone, IsMet}}
 use Rattle.scan_fns.proofs.box_lines.items_by_lines.Given as goal
 

@@ -1,27 +1,17 @@
-use Rattle.std.{proofs.Common.{ℕ, List, ◌≡◌, ◌∙◌, ◌+◌, ◌-◌, ◌<◌, ◌≤◌, true, ap, sym, subst, get_or, length, set, insert, remove, inl, inr, arith, Ok, Err}, proofs.lemmas.Bool.{cases_lt}}
+use Rattle.std.{proofs.Common.{◌≡◌, ◌∙◌, ◌+◌, ◌-◌, ◌<◌, true, ap, sym, subst, get_or, length, set, insert, remove, inl, inr, arith, Ok, Err}, proofs.lemmas.Bool.{cases_lt}, proofs.lemmas.List.Edits.{length-remove}}
 use Rattle.arrays_core.specs.Items.{fill}
-use Rattle.index_region.{specs.Boxes.{Interval, box_offset, walk_at, is_within}, proofs.Boxes.{fits_length}, proofs.Walks.{walk_within, offset_of_walk, walk_of_offset}}
+use Rattle.index_region.{specs.Boxes.{box_offset, walk_at, is_within}, proofs.Walks.{walk_within, offset_of_walk, walk_of_offset}}
 use Rattle.change_core.proofs.Filling.{few_places}
-use Rattle.scan_fns.{specs.Scan.{scan_item, scan_along}, proofs.Scanned.{restored}, specs.BoxLines.{Holds}, proofs.OneLine.{OnAxis, on_axis}, proofs.BoxErrors.{line_fails}, proofs.BoxTables.{as_long_as, long_removed, within_line, between, holds_there, holds_still, table_still, line_item}}
+use Rattle.scan_fns.{specs.Scan.{scan_item, scan_along}, proofs.Scanned.{restored}, specs.BoxLines.{Holds}, proofs.OneLine.{OnAxis, on_axis}, proofs.BoxErrors.{line_fails}, proofs.BoxTables.{as_long_as, within_line, between, holds_there, holds_still, table_still, line_item}}
 use Rattle.scan_fns.proofs.box_lines.write_line.Goals.{After-as_slice, After-as_slice-in-loop-before-2}
 use Rattle.scan_fns.proofs.box_lines.write_line.Goals as goal
 
-there : (c : After-as_slice) → c.args.axis < length c.args.region.now
-there c = omega (arith, fits_length c.args.region.now c.args.array.now.shape c.requires.fit, c.requires.there)
-
 -- the ends of the box along the axis, as they are read
-ends : (c : After-as_slice) → OnAxis c.as_slice.result.now c.args.array.now.shape c.args.axis
-ends c =
-    subst (λ r. OnAxis r c.args.array.now.shape c.args.axis) (sym c.as_slice.ensures.is) (on_axis c.args.axis c.args.region.now c.args.array.now.shape (there c) c.requires.fit)
-
-first : (c : After-as_slice) → (get_or c.as_slice.result.now c.args.axis (0, 0)).0 ≡ (get_or c.args.region.now c.args.axis (0, 0)).0
-first c = ap (λ (r : List Interval). (get_or r c.args.axis (0, 0)).0) c.as_slice.ensures.is
-
-last : (c : After-as_slice) → (get_or c.as_slice.result.now c.args.axis (0, 0)).1 ≡ (get_or c.args.region.now c.args.axis (0, 0)).1
-last c = ap (λ (r : List Interval). (get_or r c.args.axis (0, 0)).1) c.as_slice.ensures.is
+ends : (c : After-as_slice) → OnAxis c.as_slice.result.now c.args.region.now c.args.array.now.shape c.args.axis
+ends c = on_axis c.args.axis c.as_slice.result.now c.args.region.now c.args.array.now.shape c.as_slice.ensures.is c.requires.there c.requires.fit
 
 in_index : (c : After-as_slice) → c.args.axis < length c.args.index.now
-in_index c = omega (arith, as_long_as c.args.region.now c.args.index.now c.requires.inside, there c)
+in_index c = omega (arith, as_long_as c.args.region.now c.args.index.now c.requires.inside, (ends c).there)
 
 pub along_line-requires-clause-high : goal.along_line-requires-clause-high
 along_line-requires-clause-high c =
@@ -41,7 +31,7 @@ loop-before-init c =
       table = c.requires.table;
       keeps = λ place h. h;
       made = λ place below on_line early.
-          let within = between c.args.axis region (walk_at region place) (there (goal.at.loop-before-init c).After-as_slice) (walk_within region place below) in
+          let within = between c.args.axis region (walk_at region place) (ends (goal.at.loop-before-init c).After-as_slice).there (walk_within region place below) in
           absurd (omega (arith, early, within.low));
     }
 
@@ -55,7 +45,7 @@ with_axis-place-requires-clause-rank c =
     let index = c.args.index.now in
     let others : c.as_slice-in-loop-before.result.now ≡ remove index c.args.axis = c.as_slice-in-loop-before.ensures ∙ c.without_axis-others.ensures.is in
     let long = as_long_as c.args.region.now index c.requires.inside in
-    omega (arith, ap length others, long_removed c.args.axis index (in_index (goal.at.with_axis-place-requires-clause-rank c).After-as_slice), long, c.as_slice.ensures.few)
+    omega (arith, ap length others, length-remove index c.args.axis (in_index (goal.at.with_axis-place-requires-clause-rank c).After-as_slice), long, c.as_slice.ensures.few)
 
 -- the place of the line that a step writes, and that it is in the box
 placed : (c : After-as_slice-in-loop-before-2)
@@ -64,17 +54,18 @@ placed c =
     c.as_slice-in-loop-before-2.ensures ∙ c.with_axis-place.ensures.is
     ∙ ap (λ xs. insert xs c.args.axis ((get_or c.as_slice.result.now c.args.axis (0, 0)).0 + c.loop-before.before)) (c.as_slice-in-loop-before.ensures ∙ c.without_axis-others.ensures.is)
 
-within : (c : After-as_slice-in-loop-before-2) → is_within c.args.region.now c.as_slice-in-loop-before-2.result.now ≡ true
-within c =
-    let low = ap (λ (r : List Interval). (get_or r c.args.axis (0, 0)).0) c.as_slice.ensures.is in
-    let high = ap (λ (r : List Interval). (get_or r c.args.axis (0, 0)).1) c.as_slice.ensures.is in
-    let inside : c.args.axis < length c.args.region.now = omega (arith, fits_length c.args.region.now c.args.array.now.shape c.requires.fit, c.requires.there) in
+within : (c : After-as_slice-in-loop-before-2) → OnAxis c.as_slice.result.now c.args.region.now c.args.array.now.shape c.args.axis
+    → is_within c.args.region.now c.as_slice-in-loop-before-2.result.now ≡ true
+within c ends =
     rw (placed c)
-    (within_line c.args.axis c.args.region.now c.args.index.now ((get_or c.as_slice.result.now c.args.axis (0, 0)).0 + c.loop-before.before) inside c.requires.inside (omega (arith, low))
-    (omega (arith, low, high, c.loop-before-test.true)))
+    (within_line c.args.axis c.args.region.now c.args.index.now ((get_or c.as_slice.result.now c.args.axis (0, 0)).0 + c.loop-before.before) ends.there c.requires.inside
+    (omega (arith, ends.first))
+    (omega (arith, ends.first, ends.last, c.loop-before-test.true)))
 
 pub offset-offset-requires-clause-within : goal.offset-offset-requires-clause-within
-offset-offset-requires-clause-within c = within (goal.at.offset-offset-requires-clause-within c).After-as_slice-in-loop-before-2
+offset-offset-requires-clause-within c =
+    let here = goal.at.offset-offset-requires-clause-within c in
+    within here.After-as_slice-in-loop-before-2 (ends here.After-as_slice)
 
 pub offset-offset-requires-clause-size : goal.offset-offset-requires-clause-size
 offset-offset-requires-clause-size c = omega (arith, few_places c.args.region.now c.args.array.now.shape c.requires.fit c.requires.sound.within)
@@ -96,12 +87,13 @@ loop-before-preserved c =
     let item = scan_item scan.function scan.along c.args.array.now in
     let before = c.loop-before.before in
     let j = (get_or c.as_slice.result.now axis (0, 0)).0 + before in
-    let begin = first here in
+    let begin = (ends here).first in
     let line = c.in-Ok.line in
     let q = c.offset-offset.result in
     let x = c.item.result in
     let inv = c.loop-before.invariant in
-    let walk : walk_at region q ≡ insert (remove index axis) axis j = ap (walk_at region) c.offset-offset.ensures.is ∙ walk_of_offset region _ (within write) ∙ placed write in
+    let walk : walk_at region q ≡ insert (remove index axis) axis j =
+    ap (walk_at region) c.offset-offset.ensures.is ∙ walk_of_offset region _ (within write (ends here)) ∙ placed write in
     let answered : scan_along scan.function scan.along c.args.array.now index (get_or c.as_slice.result.now axis (0, 0)).1 ≡ Ok line = rw c.in-Ok.is at c.in_ok-answer.ensures in
     let below : before < (get_or c.as_slice.result.now axis (0, 0)).1 + 1 - get_or index axis 1 = omega (arith, c.loop-before-test.true, begin, c.requires.begins) in
     let there_item = line_item scan.function scan.along c.args.array.now region index _ line axis c.requires.meant (in_index here) answered before below in
@@ -109,9 +101,8 @@ loop-before-preserved c =
     let read : before + 1 - 1 ≡ before = omega arith in
     let right : item (walk_at region q) ≡ Ok x =
     ap item (walk ∙ ap (insert (remove index axis) axis) same) ∙ there_item ∙ ap (λ y. Ok y) (sym (c.item.ensures.is ∙ ap (λ m. get_or line.items m (fill line.item_type)) read)) in
-    let written : q + 1 - 1 ≡ q = omega arith in
     let old = c.loop-before.table in
-    let is : c.write_at.new.self ≡ record old { items = set old.items q x } = c.write_at.ensures ∙ ap (λ m. record old { items = set old.items m x }) written in
+    let is : c.write_at.new.self ≡ record old { items = set old.items q x } = c.write_at.ensures ∙ ap (λ m. record old { items = set old.items m x }) (omega arith) in
     let inside : q < length old.items = omega (arith, inv.table.long, c.offset-offset.ensures.below) in
     record {
       table = table_still item region old c.write_at.new.self q x is inside right inv.table;
@@ -122,7 +113,8 @@ loop-before-preserved c =
             let at : get_or (walk_at region place) axis 1 ≡ j = omega (arith, early, later, begin) in
             let walk_long : length (walk_at region place) ≡ length region = as_long_as region (walk_at region place) (walk_within region place below_size) in
             let own : walk_at region place ≡ walk_at region q =
-            sym (restored (walk_at region place) axis 1 (omega (arith, walk_long, there here))) ∙ ap (λ m. insert (remove (walk_at region place) axis) axis m) at ∙ ap (λ xs. insert xs axis j) on_line ∙ sym walk in
+            sym (restored (walk_at region place) axis 1 (omega (arith, walk_long, (ends here).there))) ∙ ap (λ m. insert (remove (walk_at region place) axis) axis m) at
+            ∙ ap (λ xs. insert xs axis j) on_line ∙ sym walk in
             let e : place ≡ q = sym (offset_of_walk region place below_size) ∙ ap (box_offset region) own ∙ offset_of_walk region q c.offset-offset.ensures.below in
             subst (Holds item region c.write_at.new.self) (sym e) (holds_there item region old c.write_at.new.self q x is inside right)
       ];
@@ -130,14 +122,14 @@ loop-before-preserved c =
 
 pub returns-clause-line : goal.returns-clause-line
 returns-clause-line c =
-    let here = (goal.at.returns-clause-line c).After-as_slice in
+    let ends = ends (goal.at.returns-clause-line c).After-as_slice in
     λ place below_size on_line.
-    let inside = between c.args.axis c.args.region.now (walk_at c.args.region.now place) (there here) (walk_within c.args.region.now place below_size) in
-    c.loop-before.invariant.made place below_size on_line (omega (arith, inside.high, c.loop-before-test.false, first here, last here, (ends here).order))
+    let inside = between c.args.axis c.args.region.now (walk_at c.args.region.now place) ends.there (walk_within c.args.region.now place below_size) in
+    c.loop-before.invariant.made place below_size on_line (omega (arith, inside.high, c.loop-before-test.false, ends.first, ends.last, ends.order))
 
 pub returns-in-Err-clause-line : goal.returns-in-Err-clause-line
 returns-in-Err-clause-line c =
     let here = (goal.at.returns-in-Err-clause-line c).After-as_slice in
     let scan = c.args.scan.now in
     let fails : scan_along scan.function scan.along c.args.array.now c.args.index.now (get_or c.as_slice.result.now c.args.axis (0, 0)).1 ≡ Err c.in_ok-kind-in-Err.kind = rw (c.in-Err.is ∙ ap (λ f. Err f) c.in_ok-kind-in-Err.ensures) at c.in_ok-answer.ensures in
-    line_fails scan.function scan.along c.args.array.now c.args.region.now c.args.axis c.args.index.now _ c.in_ok-kind-in-Err.kind c.requires.meant (in_index here) c.requires.begins (last here) fails
+    line_fails scan.function scan.along c.args.array.now c.args.region.now c.args.axis c.args.index.now _ c.in_ok-kind-in-Err.kind c.requires.meant (in_index here) c.requires.begins (ends here).last fails

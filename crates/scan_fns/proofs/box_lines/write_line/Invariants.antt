@@ -1,5 +1,4 @@
-use Rattle.std.proofs.Common.{◌<◌, ◌+◌, ℕ, get_or}
-use Rattle.index_region.specs.Boxes.{box_size, walk_at}
+use Rattle.{std.proofs.Common.{◌<◌, ◌+◌, ℕ, get_or}, index_region.specs.Boxes.{box_size, walk_at}}
 use Rattle.scan_fns.{specs.Scan.{scan_item}, specs.BoxLines.{Holds, IsOnLine, FillsBox}}
 use Rattle.scan_fns.proofs.box_lines.write_line.Given as goal
 

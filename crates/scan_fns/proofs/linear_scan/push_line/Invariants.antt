@@ -1,5 +1,4 @@
-use Rattle.std.proofs.Common.{◌≡◌, ◌-◌, ◌<◌, get_or, pos}
-use Rattle.scan_fns.specs.LinearScan.{left_rule, AreResultsTo}
+use Rattle.{std.proofs.Common.{◌≡◌, ◌-◌, ◌<◌, get_or, pos}, scan_fns.specs.LinearScan.{left_rule, AreResultsTo}}
 use Rattle.scan_fns.proofs.linear_scan.push_line.Given as goal
 
 abbrev pub invariant-loop-place : goal.invariant-loop-place

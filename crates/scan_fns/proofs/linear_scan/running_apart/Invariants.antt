@@ -1,5 +1,4 @@
-use Rattle.std.proofs.Common.{◌≡◌, ◌*◌, ◌%◌}
-use Rattle.scan_fns.specs.LinearScan.{left_rule, AreResultsTo}
+use Rattle.{std.proofs.Common.{◌≡◌, ◌*◌, ◌%◌}, scan_fns.specs.LinearScan.{left_rule, AreResultsTo}}
 use Rattle.scan_fns.proofs.linear_scan.running_apart.Given as goal
 
 abbrev pub invariant-loop-place : goal.invariant-loop-place

@@ -1,5 +1,4 @@
-use Rattle.std.proofs.Common.{◌≡◌, ap, length, pos, subst}
-use Rattle.arrays_core.specs.Items.{all_or_first_error}
+use Rattle.{std.proofs.Common.{◌≡◌, ap, length, pos, subst}, arrays_core.specs.Items.{all_or_first_error}}
 use Rattle.item_fns.{specs.NumberLists.{IsListAnswerTo}, specs.Folds.{folded}}
 use Rattle.scan_fns.{specs.LinearScan.{run_to, scanned}, proofs.Associates.{left_is_right}}
 use Rattle.reduce_fns.{specs.LeftFolds.{folded_left}, proofs.Firsts.{same_rules}}

@@ -1,5 +1,4 @@
-use Rattle.std.proofs.Common.{subst}
-use Rattle.function_names.specs.declared.scalar.Scalar2.TheVariants.{Plus as Sum}
+use Rattle.{std.proofs.Common.{subst}, function_names.specs.declared.scalar.Scalar2.TheVariants.{Plus as Sum}}
 use Rattle.item_fns.{specs.Numbers.{dyadic_on_numbers}, specs.NumberLists.{IsListAnswerTo}, specs.Folds.{folded}}
 use Rattle.scan_fns.{specs.LinearScan.{scanned}, proofs.Errors.{fault_passed}, proofs.RunningSums.{greatest_leaves, least_leaves, sums_stay, small_sums}}
 use Rattle.reduce_fns.{specs.LeftFolds.{folded_left}, proofs.Endings.{greatest_step, least_step}}

@@ -1,5 +1,4 @@
-use Rattle.std.proofs.Common.{◌≡◌, ◌*◌, ◌%◌, length}
-use Rattle.scan_fns.{specs.LinearScan.{AreResultsTo}, specs.Prefixes.{fold_to}, proofs.Prefixes.{AreFoldsKept}}
+use Rattle.{std.proofs.Common.{◌≡◌, ◌*◌, ◌%◌, length}, scan_fns.{specs.LinearScan.{AreResultsTo}, specs.Prefixes.{fold_to}, proofs.Prefixes.{AreFoldsKept}}}
 use Rattle.scan_fns.proofs.prefix.folds_apart.Given as goal
 
 abbrev pub invariant-loop-place : goal.invariant-loop-place

@@ -1,17 +1,10 @@
-use Rattle.std.{proofs.Common.{◌∙◌, ◌<◌, ◌%◌, ap, length, vec_len, arith, subst, sym}, proofs.Math.Nat.{add-mod_right, mod-eq_of_lt}}
-use Rattle.scan_fns.{specs.LinearScan.{AreResultsTo}, specs.Prefixes.{fold_to}, proofs.LeftScans.{none_yet, results_end}}
+use Rattle.{std.proofs.Common.{arith}, scan_fns.proofs.LeftScans.{no_lines, more_lines, results_end}}
 use Rattle.scan_fns.proofs.prefix.folds_beside.Goals as goal
 
 pub loop-results-init : goal.loop-results-init
 loop-results-init g c =
-    let rule = fold_to (g.P.Prefix.step c.args.none.now) c.args.numbers.now 1 c.args.count in
     let made = c.in_ok-results.ensures in
-    let none = none_yet rule c.args.numbers.now c.in_ok-results.results made.items made.len (omega (arith, c.room_of.ensures.low, made.capacity)) in
-    record {
-      so_far = subst (λ place. AreResultsTo place rule c.args.numbers.now c.in_ok-results.results) (sym made.len) none;
-      within = omega (arith, made.len);
-      begins = λ h. ap (λ n. n % c.args.count) made.len ∙ mod-eq_of_lt (omega (arith, c.requires.some));
-    }
+    no_lines _ c.args.numbers.now c.args.count c.requires.some c.in_ok-results.results made.items made.len (omega (arith, c.room_of.ensures.low, made.capacity))
 
 pub push_folds-requires-clause-begins : goal.push_folds-requires-clause-begins
 push_folds-requires-clause-begins g c = c.loop-results.invariant.begins (omega (arith, c.loop-results-test.true, c.len.ensures))
@@ -24,21 +17,11 @@ loop-results-smaller g c = omega (arith, c.in_ok-push_folds.ensures.is.long, c.l
 
 pub loop-results-preserved : goal.loop-results-preserved
 loop-results-preserved g c =
-    let rule = fold_to (g.P.Prefix.step c.args.none.now) c.args.numbers.now 1 c.args.count in
-    let is = c.in_ok-push_folds.ensures.is in
-    let n = vec_len c.loop-results.results in
-    let more : n < length c.args.numbers.now = omega (arith, c.loop-results-test.true, c.len.ensures) in
-    record {
-      so_far = subst (λ p. AreResultsTo p rule c.args.numbers.now c.push_folds.new.results) (sym is.long) is;
-      within = omega (arith, is.long);
-      begins = λ h.
-          ap (λ m. m % c.args.count) (omega (arith, is.long, h)) ∙ add-mod_right n c.args.count ∙ c.loop-results.invariant.begins more;
-    }
+    more_lines _ c.args.numbers.now c.args.count c.requires.some c.loop-results.results c.push_folds.new.results (omega (arith, c.loop-results-test.true, c.len.ensures))
+    c.loop-results.invariant c.in_ok-push_folds.ensures.is
 
 pub returns-clause-is : goal.returns-clause-is
-returns-clause-is g c =
-    results_end (fold_to (g.P.Prefix.step c.args.none.now) c.args.numbers.now 1 c.args.count) c.args.numbers.now (vec_len c.loop-results.results) c.loop-results.results
-    c.loop-results.invariant.so_far (omega (arith, c.loop-results-test.false, c.len.ensures))
+returns-clause-is g c = results_end _ _ _ _ c.loop-results.invariant.so_far (omega (arith, c.loop-results-test.false, c.len.ensures))
 
 pub returns-clause-long : goal.returns-clause-long
 returns-clause-long g c = omega (arith, c.loop-results-test.false, c.len.ensures, c.loop-results.invariant.within)

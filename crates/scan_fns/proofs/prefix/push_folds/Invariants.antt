@@ -1,5 +1,4 @@
-use Rattle.std.proofs.Common.{◌+◌, ◌<◌}
-use Rattle.scan_fns.{specs.LinearScan.{AreResultsTo}, specs.Prefixes.{fold_to}, proofs.Prefixes.{IsFoldKept}}
+use Rattle.{std.proofs.Common.{◌+◌, ◌<◌}, scan_fns.{specs.LinearScan.{AreResultsTo}, specs.Prefixes.{fold_to}, proofs.Prefixes.{IsFoldKept}}}
 use Rattle.scan_fns.proofs.prefix.push_folds.Given as goal
 
 abbrev pub invariant-loop-place : goal.invariant-loop-place

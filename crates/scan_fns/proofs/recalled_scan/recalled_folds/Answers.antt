@@ -1,6 +1,5 @@
-use Rattle.std.{proofs.Common.{◌≡◌, ◌∙◌, ◌<◌, ◌++◌, ◌∷◌, [], ap, sym, length, get_or, map, take, drop, arith, Ok, Err, pos, to_z, of_z, w64, SFits, rules}, specs.List.{range_with_len}, proofs.lemmas.Int.{to_z-of_z}, proofs.Math.Seq.{take-append_seam}}
-use Rattle.arrays_core.specs.Items.{all_or_first_error}
-use Rattle.scan_fns.{specs.declared.recalled_scan.Recalled.{Recalled}, specs.Prefixes.{fold_to}, proofs.LeftScans.{none_yet, one_more, first_error, results_end}, proofs.RecalledFolds.{next_recalled, result_before}}
+use Rattle.std.{proofs.Common.{◌≡◌, ◌∙◌, ◌<◌, ◌++◌, ◌∷◌, [], ap, sym, length, get_or, take, drop, arith, Ok, Err, pos, to_z, of_z, w64, SFits, rules}, proofs.lemmas.Int.{to_z-of_z}, proofs.Math.Seq.{take-append_seam}}
+use Rattle.scan_fns.{specs.declared.recalled_scan.Recalled.{Recalled}, specs.Prefixes.{fold_to}, proofs.LeftScans.{none_yet, one_more, first_error, result_before, results_end}, proofs.RecalledFolds.{next_recalled}}
 use Rattle.item_fns.proofs.Errors.{list_error}
 use Rattle.scan_fns.proofs.recalled_scan.recalled_folds.Goals as goal
 
@@ -20,18 +19,15 @@ recalled_fold-requires-clause-results g c place h =
     let rule = fold_to (g.S.TwoNumbers.gives c.args.step.now) c.args.lines.now.numbers.now c.args.lines.now.stride c.args.lines.now.count in
     let so_far = c.loop-place.invariant.so_far in
     let below : place < c.loop-place.place = omega (arith, h, c.deref.ensures.len, so_far.long) in
-    result_before rule c.args.lines.now.numbers.now c.loop-place.place c.loop-place.results so_far (omega arith) place below
+    result_before rule c.args.lines.now.numbers.now c.loop-place.place c.loop-place.results.items so_far.made (omega arith) place below
     ∙ ap (λ xs. Ok (get_or xs place (pos 0))) (sym c.deref.ensures.value)
 
 pub returns-in_err-result-clause-is : goal.returns-in_err-result-clause-is
 returns-in_err-result-clause-is g c =
-    let zs = c.args.lines.now.numbers.now in
-    let k = c.loop-place.place in
-    let rule = fold_to (g.S.TwoNumbers.gives c.args.step.now) zs c.args.lines.now.stride c.args.lines.now.count in
+    let rule = fold_to (g.S.TwoNumbers.gives c.args.step.now) c.args.lines.now.numbers.now c.args.lines.now.stride c.args.lines.now.count in
     let so_far = c.loop-place.invariant.so_far in
-    let fit : SFits w64 (get_or zs k (pos 0)) = search rules in
-    let given : rule k ≡ Err c.in_err-result.field-0.0 = sym (ap rule (omega (arith, c.deref.ensures.len, so_far.long))) ∙ sym c.in_err-result.ensures.is in
-    list_error (all_or_first_error (map rule (range_with_len 0 (length zs)))) c.in_err-result.field-0.0 _ (first_error rule zs k c.loop-place.results so_far (omega arith) fit c.in_err-result.field-0.0 given) c.from_residual-in_err-result.ensures
+    let given : rule c.loop-place.place ≡ Err c.in_err-result.field-0.0 = sym (ap rule (omega (arith, c.deref.ensures.len, so_far.long))) ∙ sym c.in_err-result.ensures.is in
+    list_error _ c.in_err-result.field-0.0 _ (first_error _ _ _ _ so_far (omega arith) (search rules) c.in_err-result.field-0.0 given) c.from_residual-in_err-result.ensures
 
 pub loop-place-preserved : goal.loop-place-preserved
 loop-place-preserved g c =
@@ -43,30 +39,22 @@ loop-place-preserved g c =
     let rule = fold_to f zs s n in
     let before = c.loop-place.invariant in
     let fit : SFits w64 (get_or zs k (pos 0)) = search rules in
-    let read : to_z w64 (of_z w64 (get_or zs k (pos 0))) ≡ get_or zs k (pos 0) = to_z-of_z w64 _ fit in
-    let count : length c.deref.result.now ≡ k = omega (arith, c.deref.ensures.len, before.so_far.long) in
     let z = c.in_ok-result.result in
-    let given : rule k ≡ Ok z = sym (ap rule count) ∙ sym c.in_ok-result.ensures.is in
-    let fits : SFits w64 z = search rules in
-    let same : to_z w64 (of_z w64 z) ≡ z = to_z-of_z w64 _ fits in
-    let items : c.push_reserved.new.self.items ≡ c.loop-place.results.items ++ z ∷ [] = rw same at c.push_reserved.ensures.items in
+    let given : rule k ≡ Ok z = sym (ap rule (omega (arith, c.deref.ensures.len, before.so_far.long))) ∙ sym c.in_ok-result.ensures.is in
     let kept = c.recalled_fold.new.recalled in
     let long : length kept ≡ k = omega (arith, c.recalled_fold.ensures.long, c.deref_mut.ensures.len, before.long) in
-    let held : c.loop-place.recalled.len ≡ length kept = omega (arith, long, before.long) in
     let entry : Recalled = record { number = to_z w64 (of_z w64 (get_or zs k (pos 0))); later = k } in
     let front : take c.loop-place.recalled.len (kept ++ drop (length kept) c.loop-place.recalled.items) ≡ kept =
-    ap (λ m. take m (kept ++ drop (length kept) c.loop-place.recalled.items)) held ∙ take-append_seam kept _ in
+    ap (λ m. take m (kept ++ drop (length kept) c.loop-place.recalled.items)) (omega (arith, long, before.long)) ∙ take-append_seam kept _ in
     let more : c.push_reserved-in-loop-place.new.self.items ≡ kept ++ entry ∷ [] = c.push_reserved-in-loop-place.ensures.items ∙ ap (λ ws. ws ++ entry ∷ []) front in
     record {
-      so_far = one_more rule zs k c.loop-place.results before.so_far (omega arith) fit z c.push_reserved.new.self given items c.push_reserved.ensures.len
+      so_far = one_more _ _ _ _ before.so_far (omega arith) fit z c.push_reserved.new.self given (search rules) c.push_reserved.ensures.items c.push_reserved.ensures.len
           (omega (arith, c.push_reserved.ensures.capacity));
       long = omega (arith, c.push_reserved-in-loop-place.ensures.len, before.long);
       room = omega (arith, c.push_reserved-in-loop-place.ensures.capacity, before.room);
       recalled = next_recalled f zs s n c.args.lines.now.apart c.args.lines.now.some kept c.push_reserved-in-loop-place.new.self.items entry c.recalled_fold.ensures.recalled
-          (read ∙ ap (λ i. get_or zs i (pos 0)) (sym long)) (sym long) more;
+          ((to_z-of_z w64 _ fit) ∙ ap (λ i. get_or zs i (pos 0)) (sym long)) (sym long) more;
     }
 
 pub returns-clause-is : goal.returns-clause-is
-returns-clause-is g c =
-    results_end (fold_to (g.S.TwoNumbers.gives c.args.step.now) c.args.lines.now.numbers.now c.args.lines.now.stride c.args.lines.now.count) c.args.lines.now.numbers.now c.loop-place.place c.loop-place.results
-    c.loop-place.invariant.so_far (omega (arith, c.loop-place-test.false))
+returns-clause-is g c = results_end _ _ _ _ c.loop-place.invariant.so_far (omega (arith, c.loop-place-test.false))

@@ -1,7 +1,5 @@
-use Rattle.std.proofs.Common.{◌∙◌, ap, sym, Ok, Global}
-use Rattle.arrays_core.{specs.declared.item.ItemType.TheVariants.{Nums}, specs.Arrays.{with_items}}
-use Rattle.item_fns.{specs.Numbers.{dyadic_on_numbers}, specs.NumberLists.{number_items}}
-use Rattle.scan_fns.{specs.LinearScan.{scans_of}, proofs.Errors.{array_fault}}
+use Rattle.{std.proofs.Common.{◌∙◌, ap, sym, Ok, Global}, arrays_core.{specs.declared.item.ItemType.TheVariants.{Nums}, specs.Arrays.{with_items}}}
+use Rattle.{item_fns.{specs.Numbers.{dyadic_on_numbers}, specs.NumberLists.{number_items}}, scan_fns.{specs.LinearScan.{scans_of}, proofs.Errors.{array_fault}}}
 use Rattle.scan_fns.proofs.scan.scans.Goals as goal
 
 pub returns-in_err-folds : goal.returns-in_err-folds

@@ -1,14 +1,10 @@
-use Rattle.std.proofs.Common.{◌≡◌, ◌-◌, ◌<◌, ◌≤◌, ◌%◌, length, vec_len}
-use Rattle.function_names.specs.declared.scalar.Scalar2.TheVariants.{Minus}
-use Rattle.item_fns.specs.Numbers.{dyadic_on_numbers}
-use Rattle.scan_fns.{specs.LinearScan.{depth, AreResultsTo}, specs.Prefixes.{fold_to}}
+use Rattle.{std.proofs.Common.{◌≡◌, ◌-◌, ◌<◌, length, vec_len}, function_names.specs.declared.scalar.Scalar2.TheVariants.{Minus}}
+use Rattle.{item_fns.specs.Numbers.{dyadic_on_numbers}, scan_fns.{specs.LinearScan.{depth}, specs.Prefixes.{fold_to}, proofs.LeftScans.{AreLinesTo}}}
 use Rattle.scan_fns.proofs.small_differences.differences_apart.Given as goal
 
 abbrev pub invariant-loop-results : goal.invariant-loop-results
 invariant-loop-results l = record {
-  so_far : AreResultsTo (vec_len l.results) (fold_to (dyadic_on_numbers Minus) l.lines.numbers.now l.lines.stride l.lines.count) l.lines.numbers.now l.results;
-  within : vec_len l.results ≤ length l.lines.numbers.now;
-  begins : vec_len l.results < length l.lines.numbers.now → vec_len l.results % l.lines.stride ≡ 0;
+  lines : AreLinesTo (fold_to (dyadic_on_numbers Minus) l.lines.numbers.now l.lines.stride l.lines.count) l.lines.numbers.now l.lines.stride l.results;
   row : vec_len l.results < length l.lines.numbers.now → l.row ≡ depth l.lines.stride l.lines.count (vec_len l.results);
 }
 

@@ -1,7 +1,5 @@
-use Rattle.std.proofs.Common.{◌≡◌, ◌-◌, ◌<◌, pos}
-use Rattle.function_names.specs.declared.scalar.Scalar2.TheVariants.{Minus}
-use Rattle.item_fns.specs.Numbers.{dyadic_on_numbers}
-use Rattle.scan_fns.{specs.LinearScan.{AreResultsTo}, specs.Prefixes.{fold_to}, proofs.SmallDifferences.{sum_to}}
+use Rattle.{std.proofs.Common.{◌≡◌, ◌-◌, ◌<◌, pos}, function_names.specs.declared.scalar.Scalar2.TheVariants.{Minus}}
+use Rattle.{item_fns.specs.Numbers.{dyadic_on_numbers}, scan_fns.{specs.LinearScan.{AreResultsTo}, specs.Prefixes.{fold_to}, proofs.SmallDifferences.{sum_to}}}
 use Rattle.scan_fns.proofs.small_differences.push_line.Given as goal
 
 abbrev pub invariant-loop-place : goal.invariant-loop-place

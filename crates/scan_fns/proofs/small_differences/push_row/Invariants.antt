@@ -1,5 +1,4 @@
-use Rattle.function_names.specs.declared.scalar.Scalar2.TheVariants.{Minus}
-use Rattle.item_fns.specs.Numbers.{dyadic_on_numbers}
+use Rattle.{function_names.specs.declared.scalar.Scalar2.TheVariants.{Minus}, item_fns.specs.Numbers.{dyadic_on_numbers}}
 use Rattle.scan_fns.{specs.LinearScan.{AreResultsTo}, specs.Prefixes.{fold_to}}
 use Rattle.scan_fns.proofs.small_differences.push_row.Given as goal
 

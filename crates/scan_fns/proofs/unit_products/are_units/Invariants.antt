@@ -1,5 +1,4 @@
-use Rattle.std.proofs.Common.{◌<◌, get_or, pos, ℕ}
-use Rattle.scan_fns.specs.Prefixes.{IsUnit}
+use Rattle.{std.proofs.Common.{◌<◌, get_or, pos, ℕ}, scan_fns.specs.Prefixes.{IsUnit}}
 use Rattle.scan_fns.proofs.unit_products.are_units.Given as goal
 
 abbrev pub invariant-loop-number : goal.invariant-loop-number

@@ -1,6 +1,4 @@
-use Rattle.std.proofs.Common.{subst}
-use Rattle.item_fns.specs.NumberLists.{IsListAnswerTo}
-use Rattle.scan_fns.proofs.UnitProducts.{unit_products}
+use Rattle.{std.proofs.Common.{subst}, item_fns.specs.NumberLists.{IsListAnswerTo}, scan_fns.proofs.UnitProducts.{unit_products}}
 use Rattle.scan_fns.proofs.unit_products.running_products.Goals as goal
 
 pub returns-then-are_units-clause-is : goal.returns-then-are_units-clause-is

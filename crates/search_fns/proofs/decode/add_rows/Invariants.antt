@@ -1,6 +1,4 @@
-use Rattle.std.proofs.Common.{◌≡◌, ℕ, ◌<◌, length, get_or, pos, drop}
-use Rattle.arrays_core.specs.Shapes.{index_after}
-use Rattle.search_fns.proofs.DecodedRows.{IsOnTheWay}
+use Rattle.{std.proofs.Common.{◌≡◌, ℕ, ◌<◌, length, get_or, pos, drop}, arrays_core.specs.Shapes.{index_after}, search_fns.proofs.DecodedRows.{IsOnTheWay}}
 use Rattle.search_fns.proofs.decode.add_rows.Given as goal
 
 abbrev pub invariant-loop-before : goal.invariant-loop-before

@@ -1,7 +1,5 @@
-use Rattle.std.{proofs.Common.{◌≡◌, ◌∙◌, ◌+◌, ◌-◌, ◌<◌, ap, sym, pos, length, drop, get_or, arith, Ok, Err, to_z, of_z, w64, SFits, rules}, proofs.lemmas.Int.{to_z-of_z}, proofs.lemmas.List.{length-map}}
-use Rattle.arrays_core.specs.Items.{and_then}
-use Rattle.index_region.specs.Arguments.{numbers, number_of}
-use Rattle.item_fns.specs.Numbers.{residue}
+use Rattle.std.{proofs.Common.{◌≡◌, ◌∙◌, ◌+◌, ◌-◌, ◌<◌, ap, sym, pos, length, drop, get_or, arith, Ok, Err, to_z, of_z, w64, rules}, proofs.lemmas.Int.{to_z-of_z}, proofs.lemmas.List.{length-map}}
+use Rattle.{arrays_core.specs.Items.{and_then}, index_region.specs.Arguments.{numbers, number_of}, item_fns.specs.Numbers.{residue}}
 use Rattle.search_fns.{specs.Encode.{carried, carried_through}, proofs.Radices.{error_in_front, one_more_radix, zero_in_front, zero_digit}}
 use Rattle.search_fns.proofs.encode.digit.Goals as goal
 
@@ -12,15 +10,12 @@ returns-in_err-rest c =
     let k = c.loop-before.before - 1 in
     let next : c.loop-before.before ≡ k + 1 = omega (arith, c.loop-before-test.true) in
     let long : length radices ≡ length c.args.radices.now.items = length-map c.args.radices.now.items number_of in
-    let fits : SFits w64 c.number.result = record { sfits = c.number.type_inv } in
-    let same : to_z w64 (of_z w64 c.number.result) ≡ c.number.result = to_z-of_z w64 _ fits in
+    let same : to_z w64 (of_z w64 c.number.result) ≡ c.number.result = to_z-of_z w64 _ (record { sfits = c.number.type_inv }) in
     let gave : Err e ≡ carried c.number.result c.loop-before.rest = rw (same, c.loop-before.rest-is) at c.in_err-rest.ensures in
-    let same_number : to_z w64 (of_z w64 c.args.number) ≡ c.args.number = to_z-of_z w64 _ c.ranges.number in
     let after : carried_through (drop (k + 1) radices) c.args.number ≡ Ok c.loop-before.rest =
-    ap (λ n. carried_through (drop n radices) c.args.number) (sym next) ∙ (rw (same_number, c.loop-before.rest-is) at c.loop-before.invariant.carried) in
+    ap (λ n. carried_through (drop n radices) c.args.number) (sym next) ∙ (rw ((to_z-of_z w64 _ c.ranges.number), c.loop-before.rest-is) at c.loop-before.invariant.carried) in
     let below : k < length radices = omega (arith, c.loop-before.auto.before, c.places-before.ensures.is) in
-    let place : k + 1 - 1 ≡ k = omega arith in
-    let radix : get_or radices k (pos 0) ≡ c.number.result = ap (λ n. get_or radices n (pos 0)) (sym place) ∙ sym c.number.ensures in
+    let radix : get_or radices k (pos 0) ≡ c.number.result = ap (λ n. get_or radices n (pos 0)) (sym (omega arith)) ∙ sym c.number.ensures in
     let failed_here : carried_through (drop k radices) c.args.number ≡ Err e =
     one_more_radix radices k c.args.number c.loop-before.rest below after ∙ ap (λ r. carried r c.loop-before.rest) radix ∙ sym gave in
     let failed : carried_through (drop c.args.place radices) c.args.number ≡ Err e =
@@ -32,11 +27,10 @@ returns c =
     let radices = numbers c.args.radices.now in
     let place = c.args.place in
     let ended : c.loop-before.before ≡ place = omega (arith, c.loop-before-test.false, c.loop-before.invariant.above) in
-    let fits : SFits w64 c.number-2.result = record { sfits = c.number-2.type_inv } in
     let same_number : to_z w64 (of_z w64 c.args.number) ≡ c.args.number = to_z-of_z w64 _ c.ranges.number in
     let through : carried_through (drop place radices) c.args.number ≡ Ok c.loop-before.rest =
     ap (λ n. carried_through (drop n radices) c.args.number) (sym ended) ∙ (rw (same_number, c.loop-before.rest-is) at c.loop-before.invariant.carried) in
-    (rw (to_z-of_z w64 _ fits, c.loop-before.rest-is, c.number-2.ensures) at c.two_numbers.ensures)
+    (rw (to_z-of_z w64 _ (record { sfits = c.number-2.type_inv }), c.loop-before.rest-is, c.number-2.ensures) at c.two_numbers.ensures)
     ∙ sym (ap (λ r. and_then r (λ rest. Ok (residue (get_or radices (place - 1) (pos 0)) rest))) through)
 
 pub returns-then-rest-eq0 : goal.returns-then-rest-eq0

@@ -1,5 +1,4 @@
-use Rattle.std.proofs.Common.{◌≡◌, ℕ, ◌+◌, ◌<◌, ◌≤◌, length, get_or, pos}
-use Rattle.item_fns.specs.Numbers.{residue}
+use Rattle.{std.proofs.Common.{◌≡◌, ℕ, ◌+◌, ◌<◌, ◌≤◌, length, get_or, pos}, item_fns.specs.Numbers.{residue}}
 use Rattle.search_fns.proofs.encoded_rows.put_row.Given as goal
 
 abbrev pub invariant-loop-place : goal.invariant-loop-place

@@ -1,6 +1,5 @@
-use Rattle.std.{proofs.Common.{◌≡◌, ◌≢◌, ◌∙◌, ◌+◌, ◌<◌, ap, sym, get_or, length, pos, arith, Ok, rules, to_z, of_z, w64, SFits, below_more, get_or-set_same, get_or-set_other}, proofs.Math.ListN.{length-set}, proofs.lemmas.Int.{to_z-of_z}}
-use Rattle.item_fns.specs.Numbers.{residue}
-use Rattle.search_fns.specs.Encode.{carried}
+use Rattle.std.{proofs.Common.{◌≡◌, ◌≢◌, ◌∙◌, ◌+◌, ◌<◌, ap, sym, get_or, length, pos, arith, Ok, rules, to_z, of_z, w64, below_more, get_or-set_same, get_or-set_other}, proofs.Math.ListN.{length-set}, proofs.lemmas.Int.{to_z-of_z}}
+use Rattle.{item_fns.specs.Numbers.{residue}, search_fns.specs.Encode.{carried}}
 use Rattle.search_fns.proofs.encoded_rows.put_row_and_carry.Goals as goal
 
 pub loop-place-preserved : goal.loop-place-preserved
@@ -13,13 +12,10 @@ loop-place-preserved c =
     let rests = c.loop-place.rests in
     let digit = c.digit_beside.result in
     let left = c.in_ok-left.left in
-    let digit_fits : SFits w64 digit = search rules in
-    let digit_is : to_z w64 (of_z w64 digit) ≡ digit = to_z-of_z w64 _ digit_fits in
-    let left_fits : SFits w64 left = search rules in
-    let left_is : to_z w64 (of_z w64 left) ≡ left = to_z-of_z w64 _ left_fits in
+    let digit_is : to_z w64 (of_z w64 digit) ≡ digit = to_z-of_z w64 _ (search rules) in
+    let left_is : to_z w64 (of_z w64 left) ≡ left = to_z-of_z w64 _ (search rules) in
     let radix_is : to_z w64 (of_z w64 radix) ≡ radix = to_z-of_z w64 _ c.ranges.radix in
-    let rest_fits : SFits w64 (get_or rests k (pos 0)) = search rules in
-    let rest_is : to_z w64 (of_z w64 (get_or rests k (pos 0))) ≡ get_or rests k (pos 0) = to_z-of_z w64 _ rest_fits in
+    let rest_is : to_z w64 (of_z w64 (get_or rests k (pos 0))) ≡ get_or rests k (pos 0) = to_z-of_z w64 _ (search rules) in
     let old : get_or rests k (pos 0) ≡ get_or zs k (pos 0) = c.loop-place.invariant.left k (omega arith) in
     let made : digit ≡ residue radix (get_or zs k (pos 0)) = rw (radix_is, rest_is) at c.digit_beside.ensures ∙ ap (residue radix) old in
     let gave : carried radix (get_or rests k (pos 0)) ≡ Ok left = rw (radix_is, rest_is) at (sym c.carried.ensures) ∙ c.in_ok-left.was in

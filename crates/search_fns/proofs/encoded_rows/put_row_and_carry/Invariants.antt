@@ -1,6 +1,4 @@
-use Rattle.std.proofs.Common.{◌≡◌, ℕ, ◌+◌, ◌<◌, ◌≤◌, length, get_or, pos, Ok}
-use Rattle.item_fns.specs.Numbers.{residue}
-use Rattle.search_fns.specs.Encode.{carried}
+use Rattle.{std.proofs.Common.{◌≡◌, ℕ, ◌+◌, ◌<◌, ◌≤◌, length, get_or, pos, Ok}, item_fns.specs.Numbers.{residue}, search_fns.specs.Encode.{carried}}
 use Rattle.search_fns.proofs.encoded_rows.put_row_and_carry.Given as goal
 
 abbrev pub invariant-loop-place : goal.invariant-loop-place

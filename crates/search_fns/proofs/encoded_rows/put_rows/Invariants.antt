@@ -1,5 +1,4 @@
-use Rattle.std.proofs.Common.{◌≡◌, ℕ, ◌+◌, ◌*◌, ◌<◌, ◌≤◌, drop, length, get_or, pos, Ok}
-use Rattle.search_fns.specs.Encode.{carried_through, digit}
+use Rattle.{std.proofs.Common.{◌≡◌, ℕ, ◌+◌, ◌*◌, ◌<◌, ◌≤◌, drop, length, get_or, pos, Ok}, search_fns.specs.Encode.{carried_through, digit}}
 use Rattle.search_fns.proofs.encoded_rows.put_rows.Given as goal
 
 abbrev pub invariant-loop-place : goal.invariant-loop-place

@@ -1,6 +1,4 @@
-use Rattle.std.proofs.Common.{◌≡◌, ◌<◌, ℕ, get_or, false}
-use Rattle.arrays_core.specs.Items.{fill}
-use Rattle.search_fns.specs.SameItem.{same_item}
+use Rattle.{std.proofs.Common.{◌≡◌, ◌<◌, ℕ, get_or, false}, arrays_core.specs.Items.{fill}, search_fns.specs.SameItem.{same_item}}
 use Rattle.search_fns.proofs.index_of.first_place.Given as goal
 
 abbrev pub invariant-loop-before : goal.invariant-loop-before

@@ -1,5 +1,4 @@
-use Rattle.std.proofs.Common.{sym, ◌∙◌, arith}
-use Rattle.search_fns.proofs.Lookups.{found_at, found_nowhere, position_within}
+use Rattle.{std.proofs.Common.{sym, ◌∙◌, arith}, search_fns.proofs.Lookups.{found_at, found_nowhere, position_within}}
 use Rattle.search_fns.proofs.lookup.before_first_place.Goals as goal
 
 pub returns-in-Some-clause-is : goal.returns-in-Some-clause-is

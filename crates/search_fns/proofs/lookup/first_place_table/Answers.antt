@@ -1,5 +1,4 @@
-use Rattle.std.{proofs.Common.{◌-◌, arith}, specs.HashMap.{get}}
-use Rattle.search_fns.proofs.Lookups.{one_more_first}
+use Rattle.{std.{proofs.Common.{◌-◌, arith}, specs.HashMap.{get}}, search_fns.proofs.Lookups.{one_more_first}}
 use Rattle.search_fns.proofs.lookup.first_place_table.Goals as goal
 
 pub loop-place-preserved : goal.loop-place-preserved

@@ -1,5 +1,4 @@
-use Rattle.std.{proofs.Common.{ap, ◌∙◌}, specs.Prelude.{is_some}}
-use Rattle.search_fns.proofs.Lookups.{is_found}
+use Rattle.{std.{proofs.Common.{ap, ◌∙◌}, specs.Prelude.{is_some}}, search_fns.proofs.Lookups.{is_found}}
 use Rattle.search_fns.proofs.lookup.is_found.Goals as goal
 
 pub returns : goal.returns

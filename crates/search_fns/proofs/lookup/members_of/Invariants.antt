@@ -1,5 +1,4 @@
-use Rattle.std.{proofs.Common.{◌≡◌, map, take}, specs.List.{list_any}}
-use Rattle.item_fns.specs.Numbers.{truth}
+use Rattle.{std.{proofs.Common.{◌≡◌, map, take}, specs.List.{list_any}}, item_fns.specs.Numbers.{truth}}
 use Rattle.search_fns.proofs.lookup.members_of.Given as goal
 
 abbrev pub invariant-loop-item : goal.invariant-loop-item

@@ -1,5 +1,4 @@
-use Rattle.std.{specs.Prelude.{nat_eq}, specs.Ordering.{int_eq}}
-use Rattle.arrays_core.specs.declared.item.Item.TheVariants.{Num, Char}
+use Rattle.{std.{specs.Prelude.{nat_eq}, specs.Ordering.{int_eq}}, arrays_core.specs.declared.item.Item.TheVariants.{Num, Char}}
 use Rattle.search_fns.proofs.Searching.{members_as, same_numbers, same_characters}
 use Rattle.search_fns.proofs.member.are_members_of_array.Goals as goal
 

@@ -1,4 +1,4 @@
-use Rattle.std.{proofs.Common.{◌≡◌, ◌∙◌, sym, ap, get_or, pos, Err, arith, rules, to_z, of_z, w64, SFits}, proofs.lemmas.Int.{to_z-of_z}}
+use Rattle.std.{proofs.Common.{◌≡◌, ◌∙◌, sym, ap, get_or, pos, Err, arith, rules, to_z, of_z, w64}, proofs.lemmas.Int.{to_z-of_z}}
 use Rattle.arrays_core.{specs.declared.item.Kind.{Kind}, specs.declared.item.Kind.TheVariants.{Limit}}
 use Rattle.search_fns.{specs.DecodedRows.{with_one_more}, proofs.DecodeErrors.{limit_of, one_more_limited}}
 use Rattle.search_fns.proofs.more_digits.add_digits.Goals as goal
@@ -10,12 +10,9 @@ returns-in_err-numbers-clause-beyond c =
     let x = get_or c.args.digits.now k (pos 0) in
     let s = get_or c.loop-place.numbers k (pos 0) in
     let e = c.in_err-numbers.field-0.0 in
-    let x_fits : SFits w64 x = search rules in
-    let x_is : to_z w64 (of_z w64 x) ≡ x = to_z-of_z w64 _ x_fits in
-    let s_fits : SFits w64 s = search rules in
-    let s_is : to_z w64 (of_z w64 s) ≡ s = to_z-of_z w64 _ s_fits in
-    let m_is : to_z w64 (of_z w64 m) ≡ m = to_z-of_z w64 _ c.ranges.radix in
-    let given : c.one_more.result ≡ with_one_more s m x = rw (x_is, s_is, m_is) at c.one_more.ensures in
+    let x_is : to_z w64 (of_z w64 x) ≡ x = to_z-of_z w64 _ (search rules) in
+    let s_is : to_z w64 (of_z w64 s) ≡ s = to_z-of_z w64 _ (search rules) in
+    let given : c.one_more.result ≡ with_one_more s m x = rw (x_is, s_is, (to_z-of_z w64 _ c.ranges.radix)) at c.one_more.ensures in
     let failed : with_one_more s m x ≡ Err e = sym given ∙ c.in_err-numbers.was in
     let limit : e ≡ Limit = limit_of (with_one_more s m x) e (one_more_limited s m x) failed in
     let old = c.loop-place.invariant.left k (omega arith) in

@@ -1,5 +1,4 @@
-use Rattle.std.proofs.Common.{◌≡◌, ℕ, ◌<◌, ◌≤◌, get_or, pos, Ok}
-use Rattle.search_fns.specs.DecodedRows.{with_one_more}
+use Rattle.{std.proofs.Common.{◌≡◌, ℕ, ◌<◌, ◌≤◌, get_or, pos, Ok}, search_fns.specs.DecodedRows.{with_one_more}}
 use Rattle.search_fns.proofs.more_digits.add_digits.Given as goal
 
 abbrev pub invariant-loop-place : goal.invariant-loop-place

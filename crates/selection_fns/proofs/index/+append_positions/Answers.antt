@@ -1,5 +1,4 @@
-use Rattle.std.{proofs.Common.{rules, arith}, proofs.lemmas.Grind.{common_steps}}
-use Rattle.selection_fns.proofs.Positions.{written_axes}
+use Rattle.{std.{proofs.Common.{rules, arith}, proofs.lemmas.Grind.{common_steps}}, selection_fns.proofs.Positions.{written_axes}}
 use Rattle.selection_fns.proofs.index.+append_positions.Goals as goal
 
 pub returns-in_err-append_within-2-clause-beyond : goal.returns-in_err-append_within-2-clause-beyond
@@ -9,5 +8,4 @@ returns-in_err-append_within-2-clause-beyond t c =
     search (rules, among)
 
 pub returns-then-not-written-clause-items : goal.returns-then-not-written-clause-items
-returns-then-not-written-clause-items t c =
-    grind (arith, common_steps)
+returns-then-not-written-clause-items t c = grind (arith, common_steps)

@@ -5,20 +5,15 @@ use Rattle.selection_fns.proofs.index.+append_source_index.Goals as goal
 pub prove-unreachable-requires : goal.prove-unreachable-requires
 prove-unreachable-requires t c =
     let some : 0 < length c.args.written.now = search rules in
-    let long = (split_empty c.args.axes.now c.args.written.now c.args.positions.now c.args.index.now c.requires.one_an_axis some c.if-not-written.true c.requires.inside).long in
-    omega arith
+    omega (arith, (split_empty c.args.axes.now c.args.written.now c.args.positions.now c.args.index.now c.requires.one_an_axis some c.if-not-written.true c.requires.inside).long)
 
 pub prove-unreachable-requires-2 : goal.prove-unreachable-requires-2
 prove-unreachable-requires-2 t c =
-    let p = c.index-positions-0.result in
-    let long = (split_written c.args.axes.now c.args.written.now c.args.positions.now c.args.index.now p c.requires.one_an_axis c.requires.long c.if-not-written.false c.index-positions-0.is c.requires.inside).long in
-    search (rules, long)
+    search (rules, (split_written c.args.axes.now c.args.written.now c.args.positions.now c.args.index.now _ c.requires.one_an_axis c.requires.long c.if-not-written.false c.index-positions-0.is c.requires.inside).long)
 
 pub index_in-requires-clause-inside : goal.index_in-requires-clause-inside
 index_in-requires-clause-inside t c =
-    let p = c.index-positions-0.result in
-    let first = (split_written c.args.axes.now c.args.written.now c.args.positions.now c.args.index.now p c.requires.one_an_axis c.requires.long c.if-not-written.false c.index-positions-0.is c.requires.inside).first in
-    search (rules, first)
+    search (rules, (split_written c.args.axes.now c.args.written.now c.args.positions.now c.args.index.now _ c.requires.one_an_axis c.requires.long c.if-not-written.false c.index-positions-0.is c.requires.inside).first)
 
 pub append_source_index-requires-2 : goal.append_source_index-requires-2
 append_source_index-requires-2 t c =

@@ -1,5 +1,4 @@
-use Rattle.std.proofs.Common.{rules}
-use Rattle.arrays_core.{specs.Shapes.{places_before}, specs.Items.{fill}}
+use Rattle.{std.proofs.Common.{rules}, arrays_core.{specs.Shapes.{places_before}, specs.Items.{fill}}}
 use Rattle.selection_fns.proofs.Positions.{place_within, fill_within}
 use Rattle.selection_fns.proofs.index.index_in.Goals as goal
 

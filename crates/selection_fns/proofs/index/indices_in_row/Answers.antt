@@ -1,6 +1,5 @@
 use Rattle.std.{proofs.Common.{rules, ◌≡◌, ◌∙◌, ◌+◌, ◌-◌, ◌++◌, ◌∷◌, [], ap, sym, length, take, drop, get_or, pos, arith}, proofs.lemmas.List.{length-drop, take_all, get_or-take, get_or-drop}}
-use Rattle.arrays_core.specs.Shapes.{places_before}
-use Rattle.selection_fns.proofs.IndexedRows.{indices_of_row}
+use Rattle.{arrays_core.specs.Shapes.{places_before}, selection_fns.proofs.IndexedRows.{indices_of_row}}
 use Rattle.selection_fns.proofs.index.indices_in_row.Goals as goal
 
 pub slice_bounds-result-end : goal.slice_bounds-result-end

@@ -1,6 +1,4 @@
-use Rattle.std.{proofs.Common.{ap, sym, ◌∙◌}, specs.List.{list_all}}
-use Rattle.index_region.proofs.Numbers.{numbers_read}
-use Rattle.selection_fns.specs.Index.{is_on_axis}
+use Rattle.{std.{proofs.Common.{ap, sym, ◌∙◌}, specs.List.{list_all}}, index_region.proofs.Numbers.{numbers_read}, selection_fns.specs.Index.{is_on_axis}}
 use Rattle.selection_fns.proofs.index.is_on.Goals as goal
 
 pub returns-in-Some : goal.returns-in-Some

@@ -1,6 +1,4 @@
-use Rattle.std.{proofs.Common.{◌≡◌, drop}, specs.List.{list_all}}
-use Rattle.index_region.specs.Arguments.{numbers}
-use Rattle.selection_fns.specs.Index.{is_on_axis}
+use Rattle.{std.{proofs.Common.{◌≡◌, drop}, specs.List.{list_all}}, index_region.specs.Arguments.{numbers}, selection_fns.specs.Index.{is_on_axis}}
 use Rattle.selection_fns.proofs.index.is_on.Given as goal
 
 abbrev pub invariant-loop-place : goal.invariant-loop-place

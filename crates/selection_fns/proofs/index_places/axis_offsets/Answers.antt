@@ -1,5 +1,4 @@
-use Rattle.std.proofs.Common.{◌*◌, [], refl, arith}
-use Rattle.arrays_core.proofs.Building.{listed_more}
+use Rattle.{std.proofs.Common.{◌*◌, [], refl, arith}, arrays_core.proofs.Building.{listed_more}}
 use Rattle.selection_fns.proofs.index_places.axis_offsets.Goals as goal
 
 pub loop-before-preserved : goal.loop-before-preserved

@@ -1,5 +1,4 @@
-use Rattle.std.proofs.Common.{◌≡◌, ◌≤◌, ◌*◌, length, map, take, get_or, pos, vec_len, vec_capacity}
-use Rattle.selection_fns.specs.IndexPlaces.{sums}
+use Rattle.{std.proofs.Common.{◌≡◌, ◌≤◌, ◌*◌, length, map, take, get_or, pos, vec_len, vec_capacity}, selection_fns.specs.IndexPlaces.{sums}}
 use Rattle.selection_fns.proofs.index_places.numbers_at.Given as goal
 
 abbrev pub invariant-loop-k : goal.invariant-loop-k

@@ -1,5 +1,4 @@
-use Rattle.std.proofs.Common.{◌≡◌, ◌≤◌, ◌*◌, length, take, vec_len, vec_capacity}
-use Rattle.selection_fns.specs.IndexPlaces.{sums}
+use Rattle.{std.proofs.Common.{◌≡◌, ◌≤◌, ◌*◌, length, take, vec_len, vec_capacity}, selection_fns.specs.IndexPlaces.{sums}}
 use Rattle.selection_fns.proofs.index_places.sums.Given as goal
 
 abbrev pub invariant-loop-k : goal.invariant-loop-k

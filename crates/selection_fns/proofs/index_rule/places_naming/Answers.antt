@@ -1,6 +1,5 @@
-use Rattle.std.{proofs.Common.{rules, ◌≡◌, ◌∙◌, ◌+◌, ◌-◌, ◌<◌, ℕ, List, true, false, length, get_or, pos, unsigned_abs, ap, sym, subst, arith, Some, to_z, of_z, w64, SFits}, specs.Prelude.{IfSome}, proofs.lemmas.Int.{to_z-of_z}}
-use Rattle.arrays_core.{specs.Arrays.{item_of}, specs.Shapes.{size, index_after}}
-use Rattle.index_region.{specs.Arguments.{numbers}, specs.Boxes.{cover}}
+use Rattle.std.{proofs.Common.{rules, ◌≡◌, ◌∙◌, ◌+◌, ◌-◌, ◌<◌, ℕ, List, true, length, get_or, pos, unsigned_abs, ap, sym, subst, arith, Some, to_z, of_z, w64, SFits}, specs.Prelude.{IfSome}, proofs.lemmas.Int.{to_z-of_z}}
+use Rattle.{arrays_core.{specs.Arrays.{item_of}, specs.Shapes.{size, index_after}}, index_region.{specs.Arguments.{numbers}, specs.Boxes.{cover}}}
 use Rattle.change_core.specs.Places.{lies_in}
 use Rattle.selection_fns.{specs.Index.{place_named}, proofs.ResultAxes.{length-cover_one, named_at, one_more_hit, one_more_miss}, proofs.index_rule.places_naming.Goals.{then-names_place_of, else-names_place_of}}
 use Rattle.selection_fns.proofs.index_rule.places_naming.Goals as goal
@@ -8,10 +7,9 @@ use Rattle.selection_fns.proofs.index_rule.places_naming.Goals as goal
 pub with_place-requires : goal.with_place-requires
 with_place-requires c =
     let k = c.loop-before.before in
-    let p = c.args.position.now in
     let same : k + 1 - 1 ≡ k = omega arith in
-    let place : c.cover-point.result ≡ cover p.shape k k = c.cover-point.ensures ∙ (λ i. cover (c.shape-shape.ensures.is i) (same i) (same i)) in
-    subst (λ (n : ℕ). IfSome c.loop-before.found (λ b. length b ≡ n)) (sym (length-cover_one p.shape k) ∙ ap length (sym place)) c.loop-before.invariant.long
+    let place : c.cover-point.result ≡ cover c.args.position.now.shape k k = c.cover-point.ensures ∙ (λ i. cover (c.shape-shape.ensures.is i) (same i) (same i)) in
+    subst (λ (n : ℕ). IfSome c.loop-before.found (λ b. length b ≡ n)) (sym (length-cover_one c.args.position.now.shape k) ∙ ap length (sym place)) c.loop-before.invariant.long
 
 pub loop-before-preserved : goal.loop-before-preserved
 loop-before-preserved c =

@@ -1,6 +1,4 @@
-use Rattle.std.{proofs.Common.{◌≡◌, length}, specs.Prelude.{IfSome}}
-use Rattle.arrays_core.specs.Arrays.{item_of}
-use Rattle.change_core.specs.Places.{lies_in}
+use Rattle.{std.{proofs.Common.{◌≡◌, length}, specs.Prelude.{IfSome}}, arrays_core.specs.Arrays.{item_of}, change_core.specs.Places.{lies_in}}
 use Rattle.selection_fns.specs.Index.{least_box, place_named}
 use Rattle.selection_fns.proofs.index_rule.places_naming.Given as goal
 

@@ -1,5 +1,4 @@
-use Rattle.std.proofs.Common.{◌∙◌, length, ap, sym}
-use Rattle.index_region.proofs.Boxes.{length-hull}
+use Rattle.{std.proofs.Common.{◌∙◌, length, ap, sym}, index_region.proofs.Boxes.{length-hull}}
 use Rattle.selection_fns.proofs.index_rule.with_place.Goals as goal
 
 pub returns-in-Some-clause-long : goal.returns-in-Some-clause-long

@@ -1,5 +1,4 @@
-use Rattle.std.proofs.Common.{◌≤◌, length, vec_capacity}
-use Rattle.selection_fns.proofs.KeptNumbers.{AreKeptSoFar}
+use Rattle.{std.proofs.Common.{◌≤◌, length, vec_capacity}, selection_fns.proofs.KeptNumbers.{AreKeptSoFar}}
 use Rattle.selection_fns.proofs.kept.kept_numbers.Given as goal
 
 abbrev pub invariant-loop-place : goal.invariant-loop-place

@@ -1,5 +1,4 @@
-use Rattle.std.proofs.Common.{◌≡◌, take}
-use Rattle.index_region.specs.Arguments.{numbers}
+use Rattle.{std.proofs.Common.{◌≡◌, take}, index_region.specs.Arguments.{numbers}}
 use Rattle.selection_fns.proofs.numbers.numbers_of.Given as goal
 
 abbrev pub invariant-loop-before : goal.invariant-loop-before

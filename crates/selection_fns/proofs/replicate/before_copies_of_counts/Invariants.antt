@@ -1,5 +1,4 @@
-use Rattle.std.proofs.Common.{map, unsigned_abs}
-use Rattle.selection_fns.proofs.Copies.{AreBefore}
+use Rattle.{std.proofs.Common.{map, unsigned_abs}, selection_fns.proofs.Copies.{AreBefore}}
 use Rattle.selection_fns.proofs.replicate.before_copies_of_counts.Given as goal
 
 abbrev pub invariant-loop-place : goal.invariant-loop-place

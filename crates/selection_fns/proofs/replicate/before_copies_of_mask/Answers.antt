@@ -14,10 +14,5 @@ loop-place-preserved c =
     let count : c.unsigned_abs.result ≡ get_or (map unsigned_abs zs) k 0 = c.unsigned_abs.ensures.value ∙ ap unsigned_abs same ∙ sym (get_or-map unsigned_abs zs k (pos 0) 0 below) in
     let low : c.unsigned_abs.result ≤ 1 = subst (λ n. n ≤ 1) (sym (c.unsigned_abs.ensures.value ∙ ap unsigned_abs same)) (mask_count zs k c.requires.mask below) in
     let fit = copies_fit (map unsigned_abs zs) k _ known.made (omega arith) in
-    let counted = known.counted in
-    let step = mask_step (map unsigned_abs zs) k c.loop-place.copies c.unsigned_abs.result before (omega arith) count low (omega arith) counted known.made in
-    record {
-      room = simp length-set known.room;
-      counted = step.counted;
-      made = step.made;
-    }
+    let step = mask_step (map unsigned_abs zs) k c.loop-place.copies c.unsigned_abs.result before (omega arith) count low (omega arith) known.counted known.made in
+    record { room = simp length-set known.room; counted = step.counted; made = step.made }

@@ -1,5 +1,4 @@
-use Rattle.std.proofs.Common.{replicate}
-use Rattle.selection_fns.proofs.Copies.{AreBefore}
+use Rattle.{std.proofs.Common.{replicate}, selection_fns.proofs.Copies.{AreBefore}}
 use Rattle.selection_fns.proofs.replicate.before_copies_of_one_count.Given as goal
 
 abbrev pub invariant-loop-place : goal.invariant-loop-place

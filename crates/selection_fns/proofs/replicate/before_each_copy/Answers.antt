@@ -1,6 +1,5 @@
 use Rattle.std.{proofs.Common.{◌≡◌, true, ◌∙◌, subst, rules, sym}, specs.List.{list_all}}
-use Rattle.index_region.{specs.Arguments.{numbers}, proofs.Numbers.{numbers_read}}
-use Rattle.selection_fns.{specs.Replicate.{is_bit}, proofs.Copies.{mask_bits}}
+use Rattle.{index_region.{specs.Arguments.{numbers}, proofs.Numbers.{numbers_read}}, selection_fns.{specs.Replicate.{is_bit}, proofs.Copies.{mask_bits}}}
 use Rattle.selection_fns.proofs.replicate.before_each_copy.Goals as goal
 
 pub before_copies_of_list-requires-clause-mask : goal.before_copies_of_list-requires-clause-mask

@@ -1,5 +1,4 @@
-use Rattle.std.{proofs.Common.{◌∙◌, ap, sym}, specs.Prelude.{not}}
-use Rattle.index_region.specs.Arguments.{numbers}
+use Rattle.{std.{proofs.Common.{◌∙◌, ap, sym}, specs.Prelude.{not}}, index_region.specs.Arguments.{numbers}}
 use Rattle.selection_fns.proofs.Copies.{mask_bits, mask_from_0}
 use Rattle.selection_fns.proofs.replicate.has_negative.Goals as goal
 

@@ -1,5 +1,4 @@
-use Rattle.std.proofs.Common.{◌≡◌, ◌+◌, map, drop, unsigned_abs}
-use Rattle.index_region.specs.Arguments.{numbers}
+use Rattle.{std.proofs.Common.{◌≡◌, ◌+◌, map, drop, unsigned_abs}, index_region.specs.Arguments.{numbers}}
 use Rattle.selection_fns.{specs.Replicate.{maker}, specs.Laws.RepeatedPlaces.{walk}}
 use Rattle.selection_fns.proofs.replicate.maker.Given as goal
 

@@ -1,5 +1,4 @@
-use Rattle.std.proofs.Common.{ap, ◌∙◌, ◌+◌, ◌/◌}
-use Rattle.selection_fns.proofs.Copies.{each_maker}
+use Rattle.{std.proofs.Common.{ap, ◌∙◌, ◌+◌, ◌/◌}, selection_fns.proofs.Copies.{each_maker}}
 use Rattle.selection_fns.proofs.replicate.maker_of_each.Goals as goal
 
 pub returns : goal.returns

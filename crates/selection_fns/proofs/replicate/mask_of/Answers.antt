@@ -1,6 +1,4 @@
-use Rattle.std.{proofs.Common.{subst, sym}, specs.Prelude.{IfSome}}
-use Rattle.index_region.proofs.Numbers.{numbers_read}
-use Rattle.selection_fns.specs.Replicate.{IsMask}
+use Rattle.{std.{proofs.Common.{subst, sym}, specs.Prelude.{IfSome}}, index_region.proofs.Numbers.{numbers_read}, selection_fns.specs.Replicate.{IsMask}}
 use Rattle.selection_fns.proofs.replicate.mask_of.Goals as goal
 
 pub returns : goal.returns

@@ -1,5 +1,4 @@
-use Rattle.std.{proofs.Common.{◌≡◌, ◌+◌, ◌≤◌, map, drop, unsigned_abs}, specs.Prelude.{sum}}
-use Rattle.index_region.specs.Arguments.{numbers}
+use Rattle.{std.{proofs.Common.{◌≡◌, ◌+◌, ◌≤◌, map, drop, unsigned_abs}, specs.Prelude.{sum}}, index_region.specs.Arguments.{numbers}}
 use Rattle.selection_fns.proofs.replicate.summed.Given as goal
 
 abbrev pub invariant-loop-place : goal.invariant-loop-place

@@ -1,6 +1,5 @@
 use Rattle.std.{proofs.Common.{rules, ◌≡◌, ◌<◌, ℕ, length, get_or, ap, ◌∙◌, arith}, specs.Prelude.{max}, proofs.lemmas.List.{get_or_default}}
-use Rattle.function_names.specs.Axes.{axis_at}
-use Rattle.index_region.{specs.Axes.{places_along}, proofs.Boxes.{fits_length}}
+use Rattle.{function_names.specs.Axes.{axis_at}, index_region.{specs.Axes.{places_along}, proofs.Boxes.{fits_length}}}
 use Rattle.selection_fns.{proofs.Copied.{copied_along}, proofs.Intervals.{interval_on}}
 use Rattle.selection_fns.proofs.replicate_rule.copied_box.Goals as goal
 

@@ -1,5 +1,4 @@
-use Rattle.std.proofs.Common.{rules, ◌≡◌, get_or, map, unsigned_abs, arith}
-use Rattle.index_region.specs.Arguments.{numbers}
+use Rattle.{std.proofs.Common.{rules, ◌≡◌, get_or, map, unsigned_abs, arith}, index_region.specs.Arguments.{numbers}}
 use Rattle.selection_fns.{proofs.Copies.{count_step}, proofs.Repeated.{sum_within}}
 use Rattle.selection_fns.proofs.replicate_rule.copies_of_counts.Goals as goal
 

@@ -1,5 +1,4 @@
-use Rattle.std.{proofs.Common.{◌≡◌, map, take, unsigned_abs}, specs.Prelude.{sum}}
-use Rattle.index_region.specs.Arguments.{numbers}
+use Rattle.{std.{proofs.Common.{◌≡◌, map, take, unsigned_abs}, specs.Prelude.{sum}}, index_region.specs.Arguments.{numbers}}
 use Rattle.selection_fns.proofs.replicate_rule.copies_of_counts.Given as goal
 
 abbrev pub invariant-loop-place : goal.invariant-loop-place

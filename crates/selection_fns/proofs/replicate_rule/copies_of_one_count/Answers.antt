@@ -1,5 +1,4 @@
-use Rattle.std.proofs.Common.{◌∙◌, ◌*◌, ap, sym}
-use Rattle.selection_fns.proofs.Copied.{sum_first_same}
+use Rattle.{std.proofs.Common.{◌∙◌, ◌*◌, ap, sym}, selection_fns.proofs.Copied.{sum_first_same}}
 use Rattle.selection_fns.proofs.replicate_rule.copies_of_one_count.Goals as goal
 
 pub returns : goal.returns

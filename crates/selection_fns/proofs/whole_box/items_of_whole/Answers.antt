@@ -1,6 +1,4 @@
-use Rattle.std.proofs.Common.{◌≡◌, arith, Ok}
-use Rattle.index_region.{specs.Checks.{whole}, proofs.Walks.{some_place}}
-use Rattle.change_core.proofs.Filling.{few_places}
+use Rattle.{std.proofs.Common.{◌≡◌, arith, Ok}, index_region.{specs.Checks.{whole}, proofs.Walks.{some_place}}, change_core.proofs.Filling.{few_places}}
 use Rattle.selection_fns.proofs.WholeItems.{box_items}
 use Rattle.selection_fns.proofs.whole_box.items_of_whole.Goals as goal
 

@@ -1,5 +1,4 @@
-use Rattle.std.proofs.Common.{◌≡◌, ◌<◌, ℕ, get_or, length, Some}
-use Rattle.arrays_core.{specs.Arrays.{item_if_there}, specs.Items.{fill}}
+use Rattle.{std.proofs.Common.{◌≡◌, ◌<◌, ℕ, get_or, length, Some}, arrays_core.{specs.Arrays.{item_if_there}, specs.Items.{fill}}}
 use Rattle.index_region.specs.Boxes.{box_size, walk_at}
 use Rattle.selection_fns.proofs.whole_box.picked.Given as goal
 

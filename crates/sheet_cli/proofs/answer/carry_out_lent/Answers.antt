@@ -1,5 +1,4 @@
-use Rattle.std.proofs.lemmas.Result.{IfOk-weaker}
-use Rattle.sheet_cli.{proofs.EditLemmas.{change_carried_out}, proofs.OneEvent.{plain_edited}}
+use Rattle.{std.proofs.lemmas.Result.{IfOk-weaker}, sheet_cli.{proofs.EditLemmas.{change_carried_out}, proofs.OneEvent.{plain_edited}}}
 use Rattle.sheet_cli.proofs.answer.carry_out_lent.Goals as goal
 
 pub returns-in-Change-clause-ok : goal.returns-in-Change-clause-ok

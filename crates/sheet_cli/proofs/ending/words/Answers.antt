@@ -1,7 +1,6 @@
 use Rattle.std.proofs.lemmas.Result.{err_from_is_err_and}
 use Rattle.program_words.{specs.Asked.{IsRefusalOf}, specs.declared.reading.WordsFault.{WordsFault}, specs.declared.reading.WordsFault.TheVariants.{NoMemory, BadName, BadWords}}
-use Rattle.clap.specs.Walk.{texts}
-use Rattle.sheet_cli.specs.Endings.{OfWords, ending_of}
+use Rattle.{clap.specs.Walk.{texts}, sheet_cli.specs.Endings.{OfWords, ending_of}}
 use Rattle.sheet_cli.proofs.ending.words.Goals as goal
 
 of_words : (P : WordsFault → Type 0) (f : WordsFault) → P f → OfWords P (ending_of f)

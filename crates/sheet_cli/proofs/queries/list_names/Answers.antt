@@ -1,6 +1,5 @@
 use lib.Utf8.{encode}
-use Rattle.std.{proofs.Common.{List, ℕ, ◌++◌, string_bytes, ap, ◌∙◌}, proofs.lemmas.List.{take_all}}
-use Rattle.array_text.specs.Text.{line_end}
+use Rattle.{std.{proofs.Common.{List, ℕ, ◌++◌, string_bytes, ap, ◌∙◌}, proofs.lemmas.List.{take_all}}, array_text.specs.Text.{line_end}}
 use Rattle.sheet_cli.{specs.Answer.{names_text}, proofs.Listing.{listed_more}}
 use Rattle.sheet_cli.proofs.queries.list_names.Goals as goal
 

@@ -1,5 +1,4 @@
-use Rattle.std.proofs.Common.{◌≡◌, take, string_bytes}
-use Rattle.sheet_cli.specs.Answer.{names_text}
+use Rattle.{std.proofs.Common.{◌≡◌, take, string_bytes}, sheet_cli.specs.Answer.{names_text}}
 use Rattle.sheet_cli.proofs.queries.list_names.Given as goal
 
 abbrev pub invariant-loop-name : goal.invariant-loop-name

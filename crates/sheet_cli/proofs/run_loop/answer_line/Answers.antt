@@ -1,5 +1,4 @@
-use Rattle.std.{proofs.Common.{◌∙◌, sym}, proofs.lemmas.Result.{on_err_weaker}}
-use Rattle.sheet_cli.proofs.AnswerLemmas.{AnswersLine-printed}
+use Rattle.{std.{proofs.Common.{◌∙◌, sym}, proofs.lemmas.Result.{on_err_weaker}}, sheet_cli.proofs.AnswerLemmas.{AnswersLine-printed}}
 use Rattle.sheet_cli.proofs.run_loop.answer_line.Goals as goal
 
 pub returns-in-Ok-clause-err : goal.returns-in-Ok-clause-err

@@ -1,5 +1,4 @@
-use Rattle.std.{proofs.Common.{arith, refl}, proofs.lemmas.Bool.{ne_eqb}}
-use Rattle.sheet_cli.{specs.Lines.{ended_lines}, proofs.Cuts.{ended_lines-step}}
+use Rattle.{std.{proofs.Common.{arith, refl}, proofs.lemmas.Bool.{ne_eqb}}, sheet_cli.{specs.Lines.{ended_lines}, proofs.Cuts.{ended_lines-step}}}
 use Rattle.sheet_cli.proofs.run_loop.find_line_feed.Goals as goal
 
 pub loop-i-init : goal.loop-i-init

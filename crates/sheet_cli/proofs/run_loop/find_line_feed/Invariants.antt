@@ -1,5 +1,4 @@
-use Rattle.std.proofs.Common.{◌≡◌, ◌≤◌, ◌-◌, [], length, take}
-use Rattle.sheet_cli.specs.Lines.{ended_lines}
+use Rattle.{std.proofs.Common.{◌≡◌, ◌≤◌, ◌-◌, [], length, take}, sheet_cli.specs.Lines.{ended_lines}}
 use Rattle.sheet_cli.proofs.run_loop.find_line_feed.Given as goal
 
 abbrev pub invariant-loop-i : goal.invariant-loop-i

@@ -1,5 +1,4 @@
-use Rattle.std.{proofs.Common.{sym, arith}, proofs.lemmas.List.{take_all, length-take-le}}
-use Rattle.sheet_cli.specs.Progress.{most_kept}
+use Rattle.{std.{proofs.Common.{sym, arith}, proofs.lemmas.List.{take_all, length-take-le}}, sheet_cli.specs.Progress.{most_kept}}
 use Rattle.sheet_cli.proofs.run_loop.kept_of.Goals as goal
 
 pub returns-then-bytes-le-KEPT : goal.returns-then-bytes-le-KEPT

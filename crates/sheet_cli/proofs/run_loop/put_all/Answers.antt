@@ -1,5 +1,4 @@
-use Rattle.std.{proofs.Common.{◌++◌, take, drop, append_assoc}, proofs.lemmas.List.{take_rest, take-append-drop}}
-use Rattle.sheet_cli.proofs.Devices.{Appends-more}
+use Rattle.{std.{proofs.Common.{◌++◌, take, drop, append_assoc}, proofs.lemmas.List.{take_rest, take-append-drop}}, sheet_cli.proofs.Devices.{Appends-more}}
 use Rattle.sheet_cli.proofs.run_loop.put_all.Goals as goal
 
 pub loop-rest-preserved : goal.loop-rest-preserved

@@ -1,5 +1,4 @@
-use Rattle.std.proofs.Common.{◌-◌}
-use Rattle.sheet_cli.{specs.Answer.{state_of}, specs.Progress.{standing}, proofs.RunLemmas.{IsRunning}}
+use Rattle.{std.proofs.Common.{◌-◌}, sheet_cli.{specs.Answer.{state_of}, specs.Progress.{standing}, proofs.RunLemmas.{IsRunning}}}
 use Rattle.sheet_cli.proofs.run_loop.run.Given as goal
 
 abbrev pub invariant-loop-bytes_read : goal.invariant-loop-bytes_read

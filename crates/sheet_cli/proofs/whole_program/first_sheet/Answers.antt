@@ -12,8 +12,7 @@ returns-in_err-array-clause-err g c =
     (rw c.as_str.ensures.value at c.in_err-array.ensures.err))
 
 pub returns-then-is_err-clause-err : goal.returns-then-is_err-clause-err
-returns-then-is_err-clause-err g c =
-    fails-to-begin (g.H.Host.value c.args.host.now) _ (c.in-Some.name, c.in-Some.path, c.in-Some.header) _ c.in-Some.is tt
+returns-then-is_err-clause-err g c = fails-to-begin (g.H.Host.value c.args.host.now) _ (c.in-Some.name, c.in-Some.path, c.in-Some.header) _ c.in-Some.is tt
 
 pub returns-clause-ok : goal.returns-clause-ok
 returns-clause-ok g c =

@@ -1,5 +1,4 @@
-use Rattle.std.proofs.Common.{◌≡◌, map, take, string_bytes}
-use Rattle.clap.specs.Walk.{texts}
+use Rattle.{std.proofs.Common.{◌≡◌, map, take, string_bytes}, clap.specs.Walk.{texts}}
 use Rattle.sheet_cli.proofs.whole_program.lent.Given as goal
 
 abbrev pub invariant-loop-word : goal.invariant-loop-word

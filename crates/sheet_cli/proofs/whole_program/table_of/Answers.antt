@@ -1,5 +1,4 @@
-use Rattle.std.{proofs.Common.{ap, Err}, proofs.lemmas.Result.{err_from_is_err_and}}
-use Rattle.sheet_cli.proofs.ProgramLemmas.{unread-gives-none}
+use Rattle.{std.{proofs.Common.{ap, Err}, proofs.lemmas.Result.{err_from_is_err_and}}, sheet_cli.proofs.ProgramLemmas.{unread-gives-none}}
 use Rattle.sheet_cli.proofs.whole_program.table_of.Goals as goal
 
 pub returns-in_err-bytes-clause-err : goal.returns-in_err-bytes-clause-err

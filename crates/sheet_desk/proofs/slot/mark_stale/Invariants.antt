@@ -1,5 +1,4 @@
-use Rattle.std.{proofs.Common.{◌≡◌, map, take, drop, ◌++◌}, specs.Option.{option_map}}
-use Rattle.sheet_desk.specs.Held.{marked}
+use Rattle.{std.{proofs.Common.{◌≡◌, map, take, drop, ◌++◌}, specs.Option.{option_map}}, sheet_desk.specs.Held.{marked}}
 use Rattle.sheet_desk.proofs.slot.mark_stale.Given as goal
 
 abbrev pub invariant-loop-held : goal.invariant-loop-held

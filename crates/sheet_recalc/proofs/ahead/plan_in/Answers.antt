@@ -1,5 +1,4 @@
-use Rattle.std.{proofs.Common.{◌≡◌, ◌∙◌, List, ℕ, length, get_or, sym, ap, subst, arith}, specs.Map.{keys_of}}
-use Rattle.sheet_recalc.proofs.Live.{none_beside}
+use Rattle.{std.{proofs.Common.{◌≡◌, ◌∙◌, List, ℕ, length, get_or, sym, ap, subst, arith}, specs.Map.{keys_of}}, sheet_recalc.proofs.Live.{none_beside}}
 use Rattle.sheet_recalc.proofs.ahead.plan_in.Goals as goal
 
 pub returns-then-ne : goal.returns-then-ne

@@ -1,6 +1,4 @@
-use Rattle.std.proofs.Common.{◌≡◌, take, drop}
-use Rattle.arrays_core.specs.Shapes.{is_index_of}
-use Rattle.sheet_recalc.specs.Cells.{index_of_numbers}
+use Rattle.{std.proofs.Common.{◌≡◌, take, drop}, arrays_core.specs.Shapes.{is_index_of}, sheet_recalc.specs.Cells.{index_of_numbers}}
 use Rattle.sheet_recalc.proofs.cell.index_of.Given as goal
 
 abbrev pub invariant-loop-axis : goal.invariant-loop-axis

@@ -1,5 +1,4 @@
-use Rattle.std.proofs.Common.{◌≡◌, ◌∙◌, ◌∷◌, [], ap}
-use Rattle.arrays_core.specs.Items.{type_of}
+use Rattle.{std.proofs.Common.{◌≡◌, ◌∙◌, ◌∷◌, [], ap}, arrays_core.specs.Items.{type_of}}
 use Rattle.index_region.{specs.Boxes.{box_size}, proofs.OnePlace.{one_place, one_place_size}}
 use Rattle.sheet_recalc.proofs.cell.patch_at.Goals as goal
 

@@ -1,7 +1,5 @@
-use Rattle.std.{proofs.Common.{◌≡◌, ◌∙◌, rules, sym, ap, subst, Ok}, proofs.lemmas.Bool.{not-false}}
-use Rattle.apl_expr.specs.Trees.{literal_of}
-use Rattle.index_region.specs.Patches.{PatchValue, FitsPatch, patched}
-use Rattle.arrays_core.specs.contracts.item.ItemType.{the_type}
+use Rattle.{std.{proofs.Common.{◌≡◌, ◌∙◌, rules, sym, ap, subst, Ok}, proofs.lemmas.Bool.{not-false}}, apl_expr.specs.Trees.{literal_of}}
+use Rattle.{index_region.specs.Patches.{PatchValue, FitsPatch, patched}, arrays_core.specs.contracts.item.ItemType.{the_type}}
 use Rattle.sheet_recalc.{specs.Cells.{literal_items}, proofs.CellPatches.{item_is_put, fits_one}}
 use denote.Enum.Bare.{same_true}
 use Rattle.sheet_recalc.proofs.cell.patch_with.Goals as goal

@@ -1,5 +1,4 @@
-use Rattle.std.{proofs.Common.{◌≡◌}, specs.Map.{keys_of}}
-use Rattle.sheet_recalc.{specs.Entries.{names_of}, proofs.Live.{AreTaken}}
+use Rattle.{std.{proofs.Common.{◌≡◌}, specs.Map.{keys_of}}, sheet_recalc.{specs.Entries.{names_of}, proofs.Live.{AreTaken}}}
 use Rattle.sheet_recalc.proofs.commit.adopt_all.Given as goal
 
 abbrev pub invariant-loop-place : goal.invariant-loop-place

@@ -1,5 +1,4 @@
-use Rattle.std.{proofs.Common.{◌≡◌, ◌∙◌, sym, ap, subst}, specs.Str.{bytes_eq}}
-use Rattle.indexmap.specs.IndexMap.{insert_entry}
+use Rattle.{std.{proofs.Common.{◌≡◌, ◌∙◌, sym, ap, subst}, specs.Str.{bytes_eq}}, indexmap.specs.IndexMap.{insert_entry}}
 use Rattle.sheet_recalc.{specs.Names.{put}, specs.Entries.{names_of, binding_of}, specs.Live.{IsAdopting, plan_in}, proofs.Live.{names_of_insert, adopting_planned}}
 use Rattle.sheet_recalc.proofs.commit.commit.Goals as goal
 

@@ -1,5 +1,4 @@
-use Rattle.std.proofs.Common.{◌∙◌, sym, ap, subst, List, ℕ}
-use Rattle.index_region.specs.Patches.{patched}
+use Rattle.{std.proofs.Common.{◌∙◌, sym, ap, subst, List, ℕ}, index_region.specs.Patches.{patched}}
 use Rattle.sheet_recalc.{specs.Names.{Names, Data, put}, specs.Entries.{names_of}, specs.Live.{IsAdopting, plan_in}, specs.declared.entry.Entry.{Entry}, proofs.Live.{names_of_insert, adopting_planned}}
 use Rattle.sheet_recalc.specs.declared.entry.Entry.TheVariants as entry
 use Rattle.sheet_recalc.proofs.commit.commit_patch.Goals as goal

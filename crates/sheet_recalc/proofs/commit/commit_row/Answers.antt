@@ -1,5 +1,4 @@
-use Rattle.std.proofs.Common.{◌∙◌, sym, ap, subst, List, ℕ}
-use Rattle.arrays_core.specs.Growth.{grown_by}
+use Rattle.{std.proofs.Common.{◌∙◌, sym, ap, subst, List, ℕ}, arrays_core.specs.Growth.{grown_by}}
 use Rattle.sheet_recalc.{specs.Names.{Names, Data, put}, specs.Entries.{names_of}, specs.Live.{IsAdopting, plan_in}, specs.declared.entry.Entry.{Entry}, proofs.Live.{names_of_insert, adopting_planned}}
 use Rattle.sheet_recalc.specs.declared.entry.Entry.TheVariants as entry
 use Rattle.sheet_recalc.proofs.commit.commit_row.Goals as goal

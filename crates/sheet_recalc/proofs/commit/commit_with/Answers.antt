@@ -1,5 +1,4 @@
-use Rattle.std.proofs.Common.{sym, subst, inr, ⊎_elim}
-use Rattle.dep_order.proofs.Following.{contains_none}
+use Rattle.{std.proofs.Common.{sym, subst, inr, ⊎_elim}, dep_order.proofs.Following.{contains_none}}
 use Rattle.sheet_recalc.{specs.Names.{referred}, specs.Entries.{binding_of}, specs.Pending.{Brings}}
 use Rattle.sheet_recalc.proofs.commit.commit_with.Goals as goal
 

@@ -1,6 +1,5 @@
 use Rattle.std.{proofs.Common.{◌≡◌, ◌∙◌, ℕ, List, refl, sym, ap, subst, Some, Option, Ok, Err}, specs.Prelude.{Box, Vec}, specs.Option.{option_map}}
-use Rattle.change_rules.specs.Currency.{applied}
-use Rattle.arrays_core.{specs.Growth.{grown_by}, specs.Arrays.{ArrayValue}}
+use Rattle.{change_rules.specs.Currency.{applied}, arrays_core.{specs.Growth.{grown_by}, specs.Arrays.{ArrayValue}}}
 use Rattle.index_region.{specs.Patches.{PatchValue, patched}, specs.Tails.{TailValue}, specs.declared.delta.Delta.{Delta}, specs.declared.delta.Delta.TheVariants.{Same, Patch, Grown, Whole}}
 use Rattle.sheet_recalc.{specs.Names.{Names, Data, binding, put, rebound}, specs.Meaning.{val}, specs.Entries.{names_of, binding_of, HasData}, specs.Planning.{IsProposalAt}, specs.Tables.{Tables}, specs.Pending.{IsReadyToMake, outline_at}, specs.Live.{TellsUsers, AreRightOnceTaken, plan_in}}
 use Rattle.sheet_recalc.{specs.ProposedSheet.{data_entry, proposed_entry, proposed_names, names_with}, specs.declared.entry.Entry.{Entry}, specs.declared.growth.Growth.{Growth}, specs.declared.proposal.Proposal.{Proposal}, proofs.Live.{val_data, binding_of_name}, proofs.Accounted.{table_kept}}
@@ -68,8 +67,7 @@ module _ {A : Type 0} (t : Tables) (name : List ℕ) (p : Proposal) (found : Lis
       subst (λ (e : Option Entry). AreRightOnceTaken es name e (rebound (names_of es) name (option_map binding_of e)) (plan_in found)) (own a there) ready.planned
 
   makes_names : (new : Names) → ((a : ArrayValue) → HasData es name a → new ≡ put (names_of es) name (Data (changed_data a d))) → new ≡ proposed_names (outline_at t name p)
-  makes_names new made =
-      made held.0 held.1 ∙ sym (ap (λ (e : Option Entry). rebound (names_of es) name (option_map binding_of e)) (own held.0 held.1))
+  makes_names new made = made held.0 held.1 ∙ sym (ap (λ (e : Option Entry). rebound (names_of es) name (option_map binding_of e)) (own held.0 held.1))
 
   makes_table : {S : Type 0} (users : List (List ℕ × Vec (List ℕ) S)) → TellsUsers (names_of es) users → TellsUsers (proposed_names (outline_at t name p)) users
   makes_table users tells =

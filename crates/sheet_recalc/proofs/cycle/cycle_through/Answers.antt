@@ -1,11 +1,9 @@
-use Rattle.std.{proofs.Common.{◌∙◌, List, [], ◌∷◌, ◌++◌, ℕ, ap, arith}, specs.Map.{keys_of}}
-use Rattle.dep_order.proofs.Climbing.{chain_join}
+use Rattle.{std.{proofs.Common.{◌∙◌, List, [], ◌∷◌, ◌++◌, ℕ, ap, arith}, specs.Map.{keys_of}}, dep_order.proofs.Climbing.{chain_join}}
 use Rattle.sheet_recalc.{specs.Names.{Refers}, specs.ProposedSheet.{outline_of, proposed_names}, proofs.Cycles.{number_within}}
 use Rattle.sheet_recalc.proofs.cycle.cycle_through.Goals as goal
 
 pub loop-next-smaller : goal.loop-next-smaller
-loop-next-smaller c =
-    omega (arith, c.step_from-next.ensures.later, number_within (keys_of c.args.found.now.entries) c.step_from-next.result)
+loop-next-smaller c = omega (arith, c.step_from-next.ensures.later, number_within (keys_of c.args.found.now.entries) c.step_from-next.result)
 
 pub loop-next-preserved : goal.loop-next-preserved
 loop-next-preserved c =

@@ -1,6 +1,5 @@
 use Rattle.std.{proofs.Common.{◌≡◌, ◌-◌, ℕ, List, ◌∷◌, length}, specs.Str.{bytes_eq}, specs.List.{Contains, position_or_len}, specs.Map.{keys_of}}
-use Rattle.dep_order.specs.Reachability.{Chain}
-use Rattle.sheet_recalc.{specs.Names.{Refers}, specs.ProposedSheet.{outline_of, proposed_names}}
+use Rattle.{dep_order.specs.Reachability.{Chain}, sheet_recalc.{specs.Names.{Refers}, specs.ProposedSheet.{outline_of, proposed_names}}}
 use Rattle.sheet_recalc.proofs.cycle.cycle_through.Given as goal
 
 abbrev pub invariant-loop-next : goal.invariant-loop-next

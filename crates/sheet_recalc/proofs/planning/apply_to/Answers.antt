@@ -1,5 +1,4 @@
-use Rattle.std.proofs.lemmas.Result.{on_ok_weaker}
-use Rattle.formula_core.{specs.Changes.{NamesChange}, specs.Plans.{IsTold}}
+use Rattle.{std.proofs.lemmas.Result.{on_ok_weaker}, formula_core.{specs.Changes.{NamesChange}, specs.Plans.{IsTold}}}
 use Rattle.sheet_recalc.specs.ProposedSheet.{outline_of, proposed_change}
 use Rattle.sheet_recalc.proofs.planning.apply_to.Goals as goal
 

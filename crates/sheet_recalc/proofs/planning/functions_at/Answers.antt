@@ -1,5 +1,4 @@
-use Rattle.std.proofs.Common.{◌∙◌, sym, ap}
-use Rattle.sheet_recalc.{specs.Planning.{functions_at}, specs.ProposedSheet.{outline_of}, proofs.Entered.{name_at}}
+use Rattle.{std.proofs.Common.{◌∙◌, sym, ap}, sheet_recalc.{specs.Planning.{functions_at}, specs.ProposedSheet.{outline_of}, proofs.Entered.{name_at}}}
 use Rattle.sheet_recalc.proofs.planning.functions_at.Goals as goal
 
 pub returns-in-Some : goal.returns-in-Some

@@ -1,5 +1,4 @@
-use Rattle.std.proofs.Common.{◌≡◌, ℕ, false}
-use Rattle.sheet_recalc.{specs.ProposedSheet.{outline_of}, specs.Planning.{IsOnTheWay}}
+use Rattle.{std.proofs.Common.{◌≡◌, ℕ, false}, sheet_recalc.{specs.ProposedSheet.{outline_of}, specs.Planning.{IsOnTheWay}}}
 use Rattle.sheet_recalc.proofs.planning.settle.Given as goal
 
 abbrev pub invariant-loop-name : goal.invariant-loop-name

@@ -1,8 +1,6 @@
-use Rattle.std.proofs.Common.{◌≡◌, ◌∙◌, List, ℕ, length, true, refl, sym, ap, subst, Some, Ok}
-use Rattle.apl_expr.specs.Trees.{literal_of}
+use Rattle.{std.proofs.Common.{◌≡◌, ◌∙◌, List, ℕ, length, true, refl, sym, ap, subst, Some, Ok}, apl_expr.specs.Trees.{literal_of}}
 use Rattle.arrays_core.{specs.Growth.{one_longer, grown_by}, specs.Shapes.{IsWithinLimits}, specs.declared.item.Item.{Item}}
-use Rattle.index_region.specs.Tails.{TailValue}
-use Rattle.sheet_recalc.{specs.Cells.{literal_items}, specs.Rows.{items_in_row, are_of_type}, proofs.Rows.{row_is_put}}
+use Rattle.{index_region.specs.Tails.{TailValue}, sheet_recalc.{specs.Cells.{literal_items}, specs.Rows.{items_in_row, are_of_type}, proofs.Rows.{row_is_put}}}
 use Rattle.sheet_recalc.proofs.row.tail_of.Goals as goal
 
 pub returns-clause-put : goal.returns-clause-put

@@ -5,15 +5,14 @@ use Rattle.structural_fns.proofs.axis_counts.check_axis_counts.Goals as goal
 
 pub returns-clause-long : goal.returns-clause-long
 returns-clause-long c =
-    let a = c.args.counts.now in
     let b = c.args.array.now in
     let rank : c.len-rank.result ≡ length b.shape = search rules in
     elim c.else-rank-gt0.branch [
       | else-rank-gt0-via-then-rank-gt0+else-places-rank w ↦
           let some : is_scalar b ≡ false = grind (arith, nat_tests) in
-          let long : length a.items ≡ length b.shape = omega (arith, rank, w.places.ensures.is, w.if-places-rank.false) in
-          long ∙ sym (ap (λ t. length (if t then replicate (length a.items) 1 else b.shape)) some)
+          let long : length c.args.counts.now.items ≡ length b.shape = omega (arith, rank, w.places.ensures.is, w.if-places-rank.false) in
+          long ∙ sym (ap (λ t. length (if t then replicate (length c.args.counts.now.items) 1 else b.shape)) some)
       | else-rank-gt0-via-else-rank-gt0 w ↦
           let none : is_scalar b ≡ true = grind (arith, nat_tests) in
-          sym (ap (λ t. length (if t then replicate (length a.items) 1 else b.shape)) none ∙ length-replicate (length a.items) 1)
+          sym (ap (λ t. length (if t then replicate (length c.args.counts.now.items) 1 else b.shape)) none ∙ length-replicate (length c.args.counts.now.items) 1)
     ]

@@ -1,5 +1,4 @@
-use Rattle.std.proofs.Common.{arith}
-use Rattle.structural_fns.specs.Laws.SharedAxes.{shared_long}
+use Rattle.{std.proofs.Common.{arith}, structural_fns.specs.Laws.SharedAxes.{shared_long}}
 use Rattle.structural_fns.proofs.catenate.joined_shape.Goals as goal
 
 pub with_axis-requires-clause-rank : goal.with_axis-requires-clause-rank

@@ -11,9 +11,8 @@ returns-then-left-right c =
     let some_left : is_scalar a ≡ false = grind (arith, nat_tests) in
     let some_right : is_scalar b ≡ false = grind (arith, nat_tests) in
     let within : nat_le (length a.shape) (suc (length b.shape)) ≡ true = grind (arith, nat_tests) in
-    let next : c.len-left.result + 1 ≡ suc (length a.shape) = omega (arith, left) in
     ap (λ n. nat_le n (c.len-left.result + 1)) right
-    ∙ ap (nat_le (length b.shape)) next
+    ∙ ap (nat_le (length b.shape)) (omega (arith, left))
     ∙ sym (ap (λ s. (s || is_scalar b) || (nat_le (length a.shape) (suc (length b.shape)) && nat_le (length b.shape) (suc (length a.shape)))) some_left
     ∙ ap (λ s. s || (nat_le (length a.shape) (suc (length b.shape)) && nat_le (length b.shape) (suc (length a.shape)))) some_right
     ∙ ap (λ s. s && nat_le (length b.shape) (suc (length a.shape))) within)

@@ -1,5 +1,4 @@
-use Rattle.std.proofs.Common.{◌≤◌, ◌<◌, length, get_or, arith}
-use Rattle.structural_fns.proofs.Moved.{interval_on}
+use Rattle.{std.proofs.Common.{◌≤◌, ◌<◌, length, get_or, arith}, structural_fns.proofs.Moved.{interval_on}}
 use Rattle.structural_fns.proofs.catenate.side_box.Goals as goal
 
 pub moved_interval-first-requires-clause-high : goal.moved_interval-first-requires-clause-high

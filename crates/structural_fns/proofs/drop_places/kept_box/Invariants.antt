@@ -1,6 +1,4 @@
-use Rattle.std.proofs.Common.{◌≡◌, ◌++◌, drop, length}
-use Rattle.index_region.specs.Arguments.{numbers}
-use Rattle.change_core.specs.Ways.{images}
+use Rattle.{std.proofs.Common.{◌≡◌, ◌++◌, drop, length}, index_region.specs.Arguments.{numbers}, change_core.specs.Ways.{images}}
 use Rattle.structural_fns.specs.Drop.{kept_axes}
 use Rattle.structural_fns.proofs.drop_places.kept_box.Given as goal
 

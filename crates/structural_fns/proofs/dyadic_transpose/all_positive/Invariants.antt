@@ -1,6 +1,4 @@
-use Rattle.std.proofs.Common.{◌≡◌, drop}
-use Rattle.index_region.specs.Arguments.{numbers}
-use Rattle.structural_fns.specs.DyadicTranspose.{all_positive}
+use Rattle.{std.proofs.Common.{◌≡◌, drop}, index_region.specs.Arguments.{numbers}, structural_fns.specs.DyadicTranspose.{all_positive}}
 use Rattle.structural_fns.proofs.dyadic_transpose.all_positive.Given as goal
 
 abbrev pub invariant-loop-place : goal.invariant-loop-place

@@ -1,5 +1,4 @@
-use Rattle.std.proofs.Common.{◌≡◌, ◌+◌, true, arith}
-use Rattle.structural_fns.{specs.DyadicTranspose.{axes_to, occurs, greatest_of}, proofs.Entries.{range_more}}
+use Rattle.{std.proofs.Common.{◌≡◌, ◌+◌, true, arith}, structural_fns.{specs.DyadicTranspose.{axes_to, occurs, greatest_of}, proofs.Entries.{range_more}}}
 use Rattle.structural_fns.proofs.dyadic_transpose.are_axes.Goals as goal
 
 pub loop-axis-preserved : goal.loop-axis-preserved

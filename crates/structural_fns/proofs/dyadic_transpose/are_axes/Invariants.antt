@@ -1,5 +1,4 @@
-use Rattle.std.{proofs.Common.{◌≡◌, ◌-◌, ◌+◌}, specs.List.{list_all, range_with_len}}
-use Rattle.structural_fns.specs.DyadicTranspose.{axes_to, occurs, greatest_of}
+use Rattle.{std.{proofs.Common.{◌≡◌, ◌-◌, ◌+◌}, specs.List.{list_all, range_with_len}}, structural_fns.specs.DyadicTranspose.{axes_to, occurs, greatest_of}}
 use Rattle.structural_fns.proofs.dyadic_transpose.are_axes.Given as goal
 
 abbrev pub invariant-loop-axis : goal.invariant-loop-axis

@@ -1,5 +1,4 @@
-use Rattle.std.proofs.Common.{◌≡◌, ◌++◌, drop, length}
-use Rattle.structural_fns.specs.DyadicTranspose.{axes_to, gathered}
+use Rattle.{std.proofs.Common.{◌≡◌, ◌++◌, drop, length}, structural_fns.specs.DyadicTranspose.{axes_to, gathered}}
 use Rattle.structural_fns.proofs.dyadic_transpose.gathered.Given as goal
 
 abbrev pub invariant-loop-place : goal.invariant-loop-place

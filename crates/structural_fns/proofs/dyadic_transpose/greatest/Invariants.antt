@@ -1,5 +1,4 @@
-use Rattle.std.proofs.Common.{◌≡◌, drop, max}
-use Rattle.structural_fns.specs.DyadicTranspose.{axes_to, greatest_of}
+use Rattle.{std.proofs.Common.{◌≡◌, drop, max}, structural_fns.specs.DyadicTranspose.{axes_to, greatest_of}}
 use Rattle.structural_fns.proofs.dyadic_transpose.greatest.Given as goal
 
 abbrev pub invariant-loop-place : goal.invariant-loop-place

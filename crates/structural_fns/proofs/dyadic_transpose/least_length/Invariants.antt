@@ -1,5 +1,4 @@
-use Rattle.std.proofs.Common.{◌≡◌, drop}
-use Rattle.structural_fns.{specs.DyadicTranspose.{axes_to, lengths_at, least_of}, specs.LeastLength.{least_with}}
+use Rattle.{std.proofs.Common.{◌≡◌, drop}, structural_fns.{specs.DyadicTranspose.{axes_to, lengths_at, least_of}, specs.LeastLength.{least_with}}}
 use Rattle.structural_fns.proofs.dyadic_transpose.least_length.Given as goal
 
 abbrev pub invariant-loop-place : goal.invariant-loop-place

@@ -1,6 +1,4 @@
-use Rattle.std.proofs.Common.{◌≡◌, drop}
-use Rattle.change_core.specs.Ways.{meet_at}
-use Rattle.structural_fns.specs.DyadicTranspose.{axes_from_zero}
+use Rattle.{std.proofs.Common.{◌≡◌, drop}, change_core.specs.Ways.{meet_at}, structural_fns.specs.DyadicTranspose.{axes_from_zero}}
 use Rattle.structural_fns.proofs.dyadic_transpose.meet_at.Given as goal
 
 abbrev pub invariant-loop-from : goal.invariant-loop-from

@@ -1,6 +1,4 @@
-use Rattle.std.proofs.Common.{◌≡◌, ◌++◌, drop, length}
-use Rattle.change_core.specs.Ways.{meets}
-use Rattle.structural_fns.specs.DyadicTranspose.{axes_from_zero}
+use Rattle.{std.proofs.Common.{◌≡◌, ◌++◌, drop, length}, change_core.specs.Ways.{meets}, structural_fns.specs.DyadicTranspose.{axes_from_zero}}
 use Rattle.structural_fns.proofs.dyadic_transpose.meets.Given as goal
 
 abbrev pub invariant-loop-axis : goal.invariant-loop-axis

@@ -1,5 +1,4 @@
-use Rattle.std.proofs.Common.{◌≡◌, drop}
-use Rattle.structural_fns.specs.DyadicTranspose.{axes_to, occurs}
+use Rattle.{std.proofs.Common.{◌≡◌, drop}, structural_fns.specs.DyadicTranspose.{axes_to, occurs}}
 use Rattle.structural_fns.proofs.dyadic_transpose.occurs.Given as goal
 
 abbrev pub invariant-loop-place : goal.invariant-loop-place

@@ -1,6 +1,4 @@
-use Rattle.std.proofs.Common.{◌≡◌, ◌++◌, drop, length, map, unsigned_abs}
-use Rattle.index_region.specs.Arguments.{numbers}
-use Rattle.structural_fns.specs.Reshape.{magnitudes}
+use Rattle.{std.proofs.Common.{◌≡◌, ◌++◌, drop, length, map, unsigned_abs}, index_region.specs.Arguments.{numbers}, structural_fns.specs.Reshape.{magnitudes}}
 use Rattle.structural_fns.proofs.magnitudes.magnitudes.Given as goal
 
 abbrev pub invariant-loop-place : goal.invariant-loop-place

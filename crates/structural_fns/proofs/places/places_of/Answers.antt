@@ -1,5 +1,4 @@
-use Rattle.std.proofs.Common.{arith}
-use Rattle.structural_fns.proofs.BoxPlaces.{first_inside, last_inside, first_before_last}
+use Rattle.{std.proofs.Common.{arith}, structural_fns.proofs.BoxPlaces.{first_inside, last_inside, first_before_last}}
 use Rattle.structural_fns.proofs.places.places_of.Goals as goal
 
 pub position-first-requires-clause-in_range : goal.position-first-requires-clause-in_range

@@ -1,6 +1,5 @@
 use Rattle.std.{proofs.lemmas.Result.{IfOk-weaker}, proofs.Common.{◌≡◌, ◌%◌, ◌∙◌, ap, length, get_or, arith}, proofs.lemmas.List.FromFn.{length-map-range_with_len}}
-use Rattle.arrays_core.{specs.Items.{fill}, specs.Building.{listed}, specs.Shapes.{size}}
-use Rattle.structural_fns.proofs.Runs.{built_long, all_built}
+use Rattle.{arrays_core.{specs.Items.{fill}, specs.Building.{listed}, specs.Shapes.{size}}, structural_fns.proofs.Runs.{built_long, all_built}}
 use Rattle.structural_fns.proofs.reshape.recycled.Goals as goal
 
 pub into_array-requires-clause-one_item_a_place : goal.into_array-requires-clause-one_item_a_place

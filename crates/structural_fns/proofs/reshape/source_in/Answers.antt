@@ -1,5 +1,4 @@
-use Rattle.std.proofs.Common.{◌≡◌, ◌+◌, ◌-◌, ◌%◌, arith}
-use Rattle.structural_fns.proofs.SourcePlaces.{recycled_inside}
+use Rattle.{std.proofs.Common.{◌≡◌, ◌+◌, ◌-◌, ◌%◌, arith}, structural_fns.proofs.SourcePlaces.{recycled_inside}}
 use Rattle.structural_fns.proofs.reshape.source_in.Goals as goal
 
 pub returns-clause-inside : goal.returns-clause-inside

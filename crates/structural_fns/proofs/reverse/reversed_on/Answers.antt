@@ -1,5 +1,4 @@
-use Rattle.std.proofs.Common.{arith}
-use Rattle.structural_fns.proofs.Intervals.{interval_on}
+use Rattle.{std.proofs.Common.{arith}, structural_fns.proofs.Intervals.{interval_on}}
 use Rattle.structural_fns.proofs.reverse.reversed_on.Goals as goal
 
 pub overflow_sub-places : goal.overflow_sub-places

@@ -1,6 +1,5 @@
-use Rattle.std.{proofs.Common.{◌≡◌, ◌+◌, pos, ◌+ℤ◌, ◌-ℤ◌, unsigned_abs, ap, sym, ◌∙◌, arith, to_z, of_z}, specs.Int.{int_rem_euclid, w128}, proofs.lemmas.Int.{ints}}
-use Rattle.item_fns.specs.Numbers.{residue}
-use Rattle.structural_fns.proofs.Turning.{residue_euclid}
+use Rattle.std.{proofs.Common.{◌≡◌, ◌+◌, pos, ◌+ℤ◌, ◌-ℤ◌, unsigned_abs, ap, sym, ◌∙◌, arith, to_z, of_z}, specs.Int.{w128}, proofs.lemmas.Int.{ints}}
+use Rattle.{item_fns.specs.Numbers.{residue}, structural_fns.proofs.Turning.{residue_euclid}}
 use Rattle.structural_fns.proofs.rotate.rotated_place.Goals as goal
 
 pub returns : goal.returns
@@ -13,8 +12,7 @@ returns c =
     let divisor : to_z w128 (of_z w128 c.from-3.result) ≡ pos n = omega (arith, ints, c.from-3.ensures) in
     let sum : to_z w128 (of_z w128 (pos c.args.i +ℤ c.args.amount)) ≡ pos c.args.i +ℤ c.args.amount = omega (arith, ints, c.ranges.amount.sfits) in
     let less : to_z w128 (of_z w128 z) ≡ z = omega (arith, ints, c.ranges.amount.sfits) in
-    let is : r ≡ int_rem_euclid z (pos n) = rw (sum, less) at (rw (first, second, divisor) at c.rem_euclid.ensures.value) in
     let same : to_z w128 (of_z w128 r) ≡ r = omega (arith, ints) in
     let e : unsigned_abs (to_z w128 (of_z w128 r)) ≡ unsigned_abs (residue (pos n) z) =
-    ap unsigned_abs (same ∙ is ∙ sym (residue_euclid n z (omega arith))) in
+    ap unsigned_abs (same ∙ (rw (sum, less) at (rw (first, second, divisor) at c.rem_euclid.ensures.value)) ∙ sym (residue_euclid n z (omega arith))) in
     ap (λ m. m + 1) e ∙ omega arith

@@ -1,6 +1,4 @@
-use Rattle.std.proofs.Common.{◌≡◌, ◌++◌, drop, length}
-use Rattle.index_region.specs.Arguments.{numbers}
-use Rattle.structural_fns.specs.Take.{taken_places}
+use Rattle.{std.proofs.Common.{◌≡◌, ◌++◌, drop, length}, index_region.specs.Arguments.{numbers}, structural_fns.specs.Take.{taken_places}}
 use Rattle.structural_fns.proofs.take.taken_places.Given as goal
 
 abbrev pub invariant-loop-k : goal.invariant-loop-k

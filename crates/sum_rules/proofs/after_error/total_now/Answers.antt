@@ -1,9 +1,6 @@
-use Rattle.std.proofs.Common.{◌≡◌, ◌∙◌, true, ℕ, ℤ, map, List, length, get_or, remove, insert, ap, sym, arith}
-use Rattle.function_names.specs.Axes.{axis_at}
-use Rattle.index_region.{specs.Boxes.{is_within}, specs.Patches.{patched}, proofs.Boxes.{fits_length}}
-use Rattle.arrays_core.specs.declared.item.Item.TheVariants.{Num}
-use Rattle.item_fns.specs.RightFold.{fold_right}
-use Rattle.fold_trees.specs.ArrayLines.{numbers_of_line}
+use Rattle.{std.proofs.Common.{◌≡◌, ◌∙◌, true, ℕ, ℤ, map, List, length, get_or, remove, insert, ap, sym, arith}, function_names.specs.Axes.{axis_at}}
+use Rattle.{index_region.{specs.Boxes.{is_within}, specs.Patches.{patched}, proofs.Boxes.{fits_length}}, arrays_core.specs.declared.item.Item.TheVariants.{Num}}
+use Rattle.{item_fns.specs.RightFold.{fold_right}, fold_trees.specs.ArrayLines.{numbers_of_line}}
 use Rattle.reduce_fns.{specs.Reduce.{reduce_item}, proofs.Lines.{long_with_axis, remove_inserted}}
 use Rattle.sum_rules.{specs.LineSums.{array_of_shape}, proofs.KeptLines.{kept_total, line_below, within_one}, proofs.after_error.total_now.Goals.{After-as_slice-then-contains}, proofs.after_error.total_now.Given.{Over}}
 use Rattle.sum_rules.proofs.after_error.total_now.Goals as goal

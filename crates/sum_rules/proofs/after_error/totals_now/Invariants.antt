@@ -1,8 +1,6 @@
 use Rattle.std.{proofs.Common.{◌≡◌, ◌≤◌, ◌<◌, ◌+◌, ℕ, take, length, map}, specs.List.{range_with_len}}
-use Rattle.arrays_core.{specs.declared.item.ItemType.TheVariants.{Nums}, specs.Shapes.{size}}
-use Rattle.function_names.specs.Axes.{axis_at}
-use Rattle.index_region.{specs.Boxes.{walk_at, whole_of}, specs.Patches.{patched}}
-use Rattle.reduce_fns.specs.Reduce.{reduce_item}
+use Rattle.{arrays_core.{specs.declared.item.ItemType.TheVariants.{Nums}, specs.Shapes.{size}}, function_names.specs.Axes.{axis_at}}
+use Rattle.{index_region.{specs.Boxes.{walk_at, whole_of}, specs.Patches.{patched}}, reduce_fns.specs.Reduce.{reduce_item}}
 use Rattle.change_core.{specs.Meters.{ticked}, proofs.Collected.{collected}, proofs.Walking.{prepend, rest_from}}
 use Rattle.sum_rules.{specs.LineSums.{array_of_shape, length_along}, specs.Totals.{box_of_lines}, proofs.PassedLines.{Passed}}
 use Rattle.sum_rules.proofs.after_error.totals_now.Given as goal

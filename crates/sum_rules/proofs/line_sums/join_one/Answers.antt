@@ -1,4 +1,4 @@
-use Rattle.std.{proofs.Common.{◌≡◌, ◌<◌, ◌∙◌, ℕ, List, set, Bool, true, get_or, sym, ap, subst, arith, rules, w64}, proofs.lemmas.Int.{to_z-of_z}}
+use Rattle.std.{proofs.Common.{◌≡◌, ◌∙◌, ℕ, List, set, Bool, true, get_or, sym, ap, arith, rules, w64}, proofs.lemmas.Int.{to_z-of_z}}
 use Rattle.arrays_core.{specs.Items.{fill, type_of}, specs.Shapes.{is_index_of, places_before}}
 use Rattle.index_region.{specs.Boxes.{Interval, box_size, box_offset, fits, is_within, walk_at}, proofs.Patched.{box_within_size, fits_within}, proofs.Walks.{offset_of_walk, some_place, walk_within}}
 use Rattle.sum_rules.{specs.LineSums.{array_of_shape}, proofs.JoinedPatches.{one_written}}
@@ -9,8 +9,8 @@ inside e f is true_so = (λ i. fits (sym e i) (sym f i)) ∙ sym is ∙ true_so
 
 pub size-requires : goal.size-requires
 size-requires c =
-    let most = box_within_size c.args.patch.now.region c.args.shape.now.items (inside c.region-region.ensures c.as_slice.ensures c.lies_in.ensures c.if-not-lies_in.false) in
-    subst (λ (r : List Interval). box_size r < 18446744073709551616) (sym c.region-region.ensures) (omega arith)
+    let most = box_within_size _ c.args.shape.now.items (inside c.region-region.ensures c.as_slice.ensures c.lies_in.ensures c.if-not-lies_in.false) in
+    omega (arith, ap box_size c.region-region.ensures, most)
 
 pub item-requires : goal.item-requires
 item-requires c =
@@ -22,9 +22,8 @@ pub places_before-place-requires-clause-in_range : goal.places_before-place-requ
 places_before-place-requires-clause-in_range c =
     let shape = c.args.shape.now.items in
     let lies = (inside c.region-region.ensures c.as_slice.ensures c.lies_in.ensures c.if-not-lies_in.false) in
-    let some = some_place c.args.patch.now.region shape lies in
     ap (is_index_of shape) (c.as_slice-3.ensures.is ∙ c.index_at-index.ensures ∙ ap (λ (r : List Interval). walk_at r 0) c.region-region.ensures)
-    ∙ fits_within c.args.patch.now.region shape (walk_at c.args.patch.now.region 0) lies (walk_within c.args.patch.now.region 0 some)
+    ∙ fits_within c.args.patch.now.region shape (walk_at c.args.patch.now.region 0) lies (walk_within c.args.patch.now.region 0 (some_place c.args.patch.now.region shape lies))
 
 pub returns : goal.returns
 returns c = λ _.

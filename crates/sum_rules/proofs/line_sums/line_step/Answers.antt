@@ -1,6 +1,5 @@
 use Rattle.std.{proofs.Common.{◌+◌, ◌-◌, length, drop, sym, subst, arith}, proofs.lemmas.List.{length-drop, take_all}}
-use Rattle.arrays_core.specs.Shapes.{IsWithinLimits}
-use Rattle.reduce_fns.proofs.Lines.{within_drop}
+use Rattle.{arrays_core.specs.Shapes.{IsWithinLimits}, reduce_fns.proofs.Lines.{within_drop}}
 use Rattle.sum_rules.proofs.line_sums.line_step.Goals as goal
 
 pub size-requires : goal.size-requires

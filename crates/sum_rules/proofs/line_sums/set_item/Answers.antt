@@ -1,6 +1,5 @@
 use Rattle.std.{proofs.Common.{◌∙◌, ℤ, map, ap, rules, w64}, proofs.lemmas.Int.{to_z-of_z}, proofs.lemmas.List.{map-set}}
-use Rattle.arrays_core.specs.declared.item.Item.TheVariants.{Num}
-use Rattle.fold_trees.specs.FoldTrees.{FoldsValue}
+use Rattle.{arrays_core.specs.declared.item.Item.TheVariants.{Num}, fold_trees.specs.FoldTrees.{FoldsValue}}
 use Rattle.sum_rules.proofs.line_sums.set_item.Goals as goal
 
 pub returns-in-Num-clause-items : goal.returns-in-Num-clause-items

@@ -1,6 +1,5 @@
 use Rattle.std.{proofs.Common.{◌≡◌, ◌∙◌, ◌%◌, ◌*◌, ℕ, ℤ, List, length, sym, ap}, proofs.lemmas.List.{length-map}}
-use Rattle.arrays_core.{specs.declared.item.Item.TheVariants.{Num}, specs.Shapes.{size}}
-use Rattle.function_names.specs.Axes.{axis_at}
+use Rattle.{arrays_core.{specs.declared.item.Item.TheVariants.{Num}, specs.Shapes.{size}}, function_names.specs.Axes.{axis_at}}
 use Rattle.sum_rules.{specs.LineSums.{line_length, line_step}, proofs.KeptSums.{kept_parts}, proofs.Lines.{whole_lines}}
 use Rattle.sum_rules.proofs.line_sums.sums_of.Goals as goal
 

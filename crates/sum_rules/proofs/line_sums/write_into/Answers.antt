@@ -1,18 +1,14 @@
 use Rattle.std.{proofs.Common.{◌≡◌, ◌∙◌, ◌<◌, ◌+◌, ℕ, ℤ, List, get_or, set, map, sym, ap, arith, refl, subst}, proofs.lemmas.List.{length-map}}
 use Rattle.arrays_core.{specs.declared.item.Item.{Item}, specs.declared.item.Item.TheVariants.{Num}, specs.declared.item.ItemType.TheVariants.{Nums}, specs.Arrays.{IsArray}, specs.Items.{fill}, specs.Shapes.{is_index_of, places_before}}
-use Rattle.index_region.{specs.Boxes.{Interval, box_size, box_offset, is_within, walk_at}, specs.Patches.{patched}, proofs.Patched.{box_within_size, fits_within, patched_sound}, proofs.Walks.{offset_of_walk, some_place, walk_within}, proofs.Written.{IsWritten, written_none, written_more, written_all}}
+use Rattle.index_region.{specs.Boxes.{Interval, box_size, box_offset, is_within, walk_at}, proofs.Patched.{box_within_size, fits_within, patched_sound}, proofs.Walks.{offset_of_walk, some_place, walk_within}, proofs.Written.{IsWritten, written_none, written_more, written_all}}
 use Rattle.sum_rules.specs.LineSums.{array_of_shape}
 use Rattle.sum_rules.proofs.line_sums.write_into.Goals as goal
 
 pub index_at-index-requires-clause-size : goal.index_at-index-requires-clause-size
-index_at-index-requires-clause-size c =
-    let most = box_within_size c.args.patch.now.region c.args.shape.now.items c.requires.fit.inside in
-    subst (λ (r : List Interval). box_size r < 18446744073709551616) (sym c.region-region.ensures) (omega arith)
+index_at-index-requires-clause-size c = omega (arith, ap box_size c.region-region.ensures, box_within_size c.args.patch.now.region c.args.shape.now.items c.requires.fit.inside)
 
 pub size-before-end-requires : goal.size-before-end-requires
-size-before-end-requires c =
-    let most = box_within_size c.args.patch.now.region c.args.shape.now.items c.requires.fit.inside in
-    subst (λ (r : List Interval). box_size r < 18446744073709551616) (sym c.region-region.ensures) (omega arith)
+size-before-end-requires c = omega (arith, ap box_size c.region-region.ensures, box_within_size c.args.patch.now.region c.args.shape.now.items c.requires.fit.inside)
 
 pub index_at-index-requires-clause-below : goal.index_at-index-requires-clause-below
 index_at-index-requires-clause-below c =
@@ -30,16 +26,14 @@ loop-before-init c = record {
 pub places_before-place-requires-clause-in_range : goal.places_before-place-requires-clause-in_range
 places_before-place-requires-clause-in_range c =
     let p = c.args.patch.now in
-    let below : c.loop-before.before < box_size p.region =
-    subst (λ (r : List Interval). c.loop-before.before < box_size r) c.region-region.ensures (omega (arith, c.loop-before-test.true, c.size-before-end.ensures)) in
+    let below : c.loop-before.before < box_size p.region = omega (arith, c.loop-before-test.true, c.size-before-end.ensures, ap box_size c.region-region.ensures) in
     ap (is_index_of c.args.shape.now.items) (c.as_slice.ensures.is ∙ c.loop-before.invariant.at below)
     ∙ fits_within p.region c.args.shape.now.items (walk_at p.region c.loop-before.before) c.requires.fit.inside (walk_within p.region c.loop-before.before below)
 
 pub item-requires : goal.item-requires
 item-requires c =
     let p = c.args.patch.now in
-    let below : c.loop-before.before < box_size p.region =
-    subst (λ (r : List Interval). c.loop-before.before < box_size r) c.region-region.ensures (omega (arith, c.loop-before-test.true, c.size-before-end.ensures)) in
+    let below : c.loop-before.before < box_size p.region = omega (arith, c.loop-before-test.true, c.size-before-end.ensures, ap box_size c.region-region.ensures) in
     ap (is_within p.region) (c.as_slice-in-loop-before.ensures.is ∙ c.loop-before.invariant.at below) ∙ walk_within p.region c.loop-before.before below
 
 pub loop-before-preserved : goal.loop-before-preserved
@@ -47,8 +41,7 @@ loop-before-preserved c =
     let p = c.args.patch.now in
     let shape = c.args.shape.now.items in
     let before = c.loop-before.before in
-    let below : before < box_size p.region =
-    subst (λ (r : List Interval). before < box_size r) c.region-region.ensures (omega (arith, c.loop-before-test.true, c.size-before-end.ensures)) in
+    let below : before < box_size p.region = omega (arith, c.loop-before-test.true, c.size-before-end.ensures, ap box_size c.region-region.ensures) in
     let more = written_more (array_of_shape shape c.args.trees.now.lines.numbers) p before (array_of_shape shape c.loop-before.trees.lines.numbers) c.requires.fit c.loop-before.invariant.written below in
     let here = c.loop-before.invariant.at below in
     let index : c.as_slice.result.now ≡ walk_at p.region before = c.as_slice.ensures.is ∙ here in
@@ -74,22 +67,15 @@ pub returns-clause-numbers : goal.returns-clause-numbers
 returns-clause-numbers c =
     let p = c.args.patch.now in
     let a = array_of_shape c.args.shape.now.items c.args.trees.now.lines.numbers in
-    let all : c.loop-before.before ≡ box_size p.region =
-    subst (λ (r : List Interval). c.loop-before.before ≡ box_size r) c.region-region.ensures (omega (arith, c.loop-before-test.false, c.loop-before.auto.before-end, c.size-before-end.ensures)) in
+    let all : c.loop-before.before ≡ box_size p.region = omega (arith, c.loop-before-test.false, c.size-before-end.ensures, ap box_size c.region-region.ensures) in
     written_all a p (array_of_shape c.args.shape.now.items c.loop-before.trees.lines.numbers)
     (subst (λ (n : ℕ). IsWritten a p n (array_of_shape c.args.shape.now.items c.loop-before.trees.lines.numbers)) all c.loop-before.invariant.written)
 
 pub returns-clause-sound : goal.returns-clause-sound
 returns-clause-sound c =
-    let p = c.args.patch.now in
     let a = array_of_shape c.args.shape.now.items c.args.trees.now.lines.numbers in
-    let now = array_of_shape c.args.shape.now.items c.loop-before.trees.lines.numbers in
-    let all : c.loop-before.before ≡ box_size p.region =
-    subst (λ (r : List Interval). c.loop-before.before ≡ box_size r) c.region-region.ensures (omega (arith, c.loop-before-test.false, c.loop-before.auto.before-end, c.size-before-end.ensures)) in
-    let same : now ≡ patched a p = written_all a p now (subst (λ (n : ℕ). IsWritten a p n now) all c.loop-before.invariant.written) in
-    subst IsArray (sym same) (patched_sound a p c.requires.lines c.item_type-one_item_a_place.ensures.sound c.requires.fit)
+    subst IsArray (sym (returns-clause-numbers c)) (patched_sound a c.args.patch.now c.requires.lines c.item_type-one_item_a_place.ensures.sound c.requires.fit)
 
 pub set_item-requires-clause-place : goal.set_item-requires-clause-place
 set_item-requires-clause-place c =
-    let long = sym (length-map c.loop-before.trees.lines.numbers (λ (z : ℤ). Num z)) ∙ c.loop-before.invariant.written.long in
-    omega (arith, long, c.places_before-place.ensures.below)
+    omega (arith, sym (length-map c.loop-before.trees.lines.numbers (λ (z : ℤ). Num z)) ∙ c.loop-before.invariant.written.long, c.places_before-place.ensures.below)

@@ -1,6 +1,4 @@
-use Rattle.std.proofs.Common.{◌≡◌, ◌<◌}
-use Rattle.index_region.{specs.Boxes.{box_size, walk_at}, proofs.Written.{IsWritten}}
-use Rattle.sum_rules.specs.LineSums.{array_of_shape}
+use Rattle.{std.proofs.Common.{◌≡◌, ◌<◌}, index_region.{specs.Boxes.{box_size, walk_at}, proofs.Written.{IsWritten}}, sum_rules.specs.LineSums.{array_of_shape}}
 use Rattle.sum_rules.proofs.line_sums.write_into.Given as goal
 
 abbrev pub invariant-loop-before : goal.invariant-loop-before

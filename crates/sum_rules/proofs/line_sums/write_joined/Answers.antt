@@ -1,7 +1,5 @@
-use Rattle.std.proofs.Common.{◌≡◌, ◌∙◌, sym, ap, subst}
-use Rattle.arrays_core.specs.Arrays.{IsArray}
-use Rattle.index_region.{specs.Patches.{patched}, proofs.Patched.{patched_sound}}
-use Rattle.fold_trees.specs.FoldTrees.{FoldsValue}
+use Rattle.{std.proofs.Common.{◌≡◌, ◌∙◌, sym, ap, subst}, arrays_core.specs.Arrays.{IsArray}}
+use Rattle.{index_region.{specs.Patches.{patched}, proofs.Patched.{patched_sound}}, fold_trees.specs.FoldTrees.{FoldsValue}}
 use Rattle.sum_rules.specs.LineSums.{array_of_shape}
 use Rattle.sum_rules.proofs.line_sums.write_joined.Goals as goal
 

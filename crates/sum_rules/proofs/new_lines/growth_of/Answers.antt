@@ -1,5 +1,4 @@
-use Rattle.std.proofs.Common.{◌≡◌, ◌∙◌, ◌+◌, ◌-◌, ◌%◌, ◌*◌, ◌<◌, max, length, drop, sym, ap, subst, arith}
-use Rattle.arrays_core.specs.Shapes.{size}
+use Rattle.{std.proofs.Common.{◌≡◌, ◌∙◌, ◌+◌, ◌-◌, ◌%◌, ◌*◌, ◌<◌, max, length, drop, sym, ap, subst, arith}, arrays_core.specs.Shapes.{size}}
 use Rattle.sum_rules.{specs.LineSums.{line_length}, proofs.Lines.{some_step}, proofs.MoreLines.{whole_below}, proofs.MorePlaces.{few_with_place}}
 use Rattle.sum_rules.proofs.new_lines.growth_of.Goals as goal
 

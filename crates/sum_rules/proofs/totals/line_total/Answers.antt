@@ -1,9 +1,6 @@
-use Rattle.std.proofs.Common.{◌≡◌, ◌∙◌, length, sym, ap, arith}
-use Rattle.arrays_core.specs.Shapes.{places_before}
-use Rattle.function_names.specs.Axes.{axis_at}
-use Rattle.index_region.proofs.Patched.{fits_within}
+use Rattle.{std.proofs.Common.{◌≡◌, ◌∙◌, sym, ap, arith}, arrays_core.specs.Shapes.{places_before}, index_region.proofs.Patched.{fits_within}}
 use Rattle.change_core.specs.Meters.{MeterValue}
-use Rattle.sum_rules.{specs.LineSums.{array_of_shape, length_along}, proofs.KeptSums.{along_axis}, proofs.ChangedLines.{place_on, total_on}}
+use Rattle.sum_rules.{specs.LineSums.{length_along}, proofs.KeptSums.{along_axis}, proofs.ChangedLines.{place_on, total_on}}
 use Rattle.sum_rules.proofs.totals.line_total.Goals as goal
 
 pub places_before-place-requires-clause-in_range : goal.places_before-place-requires-clause-in_range
@@ -11,20 +8,14 @@ places_before-place-requires-clause-in_range g c = fits_within c.args.patch.now.
 
 pub total_with-total-requires : goal.total_with-total-requires
 total_with-total-requires g c =
-    let shape = c.args.shape.now.items in
-    let t = g.S.LineTotals.trees c.args.sums.now in
-    let axis = axis_at (length shape) c.args.fold.along in
-    let there = place_on axis t (array_of_shape shape t.numbers) c.args.patch.now c.requires.lines c.requires.fit c.requires.one c.item_type-one_item_a_place.ensures.sound c.args.index.now c.requires.inside in
+    let there = place_on _ _ _ _ c.requires.lines c.requires.fit c.requires.one c.item_type-one_item_a_place.ensures.sound c.args.index.now c.requires.inside in
     omega (arith, there, c.places_before-place.ensures.is)
 
 pub returns-clause-total : goal.returns-clause-total
 returns-clause-total g c =
-    let shape = c.args.shape.now.items in
-    let t = g.S.LineTotals.trees c.args.sums.now in
-    let axis = axis_at (length shape) c.args.fold.along in
-    let place : c.places_before-place.result ≡ places_before shape c.args.index.now = omega (arith, c.places_before-place.ensures.is) in
-    let total = total_on axis t (array_of_shape shape t.numbers) c.args.patch.now c.requires.lines c.requires.fit c.requires.one c.item_type-one_item_a_place.ensures.sound c.args.index.now c.requires.inside c.args.fold.function (g.S.LineTotals.function c.args.sums.now) c.requires.function (c.places_before-place.result) c.item-item.result place c.item-item.ensures.is in
-    c.total_with-total.ensures.total ∙ sym total
+    let place : c.places_before-place.result ≡ places_before c.args.shape.now.items c.args.index.now = omega (arith, c.places_before-place.ensures.is) in
+    c.total_with-total.ensures.total
+    ∙ sym (total_on _ _ _ _ c.requires.lines c.requires.fit c.requires.one c.item_type-one_item_a_place.ensures.sound c.args.index.now c.requires.inside c.args.fold.function _ c.requires.function _ c.item-item.result place c.item-item.ensures.is)
 
 pub returns-clause-joins : goal.returns-clause-joins
 returns-clause-joins g c = λ digits h.
@@ -35,5 +26,4 @@ returns-clause-joins g c = λ digits h.
 pub returns-clause-least : goal.returns-clause-least
 returns-clause-least g c = λ two.
     let count : (g.S.LineTotals.trees c.args.sums.now).count ≡ length_along c.args.fold.along c.args.shape.now.items = c.requires.lines.counted ∙ sym (along_axis c.args.fold.along c.args.shape.now.items c.requires.on_axis) in
-    let kept = ap (λ (m : MeterValue). m.joins) c.tick.ensures.exact in
-    omega (arith, c.total_with-total.ensures.some (rw count two), kept, ap (λ (m : MeterValue). m.joins) c.count_joins.ensures)
+    omega (arith, c.total_with-total.ensures.some (rw count two), ap (λ (m : MeterValue). m.joins) c.tick.ensures.exact, ap (λ (m : MeterValue). m.joins) c.count_joins.ensures)

@@ -1,8 +1,5 @@
-use Rattle.std.proofs.Common.{◌≡◌, ◌≤◌, ◌<◌, ◌+◌, take, length}
-use Rattle.arrays_core.specs.declared.item.ItemType.TheVariants.{Nums}
-use Rattle.function_names.specs.Axes.{axis_at}
-use Rattle.index_region.{specs.Boxes.{box_size, walk_at}, specs.Patches.{patched}}
-use Rattle.reduce_fns.specs.Reduce.{reduce_item}
+use Rattle.{std.proofs.Common.{◌≡◌, ◌≤◌, ◌<◌, ◌+◌, take, length}, arrays_core.specs.declared.item.ItemType.TheVariants.{Nums}}
+use Rattle.{function_names.specs.Axes.{axis_at}, index_region.{specs.Boxes.{box_size, walk_at}, specs.Patches.{patched}}, reduce_fns.specs.Reduce.{reduce_item}}
 use Rattle.change_core.{specs.Meters.{ticked}, proofs.Collected.{along, collected}, proofs.Walking.{prepend, rest_from}}
 use Rattle.sum_rules.{specs.LineSums.{array_of_shape, length_along}, specs.Totals.{AreJoinsWithin, AreJoinsFrom, box_of_lines}}
 use Rattle.sum_rules.proofs.totals.new_totals.Given as goal

@@ -2,14 +2,12 @@ use Rattle.std.proofs.Common.{◌∙◌, Ok, Err, List, [], ◌∷◌, ap, sym, 
 use Rattle.arrays_core.{specs.declared.fault.Fault.{Fault}, specs.declared.item.ItemType.{ItemType}, specs.declared.item.ItemType.TheVariants.{Nums}}
 use Rattle.change_core.proofs.Filling.{few_places}
 use Rattle.index_region.{specs.Boxes.{Interval, box_size, is_within, walk_at}, proofs.Walks.{some_place, walk_within}, specs.declared.delta.Delta.TheVariants.{Patch, Whole}}
-use Rattle.change_rules.specs.Nodes.{patch_delta}
-use Rattle.sum_rules.proofs.ChangedTotals.{one_total}
+use Rattle.{change_rules.specs.Nodes.{patch_delta}, sum_rules.proofs.ChangedTotals.{one_total}}
 use Rattle.sum_rules.proofs.totals.patch_of_one.Goals as goal
 
 pub index_at-index-requires-clause-size : goal.index_at-index-requires-clause-size
 index_at-index-requires-clause-size g c =
-    let few = few_places c.args.patch.now.region c.requires.lines.before.shape c.requires.lines.fit.inside c.requires.lines.lines.sound.within in
-    omega (arith, few, ap box_size c.region.ensures)
+    omega (arith, few_places c.args.patch.now.region c.requires.lines.before.shape c.requires.lines.fit.inside c.requires.lines.lines.sound.within, ap box_size c.region.ensures)
 
 pub index_at-index-requires-clause-below : goal.index_at-index-requires-clause-below
 index_at-index-requires-clause-below g c = rw c.region.ensures (some_place c.args.patch.now.region c.requires.lines.before.shape c.requires.lines.fit.inside)

@@ -18,17 +18,11 @@ invariant_of-trees c =
           let both = c.requires.sums.changed w.in-Patch.field-0 w.in-Patch.is in
           let count : c.match-delta.count ≡ length_along Last c.args.arg.0.shape = w.count-is ∙ long in
           let some = some_in_line (axis_at (length both.1.before.shape) Last) both.1.before.shape both.1.lines.there both.1.lines.some in
-          record {
-            some = omega (arith, count, some, both.1.lines.counted);
-            each = subst (λ k. AreAllAsLong k c.args.sums.now) (sym count) both.0;
-          }
+          record { some = omega (arith, count, some, both.1.lines.counted); each = subst (λ k. AreAllAsLong k c.args.sums.now) (sym count) both.0 }
       | in-Grown w ↦
           let vector : length c.args.arg.0.shape ≡ 1 = omega (arith, w.len.ensures.value, ap (λ (s : List ℕ). length s) c.shape-lengths.ensures.is, w.if-len-eq1.true) in
           let both = c.requires.sums.grew w.in-Grown.field-0 w.in-Grown.is vector (omega (arith, long, w.if-long-gt1.true)) in
           let count : c.match-delta.count ≡ length_along Last c.args.arg.0.shape - 1 = w.count-is ∙ ap (λ k. k - 1) long in
           let some = some_in_line (axis_at (length both.1.before.shape) Last) both.1.before.shape both.1.lines.there both.1.lines.some in
-          record {
-            some = omega (arith, count, some, both.1.lines.counted);
-            each = subst (λ k. AreAllAsLong k c.args.sums.now) (sym count) both.0;
-          }
+          record { some = omega (arith, count, some, both.1.lines.counted); each = subst (λ k. AreAllAsLong k c.args.sums.now) (sym count) both.0 }
     ]

@@ -1,6 +1,5 @@
 use Rattle.std.{proofs.Common.{◌≡◌, ℕ, List, [], ◌∷◌, length, false, ◌∙◌, refl, ap, sym, subst}, proofs.lemmas.Bool.{ne_eqb}}
-use Rattle.arrays_core.{proofs.Growing.{rank_longer}, specs.Arrays.{ArrayValue}}
-use Rattle.change_core.proofs.Covers.{covers, reaches_inside}
+use Rattle.{arrays_core.{proofs.Growing.{rank_longer}, specs.Arrays.{ArrayValue}}, change_core.proofs.Covers.{covers, reaches_inside}}
 use Rattle.change_rules.{specs.Currency.{BringsUpToDate, IsRight}, specs.Nodes.{views, moved}, proofs.NodeRight.{brings_up_to_date}, proofs.Right.{answered, node_is_right}}
 use Rattle.reduce_fns.{specs.Laws.LinesGrowth.{reduce_growing}, specs.Laws.Reduce.{reduce_tight}}
 use Rattle.sum_rules.{specs.Totals.{total_rule, is_by_trees, is_narrow, is_one_a_line}, proofs.ChangedTotals.{delta_is, folded, not_patched}, proofs.totals.refresh_totals_with_cost.Goals.{in-Patch+else-is_one_a_line, in_default, in-Grown+else-axis_at-eq0, in_default-delta}}
@@ -55,8 +54,7 @@ returns-clause-least g c =
           ap (is_narrow axis) w.in-Patch.is ∙ (λ i. is_one_a_line (sym meant i) (sym w.region.ensures i)) ∙ sym w.is_one_a_line.ensures ∙ w.if-is_one_a_line.false
       | in_default w ↦ elim c.match-delta-2.branch [
         | in-Grown+else-axis_at-eq0 v ↦
-            let meant : v.axis_at-in-Grown.result ≡ axis = v.axis_at-in-Grown.ensures.is ∙ axes in
-            ap (is_narrow axis) v.in-Grown.is ∙ ne_eqb axis 0 (λ e. v.if-axis_at-eq0.false (meant ∙ e))
+            ap (is_narrow axis) v.in-Grown.is ∙ ne_eqb axis 0 (λ e. v.if-axis_at-eq0.false ((v.axis_at-in-Grown.ensures.is ∙ axes) ∙ e))
         | in_default-delta v ↦ not_patched axis arg.1.now w.in_default.not-Patch v.in_default-delta.not-Grown
       ]
     ] in

@@ -1,5 +1,4 @@
-use Rattle.std.proofs.Common.{◌≡◌, ◌≤◌, ◌<◌, ◌+◌, take, length}
-use Rattle.arrays_core.specs.declared.item.ItemType.TheVariants.{Nums}
+use Rattle.{std.proofs.Common.{◌≡◌, ◌≤◌, ◌<◌, ◌+◌, take, length}, arrays_core.specs.declared.item.ItemType.TheVariants.{Nums}}
 use Rattle.change_core.{specs.Meters.{ticked}, proofs.Collected.{collected}, proofs.Walking.{prepend, rest_from}}
 use Rattle.sum_rules.{specs.Totals.{longer_totals}, proofs.LongerTotals.{longer_total}}
 use Rattle.sum_rules.proofs.totals.totals_behind.Given as goal

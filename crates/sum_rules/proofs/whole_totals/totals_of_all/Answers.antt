@@ -1,7 +1,6 @@
 use Rattle.std.{proofs.Common.{◌≡◌, ◌∙◌, ◌<◌, ◌≤◌, ℤ, take, rules, sym, ap, arith, Ok, Err, w64}, proofs.lemmas.Int.{to_z-of_z}}
 use Rattle.arrays_core.{specs.declared.item.Item.TheVariants.{Num}, specs.declared.item.ItemType.TheVariants.{Nums}, specs.Arrays.{ArrayValue, with_items}}
-use Rattle.item_fns.specs.Items.{number_item}
-use Rattle.fold_trees.specs.ArrayLines.{line_count}
+use Rattle.{item_fns.specs.Items.{number_item}, fold_trees.specs.ArrayLines.{line_count}}
 use Rattle.change_core.{specs.Meters.{MeterValue}, proofs.Collected.{collected_is}, proofs.Filling.{all_filled, as_many_written, one_filled, one_more_tick}, proofs.Walking.{rest_err}}
 use Rattle.sum_rules.{specs.Totals.{all_totals}, proofs.WholeTotals.{total_of_line}}
 use Rattle.sum_rules.proofs.whole_totals.totals_of_all.Goals as goal

@@ -1,7 +1,5 @@
-use Rattle.std.proofs.Common.{◌≡◌, ◌≤◌, ◌<◌, ◌+◌, take, length}
-use Rattle.arrays_core.specs.declared.item.ItemType.TheVariants.{Nums}
-use Rattle.fold_trees.specs.ArrayLines.{line_count}
-use Rattle.change_core.{specs.Meters.{ticked}, proofs.Collected.{collected}, proofs.Walking.{prepend, rest_from}}
+use Rattle.{std.proofs.Common.{◌≡◌, ◌≤◌, ◌<◌, ◌+◌, take, length}, arrays_core.specs.declared.item.ItemType.TheVariants.{Nums}}
+use Rattle.{fold_trees.specs.ArrayLines.{line_count}, change_core.{specs.Meters.{ticked}, proofs.Collected.{collected}, proofs.Walking.{prepend, rest_from}}}
 use Rattle.sum_rules.{specs.Totals.{all_totals}, proofs.WholeTotals.{total_of_line}}
 use Rattle.sum_rules.proofs.whole_totals.totals_of_all.Given as goal
 

@@ -1,5 +1,4 @@
-use Rattle.std.proofs.Common.{refl, ◌≡◌, ℕ, ◌+◌, List, get_or, ◌∙◌, ap, sym}
-use Rattle.apl_tokens.{specs.Words.{eight_bytes}, proofs.Words.{padded}}
+use Rattle.{std.proofs.Common.{refl, ◌≡◌, ℕ, ◌+◌, List, get_or, ◌∙◌, ap, sym}, apl_tokens.{specs.Words.{eight_bytes}, proofs.Words.{padded}}}
 use Rattle.apl_tokens.proofs.name.Name.word.Goals as goal
 
 pub returns : goal.returns

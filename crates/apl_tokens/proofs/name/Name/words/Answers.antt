@@ -1,5 +1,4 @@
-use Rattle.std.{proofs.Common.{arith, ◌≡◌, length, ap, ◌∙◌, sym, length-take-le}, specs.Int.{div_ceil}}
-use Rattle.apl_tokens.specs.Words.{word_size}
+use Rattle.{std.{proofs.Common.{arith, ◌≡◌, length, ap, ◌∙◌, sym, length-take-le}, specs.Int.{div_ceil}}, apl_tokens.specs.Words.{word_size}}
 use Rattle.apl_tokens.proofs.name.Name.words.Goals as goal
 
 pub returns : goal.returns

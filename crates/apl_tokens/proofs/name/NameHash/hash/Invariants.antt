@@ -1,5 +1,4 @@
-use Rattle.std.{specs.Prelude.{◌≡◌, ◌≤◌}, specs.List.{fold}}
-use Rattle.apl_tokens.specs.Words.{first_words, count_of_words}
+use Rattle.{std.{specs.Prelude.{◌≡◌, ◌≤◌}, specs.List.{fold}}, apl_tokens.specs.Words.{first_words, count_of_words}}
 use Rattle.apl_tokens.proofs.name.NameHash.hash.Given as goal
 
 abbrev pub invariant-loop-index : goal.invariant-loop-index

@@ -1,5 +1,4 @@
-use Rattle.std.specs.Prelude.{◌≡◌, ℕ, ◌≤◌, ◌<◌}
-use Rattle.apl_tokens.specs.Words.{word_at, count_of_words}
+use Rattle.{std.specs.Prelude.{◌≡◌, ℕ, ◌≤◌, ◌<◌}, apl_tokens.specs.Words.{word_at, count_of_words}}
 use Rattle.apl_tokens.proofs.name.NamePartialEq.eq.Given as goal
 
 abbrev pub invariant-loop-index : goal.invariant-loop-index

@@ -1,6 +1,6 @@
 use lib.Utf8.{encode}
-use Rattle.std.{proofs.Common.{◌≡◌, ◌++◌, ◌∙◌, [], ◌∷◌, ap, sym, List, ℕ, take, append_assoc}, specs.Prelude.{encode_utf8_all, string_bytes}, proofs.lemmas.List.{take_more, take_all}}
-use Rattle.array_text.{specs.Text.{character_line}, proofs.Writing.{pushed, grown, encode_utf8_all-push}}
+use Rattle.std.{proofs.Common.{◌++◌, ◌∙◌, [], ◌∷◌, ap, sym, ℕ, take}, specs.Prelude.{encode_utf8_all}, proofs.lemmas.List.{take_more, take_all}}
+use Rattle.array_text.{specs.Text.{character_line}, proofs.Writing.{pushed_behind, grown, encode_utf8_all-push}}
 use Rattle.array_text.proofs.characters.CharPrinted.push_line.Goals as goal
 
 pub loop-character-preserved : goal.loop-character-preserved
@@ -14,9 +14,5 @@ loop-character-preserved c =
 pub returns : goal.returns
 unfolding character_line encode
 returns c =
-    let items = c.args.characters.now in
-    let before = string_bytes c.args.out.now in
-    let all : string_bytes c.loop-character.out ≡ before ++ encode_utf8_all items =
-    c.loop-character.invariant ∙ ap (λ (t : List ℕ). before ++ encode_utf8_all t) (take_all c.loop-character.character-index items c.loop-character-test.false) in
-    pushed c.push-2.result _ (string_bytes c.loop-character.out) (10 ∷ []) _ c.push-2.ensures.bytes
-    (ap (λ (t : List ℕ). t ++ 10 ∷ []) all ∙ append_assoc before (encode_utf8_all items) (10 ∷ []))
+    pushed_behind c.push-2.result _ _ _ _ _ (10 ∷ []) c.push-2.ensures.bytes c.loop-character.invariant
+    (ap encode_utf8_all (take_all c.loop-character.character-index c.args.characters.now c.loop-character-test.false))

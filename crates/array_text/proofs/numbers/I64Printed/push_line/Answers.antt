@@ -1,7 +1,6 @@
 use lib.Utf8.{encode}
-use Rattle.std.{proofs.Common.{◌≡◌, ◌++◌, ◌∙◌, ◌∷◌, [], ap, List, ℕ, pos, get_or, append_assoc, rules, w64}, specs.Prelude.{string_bytes}, specs.List.{join_by}, proofs.lemmas.List.{take_all}, proofs.lemmas.Int.{to_z-of_z}}
-use Rattle.array_text.{specs.Text.{number_text, number_line, between_numbers}, proofs.Writing.{pushed, grown_twice, join_by-more}}
-use mir.Val.{SFits}
+use Rattle.std.{proofs.Common.{◌++◌, ◌∙◌, ◌∷◌, [], ap, List, ℕ, pos, get_or, rules, w64}, specs.Prelude.{string_bytes}, specs.List.{join_by}, proofs.lemmas.List.{take_all}, proofs.lemmas.Int.{to_z-of_z}}
+use Rattle.array_text.{specs.Text.{number_text, number_line, between_numbers}, proofs.Writing.{pushed_behind, grown_twice, join_by-more}}
 use Rattle.array_text.proofs.numbers.I64Printed.push_line.Goals as goal
 
 pub loop-earlier-preserved : goal.loop-earlier-preserved
@@ -14,9 +13,5 @@ loop-earlier-preserved c =
 pub returns : goal.returns
 unfolding number_line encode
 returns c =
-    let zs = c.args.numbers.now in
-    let before = string_bytes c.args.out.now in
-    let all : string_bytes c.loop-earlier.out ≡ before ++ join_by number_text between_numbers zs =
-    c.loop-earlier.invariant ∙ ap (λ t. before ++ join_by number_text between_numbers t) (take_all c.loop-earlier.earlier zs c.loop-earlier-test.false) in
-    pushed c.push.result _ (string_bytes c.loop-earlier.out) (10 ∷ []) _ c.push.ensures.bytes
-    (ap (λ (t : List ℕ). t ++ 10 ∷ []) all ∙ append_assoc before (join_by number_text between_numbers zs) (10 ∷ []))
+    pushed_behind c.push.result _ _ _ _ _ (10 ∷ []) c.push.ensures.bytes c.loop-earlier.invariant
+    (ap (join_by number_text between_numbers) (take_all c.loop-earlier.earlier c.args.numbers.now c.loop-earlier-test.false))

@@ -1,5 +1,4 @@
-use Rattle.std.{proofs.Common.{◌≡◌, ◌++◌, take}, specs.Prelude.{string_bytes}, specs.List.{join_by}}
-use Rattle.array_text.specs.Text.{number_text, between_numbers}
+use Rattle.{std.{proofs.Common.{◌≡◌, ◌++◌, take}, specs.Prelude.{string_bytes}, specs.List.{join_by}}, array_text.specs.Text.{number_text, between_numbers}}
 use Rattle.array_text.proofs.numbers.I64Printed.push_line.Given as goal
 
 abbrev pub invariant-loop-earlier : goal.invariant-loop-earlier

@@ -10,20 +10,18 @@ pub push_row-requires : goal.push_row-requires
 push_row-requires c =
     let columns = c.args.columns in
     let start = c.loop-row.row * columns in
-    let width = part_width c.loop-row.row columns in
     let end : (c.loop-row.row + 1) * columns ≤ c.args.rows * columns = mul-le-mul_right columns (omega arith) in
     let left = length-drop start c.args.numbers.now in
     let inside : columns ≤ length (drop start c.args.numbers.now) = omega (arith, c.requires) in
     ap length (c.as_slice.ensures.value ∙ c.in_ok-widths.ensures) ∙ as_many_widths c.args.rows columns c.args.numbers.now
-    ∙ sym (ap (λ (n : ℕ). length (take n (drop start c.args.numbers.now))) width ∙ length-take-le columns (drop start c.args.numbers.now) inside)
+    ∙ sym (ap (λ (n : ℕ). length (take n (drop start c.args.numbers.now))) (part_width c.loop-row.row columns) ∙ length-take-le columns (drop start c.args.numbers.now) inside)
 
 pub loop-row-preserved : goal.loop-row-preserved
 loop-row-preserved c =
-    let zs = c.args.numbers.now in
     let start = c.loop-row.row * c.args.columns in
     let before = string_bytes c.loop-row.out in
-    let width = ap (λ (n : ℕ). before ++ number_row c.as_slice.result.now (take n (drop start zs))) (part_width c.loop-row.row c.args.columns) in
-    let widths = ap (λ (ws : List ℕ). before ++ number_row ws (take c.args.columns (drop start zs))) (c.as_slice.ensures.value ∙ c.in_ok-widths.ensures) in
+    let width = ap (λ (n : ℕ). before ++ number_row c.as_slice.result.now (take n (drop start c.args.numbers.now))) (part_width c.loop-row.row c.args.columns) in
+    let widths = ap (λ (ws : List ℕ). before ++ number_row ws (take c.args.columns (drop start c.args.numbers.now))) (c.as_slice.ensures.value ∙ c.in_ok-widths.ensures) in
     grown _ _ _ _ _ _ (c.in_ok-push_row.ensures ∙ width ∙ widths) c.loop-row.invariant (flat_map-range_step _ c.loop-row.row)
 
 pub returns : goal.returns

@@ -1,4 +1,4 @@
-use Rattle.std.proofs.Common.{ap, sym, ◌∙◌, pos, ◌+◌, length, get_or}
+use Rattle.std.proofs.Common.{ap, sym, ◌∙◌, pos, ◌+◌}
 use Rattle.arrays_core.{specs.declared.item.Item.TheVariants.{Num, Char}, specs.Items.{fill}, specs.Ravels.{list_items}, proofs.Building.{put_picked}, proofs.builder.ArrayBuilder.extend_places.Goals.{in-Nums+in-Some, in-Chars+in-Some-characters}}
 use Rattle.arrays_core.proofs.builder.ArrayBuilder.extend_places.Goals as goal
 
@@ -6,11 +6,9 @@ pub returns-clause-items : goal.returns-clause-items
 returns-clause-items c =
     elim c.match-self.branch [
       | in-Nums+in-Some w ↦
-          put_picked (λ z. Num z) _ _ w.extend_places.new.items.items w.in-Nums.items.items w.in-Some.from.now _ _ c.args.array.now.items (length c.args.places.now) (λ k. c.args.first + get_or c.args.places.now k 0) (pos 0) _
-          w.extend_places.ensures w.result-is (ap (λ i. list_items i.list) w.self-inside-is) (ap (λ v. v.items) (sym c.self.view_is) ∙ ap list_items w.in-Nums.is)
-          w.in-Some.ensures.is.1 (ap fill w.in-Some.ensures.is.0)
+          put_picked (λ z. Num z) _ _ _ _ _ _ _ _ _ _ (pos 0) _ w.extend_places.ensures w.result-is (ap (λ i. list_items i.list) w.self-inside-is)
+          (ap (λ v. v.items) (sym c.self.view_is) ∙ ap list_items w.in-Nums.is) w.in-Some.ensures.is.1 (ap fill w.in-Some.ensures.is.0)
       | in-Chars+in-Some-characters w ↦
-          put_picked (λ z. Char z) _ _ w.extend_places-in-Some-characters.new.items.items w.in-Chars.items.items w.in-Some-characters.from.now _ _ c.args.array.now.items (length c.args.places.now) (λ k. c.args.first + get_or c.args.places.now k 0) 32 _
-          w.extend_places-in-Some-characters.ensures w.result-is (ap (λ i. list_items i.list) w.self-inside-is) (ap (λ v. v.items) (sym c.self.view_is) ∙ ap list_items w.in-Chars.is)
-          w.in-Some-characters.ensures.is.1 (ap fill w.in-Some-characters.ensures.is.0)
+          put_picked (λ z. Char z) _ _ _ _ _ _ _ _ _ _ 32 _ w.extend_places-in-Some-characters.ensures w.result-is (ap (λ i. list_items i.list) w.self-inside-is)
+          (ap (λ v. v.items) (sym c.self.view_is) ∙ ap list_items w.in-Chars.is) w.in-Some-characters.ensures.is.1 (ap fill w.in-Some-characters.ensures.is.0)
     ]

@@ -1,4 +1,4 @@
-use Rattle.std.proofs.Common.{ap, sym, ◌∙◌, pos, ◌+◌, ◌*◌}
+use Rattle.std.proofs.Common.{ap, sym, ◌∙◌, pos, ◌+◌}
 use Rattle.arrays_core.{specs.declared.item.Item.TheVariants.{Num, Char}, specs.Items.{fill}, specs.Ravels.{list_items}, proofs.Building.{put_picked}, proofs.builder.ArrayBuilder.extend_steps.Goals.{in-Nums+in-Some, in-Chars+in-Some-characters}}
 use Rattle.arrays_core.proofs.builder.ArrayBuilder.extend_steps.Goals as goal
 
@@ -6,11 +6,9 @@ pub returns-clause-items : goal.returns-clause-items
 returns-clause-items c =
     elim c.match-self.branch [
       | in-Nums+in-Some w ↦
-          put_picked (λ z. Num z) _ _ w.extend_steps.new.items.items w.in-Nums.items.items w.in-Some.from.now _ _ c.args.array.now.items c.args.count (λ k. c.args.first + k * c.args.step) (pos 0) _
-          w.extend_steps.ensures w.result-is (ap (λ i. list_items i.list) w.self-inside-is) (ap (λ v. v.items) (sym c.self.view_is) ∙ ap list_items w.in-Nums.is)
-          w.in-Some.ensures.is.1 (ap fill w.in-Some.ensures.is.0)
+          put_picked (λ z. Num z) _ _ _ _ _ _ _ _ _ _ (pos 0) _ w.extend_steps.ensures w.result-is (ap (λ i. list_items i.list) w.self-inside-is)
+          (ap (λ v. v.items) (sym c.self.view_is) ∙ ap list_items w.in-Nums.is) w.in-Some.ensures.is.1 (ap fill w.in-Some.ensures.is.0)
       | in-Chars+in-Some-characters w ↦
-          put_picked (λ z. Char z) _ _ w.extend_steps-in-Some-characters.new.items.items w.in-Chars.items.items w.in-Some-characters.from.now _ _ c.args.array.now.items c.args.count (λ k. c.args.first + k * c.args.step) 32 _
-          w.extend_steps-in-Some-characters.ensures w.result-is (ap (λ i. list_items i.list) w.self-inside-is) (ap (λ v. v.items) (sym c.self.view_is) ∙ ap list_items w.in-Chars.is)
-          w.in-Some-characters.ensures.is.1 (ap fill w.in-Some-characters.ensures.is.0)
+          put_picked (λ z. Char z) _ _ _ _ _ _ _ _ _ _ 32 _ w.extend_steps-in-Some-characters.ensures w.result-is (ap (λ i. list_items i.list) w.self-inside-is)
+          (ap (λ v. v.items) (sym c.self.view_is) ∙ ap list_items w.in-Chars.is) w.in-Some-characters.ensures.is.1 (ap fill w.in-Some-characters.ensures.is.0)
     ]

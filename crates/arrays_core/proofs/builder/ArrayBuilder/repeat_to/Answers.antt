@@ -6,11 +6,9 @@ pub returns-clause-items : goal.returns-clause-items
 returns-clause-items c =
     elim c.match-self.branch [
       | in-Nums w ↦
-          put_again (λ z. Num z) _ _ w.repeat_to.new.items.items w.in-Nums.items.items _ _ c.args.places (pos 0) _
-          w.repeat_to.ensures w.result-is (ap (λ i. list_items i.list) w.self-inside-is) (ap (λ v. v.items) (sym c.self.view_is) ∙ ap list_items w.in-Nums.is)
-          (ap (λ v. fill v.item_type) (sym c.self.view_is) ∙ ap (λ r. fill (list_type r)) w.in-Nums.is)
+          put_again (λ z. Num z) _ _ _ _ _ _ _ (pos 0) _ w.repeat_to.ensures w.result-is (ap (λ i. list_items i.list) w.self-inside-is)
+          (ap (λ v. v.items) (sym c.self.view_is) ∙ ap list_items w.in-Nums.is) (ap (λ v. fill v.item_type) (sym c.self.view_is) ∙ ap (λ r. fill (list_type r)) w.in-Nums.is)
       | in-Chars w ↦
-          put_again (λ z. Char z) _ _ w.repeat_to-in-Chars.new.items.items w.in-Chars.items.items _ _ c.args.places 32 _
-          w.repeat_to-in-Chars.ensures w.result-is (ap (λ i. list_items i.list) w.self-inside-is) (ap (λ v. v.items) (sym c.self.view_is) ∙ ap list_items w.in-Chars.is)
-          (ap (λ v. fill v.item_type) (sym c.self.view_is) ∙ ap (λ r. fill (list_type r)) w.in-Chars.is)
+          put_again (λ z. Char z) _ _ _ _ _ _ _ 32 _ w.repeat_to-in-Chars.ensures w.result-is (ap (λ i. list_items i.list) w.self-inside-is)
+          (ap (λ v. v.items) (sym c.self.view_is) ∙ ap list_items w.in-Chars.is) (ap (λ v. fill v.item_type) (sym c.self.view_is) ∙ ap (λ r. fill (list_type r)) w.in-Chars.is)
     ]

@@ -8,8 +8,7 @@ part_of f places skipped xs = sym (take-map f places (drop skipped xs)) ∙ ap (
 
 -- a part of which the end is given
 made_of : {A B : Type 0} (f : A → B) (places skipped : ℕ) (made lent : List A) → made ≡ take (skipped + places - skipped) (drop skipped lent) → map f made ≡ take places (drop skipped (map f lent))
-made_of f places skipped made lent is =
-    ap (λ ys. map f ys) (is ∙ ap (λ n. take n (drop skipped lent)) (omega arith)) ∙ part_of f places skipped lent
+made_of f places skipped made lent is = ap (λ ys. map f ys) (is ∙ ap (λ n. take n (drop skipped lent)) (omega arith)) ∙ part_of f places skipped lent
 
 pub returns-in-Nums-clause-items : goal.returns-in-Nums-clause-items
 returns-in-Nums-clause-items c =

@@ -1,5 +1,4 @@
-use Rattle.std.proofs.Common.{arith}
-use Rattle.change_core.proofs.Filling.{few_places}
+use Rattle.{std.proofs.Common.{arith}, change_core.proofs.Filling.{few_places}}
 use Rattle.change_core.proofs.announced.AnyRule.part.Goals as goal
 
 pub size-requires : goal.size-requires

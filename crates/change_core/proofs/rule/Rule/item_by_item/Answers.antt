@@ -1,5 +1,4 @@
-use Rattle.std.proofs.Common.{◌≡◌, ◌<◌, Ok, Err, arith, sym, ap, ◌∙◌, take, refl}
-use Rattle.arrays_core.specs.Arrays.{ArrayValue}
+use Rattle.{std.proofs.Common.{◌≡◌, ◌<◌, Ok, Err, arith, sym, ap, ◌∙◌, take, refl}, arrays_core.specs.Arrays.{ArrayValue}}
 use Rattle.index_region.{specs.Boxes.{box_size, walk_at}, proofs.Walks.{some_place}}
 use Rattle.change_core.{proofs.Walking.{rest_err}, proofs.Filling.{filled_many, nothing_filled, one_filled, as_many_written, all_filled, typed_item, place_of, few_places, one_more_tick, vector_within}, specs.Meters.{ticked}, proofs.Collected.{items_are}}
 use Rattle.change_core.proofs.rule.Rule.item_by_item.Goals as goal

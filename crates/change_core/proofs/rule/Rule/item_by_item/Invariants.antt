@@ -1,5 +1,4 @@
-use Rattle.std.proofs.Common.{◌≡◌, ◌≤◌, ◌<◌, ◌+◌, take, length}
-use Rattle.index_region.specs.Boxes.{box_size, walk_at}
+use Rattle.{std.proofs.Common.{◌≡◌, ◌≤◌, ◌<◌, ◌+◌, take, length}, index_region.specs.Boxes.{box_size, walk_at}}
 use Rattle.change_core.{proofs.Collected.{along, collected}, specs.Meters.{ticked}, proofs.Walking.{prepend, rest_from}}
 use Rattle.change_core.proofs.rule.Rule.item_by_item.Given as goal
 

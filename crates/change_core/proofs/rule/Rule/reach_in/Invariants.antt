@@ -1,5 +1,4 @@
-use Rattle.std.proofs.Common.{◌≡◌, length, drop, ◌-◌, false}
-use Rattle.change_core.specs.Reaches.{changed, is_anew}
+use Rattle.{std.proofs.Common.{◌≡◌, length, drop, ◌-◌, false}, change_core.specs.Reaches.{changed, is_anew}}
 use Rattle.change_core.proofs.rule.Rule.reach_in.Given as goal
 
 abbrev pub invariant-loop-later : goal.invariant-loop-later

@@ -1,5 +1,4 @@
-use Rattle.std.proofs.Common.{arith, ◌∙◌}
-use Rattle.change_core.proofs.Filling.{place_of}
+use Rattle.{std.proofs.Common.{arith, ◌∙◌}, change_core.proofs.Filling.{place_of}}
 use Rattle.change_rules.proofs.one_place.OnePlace.of.Goals as goal
 
 pub item-given-requires-clause-place : goal.item-given-requires-clause-place

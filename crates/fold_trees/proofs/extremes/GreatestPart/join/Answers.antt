@@ -1,6 +1,5 @@
 use Rattle.std.{proofs.Common.{◌≡◌, ap, sym, ◌∙◌, to_z, of_z, w64, rules, Ok}, specs.Int.{int_max}, proofs.lemmas.Int.{to_z-of_z}}
-use Rattle.item_fns.proofs.Associative.{maximum}
-use Rattle.fold_trees.proofs.JoinedFolds.{joined_values}
+use Rattle.{item_fns.proofs.Associative.{maximum}, fold_trees.proofs.JoinedFolds.{joined_values}}
 use Rattle.fold_trees.proofs.extremes.GreatestPart.join.Goals as goal
 
 pub returns : goal.returns

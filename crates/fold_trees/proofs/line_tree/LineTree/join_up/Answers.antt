@@ -1,22 +1,16 @@
-use Rattle.std.{proofs.Common.{◌≡◌, ◌∙◌, suc, ◌-◌, ◌*◌, ◌/◌, ◌^◌, ◌∷◌, [], length, min, sym, ap, subst, arith, inl, inr, refl, to_z, of_z, w64}, proofs.lemmas.Int.{to_z-of_z}, proofs.lemmas.List.{length-append}}
-use Rattle.fold_trees.{specs.LineTrees.{slot_of, replaced, segment, numbers_of_block, block_up, AreJoined}, proofs.LineParts.{climb_start, climb_up, level_up, climb_end, levels_within, replaced_here, other_half_same, even_block}, proofs.LineJoins.{AreTold, told_more}}
+use Rattle.std.{proofs.Common.{◌≡◌, ◌∙◌, suc, ◌*◌, ◌/◌, ◌^◌, ◌∷◌, [], length, sym, ap, subst, arith, inl, refl, to_z, of_z, w64}, proofs.lemmas.Int.{to_z-of_z}, proofs.lemmas.List.{length-append}}
+use Rattle.fold_trees.{specs.LineTrees.{slot_of, replaced, segment, numbers_of_block, block_up, AreJoined}, proofs.LineParts.{climb_start, climb_up, level_up, levels_within, told_place, told_all, alone_up, replaced_here, other_half_same}, proofs.LineJoins.{AreTold, told_more}}
 use Rattle.fold_trees.proofs.line_tree.LineTree.join_up.Goals as goal
 
 pub loop-width-init : goal.loop-width-init
 loop-width-init g c =
-    let line = c.args.self.now.line in
     let place = c.args.place in
-    let z = to_z w64 (of_z w64 c.args.number) in
-    let x = replaced (slot_of line c.args.self.now.numbers.now) place z in
-    let start : place * 1 ≡ place = omega arith in
-    let one : min 1 (line.count - place * 1) ≡ 1 = omega (arith, c.requires.place) in
     record {
       climb = climb_start place;
       few = omega (arith, c.requires.place);
-      told = subst (g.P.Part.tells c.of-kept.result) (ap (λ y. y ∷ []) (sym (replaced_here (slot_of line c.args.self.now.numbers.now) place z)) ∙ sym (λ i. segment x (start i) (one i)))
-          c.of-kept.ensures;
+      told = told_place g.P.Part.tells c.args.self.now.line.count place _ c.of-kept.result _ c.requires.place (sym (replaced_here (slot_of c.args.self.now.line c.args.self.now.numbers.now) place (to_z w64 (of_z w64 c.args.number)))) c.of-kept.ensures;
       most = omega arith;
-      none = λ e. (start, inl refl);
+      none = λ e. (omega arith, inl refl);
       wide = sym (ap (λ ps. 2 ^ length ps) c.requires.none);
       up = sym (ap (λ ps. block_up place (length ps)) c.requires.none);
       each = λ level blank below. let no : ⊥ = omega (arith, below, ap (λ ps. length ps) c.requires.none) in absurd no;
@@ -25,10 +19,7 @@ loop-width-init g c =
 pub overflow_add-joins : goal.overflow_add-joins
 overflow_add-joins g c =
     let inv = c.loop-width.invariant in
-    let few = c.requires.inside.slots.few in
-    let width_is = inv.climb.width_is in
-    let short = inv.few in
-    let levels = levels_within inv.climb.level 62 c.args.self.now.line.count (omega (arith, width_is, short)) (omega (arith, few)) in
+    let levels = levels_within inv.climb.level 62 c.args.self.now.line.count (omega (arith, inv.climb.width_is, inv.few)) (omega (arith, c.requires.inside.slots.few)) in
     record { fits = omega (arith, levels, inv.most, c.widened-wider.ensures.joins) }
 
 pub loop-width-preserved : goal.loop-width-preserved
@@ -49,16 +40,7 @@ loop-width-preserved g c =
       few = omega (arith, c.loop-width-test.true);
       told = told;
       most = omega (arith, level_up place c.loop-width.block c.loop-width.width inv.climb, inv.most, c.widened-wider.ensures.joins);
-      none = λ e.
-          let nothing = inv.none (omega (arith, e)) in
-          let alone = c.widened-wider.ensures.none (omega (arith, e)) in
-          let at = even_block c.loop-width.block c.loop-width.width alone.0 in (
-            omega (arith, at.0, at.2, nothing.0),
-            inr (elim nothing.1 [
-              | inl one ↦ omega (arith, one, alone.1, nothing.0)
-              | inr last ↦ last
-            ]),
-          );
+      none = λ e. alone_up c.args.self.now.line.count place c.loop-width.block c.loop-width.width (inv.none (omega (arith, e))) (c.widened-wider.ensures.none (omega (arith, e)));
       wide = ap (λ w. 2 * w) inv.wide ∙ double ∙ ap (λ k. 2 ^ k) longer;
       up = ap (λ b. b / 2) inv.up ∙ ap (block_up place) longer;
       each = subst (AreTold g.P.Part.tells line.count x place) (sym c.in_ok-push.ensures.items)
@@ -68,13 +50,9 @@ loop-width-preserved g c =
 
 pub returns-clause-is : goal.returns-clause-is
 returns-clause-is g c =
-    let line = c.args.self.now.line in
-    let number : (to_z w64 (of_z w64 c.args.number)) ≡ c.args.number = to_z-of_z w64 c.args.number c.ranges.number in
-    let numbers = slot_of line c.args.self.now.numbers.now in
-    let first = climb_end line.count c.args.place c.loop-width.block c.loop-width.width c.loop-width.invariant.climb c.requires.place c.loop-width-test.false in
-    let start : c.loop-width.block * c.loop-width.width ≡ 0 = ap (λ b. b * c.loop-width.width) first ∙ grind arith in
-    let all : min c.loop-width.width (line.count - c.loop-width.block * c.loop-width.width) ≡ line.count = omega (arith, start, c.loop-width-test.false) in
-    subst (g.P.Part.tells c.loop-width.kept) (λ i. segment (replaced numbers c.args.place (number i)) (start i) (all i)) c.loop-width.invariant.told
+    let x = slot_of c.args.self.now.line c.args.self.now.numbers.now in
+    subst (λ y. g.P.Part.tells c.loop-width.kept (segment (replaced x c.args.place y) 0 c.args.self.now.line.count)) (to_z-of_z w64 c.args.number c.ranges.number)
+    (told_all g.P.Part.tells _ c.args.place _ _ _ c.loop-width.kept c.loop-width.invariant.climb c.requires.place c.loop-width-test.false c.loop-width.invariant.told)
 
 pub returns-clause-most : goal.returns-clause-most
 returns-clause-most g c digits enough =

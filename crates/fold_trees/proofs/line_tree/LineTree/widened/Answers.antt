@@ -1,5 +1,5 @@
 use Rattle.std.proofs.Common.{◌≡◌, ◌∙◌, ◌+◌, ◌-◌, ◌*◌, ◌/◌, ◌%◌, ◌<◌, min, ap, subst, arith}
-use Rattle.fold_trees.{specs.LineTrees.{slot_of, segment, numbers_of_block}, proofs.LineParts.{odd_block, even_block, widen_odd, widen_even, widen_alone}, proofs.Segments.{segment_same}}
+use Rattle.fold_trees.{proofs.LineParts.{odd_block, even_block, widen_odd, widen_even, widen_alone}, proofs.Segments.{segment_same}}
 use Rattle.fold_trees.proofs.line_tree.LineTree.widened.Goals as goal
 
 pub part-requires-clause-part : goal.part-requires-clause-part
@@ -22,15 +22,12 @@ pub returns-then-block-eq1-clause-is : goal.returns-then-block-eq1-clause-is
 returns-then-block-eq1-clause-is g c x same told =
     let block = c.args.block in
     let width = c.args.width in
-    let line = c.args.self.now.line in
-    let numbers = slot_of line c.args.self.now.numbers.now in
-    let odd = c.if-block-eq1.true in
-    let at = odd_block block width odd in
+    let at = odd_block block width c.if-block-eq1.true in
     let from = block * width - width in
-    let long = min width (line.count - from) in
-    let alike = segment_same numbers x from long (λ i low high. same i (omega (arith, at.0, at.1, low)) (omega (arith, at.0, at.1, high, c.requires.from))) in
-    subst (g.P.Part.tells c.join.result) (widen_odd line.count x block width odd c.requires.from)
-    (c.join.ensures (segment x from long) (numbers_of_block line.count x block width) (subst (g.P.Part.tells c.part.result) alike c.part.ensures) told)
+    let long = min width (c.args.self.now.line.count - from) in
+    let alike = segment_same _ x from long (λ i low high. same i (omega (arith, at.0, at.1, low)) (omega (arith, at.0, at.1, high, c.requires.from))) in
+    subst (g.P.Part.tells c.join.result) (widen_odd c.args.self.now.line.count x block width c.if-block-eq1.true c.requires.from)
+    (c.join.ensures _ _ (subst (g.P.Part.tells c.part.result) alike c.part.ensures) told)
 
 pub returns-then-self-from-clause-is : goal.returns-then-self-from-clause-is
 returns-then-self-from-clause-is g c x same told =
@@ -47,14 +44,10 @@ returns-clause-is g c x same told =
     let block = c.args.block in
     let width = c.args.width in
     let line = c.args.self.now.line in
-    let numbers = slot_of line c.args.self.now.numbers.now in
-    let some = c.if-block-eq1.false in
-    let even : c.args.block % 2 ≡ 0 = omega (arith, some) in
+    let even : block % 2 ≡ 0 = omega (arith, c.if-block-eq1.false) in
     let at = even_block block width even in
-    let more = c.if-self-from.false in
-    let below : block * width + width < line.count = omega (arith, more) in
+    let below : block * width + width < line.count = omega (arith, c.if-self-from.false) in
     let from = block * width + width in
-    let long = min width (line.count - from) in
-    let alike = segment_same numbers x from long (λ i low high. same i (omega (arith, at.0, at.1, low)) (omega (arith, at.0, at.1, high, below))) in
+    let alike = segment_same _ x from (min width (line.count - from)) (λ i low high. same i (omega (arith, at.0, at.1, low)) (omega (arith, at.0, at.1, high, below))) in
     subst (g.P.Part.tells c.join-2.result) (widen_even line.count x block width even below)
-    (c.join-2.ensures (numbers_of_block line.count x block width) (segment x from long) told (subst (g.P.Part.tells c.part-2.result) alike c.part-2.ensures))
+    (c.join-2.ensures _ _ told (subst (g.P.Part.tells c.part-2.result) alike c.part-2.ensures))

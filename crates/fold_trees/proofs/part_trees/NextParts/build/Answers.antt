@@ -1,6 +1,5 @@
 use Rattle.std.{proofs.Common.{◌∙◌, ℕ, ◌*◌, ℤ, List, length, sym, ap, subst, vec_capacity, arith}, proofs.lemmas.List.{length-replicate}}
-use Rattle.arrays_core.specs.Growth.{HasRoom}
-use Rattle.fold_trees.specs.PartTrees.{AreNextPartRooms}
+use Rattle.{arrays_core.specs.Growth.{HasRoom}, fold_trees.specs.PartTrees.{AreNextPartRooms}}
 use Rattle.fold_trees.proofs.part_trees.NextParts.build.Goals as goal
 
 pub invariant_of-result : goal.invariant_of-result

@@ -1,7 +1,5 @@
-use Rattle.std.{proofs.Common.{◌≡◌, ◌∙◌, ◌+◌, ◌-◌, ◌*◌, ◌++◌, ℤ, List, length, sym, ap, subst, arith, vec_capacity}, proofs.lemmas.List.{with_items_is}}
-use Rattle.arrays_core.specs.Growth.{IsRoomy, HasRoom}
-use Rattle.fold_trees.{specs.ArrayLines.{TreesValue, NewPlacesValue}, specs.PartTrees.{AreLineTrees, ArePartTrees}, specs.LineTrees.{slot_of, shorter, node_of, ArePartsKept, nodes_in_line}, proofs.LongerTrees.{all_long, held_nodes, kept_without, longer_trees, nodes_long}}
-use Rattle.fold_trees.{proofs.part_trees.PartTrees.lengthen.Given.{Over}, proofs.part_trees.PartTrees.lengthen.Goals.{After-more, After-deref_mut}, specs.LineBlocks.{line_at}}
+use Rattle.std.{proofs.Common.{◌≡◌, ◌∙◌, ◌+◌, ◌*◌, ◌++◌, ℤ, List, length, sym, ap, arith}, proofs.lemmas.List.{with_items_is}}
+use Rattle.fold_trees.{specs.ArrayLines.{TreesValue, NewPlacesValue}, specs.LineTrees.{nodes_in_line}, proofs.LongerTrees.{all_long, held_nodes, kept_without, longer_trees, nodes_long}, proofs.part_trees.PartTrees.lengthen.Given.{Over}, proofs.part_trees.PartTrees.lengthen.Goals.{After-more, After-deref_mut}}
 use Rattle.fold_trees.proofs.part_trees.PartTrees.lengthen.Goals as goal
 
 -- ---- the numbers are those of one more place of each line, and the room is for them
@@ -34,9 +32,7 @@ nodes_in_all g c =
 pub put_behind-requires-2-clause-room : goal.put_behind-requires-2-clause-room
 put_behind-requires-2-clause-room g c =
     let before = (goal.at.put_behind-requires-2-clause-room g c).After-more in
-    let capacity = vec_capacity c.more.inside.nodes in
-    subst (λ n. HasRoom n (length c.self.inside.nodes.items + length c.more.inside.more_nodes.items) capacity) (old_nodes g before)
-    (subst (λ n. HasRoom (nodes_in_line c.more.inside.count * length c.more.inside.numbers.items) n capacity) (nodes_in_all g before) c.more.invariant.node_room)
+    rw (← nodes_in_all g before, ← old_nodes g before) c.more.invariant.node_room
 
 -- ---- the lists with the new numbers and nodes
 
@@ -64,38 +60,18 @@ take_places-requires-clause-node_count g c = nodes_count g c
 
 pub take_places-requires-clause-kept : goal.take_places-requires-clause-kept
 take_places-requires-clause-kept g c line h =
-    let blank = g.P.Part.blank in
-    let tells = g.P.Part.tells in
-    let count = c.self.inside.count in
-    let numbers = c.self.inside.numbers.items in
-    let more = c.more.inside.numbers.items in
-    let before = (goal.at.take_places-requires-clause-kept g c).After-more in
-    let l = shorter (line_at (count + 1) c.self.inside.step line) in
-    subst (λ (s : List ℤ). ArePartsKept tells (count + 1 - 1) (slot_of l s) (node_of blank l c.deref_mut.result.now)) (sym (numbers_are g c))
-    (subst (λ (n : List g.row.P.Denot). ArePartsKept tells (count + 1 - 1) (slot_of l (numbers ++ more)) (node_of blank l n)) (sym (nodes_are g c))
-    (kept_without blank tells count c.self.inside.step numbers more c.self.inside.nodes.items c.more.inside.more_nodes.items c.self.invariant.trees
-    (between g before) line h))
+    rw (numbers_are g c, nodes_are g c) (kept_without _ _ _ _ _ _ _ _ c.self.invariant.trees (between g ((goal.at.take_places-requires-clause-kept g c).After-more)) line h)
 
 -- ---- when all lines have taken theirs
 
 pub invariant_of-self : goal.invariant_of-self
 invariant_of-self g c =
-    let blank = g.P.Part.blank in
-    let tells = g.P.Part.tells in
-    let count = c.self.inside.count in
-    let step = c.self.inside.step in
-    let numbers = c.put_behind.new.items in
-    let nodes = c.put_behind-2.new.items in
-    let after = c.take_places.new.nodes in
-    let told = c.take_places.ensures in
     let before = (goal.at.invariant_of-self g c).After-deref_mut in
-    let nodes_kept = with_items_is nodes after (told.node_length ∙ c.deref_mut.ensures.len) in
-    let node_count = told.node_length ∙ ap (λ (l : List g.row.P.Denot). length l) c.deref_mut.ensures.value in
-    let trees = longer_trees blank tells (count + 1) step c.deref.result.now after (omega arith) c.self.invariant.trees.lines.apart (numbers_long g before)
-    (told.node_length ∙ nodes_count g before) told.kept in
-    let whole : ArePartTrees blank tells (count + 1) step numbers.items after (vec_capacity numbers) (vec_capacity nodes) = record {
-      trees = subst (λ (l : List ℤ). AreLineTrees blank tells (count + 1) step l after) c.deref.ensures.value trees;
+    let told = c.take_places.ensures in
+    let trees = longer_trees g.P.Part.blank g.P.Part.tells (c.self.inside.count + 1) c.self.inside.step c.deref.result.now c.take_places.new.nodes (omega arith)
+    c.self.invariant.trees.lines.apart (numbers_long g before) (told.node_length ∙ nodes_count g before) told.kept in
+    rw (with_items_is c.put_behind-2.new.items c.take_places.new.nodes (told.node_length ∙ c.deref_mut.ensures.len)) (record {
+      trees = rw c.deref.ensures.value at trees;
       slot_room = c.put_behind.ensures.room;
-      node_room = subst (λ n. IsRoomy n (vec_capacity nodes)) (sym node_count) c.put_behind-2.ensures.room;
-    } in
-    subst (λ (l : List g.row.P.Denot). ArePartTrees blank tells (count + 1) step numbers.items l (vec_capacity numbers) (vec_capacity nodes)) (sym nodes_kept) whole
+      node_room = rw (told.node_length ∙ ap (λ (l : List g.row.P.Denot). length l) c.deref_mut.ensures.value) c.put_behind-2.ensures.room;
+    })

@@ -48,19 +48,15 @@ of_narrow-requires-clause-ordered c =
 
 pub of_narrow-requires-clause-low : goal.of_narrow-requires-clause-low
 of_narrow-requires-clause-low c =
-    subst (λ (s : Products). neg_ℤ (pos 4611686014132420609) ≤ℤ s.least) (sym (made c))
-    (narrow_least (kept_products c.args.self.now) (kept_products c.args.later.now) (subst (λ z. unsigned_abs z ≤ 2147483647) c.near_least.ensures.is c.near_least.ensures.near)
-    (subst (λ z. unsigned_abs z ≤ 2147483647) c.near_greatest.ensures.is c.near_greatest.ensures.near)
-    (subst (λ z. unsigned_abs z ≤ 2147483647) c.near_total-factor.ensures.is c.near_total-factor.ensures.near)
-    (subst (λ z. unsigned_abs z ≤ 2147483647) c.near_least-2.ensures.is c.near_least-2.ensures.near))
+    subst (λ (s : Products). neg_ℤ (pos 4611686014132420609) ≤ℤ s.least) (sym (made c)) (narrow_least (kept_products c.args.self.now) (kept_products c.args.later.now)
+    (rw c.near_least.ensures.is at c.near_least.ensures.near) (rw c.near_greatest.ensures.is at c.near_greatest.ensures.near)
+    (rw c.near_total-factor.ensures.is at c.near_total-factor.ensures.near) (rw c.near_least-2.ensures.is at c.near_least-2.ensures.near))
 
 pub of_narrow-requires-clause-high : goal.of_narrow-requires-clause-high
 of_narrow-requires-clause-high c =
-    subst (λ (s : Products). s.greatest ≤ℤ pos 4611686014132420609) (sym (made c))
-    (narrow_greatest (kept_products c.args.self.now) (kept_products c.args.later.now) (subst (λ z. unsigned_abs z ≤ 2147483647) c.near_least.ensures.is c.near_least.ensures.near)
-    (subst (λ z. unsigned_abs z ≤ 2147483647) c.near_greatest.ensures.is c.near_greatest.ensures.near)
-    (subst (λ z. unsigned_abs z ≤ 2147483647) c.near_total-factor.ensures.is c.near_total-factor.ensures.near)
-    (subst (λ z. unsigned_abs z ≤ 2147483647) c.near_greatest-2.ensures.is c.near_greatest-2.ensures.near))
+    subst (λ (s : Products). s.greatest ≤ℤ pos 4611686014132420609) (sym (made c)) (narrow_greatest (kept_products c.args.self.now) (kept_products c.args.later.now)
+    (rw c.near_least.ensures.is at c.near_least.ensures.near) (rw c.near_greatest.ensures.is at c.near_greatest.ensures.near)
+    (rw c.near_total-factor.ensures.is at c.near_total-factor.ensures.near) (rw c.near_greatest-2.ensures.is at c.near_greatest-2.ensures.near))
 
 pub returns : goal.returns
 returns c earlier rest h k =

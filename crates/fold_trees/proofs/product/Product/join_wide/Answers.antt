@@ -16,25 +16,16 @@ times_read : (z w x y : ℤ) → SFits w128 z → SFits w128 w → z ≡ x → w
 times_read z w x y f g e d h k = to_z-of_z w128 _ (read_times z w x y f g e d h k) ∙ (λ i. read z x f e i *ℤ read w y g d i)
 
 pub overflow_mul-one : goal.overflow_mul-one
-overflow_mul-one c =
-    let here = are_near c.args.self.now _ c.requires.here.1 in
-    let later = are_near c.args.later.now _ c.requires.later.1 in
-    let factor : SFits w128 c.total-factor.result = record { sfits = c.total-factor.type_inv } in
-    read_times _ _ _ _ (record { sfits = c.least.type_inv }) factor c.least.ensures c.total-factor.ensures here.least later.total
+overflow_mul-one c = read_times _ _ _ _ (record { sfits = c.least.type_inv }) (record { sfits = c.total-factor.type_inv }) c.least.ensures c.total-factor.ensures
+    (are_near c.args.self.now _ c.requires.here.1).least (are_near c.args.later.now _ c.requires.later.1).total
 
 pub overflow_mul-other : goal.overflow_mul-other
-overflow_mul-other c =
-    let here = are_near c.args.self.now _ c.requires.here.1 in
-    let later = are_near c.args.later.now _ c.requires.later.1 in
-    let factor : SFits w128 c.total-factor.result = record { sfits = c.total-factor.type_inv } in
-    read_times _ _ _ _ (record { sfits = c.greatest.type_inv }) factor c.greatest.ensures c.total-factor.ensures here.greatest later.total
+overflow_mul-other c = read_times _ _ _ _ (record { sfits = c.greatest.type_inv }) (record { sfits = c.total-factor.type_inv }) c.greatest.ensures c.total-factor.ensures
+    (are_near c.args.self.now _ c.requires.here.1).greatest (are_near c.args.later.now _ c.requires.later.1).total
 
 pub overflow_mul-total : goal.overflow_mul-total
-overflow_mul-total c =
-    let here = are_near c.args.self.now _ c.requires.here.1 in
-    let later = are_near c.args.later.now _ c.requires.later.1 in
-    let factor : SFits w128 c.total-factor.result = record { sfits = c.total-factor.type_inv } in
-    read_times _ _ _ _ (record { sfits = c.total.type_inv }) factor c.total.ensures c.total-factor.ensures here.total later.total
+overflow_mul-total c = read_times _ _ _ _ (record { sfits = c.total.type_inv }) (record { sfits = c.total-factor.type_inv }) c.total.ensures c.total-factor.ensures
+    (are_near c.args.self.now _ c.requires.here.1).total (are_near c.args.later.now _ c.requires.later.1).total
 
 -- what is worked out is the join of what the two tell
 made : (c : goal.After-total) → record {

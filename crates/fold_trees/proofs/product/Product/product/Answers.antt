@@ -1,5 +1,4 @@
-use Rattle.std.{proofs.Common.{ap, sym, ◌∙◌, arith, inl, inr, Ok}, proofs.lemmas.Int.{ints, clamps}}
-use Rattle.item_fns.proofs.Within.{Within}
+use Rattle.{std.{proofs.Common.{ap, sym, ◌∙◌, arith, inl, inr, Ok}, proofs.lemmas.Int.{ints, clamps}}, item_fns.proofs.Within.{Within}}
 use Rattle.fold_trees.{specs.Products.{kept_products, product_told}, proofs.ProductEndings.{told_within}}
 use Rattle.fold_trees.proofs.product.Product.product.Goals as goal
 

@@ -1,5 +1,4 @@
-use Rattle.std.proofs.Common.{◌∙◌}
-use Rattle.fold_trees.{specs.Products.{products_of}, proofs.ProductEndings.{some_folded}}
+use Rattle.{std.proofs.Common.{◌∙◌}, fold_trees.{specs.Products.{products_of}, proofs.ProductEndings.{some_folded}}}
 use Rattle.fold_trees.proofs.product.ProductPart.fold.Goals as goal
 
 pub returns : goal.returns

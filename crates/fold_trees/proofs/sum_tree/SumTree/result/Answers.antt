@@ -1,5 +1,4 @@
-use Rattle.std.proofs.Common.{◌∙◌, ◌<◌, ℤ, List, length, rules, sym, subst}
-use Rattle.function_names.specs.declared.scalar.Scalar2.TheVariants.{Plus}
+use Rattle.{std.proofs.Common.{◌∙◌, ◌<◌, ℤ, List, length, rules, sym, subst}, function_names.specs.declared.scalar.Scalar2.TheVariants.{Plus}}
 use Rattle.fold_trees.{specs.FoldTrees.{IsReductionBy}, proofs.OneLine.{numbers_of_one}}
 use Rattle.fold_trees.proofs.sum_tree.SumTree.result.Goals as goal
 

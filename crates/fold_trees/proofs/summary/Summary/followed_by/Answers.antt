@@ -1,5 +1,4 @@
-use Rattle.std.proofs.Common.{sym, subst, inl}
-use Rattle.fold_trees.{specs.Sums.{IsOrdered, told_sums}, proofs.JoinedSums.{ordered_join, tells_join}}
+use Rattle.{std.proofs.Common.{sym, subst, inl}, fold_trees.{specs.Sums.{IsOrdered, told_sums}, proofs.JoinedSums.{ordered_join, tells_join}}}
 use Rattle.fold_trees.proofs.summary.Summary.followed_by.Goals as goal
 
 pub returns-then-is_near-2 : goal.returns-then-is_near-2

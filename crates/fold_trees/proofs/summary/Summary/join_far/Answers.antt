@@ -12,13 +12,12 @@ made c =
     let shift = c.total-shift.ensures in
     let least = c.least.ensures in
     let least2 = c.least-2.ensures in
-    let min_is = c.min-least.ensures.value in
     let greatest = c.greatest.ensures in
     let greatest2 = c.greatest-2.ensures in
     let max_is = c.max-greatest.ensures.value in
     sums_eq _ _
     (omega (arith, ints, c.total.ensures.is, c.total.ensures.low, c.total.ensures.high, shift.is, shift.low, shift.high))
-    (omega (arith, ints, clamps, shift.is, shift.low, shift.high, least.is, least.low, least.high, least2.is, least2.low, least2.high, min_is))
+    (omega (arith, ints, clamps, shift.is, shift.low, shift.high, least.is, least.low, least.high, least2.is, least2.low, least2.high, c.min-least.ensures.value))
     (omega (arith, ints, clamps, shift.is, shift.low, shift.high, greatest.is, greatest.low, greatest.high, greatest2.is, greatest2.low, greatest2.high, max_is))
 
 pub of_sums-requires-clause-ordered : goal.of_sums-requires-clause-ordered
@@ -34,8 +33,7 @@ pub of_sums-requires-clause-high : goal.of_sums-requires-clause-high
 of_sums-requires-clause-high c =
     let shift = c.total-shift.ensures in
     let greatest2 = c.greatest-2.ensures in
-    let max_is = c.max-greatest.ensures.value in
-    omega (arith, ints, clamps, shift.is, shift.low, shift.high, c.greatest.ensures.low, c.greatest.ensures.high, greatest2.low, greatest2.high, max_is)
+    omega (arith, ints, clamps, shift.is, shift.low, shift.high, c.greatest.ensures.low, c.greatest.ensures.high, greatest2.low, greatest2.high, c.max-greatest.ensures.value)
 
 pub returns : goal.returns
 returns c earlier rest h k = tells_join c.args.self.now c.args.later.now c.of_sums.result earlier rest h k (subst (IsSummaryOf c.of_sums.result) (made c.before) c.of_sums.ensures)

@@ -8,8 +8,7 @@ abs_sum x y = omega (arith, ints)
 
 near_sum : (x y : ℤ) → unsigned_abs x < 2 ^ 61 → unsigned_abs y < 2 ^ 61 → FitsSigned w64 x → FitsSigned w64 y → to_z w64 (of_z w64 (to_z w64 (of_z w64 x) +ℤ to_z w64 (of_z w64 y))) ≡ x +ℤ y
 near_sum x y h k f g =
-    let all = abs_sum x y in
-    (λ i. to_z w64 (of_z w64 (to_z-of_z w64 x f i +ℤ to_z-of_z w64 y g i))) ∙ to_z-of_z w64 (x +ℤ y) (fits_signed_from_abs w64 (x +ℤ y) (omega (arith, all, h, k)))
+    (λ i. to_z w64 (of_z w64 (to_z-of_z w64 x f i +ℤ to_z-of_z w64 y g i))) ∙ to_z-of_z w64 (x +ℤ y) (fits_signed_from_abs w64 (x +ℤ y) (omega (arith, abs_sum x y, h, k)))
 
 -- the sums of two numbers, as they are added
 two : (l r : ℤ) → record { total = l +ℤ r; least = int_min (int_min (l +ℤ r) r) (pos 0); greatest = int_max (int_max (l +ℤ r) r) (pos 0) } ≡ sums_of (l ∷ r ∷ [])

@@ -1,5 +1,4 @@
-use Rattle.std.{proofs.Common.{arith, inl}, proofs.lemmas.Int.{ints}}
-use Rattle.fold_trees.proofs.JoinedSums.{sums_eq}
+use Rattle.{std.{proofs.Common.{arith, inl}, proofs.lemmas.Int.{ints}}, fold_trees.proofs.JoinedSums.{sums_eq}}
 use Rattle.fold_trees.proofs.summary.Summary.of_sums.Goals as goal
 
 pub returns : goal.returns

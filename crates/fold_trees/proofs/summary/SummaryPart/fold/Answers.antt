@@ -1,5 +1,4 @@
-use Rattle.std.proofs.Common.{◌∙◌}
-use Rattle.fold_trees.{specs.Sums.{sums_of}, proofs.SumEndings.{some_folded}}
+use Rattle.{std.proofs.Common.{◌∙◌}, fold_trees.{specs.Sums.{sums_of}, proofs.SumEndings.{some_folded}}}
 use Rattle.fold_trees.proofs.summary.SummaryPart.fold.Goals as goal
 
 pub returns : goal.returns

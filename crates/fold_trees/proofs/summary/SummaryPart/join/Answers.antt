@@ -1,5 +1,4 @@
-use Rattle.std.{proofs.Common.{◌≡◌, sym, subst, true}, proofs.lemmas.List.Elements.{All-append}}
-use Rattle.item_fns.specs.Numbers.{is_number}
+use Rattle.{std.{proofs.Common.{◌≡◌, sym, subst, true}, proofs.lemmas.List.Elements.{All-append}}, item_fns.specs.Numbers.{is_number}}
 use Rattle.fold_trees.{specs.Sums.{IsSummaryOf, sums_of}, proofs.JoinedSums.{sums_append}}
 use Rattle.fold_trees.proofs.summary.SummaryPart.join.Goals as goal
 

@@ -1,6 +1,5 @@
 use Rattle.std.{proofs.Common.{◌≡◌, ◌∷◌, [], List, ℤ, true, subst, to_z, of_z, w64}, proofs.lemmas.Int.{to_z-of_z}, proofs.lemmas.List.Elements.{All-cons, All-nil}}
-use Rattle.item_fns.{specs.Numbers.{is_number}, proofs.Within.{within_of, is_in_64_bits}}
-use Rattle.fold_trees.specs.Sums.{IsSummaryOf, sums_of}
+use Rattle.{item_fns.{specs.Numbers.{is_number}, proofs.Within.{within_of, is_in_64_bits}}, fold_trees.specs.Sums.{IsSummaryOf, sums_of}}
 use Rattle.fold_trees.proofs.summary.SummaryPart.two.Goals as goal
 
 pub returns : goal.returns

@@ -1,6 +1,4 @@
-use Rattle.std.proofs.Common.{ap, ◌∙◌}
-use Rattle.apl_expr.specs.Trees.{literal_of}
-use Rattle.formula_core.{specs.Meaning.{array_of}, proofs.LiteralArrays.{literal_back}}
+use Rattle.{std.proofs.Common.{ap, ◌∙◌}, apl_expr.specs.Trees.{literal_of}, formula_core.{specs.Meaning.{array_of}, proofs.LiteralArrays.{literal_back}}}
 use Rattle.formula_core.proofs.constant.Constant.of.Goals as goal
 
 pub invariant_of-result : goal.invariant_of-result

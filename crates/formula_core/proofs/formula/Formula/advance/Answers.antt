@@ -1,5 +1,4 @@
-use Rattle.std.proofs.Common.{◌∙◌, ap, length, arith}
-use Rattle.change_core.specs.Meters.{ticked, MeterValue}
+use Rattle.{std.proofs.Common.{◌∙◌, ap, length, arith}, change_core.specs.Meters.{ticked, MeterValue}}
 use Rattle.formula_core.{specs.Plans.{PlanValue}, specs.Tables.{subtrees, tree_at}, proofs.Progressed.{node_left, more_of, one_more, planned_more, counted_whole}, proofs.Tallied.{joined_whole}}
 use Rattle.formula_core.proofs.formula.Formula.advance.Goals as goal
 

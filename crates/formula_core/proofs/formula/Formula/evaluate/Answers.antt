@@ -1,5 +1,4 @@
-use Rattle.std.proofs.Common.{ap, ◌∙◌}
-use Rattle.formula_core.{specs.Formulas.{FormulaValue}, specs.Meaning.{eval}, proofs.AtRest.{planned_result}}
+use Rattle.{std.proofs.Common.{ap, ◌∙◌}, formula_core.{specs.Formulas.{FormulaValue}, specs.Meaning.{eval}, proofs.AtRest.{planned_result}}}
 use Rattle.apl_expr.specs.Trees.{Tree}
 use Rattle.formula_core.proofs.formula.Formula.evaluate.Goals as goal
 

@@ -1,5 +1,4 @@
-use Rattle.std.proofs.Common.{refl}
-use Rattle.apl_expr.specs.Trees.{tree_of}
+use Rattle.{std.proofs.Common.{refl}, apl_expr.specs.Trees.{tree_of}}
 use Rattle.formula_core.{specs.Holdings.{nodes_of}, proofs.Planned.{made_new}, proofs.Rooted.{new_holdings}}
 use Rattle.formula_core.proofs.formula.Formula.of.Goals as goal
 

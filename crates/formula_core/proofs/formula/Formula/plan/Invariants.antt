@@ -1,5 +1,4 @@
-use Rattle.std.{proofs.Common.{◌+◌, ◌-◌, ◌≤◌, length, take}, specs.List.{sum_by}}
-use Rattle.change_core.specs.Meters.{ticked}
+use Rattle.{std.{proofs.Common.{◌+◌, ◌-◌, ◌≤◌, length, take}, specs.List.{sum_by}}, change_core.specs.Meters.{ticked}}
 use Rattle.formula_core.{specs.Changes.{NamesChange}, specs.Formulas.{operations}, specs.Joins.{least_joins, most_joins}, specs.Plans.{node_cost_at, AllComputed, IsTold}, specs.Progress.{operations_among, IsPlannedTo}, specs.Tables.{subtrees}}
 use Rattle.formula_core.proofs.formula.Formula.plan.Given as goal
 

@@ -1,5 +1,4 @@
-use Rattle.std.proofs.Common.{sym}
-use Rattle.formula_core.proofs.Origins.{held_origin, kept_origin}
+use Rattle.{std.proofs.Common.{sym}, formula_core.proofs.Origins.{held_origin, kept_origin}}
 use Rattle.formula_core.proofs.lent_fault.LentFault.arisen_in.Goals as goal
 
 pub returns : goal.returns

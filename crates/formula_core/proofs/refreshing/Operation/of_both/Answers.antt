@@ -1,5 +1,4 @@
-use Rattle.std.proofs.Common.{sym, subst}
-use Rattle.apl_expr.specs.declared.functions.Function2.{Function2}
+use Rattle.{std.proofs.Common.{sym, subst}, apl_expr.specs.declared.functions.Function2.{Function2}}
 use Rattle.formula_core.specs.Rules.{with_change, both_rule, IsRefreshed}
 use Rattle.formula_core.proofs.refreshing.Operation.of_both.Goals as goal
 

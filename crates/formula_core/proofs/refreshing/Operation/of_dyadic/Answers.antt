@@ -1,6 +1,4 @@
-use Rattle.std.proofs.Common.{sym, subst}
-use Rattle.apl_expr.specs.declared.expr.Dyadic.{Dyadic}
-use Rattle.formula_core.specs.Rules.{with_change, dyadic_rule, IsRefreshed}
+use Rattle.{std.proofs.Common.{sym, subst}, apl_expr.specs.declared.expr.Dyadic.{Dyadic}, formula_core.specs.Rules.{with_change, dyadic_rule, IsRefreshed}}
 use Rattle.formula_core.proofs.refreshing.Operation.of_dyadic.Goals as goal
 
 pub returns-in-Scalar-clause-refreshed : goal.returns-in-Scalar-clause-refreshed

@@ -1,5 +1,4 @@
-use Rattle.std.{proofs.Common.{◌∙◌, sym}, proofs.lemmas.Bool.{false≢true}}
-use Rattle.formula_core.proofs.Steps.{taken_input, taken_shown, taken_fits}
+use Rattle.{std.{proofs.Common.{◌∙◌, sym}, proofs.lemmas.Bool.{false≢true}}, formula_core.proofs.Steps.{taken_input, taken_shown, taken_fits}}
 use Rattle.formula_core.proofs.stage.Stage.argument.Goals as goal
 
 pub returns-then-self-clause-ready : goal.returns-then-self-clause-ready

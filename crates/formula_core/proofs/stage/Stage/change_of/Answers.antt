@@ -1,5 +1,4 @@
-use Rattle.std.proofs.Common.{List, [], get_or, Option, refl, sym, subst, ap, ◌∙◌}
-use Rattle.apl_expr.specs.Trees.{Const, Name}
+use Rattle.{std.proofs.Common.{List, [], get_or, Option, refl, sym, subst, ap, ◌∙◌}, apl_expr.specs.Trees.{Const, Name}}
 use Rattle.formula_core.{specs.declared.table.Node.{Node}, specs.declared.table.Operand.{Operand}, specs.Meaning.{eval}, specs.Tables.{tree_of_node, tree_of_index, tree_of_operand}, specs.Plans.{node_change}, specs.Stages.{IsStep, IsJoined, IsKeptBy, IsMadeBy}, proofs.Applied.{least_between, most_between}}
 use Rattle.formula_core.{proofs.Steps.{leaf_step, name_input, name_told}, proofs.Joined.{kept_well, monad_joined, unjoined}, proofs.Summed.{kept_for, made_for}, proofs.Stepping.{monad_step, dyad_step}, specs.Rules.{with_change}}
 use Rattle.formula_core.proofs.stage.Stage.change_of.Goals as goal

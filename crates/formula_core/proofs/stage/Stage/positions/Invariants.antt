@@ -1,5 +1,4 @@
-use Rattle.std.{proofs.Common.{ℕ, List, map, take}, specs.Option.{option_map}}
-use Rattle.apl_expr.specs.Trees.{Tree}
+use Rattle.{std.{proofs.Common.{ℕ, List, map, take}, specs.Option.{option_map}}, apl_expr.specs.Trees.{Tree}}
 use Rattle.formula_core.{specs.Changes.{NamesChange}, specs.Inputs.{AllHaveFit}, specs.Stages.{IsStaged, GiveTheirTrees}, specs.Tables.{tree_of_operand}}
 use Rattle.formula_core.proofs.stage.Stage.positions.Given as goal
 

@@ -1,5 +1,4 @@
-use Rattle.std.{proofs.Common.{◌∙◌, ap, sym}, specs.Option.{option_map}}
-use Rattle.formula_core.proofs.Summed.{change_or, sums_step}
+use Rattle.{std.{proofs.Common.{◌∙◌, ap, sym}, specs.Option.{option_map}}, formula_core.proofs.Summed.{change_or, sums_step}}
 use Rattle.formula_core.proofs.stage.Stage.sums_of.Goals as goal
 
 pub returns-in-Some : goal.returns-in-Some

@@ -1,5 +1,5 @@
 use Rattle.std.{proofs.Common.{◌≡◌, ◌∙◌, List, ap, arith, length, subst, sym, take, true}, proofs.lemmas.List.{length-map, length-take-le, take_all}}
-use Rattle.index_region.{specs.Boxes.{Interval, is_box}, proofs.OnePlace.{one_place, one_place_box, as_long}}
+use Rattle.{arrays_core.proofs.Shapes.{as_long}, index_region.{specs.Boxes.{Interval, is_box}, proofs.OnePlace.{one_place, one_place_box}}}
 use Rattle.index_region.proofs.index_box.IndexBox.at.Goals as goal
 
 pub push-requires : goal.push-requires
@@ -13,5 +13,4 @@ pub invariant_of-result : goal.invariant_of-result
 invariant_of-result c =
     let index = c.args.index.now in
     let whole = take_all c.loop-place.place-index index (omega (arith, c.loop-place-test.false)) in
-    let all : c.loop-place.intervals ≡ one_place index = c.loop-place.invariant ∙ ap one_place whole in
-    subst (λ (r : List Interval). is_box r ≡ true) (sym all) (one_place_box c.args.shape.now index c.requires.rank c.requires.inside)
+    subst (λ (r : List Interval). is_box r ≡ true) (sym (c.loop-place.invariant ∙ ap one_place whole)) (one_place_box c.args.shape.now index c.requires.rank c.requires.inside)

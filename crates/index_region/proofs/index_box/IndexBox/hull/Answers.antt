@@ -1,5 +1,4 @@
-use Rattle.std.proofs.Common.{◌≡◌, true, List, rules, subst, sym}
-use Rattle.index_region.{specs.Boxes.{Interval, is_box, hull_of}, proofs.Boxes.{hull_box}}
+use Rattle.{std.proofs.Common.{◌≡◌, true, List, rules, subst, sym}, index_region.{specs.Boxes.{Interval, is_box, hull_of}, proofs.Boxes.{hull_box}}}
 use Rattle.index_region.proofs.index_box.IndexBox.hull.Goals as goal
 
 pub invariant_of-result : goal.invariant_of-result

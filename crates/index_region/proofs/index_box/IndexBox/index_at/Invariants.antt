@@ -1,5 +1,4 @@
-use Rattle.std.proofs.Common.{◌≡◌, ◌<◌, ◌++◌, ◌^◌, drop, length}
-use Rattle.index_region.specs.Boxes.{walk_at, box_size}
+use Rattle.{std.proofs.Common.{◌≡◌, ◌<◌, ◌++◌, ◌^◌, drop, length}, index_region.specs.Boxes.{walk_at, box_size}}
 use Rattle.index_region.proofs.index_box.IndexBox.index_at.Given as goal
 
 abbrev pub invariant-loop-axis : goal.invariant-loop-axis

@@ -1,5 +1,4 @@
-use Rattle.std.proofs.Common.{◌≡◌, ◌++◌, take}
-use Rattle.index_region.specs.Boxes.{whole_of}
+use Rattle.{std.proofs.Common.{◌≡◌, ◌++◌, take}, index_region.specs.Boxes.{whole_of}}
 use Rattle.index_region.proofs.intervals.Intervals.and_whole.Given as goal
 
 abbrev pub invariant-loop-axis : goal.invariant-loop-axis

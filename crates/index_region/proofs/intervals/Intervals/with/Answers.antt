@@ -1,5 +1,4 @@
-use Rattle.std.proofs.Common.{sym, rules}
-use Rattle.index_region.proofs.Boxes.{set_in_front}
+use Rattle.{std.proofs.Common.{sym, rules}, index_region.proofs.Boxes.{set_in_front}}
 use Rattle.index_region.proofs.intervals.Intervals.with.Goals as goal
 
 pub returns : goal.returns

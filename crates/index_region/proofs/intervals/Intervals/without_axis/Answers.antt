@@ -1,5 +1,4 @@
-use Rattle.std.proofs.Common.{rules, refl}
-use Rattle.index_region.proofs.Boxes.{removed}
+use Rattle.{std.proofs.Common.{rules, refl}, index_region.proofs.Boxes.{removed}}
 use Rattle.index_region.proofs.intervals.Intervals.without_axis.Goals as goal
 
 pub returns : goal.returns

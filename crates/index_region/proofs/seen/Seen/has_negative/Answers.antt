@@ -1,5 +1,4 @@
-use Rattle.std.{proofs.Common.{ap, sym, ◌∙◌}, specs.Prelude.{not}}
-use Rattle.index_region.{specs.Arguments.{none_negative}, proofs.Numbers.{numbers_read}}
+use Rattle.{std.{proofs.Common.{ap, sym, ◌∙◌}, specs.Prelude.{not}}, index_region.{specs.Arguments.{none_negative}, proofs.Numbers.{numbers_read}}}
 use Rattle.index_region.proofs.seen.Seen.has_negative.Goals as goal
 
 pub returns-in-Some : goal.returns-in-Some

@@ -1,5 +1,4 @@
-use Rattle.std.proofs.Common.{◌≡◌, drop}
-use Rattle.index_region.specs.Arguments.{numbers, none_negative}
+use Rattle.{std.proofs.Common.{◌≡◌, drop}, index_region.specs.Arguments.{numbers, none_negative}}
 use Rattle.index_region.proofs.seen.Seen.has_negative.Given as goal
 
 abbrev pub invariant-loop-place : goal.invariant-loop-place

@@ -1,5 +1,4 @@
-use Rattle.std.proofs.Common.{◌≡◌, ◌<◌, ℕ, pos, length, get_or, Ok}
-use Rattle.item_fns.specs.Numbers.{power}
+use Rattle.{std.proofs.Common.{◌≡◌, ◌<◌, ℕ, pos, length, get_or, Ok}, item_fns.specs.Numbers.{power}}
 use Rattle.item_fns.proofs.power_loops.PowersOf.new.Given as goal
 
 abbrev pub invariant-loop-exponent : goal.invariant-loop-exponent

@@ -1,7 +1,6 @@
 use Rattle.std.{proofs.Common.{◌∙◌, ℕ, ap, subst, map}, specs.List.{range_with_len}}
 use Rattle.arrays_core.{specs.Items.{all_or_first_error}, specs.Shapes.{size}, specs.Arrays.{with_items, IsAnswerTo}, specs.declared.item.ItemType.TheVariants.{Nums}}
-use Rattle.item_fns.{specs.Numbers.{dyadic_on_numbers}, specs.NumberLists.{number_items}}
-use Rattle.operator_fns.specs.RowByColumn.{cell}
+use Rattle.{item_fns.{specs.Numbers.{dyadic_on_numbers}, specs.NumberLists.{number_items}}, operator_fns.specs.RowByColumn.{cell}}
 use Rattle.reduce_fns.proofs.Placewise.{numbers_collected}
 use Rattle.operator_fns.proofs.grid.PairsWithFunction.with.Goals as goal
 

@@ -1,5 +1,4 @@
-use Rattle.std.proofs.Common.{◌∙◌, ap, sym, take, drop, arith}
-use Rattle.arrays_core.specs.Items.{fill, and_then}
+use Rattle.{std.proofs.Common.{◌∙◌, ap, sym, take, drop, arith}, arrays_core.specs.Items.{fill, and_then}}
 use Rattle.item_fns.{specs.Items.{dyadic_on_items}, specs.RightFold.{fold_right}}
 use Rattle.operator_fns.{specs.InnerProduct.{row_rank, all_or_last_error}, specs.RowByColumn.{entry, all_met}, proofs.Joined.{long_enough}, proofs.Meetings.{length-met}, specs.Laws.InnerPlaces.{passed_inner}, proofs.Inners.{products_met, fold_of_some}}
 use Rattle.operator_fns.proofs.inner_product.Inner.folded_at.Goals as goal

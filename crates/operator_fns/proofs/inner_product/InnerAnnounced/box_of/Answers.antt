@@ -1,6 +1,5 @@
 use Rattle.std.{proofs.Common.{◌≡◌, ℕ, ◌-◌, List, length, ap, ◌∙◌, arith}, proofs.lemmas.List.{length-drop, length-map, length-take}}
-use Rattle.index_region.specs.Boxes.{Interval}
-use Rattle.operator_fns.proofs.Ranks.{few_rows_and_columns}
+use Rattle.{index_region.specs.Boxes.{Interval}, operator_fns.proofs.Ranks.{few_rows_and_columns}}
 use Rattle.operator_fns.proofs.inner_product.InnerAnnounced.box_of.Goals as goal
 
 pub and_all-intervals-requires : goal.and_all-intervals-requires

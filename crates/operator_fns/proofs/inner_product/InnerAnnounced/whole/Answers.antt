@@ -1,7 +1,5 @@
-use Rattle.std.proofs.Common.{subst, sym, Result}
-use Rattle.arrays_core.{specs.Arrays.{ArrayValue, IsAnswerTo}, specs.declared.item.Kind.{Kind}}
-use Rattle.index_region.proofs.Arguments.{whole_of_two}
-use Rattle.operator_fns.specs.InnerProduct.{inner_form, inner_item}
+use Rattle.{std.proofs.Common.{subst, sym, Result}, arrays_core.{specs.Arrays.{ArrayValue, IsAnswerTo}, specs.declared.item.Kind.{Kind}}}
+use Rattle.{index_region.proofs.Arguments.{whole_of_two}, operator_fns.specs.InnerProduct.{inner_form, inner_item}}
 use Rattle.operator_fns.proofs.inner_product.InnerAnnounced.whole.Goals as goal
 
 pub returns : goal.returns

@@ -1,7 +1,6 @@
-use Rattle.std.{proofs.Common.{◌≡◌, ◌∙◌, ◌+◌, ◌++◌, ◌∷◌, [], ap, sym, length, map, arith, Ok, Err, to_z, of_z, w64, SFits, rules}, specs.List.{range_with_len}, proofs.lemmas.List.{take_all}, proofs.lemmas.List.FromFn.{length-map-range_with_len, get_or-map-range_with_len}, proofs.lemmas.Int.{to_z-of_z}}
+use Rattle.std.{proofs.Common.{◌≡◌, ◌∙◌, ◌+◌, ap, sym, length, map, arith, Ok, Err, to_z, of_z, w64, rules}, specs.List.{range_with_len}, proofs.lemmas.List.{take_all}, proofs.lemmas.List.FromFn.{length-map-range_with_len, get_or-map-range_with_len}, proofs.lemmas.Int.{to_z-of_z}}
 use Rattle.arrays_core.{specs.Items.{all_or_first_error}, proofs.Order.{front_more, front_error}}
-use Rattle.item_fns.{specs.Numbers.{dyadic_on_numbers}, proofs.Errors.{list_error}}
-use Rattle.operator_fns.specs.RowByColumn.{cell}
+use Rattle.{item_fns.{specs.Numbers.{dyadic_on_numbers}, proofs.Errors.{list_error}}, operator_fns.specs.RowByColumn.{cell}}
 use Rattle.operator_fns.proofs.met_numbers.MetNumbers.cells.Goals as goal
 
 pub loop-place-preserved : goal.loop-place-preserved
@@ -12,12 +11,10 @@ loop-place-preserved g c =
     let z = c.in_ok-number.number in
     let rs = map f (range_with_len 0 n) in
     let long : length rs ≡ n = length-map-range_with_len f 0 n in
-    let fits : SFits w64 z = search rules in
-    let same : to_z w64 (of_z w64 z) ≡ z = to_z-of_z w64 _ fits in
+    let same : to_z w64 (of_z w64 z) ≡ z = to_z-of_z w64 _ (search rules) in
     let here = get_or-map-range_with_len f 0 n c.loop-place.place c.loop-place.place (Ok z) (omega arith) (omega arith) ∙ sym c.in_ok-number.ensures.is in
-    let items : c.push.new.self.items ≡ c.loop-place.numbers.items ++ z ∷ [] = rw same at c.in_ok-push.ensures.items in
     record {
-      made = rw items (front_more rs c.loop-place.place c.loop-place.numbers.items z (omega arith) here c.loop-place.invariant.made);
+      made = rw (rw same at c.in_ok-push.ensures.items) (front_more rs c.loop-place.place c.loop-place.numbers.items z (omega arith) here c.loop-place.invariant.made);
       long = c.in_ok-push.ensures.len ∙ ap (λ n. n + 1) c.loop-place.invariant.long;
       room = c.loop-place.invariant.room;
     }

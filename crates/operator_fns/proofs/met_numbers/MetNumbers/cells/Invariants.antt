@@ -1,7 +1,5 @@
-use Rattle.std.{proofs.Common.{◌≡◌, take, map, Ok, vec_len}, specs.List.{range_with_len}}
-use Rattle.arrays_core.specs.Items.{all_or_first_error}
-use Rattle.item_fns.specs.Numbers.{dyadic_on_numbers}
-use Rattle.operator_fns.specs.RowByColumn.{cell}
+use Rattle.{std.{proofs.Common.{◌≡◌, take, map, Ok, vec_len}, specs.List.{range_with_len}}, arrays_core.specs.Items.{all_or_first_error}}
+use Rattle.{item_fns.specs.Numbers.{dyadic_on_numbers}, operator_fns.specs.RowByColumn.{cell}}
 use Rattle.operator_fns.proofs.met_numbers.MetNumbers.cells.Given as goal
 
 abbrev pub invariant-loop-place : goal.invariant-loop-place

@@ -1,6 +1,4 @@
-use Rattle.std.proofs.Common.{subst}
-use Rattle.arrays_core.specs.Arrays.{IsAnswerTo}
-use Rattle.index_region.proofs.Arguments.{whole_of_two}
+use Rattle.{std.proofs.Common.{subst}, arrays_core.specs.Arrays.{IsAnswerTo}, index_region.proofs.Arguments.{whole_of_two}}
 use Rattle.operator_fns.specs.OuterProduct.{outer_form, outer_item}
 use Rattle.operator_fns.proofs.outer_product.Outer.apply.Goals as goal
 

@@ -1,7 +1,5 @@
-use Rattle.std.proofs.Common.{ap, length, arith, ◌++◌}
-use Rattle.arrays_core.specs.declared.item.ItemType.TheVariants.{Nums}
-use Rattle.index_region.proofs.Passing.{place_inside}
-use Rattle.operator_fns.{specs.Laws.JoinedIndices.{parts}, proofs.Joined.{long_enough}}
+use Rattle.{std.proofs.Common.{ap, length, arith, ◌++◌}, arrays_core.specs.declared.item.ItemType.TheVariants.{Nums}}
+use Rattle.{index_region.proofs.Passing.{place_inside}, operator_fns.{specs.Laws.JoinedIndices.{parts}, proofs.Joined.{long_enough}}}
 use Rattle.operator_fns.proofs.outer_product.Outer.paired_at.Goals as goal
 
 pub split_at-requires : goal.split_at-requires

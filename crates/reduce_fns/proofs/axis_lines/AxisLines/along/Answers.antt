@@ -1,6 +1,5 @@
 use Rattle.std.{proofs.Common.{◌≡◌, ◌∙◌, ◌+◌, ◌*◌, ◌/◌, ◌%◌, suc, refl, ap, sym, length, get_or, drop, remove, arith}, proofs.lemmas.List.{length-map}, proofs.Math.Nat.{mul-div_cancel}}
-use Rattle.arrays_core.{specs.declared.item.Item.TheVariants.{Num}, specs.Shapes.{size}}
-use Rattle.reduce_fns.proofs.Reduced.{lines_whole, some_lines}
+use Rattle.{arrays_core.{specs.declared.item.Item.TheVariants.{Num}, specs.Shapes.{size}}, reduce_fns.proofs.Reduced.{lines_whole, some_lines}}
 use Rattle.reduce_fns.proofs.axis_lines.AxisLines.along.Goals as goal
 
 pub invariant_of-result : goal.invariant_of-result
@@ -33,5 +32,4 @@ returns-clause-places c =
     let apart : c.stride.result ≡ size (drop (suc axis) b.shape) = rw (c.as_slice.ensures, c.shape-axes.ensures.is, next) at c.stride.ensures.is in
     let sized : length c.args.numbers.now ≡ size b.shape = sym (length-map c.args.numbers.now (λ z. Num z)) ∙ sym (ap length c.requires.numbers) ∙ c.shape-axes.ensures.sound.one_item_a_place in
     let lines = lines_whole axis b.shape (remove b.shape axis) n c.stride.result c.requires.there refl count apart (omega (arith, sized, c.requires.some)) in
-    let places : length c.args.numbers.now / n ≡ size (remove b.shape axis) = ap (λ m. m / n) (sym (lines.1 ∙ sym sized)) ∙ mul-div_cancel _ lines.0 in
-    places
+    ap (λ m. m / n) (sym (lines.1 ∙ sym sized)) ∙ mul-div_cancel _ lines.0

@@ -1,5 +1,4 @@
-use Rattle.std.proofs.Common.{◌≡◌, ℕ, ◌<◌, ◌≤◌, true, get_or, length, pos, Ok}
-use Rattle.function_names.specs.declared.scalar.Scalar2.TheVariants.{Plus}
+use Rattle.{std.proofs.Common.{◌≡◌, ℕ, ◌<◌, ◌≤◌, true, get_or, length, pos, Ok}, function_names.specs.declared.scalar.Scalar2.TheVariants.{Plus}}
 use Rattle.item_fns.specs.Numbers.{dyadic_on_numbers}
 use Rattle.reduce_fns.proofs.columns.PlusRowFold.put_over.Given as goal
 

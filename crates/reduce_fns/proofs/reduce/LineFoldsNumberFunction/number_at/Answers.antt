@@ -1,5 +1,4 @@
-use Rattle.std.proofs.Common.{arith}
-use Rattle.reduce_fns.proofs.Reduced.{line_below}
+use Rattle.{std.proofs.Common.{arith}, reduce_fns.proofs.Reduced.{line_below}}
 use Rattle.reduce_fns.proofs.reduce.LineFoldsNumberFunction.number_at.Goals as goal
 
 pub overflow_mul-first-2 : goal.overflow_mul-first-2

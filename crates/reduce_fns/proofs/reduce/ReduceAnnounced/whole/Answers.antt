@@ -1,7 +1,5 @@
-use Rattle.std.proofs.Common.{subst, sym, Result}
-use Rattle.arrays_core.{specs.Arrays.{ArrayValue, IsAnswerTo}, specs.declared.item.Kind.{Kind}}
-use Rattle.index_region.proofs.Arguments.{whole_of_one}
-use Rattle.reduce_fns.specs.Reduce.{reduce_form, reduce_item}
+use Rattle.{std.proofs.Common.{subst, sym, Result}, arrays_core.{specs.Arrays.{ArrayValue, IsAnswerTo}, specs.declared.item.Kind.{Kind}}}
+use Rattle.{index_region.proofs.Arguments.{whole_of_one}, reduce_fns.specs.Reduce.{reduce_form, reduce_item}}
 use Rattle.reduce_fns.proofs.reduce.ReduceAnnounced.whole.Goals as goal
 
 pub returns : goal.returns

@@ -1,5 +1,4 @@
-use Rattle.std.proofs.Common.{◌∙◌, sym}
-use Rattle.scalar_fns.proofs.KeptPlaces.{keeps_first, keeps_second}
+use Rattle.{std.proofs.Common.{◌∙◌, sym}, scalar_fns.proofs.KeptPlaces.{keeps_first, keeps_second}}
 use Rattle.scalar_fns.proofs.each_dyadic.EachDyadicAnnounced.keeps_places.Goals as goal
 
 pub returns-then-which-eq0 : goal.returns-then-which-eq0

@@ -1,5 +1,4 @@
-use Rattle.std.proofs.Common.{◌+◌, ◌≤◌}
-use Rattle.scan_fns.specs.ResidueScan.{AreTheSame, rank}
+use Rattle.{std.proofs.Common.{◌+◌, ◌≤◌}, scan_fns.specs.ResidueScan.{AreTheSame, rank}}
 use Rattle.scan_fns.proofs.residue_scan.SidedLines.nearest.Given as goal
 
 abbrev pub invariant-loop-found : goal.invariant-loop-found

@@ -1,4 +1,4 @@
-use Rattle.std.{proofs.Common.{◌≡◌, ◌∙◌, ◌<◌, ap, sym, get_or, length, arith, pos, to_z, of_z, w64, SFits, rules, Some, IfSome}, proofs.lemmas.Int.{to_z-of_z}}
+use Rattle.std.{proofs.Common.{◌≡◌, ◌∙◌, ◌<◌, ap, sym, get_or, length, arith, pos, to_z, of_z, w64, rules, Some, IfSome}, proofs.lemmas.Int.{to_z-of_z}}
 use Rattle.scan_fns.{specs.ResidueScan.{extent_at, from, AreTheSame}, proofs.Divisors.{passes, leads_on, nearer}}
 use Rattle.scan_fns.proofs.residue_scan.SidedLines.next_divisor.Goals as goal
 
@@ -8,8 +8,7 @@ returns c =
     let s = c.args.self.now.stride in
     let n = c.args.self.now.count in
     let place = length c.args.divisors.now in
-    let fit : SFits w64 (get_or zs place (pos 0)) = search rules in
-    let read : to_z w64 (of_z w64 (get_or zs place (pos 0))) ≡ get_or zs place (pos 0) = to_z-of_z w64 _ fit in
+    let read : to_z w64 (of_z w64 (get_or zs place (pos 0))) ≡ get_or zs place (pos 0) = to_z-of_z w64 _ (search rules) in
     let extent : c.extent_of-extent.result ≡ extent_at zs place = rw read at c.extent_of-extent.ensures.is in
     let some = c.extent_of-extent.ensures.some in
     let nearest = c.nearest-below.ensures in

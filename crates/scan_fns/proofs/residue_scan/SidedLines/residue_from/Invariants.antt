@@ -1,5 +1,4 @@
-use Rattle.std.proofs.Common.{◌≡◌, ◌≤◌, unsigned_abs, IfSome, length}
-use Rattle.scan_fns.specs.ResidueScan.{IsBeside, from, rank, extent_at}
+use Rattle.{std.proofs.Common.{◌≡◌, ◌≤◌, unsigned_abs, IfSome, length}, scan_fns.specs.ResidueScan.{IsBeside, from, rank, extent_at}}
 use Rattle.scan_fns.proofs.residue_scan.SidedLines.residue_from.Given as goal
 
 abbrev pub invariant-loop-found : goal.invariant-loop-found

@@ -1,7 +1,5 @@
-use Rattle.std.proofs.Common.{◌≡◌, ◌≤◌, length, vec_len, vec_capacity}
-use Rattle.function_names.specs.declared.scalar.Scalar2.TheVariants.{Residue as ByResidue}
-use Rattle.item_fns.specs.Numbers.{dyadic_on_numbers}
-use Rattle.scan_fns.{specs.LinearScan.{AreResultsTo}, specs.Prefixes.{fold_to}, specs.ResidueScan.{AreDivisors}}
+use Rattle.{std.proofs.Common.{◌≡◌, ◌≤◌, length, vec_len, vec_capacity}, function_names.specs.declared.scalar.Scalar2.TheVariants.{Residue as ByResidue}}
+use Rattle.{item_fns.specs.Numbers.{dyadic_on_numbers}, scan_fns.{specs.LinearScan.{AreResultsTo}, specs.Prefixes.{fold_to}, specs.ResidueScan.{AreDivisors}}}
 use Rattle.scan_fns.proofs.residue_scan.SidedLines.residues.Given as goal
 
 abbrev pub invariant-loop-place : goal.invariant-loop-place

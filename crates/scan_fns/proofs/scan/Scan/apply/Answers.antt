@@ -1,5 +1,4 @@
-use Rattle.index_region.proofs.Arguments.{whole_of_one}
-use Rattle.scan_fns.specs.Scan.{scan_form, scan_item}
+use Rattle.{index_region.proofs.Arguments.{whole_of_one}, scan_fns.specs.Scan.{scan_form, scan_item}}
 use Rattle.scan_fns.proofs.scan.Scan.apply.Goals as goal
 
 pub returns-in_default : goal.returns-in_default

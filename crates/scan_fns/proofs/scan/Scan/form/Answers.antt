@@ -1,6 +1,4 @@
-use Rattle.std.proofs.Common.{rules, ◌∙◌, ◌≤◌, ap, get_or, arith}
-use Rattle.function_names.specs.Axes.{axis_at}
-use Rattle.scan_fns.proofs.Scanned.{characters_fail}
+use Rattle.{std.proofs.Common.{rules, ◌∙◌, ◌≤◌, ap, get_or, arith}, scan_fns.proofs.Scanned.{characters_fail}}
 use Rattle.scan_fns.proofs.scan.Scan.form.Goals as goal
 
 pub returns-then-not-counts_as_numbers : goal.returns-then-not-counts_as_numbers

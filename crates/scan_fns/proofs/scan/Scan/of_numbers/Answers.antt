@@ -1,6 +1,5 @@
 use Rattle.std.{proofs.Common.{rules, ◌≡◌, ◌∙◌, ◌+◌, ◌<◌, suc, ap, sym, length, drop, map, arith}, proofs.lemmas.List.{length-map}}
-use Rattle.arrays_core.{specs.declared.item.Item.TheVariants.{Num}, specs.Shapes.{size}}
-use Rattle.function_names.specs.Axes.{axis_at}
+use Rattle.{arrays_core.{specs.declared.item.Item.TheVariants.{Num}, specs.Shapes.{size}}, function_names.specs.Axes.{axis_at}}
 use Rattle.scan_fns.{specs.Laws.ScannedPlaces.{scan_facts}, proofs.Scanned.{scanned_whole}}
 use Rattle.scan_fns.proofs.scan.Scan.of_numbers.Goals as goal
 

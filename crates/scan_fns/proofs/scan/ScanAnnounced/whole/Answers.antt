@@ -1,7 +1,5 @@
-use Rattle.std.proofs.Common.{subst, sym, Result}
-use Rattle.arrays_core.{specs.Arrays.{ArrayValue, IsAnswerTo}, specs.declared.item.Kind.{Kind}}
-use Rattle.index_region.proofs.Arguments.{whole_of_one}
-use Rattle.scan_fns.specs.Scan.{scan_form, scan_item}
+use Rattle.{std.proofs.Common.{subst, sym, Result}, arrays_core.{specs.Arrays.{ArrayValue, IsAnswerTo}, specs.declared.item.Kind.{Kind}}}
+use Rattle.{index_region.proofs.Arguments.{whole_of_one}, scan_fns.specs.Scan.{scan_form, scan_item}}
 use Rattle.scan_fns.proofs.scan.ScanAnnounced.whole.Goals as goal
 
 pub returns : goal.returns

@@ -1,6 +1,4 @@
-use Rattle.std.proofs.Common.{subst, sym, ap, ◌∙◌, Ok}
-use Rattle.arrays_core.specs.Arrays.{ArrayValue, IsAnswerTo}
-use Rattle.index_region.proofs.Arguments.{whole_of_two}
+use Rattle.{std.proofs.Common.{subst, sym, ap, ◌∙◌, Ok}, arrays_core.specs.Arrays.{ArrayValue, IsAnswerTo}, index_region.proofs.Arguments.{whole_of_two}}
 use Rattle.search_fns.{specs.Encode.{encode_form, encode_item}, proofs.EncodedArrays.{encode_known, encoded_long, encode_answer}}
 use Rattle.search_fns.proofs.encode.Encode.apply.Goals as goal
 

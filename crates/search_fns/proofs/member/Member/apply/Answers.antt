@@ -1,5 +1,4 @@
-use Rattle.std.{proofs.Common.{◌∙◌, sym, ap, length, Ok}, proofs.lemmas.List.{length-map}}
-use Rattle.arrays_core.{specs.Arrays.{ArrayValue}, specs.Shapes.{size}}
+use Rattle.{std.{proofs.Common.{◌∙◌, sym, ap, length, Ok}, proofs.lemmas.List.{length-map}}, arrays_core.{specs.Arrays.{ArrayValue}, specs.Shapes.{size}}}
 use Rattle.search_fns.proofs.Searched.{member_shape, member_answer}
 use Rattle.search_fns.proofs.member.Member.apply.Goals as goal
 

@@ -1,5 +1,4 @@
-use Rattle.std.proofs.Common.{arith}
-use Rattle.change_core.proofs.Filling.{few_places}
+use Rattle.{std.proofs.Common.{arith}, change_core.proofs.Filling.{few_places}}
 use Rattle.search_fns.proofs.member.MemberAnnounced.items_at_once.Goals as goal
 
 pub is_small-requires : goal.is_small-requires

@@ -1,7 +1,5 @@
-use Rattle.std.proofs.Common.{subst, sym, Result}
-use Rattle.arrays_core.{specs.Arrays.{ArrayValue, IsAnswerTo}, specs.declared.item.Kind.{Kind}}
-use Rattle.index_region.proofs.Arguments.{whole_of_two}
-use Rattle.search_fns.specs.Member.{member_form, member_item}
+use Rattle.{std.proofs.Common.{subst, sym, Result}, arrays_core.{specs.Arrays.{ArrayValue, IsAnswerTo}, specs.declared.item.Kind.{Kind}}}
+use Rattle.{index_region.proofs.Arguments.{whole_of_two}, search_fns.specs.Member.{member_form, member_item}}
 use Rattle.search_fns.proofs.member.MemberAnnounced.whole.Goals as goal
 
 pub returns : goal.returns

@@ -1,5 +1,4 @@
-use Rattle.std.proofs.Common.{subst}
-use Rattle.arrays_core.specs.Arrays.{IsAnswerTo}
+use Rattle.{std.proofs.Common.{subst}, arrays_core.specs.Arrays.{IsAnswerTo}}
 use Rattle.selection_fns.{specs.Index.{index_form, index_item}, proofs.Indexed.{whole_of_positions}}
 use Rattle.selection_fns.proofs.index.Index.apply.Goals as goal
 

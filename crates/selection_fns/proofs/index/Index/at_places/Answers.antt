@@ -1,6 +1,6 @@
-use Rattle.std.proofs.Common.{◌≡◌, ℕ, List, ◌∙◌, Ok, ap, sym, subst, replicate, map, get_or, arith}
+use Rattle.std.proofs.Common.{◌≡◌, ℕ, List, ◌∙◌, Ok, ap, sym, replicate, map, get_or, arith}
 use Rattle.arrays_core.{specs.declared.item.Item.{Item}, specs.declared.item.ItemType.{ItemType}, specs.Arrays.{ArrayValue}, specs.Items.{fill}, specs.Shapes.{size}}
-use Rattle.selection_fns.{specs.Index.{written_positions}, specs.IndexPlaces.{all_places, ArePlacesOf}, proofs.IndexPlaces.{index_gives, no_places, picked_places, places_inside}}
+use Rattle.selection_fns.{specs.Index.{written_positions}, specs.IndexPlaces.{all_places}, proofs.IndexPlaces.{index_gives, no_places, picked_places, places_inside}}
 use Rattle.selection_fns.proofs.index.Index.at_places.Goals as goal
 
 pub returns-then-size-eq0 : goal.returns-then-size-eq0
@@ -13,30 +13,20 @@ returns-then-size-eq0 c =
 
 pub places_of-requires-clause-one_an_axis : goal.places_of-requires-clause-one_an_axis
 places_of-requires-clause-one_an_axis c =
-    let known = index_gives c.args.array.now c.args.self.now.written.now c.args.positions.now c.in_ok-shape.shape.items c.in_ok-shape.item_type c.requires c.in_ok-shape.ensures.0 in
-    rw (c.as_slice-2.ensures, c.shape-axes.ensures.is) known.one_an_axis
+    rw (c.as_slice-2.ensures, c.shape-axes.ensures.is) (index_gives c.args.array.now c.args.self.now.written.now c.args.positions.now _ _ c.requires c.in_ok-shape.ensures.0).one_an_axis
 
 pub items-requires-clause-inside : goal.items-requires-clause-inside
 items-requires-clause-inside c =
-    let a = c.args.array.now in
-    let positions = written_positions c.args.self.now.written.now c.args.positions.now in
-    let places = all_places c.in_ok-places.places in
-    let found : ArePlacesOf a.shape positions places = subst (λ s. ArePlacesOf s positions places) (c.as_slice-2.ensures ∙ c.shape-axes.ensures.is) c.in_ok-places.ensures in
+    let found = rw (c.as_slice-2.ensures, c.shape-axes.ensures.is) at c.in_ok-places.ensures in
     λ k h.
-    let below = places_inside a.shape positions places found k h in
-    omega arith
+    omega (arith, places_inside c.args.array.now.shape _ _ found k h)
 
 pub returns : goal.returns
 returns c =
     let a = c.args.array.now in
-    let written = c.args.self.now.written.now in
-    let positions = written_positions written c.args.positions.now in
-    let shape = c.in_ok-shape.shape.items in
-    let item_type = c.in_ok-shape.item_type in
     let places = all_places c.in_ok-places.places in
     let picked : List Item = map (λ (k : ℕ). get_or a.items k (fill a.item_type)) places in
-    let known = index_gives a written c.args.positions.now shape item_type c.requires c.in_ok-shape.ensures.0 in
-    let found : ArePlacesOf a.shape positions places = subst (λ s. ArePlacesOf s positions places) (c.as_slice-2.ensures ∙ c.shape-axes.ensures.is) c.in_ok-places.ensures in
-    let made : c.in_ok-items.field-0 ≡ record { item_type = item_type; shape = shape; items = picked } =
-    c.in_ok-items.ensures ∙ ap (λ (t : ItemType). record { item_type = t; shape = shape; items = picked }) (sym known.typed) in
-    picked_places a positions shape places item_type c.in_ok-shape.ensures.0 known.shaped known.typed found ∙ ap (λ (x : ArrayValue). Ok x) (sym made)
+    let known = index_gives c.args.array.now c.args.self.now.written.now c.args.positions.now _ _ c.requires c.in_ok-shape.ensures.0 in
+    let found = rw (c.as_slice-2.ensures, c.shape-axes.ensures.is) at c.in_ok-places.ensures in
+    let made = c.in_ok-items.ensures ∙ ap (λ (t : ItemType). record { item_type = t; shape = c.in_ok-shape.shape.items; items = picked }) (sym known.typed) in
+    picked_places a _ _ places _ c.in_ok-shape.ensures.0 known.shaped known.typed found ∙ ap (λ (x : ArrayValue). Ok x) (sym made)

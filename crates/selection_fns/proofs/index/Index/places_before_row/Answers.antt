@@ -1,5 +1,4 @@
-use Rattle.std.proofs.Common.{◌≡◌, ◌+◌, ◌++◌, ◌∷◌, [], arith}
-use Rattle.arrays_core.{specs.Shapes.{places_before}, proofs.Shapes.{as_long}}
+use Rattle.{std.proofs.Common.{◌≡◌, ◌+◌, ◌++◌, ◌∷◌, [], arith}, arrays_core.{specs.Shapes.{places_before}, proofs.Shapes.{as_long}}}
 use Rattle.selection_fns.{specs.Index.{written_positions, source_index}, proofs.IndexedRows.{last_index_below}}
 use Rattle.selection_fns.proofs.index.Index.places_before_row.Goals as goal
 

@@ -1,6 +1,4 @@
-use Rattle.std.proofs.Common.{◌≡◌, ◌++◌, ◌∷◌, [], Ok}
-use Rattle.arrays_core.specs.Building.{with_row}
-use Rattle.selection_fns.specs.Index.{written_positions, index_item}
+use Rattle.{std.proofs.Common.{◌≡◌, ◌++◌, ◌∷◌, [], Ok}, arrays_core.specs.Building.{with_row}, selection_fns.specs.Index.{written_positions, index_item}}
 use Rattle.selection_fns.proofs.index.Index.push_row.Given as goal
 
 abbrev pub invariant-loop-before : goal.invariant-loop-before

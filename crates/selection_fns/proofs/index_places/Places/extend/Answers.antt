@@ -1,5 +1,4 @@
-use Rattle.std.proofs.Common.{◌≡◌, ℕ, ◌+◌, ◌<◌, ◌++◌, ◌∙◌, ap, subst, length, map, get_or, arith}
-use Rattle.arrays_core.specs.Items.{fill}
+use Rattle.{std.proofs.Common.{◌≡◌, ℕ, ◌+◌, ◌++◌, ◌∙◌, ap, subst, length, map, get_or, arith}, arrays_core.specs.Items.{fill}}
 use Rattle.selection_fns.{specs.IndexPlaces.{row_places}, proofs.PlaceSums.{sums_below, some_first, picked_more}}
 use Rattle.selection_fns.proofs.index_places.Places.extend.Goals as goal
 
@@ -8,9 +7,7 @@ extend-requires-clause-begins c =
     let heads = c.args.self.now.heads.items in
     let row = row_places c.args.self.now.row in
     let long = ap length c.deref-head-items.ensures.value in
-    let below : c.loop-head.head-index < length heads = omega arith in
-    let some = (some_first heads row c.requires.some).1 in
-    let sum = sums_below heads row (length c.args.array.now.items) c.requires.inside c.loop-head.head-index 0 below some in
+    let sum = sums_below heads row (length c.args.array.now.items) c.requires.inside c.loop-head.head-index 0 (omega arith) ((some_first heads row c.requires.some).1) in
     rw c.deref-head-items.ensures.value (omega arith)
 
 pub extend-requires-clause-inside : goal.extend-requires-clause-inside
@@ -18,8 +15,7 @@ extend-requires-clause-inside c =
     let heads = c.args.self.now.heads.items in
     let row = row_places c.args.self.now.row in
     let long = ap length c.deref-head-items.ensures.value in
-    let below : c.loop-head.head-index < length heads = omega arith in
-    rw c.deref-head-items.ensures.value (λ k h. sums_below heads row (length c.args.array.now.items) c.requires.inside c.loop-head.head-index k below h)
+    rw c.deref-head-items.ensures.value (λ k h. sums_below heads row (length c.args.array.now.items) c.requires.inside c.loop-head.head-index k (omega arith) h)
 
 pub loop-head-preserved : goal.loop-head-preserved
 loop-head-preserved c =

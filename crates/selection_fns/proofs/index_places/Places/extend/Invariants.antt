@@ -1,6 +1,4 @@
-use Rattle.std.proofs.Common.{◌≡◌, ◌++◌, map, take, get_or}
-use Rattle.arrays_core.specs.Items.{fill}
-use Rattle.selection_fns.specs.IndexPlaces.{sums, row_places}
+use Rattle.{std.proofs.Common.{◌≡◌, ◌++◌, map, take, get_or}, arrays_core.specs.Items.{fill}, selection_fns.specs.IndexPlaces.{sums, row_places}}
 use Rattle.selection_fns.proofs.index_places.Places.extend.Given as goal
 
 abbrev pub invariant-loop-head : goal.invariant-loop-head

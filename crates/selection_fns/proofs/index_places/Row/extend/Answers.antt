@@ -1,13 +1,9 @@
-use Rattle.std.{proofs.Common.{◌≡◌, ℕ, ◌+◌, ◌<◌, ◌++◌, ◌∙◌, ap, sym, subst, length, map, get_or}, specs.Prelude.{OnOk}}
-use Rattle.arrays_core.specs.Items.{fill}
+use Rattle.{std.{proofs.Common.{◌≡◌, ℕ, ◌+◌, ◌++◌, ◌∙◌, ap, sym, subst, length, map, get_or}, specs.Prelude.{OnOk}}, arrays_core.specs.Items.{fill}}
 use Rattle.selection_fns.{specs.IndexPlaces.{row_places}, proofs.PlaceSums.{run_inside, listed_map}}
 use Rattle.selection_fns.proofs.index_places.Row.extend.Goals as goal
 
 pub extend_run-requires-clause-inside : goal.extend_run-requires-clause-inside
-extend_run-requires-clause-inside c =
-    let long = length c.args.array.now.items in
-    run_inside c.args.head c.in-Run.count long c.requires.begins
-    (subst (λ r. (k : ℕ) → k < length (row_places r) → c.args.head + get_or (row_places r) k 0 < long) c.in-Run.is c.requires.inside)
+extend_run-requires-clause-inside c = run_inside c.args.head c.in-Run.count (length c.args.array.now.items) c.requires.begins (rw c.in-Run.is at c.requires.inside)
 
 pub returns-in-Listed-clause-items : goal.returns-in-Listed-clause-items
 returns-in-Listed-clause-items c =

@@ -3,8 +3,7 @@ use Rattle.selection_fns.proofs.index_rule.IndexAnnounced.box_of.Goals as goal
 
 pub indexed_box-requires-clause-one_an_axis : goal.indexed_box-requires-clause-one_an_axis
 indexed_box-requires-clause-one_an_axis c =
-    let known = has_axes c.args.self.now.written.now c.args.args.now c.args.shape.now c.requires.count c.requires.checked in
-    rw c.as_slice.ensures.is (known.one_an_axis c.args.region.now (rw c.if-which-eq0.true at c.requires.fit))
+    rw c.as_slice.ensures.is ((has_axes c.args.self.now.written.now c.args.args.now c.args.shape.now c.requires.count c.requires.checked).one_an_axis c.args.region.now (rw c.if-which-eq0.true at c.requires.fit))
 
 pub indexed_box-requires-clause-few : goal.indexed_box-requires-clause-few
 indexed_box-requires-clause-few c =

@@ -1,5 +1,4 @@
-use Rattle.std.proofs.Common.{sym}
-use Rattle.selection_fns.proofs.ResultAxes.{none_selected}
+use Rattle.{std.proofs.Common.{sym}, selection_fns.proofs.ResultAxes.{none_selected}}
 use Rattle.selection_fns.proofs.index_rule.IndexAnnounced.selects.Goals as goal
 
 pub returns : goal.returns

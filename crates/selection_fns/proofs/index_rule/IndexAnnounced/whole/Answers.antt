@@ -1,5 +1,4 @@
-use Rattle.std.proofs.Common.{subst, sym, Result}
-use Rattle.arrays_core.{specs.Arrays.{ArrayValue, IsAnswerTo}, specs.declared.item.Kind.{Kind}}
+use Rattle.{std.proofs.Common.{subst, sym, Result}, arrays_core.{specs.Arrays.{ArrayValue, IsAnswerTo}, specs.declared.item.Kind.{Kind}}}
 use Rattle.selection_fns.{specs.Index.{index_form, index_item}, proofs.Indexed.{whole_of_positions}}
 use Rattle.selection_fns.proofs.index_rule.IndexAnnounced.whole.Goals as goal
 

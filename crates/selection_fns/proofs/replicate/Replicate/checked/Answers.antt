@@ -1,7 +1,5 @@
-use Rattle.std.{proofs.Common.{rules, ◌≡◌, ◌<◌, Result, length, ap, subst, sym, ◌∙◌}, specs.Prelude.{max, sum}}
-use Rattle.arrays_core.specs.declared.item.Kind.{Kind}
-use Rattle.index_region.{specs.Checks.{Form, limited}, specs.Axes.{places_along}, specs.Answers.{IsFormAnswerTo}}
-use Rattle.function_names.specs.Axes.{axis_at}
+use Rattle.{std.{proofs.Common.{rules, ◌≡◌, ◌<◌, Result, length, ap, subst, sym, ◌∙◌}, specs.Prelude.{max, sum}}, arrays_core.specs.declared.item.Kind.{Kind}}
+use Rattle.{index_region.{specs.Checks.{Form, limited}, specs.Axes.{places_along}, specs.Answers.{IsFormAnswerTo}}, function_names.specs.Axes.{axis_at}}
 use Rattle.selection_fns.{specs.Replicate.{times, counts_checked, replicated_shape}, proofs.Copies.{replicate_limited, replicate_beyond}}
 use Rattle.selection_fns.proofs.replicate.Replicate.checked.Goals as goal
 

@@ -1,7 +1,6 @@
 use Rattle.std.{proofs.Common.{rules, ◌≡◌, length, ap, ◌∙◌}, specs.Prelude.{max}}
 use Rattle.selection_fns.{specs.Replicate.{replicate_source}, proofs.Copies.{replicated_inside}, proofs.SourcePlaces.{replicate_inside}}
-use Rattle.index_region.specs.Sources.{Place}
-use Rattle.function_names.specs.Axes.{axis_at}
+use Rattle.{index_region.specs.Sources.{Place}, function_names.specs.Axes.{axis_at}}
 use Rattle.selection_fns.proofs.replicate.Replicate.source.Goals as goal
 
 pub copied_index-at-requires-clause-inside : goal.copied_index-at-requires-clause-inside
@@ -9,8 +8,7 @@ copied_index-at-requires-clause-inside c =
     let along = c.args.self.along in
     let axes : c.as_slice.result.now ≡ c.args.array.now.shape = search rules in
     let rank : c.len.result ≡ max 1 (length c.args.array.now.shape) = search rules in
-    let axis : c.axis_at-axis.result ≡ axis_at (max 1 (length c.args.array.now.shape)) along = c.axis_at-axis.ensures.is ∙ ap (λ n. axis_at n along) rank in
-    rw (axes, axis) (replicated_inside along c.args.counts.now c.args.array.now c.args.index.now c.requires)
+    rw (axes, c.axis_at-axis.ensures.is ∙ ap (λ n. axis_at n along) rank) (replicated_inside along c.args.counts.now c.args.array.now c.args.index.now c.requires)
 
 pub returns-clause-inside : goal.returns-clause-inside
 returns-clause-inside c =

@@ -1,7 +1,5 @@
-use Rattle.std.proofs.Common.{subst, sym, Result}
-use Rattle.arrays_core.{specs.Arrays.{ArrayValue, IsAnswerTo}, specs.declared.item.Kind.{Kind}}
-use Rattle.index_region.proofs.Arguments.{whole_of_two}
-use Rattle.selection_fns.specs.Replicate.{replicate_form, replicate_item}
+use Rattle.{std.proofs.Common.{subst, sym, Result}, arrays_core.{specs.Arrays.{ArrayValue, IsAnswerTo}, specs.declared.item.Kind.{Kind}}}
+use Rattle.{index_region.proofs.Arguments.{whole_of_two}, selection_fns.specs.Replicate.{replicate_form, replicate_item}}
 use Rattle.selection_fns.proofs.replicate_rule.ReplicateAnnounced.whole.Goals as goal
 
 pub returns : goal.returns

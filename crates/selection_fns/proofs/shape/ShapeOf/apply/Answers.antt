@@ -1,6 +1,4 @@
-use Rattle.std.proofs.Common.{subst}
-use Rattle.arrays_core.specs.Arrays.{IsAnswerTo}
-use Rattle.index_region.proofs.Arguments.{whole_of_one}
+use Rattle.{std.proofs.Common.{subst}, arrays_core.specs.Arrays.{IsAnswerTo}, index_region.proofs.Arguments.{whole_of_one}}
 use Rattle.selection_fns.specs.Shape.{shape_form, shape_item}
 use Rattle.selection_fns.proofs.shape.ShapeOf.apply.Goals as goal
 

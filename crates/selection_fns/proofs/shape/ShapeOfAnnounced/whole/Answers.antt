@@ -1,7 +1,5 @@
-use Rattle.std.proofs.Common.{subst, sym, Result}
-use Rattle.arrays_core.{specs.Arrays.{ArrayValue, IsAnswerTo}, specs.declared.item.Kind.{Kind}}
-use Rattle.index_region.proofs.Arguments.{whole_of_one}
-use Rattle.selection_fns.specs.Shape.{shape_form, shape_item}
+use Rattle.{std.proofs.Common.{subst, sym, Result}, arrays_core.{specs.Arrays.{ArrayValue, IsAnswerTo}, specs.declared.item.Kind.{Kind}}}
+use Rattle.{index_region.proofs.Arguments.{whole_of_one}, selection_fns.specs.Shape.{shape_form, shape_item}}
 use Rattle.selection_fns.proofs.shape.ShapeOfAnnounced.whole.Goals as goal
 
 pub returns : goal.returns

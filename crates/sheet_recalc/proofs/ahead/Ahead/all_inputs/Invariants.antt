@@ -1,5 +1,4 @@
-use Rattle.std.{proofs.Common.{ℕ, List, take}, specs.List.{Contains}}
-use Rattle.formula_core.{specs.Changes.{IsNameChanged}, specs.Plans.{AreInputs, IsNameSound}}
+use Rattle.{std.{proofs.Common.{ℕ, List, take}, specs.List.{Contains}}, formula_core.{specs.Changes.{IsNameChanged}, specs.Plans.{AreInputs, IsNameSound}}}
 use Rattle.sheet_recalc.specs.ProposedSheet.{outline_of, proposed_change}
 use Rattle.sheet_recalc.proofs.ahead.Ahead.all_inputs.Given as goal
 

@@ -1,6 +1,5 @@
 use Rattle.std.{proofs.Common.{◌≡◌, ◌∙◌, [], Option, Some, Bor, IfSome, get_or, sym, ap, subst}, specs.Map.{keys_of}}
-use Rattle.formula_core.specs.Formulas.{FormulaValue}
-use Rattle.sheet_recalc.{specs.ProposedSheet.{outline_of, entry_of}, proofs.Entered.{name_at}}
+use Rattle.{formula_core.specs.Formulas.{FormulaValue}, sheet_recalc.{specs.ProposedSheet.{outline_of, entry_of}, proofs.Entered.{name_at}}}
 use Rattle.sheet_recalc.specs.declared.entry.Entry.TheVariants as entry
 use Rattle.sheet_recalc.proofs.ahead.Ahead.input_near.Goals as goal
 

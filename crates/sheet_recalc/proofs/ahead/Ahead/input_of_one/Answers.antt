@@ -1,5 +1,4 @@
-use Rattle.std.proofs.Common.{[], ◌∷◌, sym}
-use Rattle.formula_core.{specs.Changes.{IsNameChanged}, specs.Plans.{IsNameSound}}
+use Rattle.{std.proofs.Common.{[], ◌∷◌, sym}, formula_core.{specs.Changes.{IsNameChanged}, specs.Plans.{IsNameSound}}}
 use Rattle.sheet_recalc.{specs.ProposedSheet.{outline_of, proposed_change}, proofs.PlannedNames.{formula_told, of_one}}
 use Rattle.sheet_recalc.proofs.ahead.Ahead.input_of_one.Goals as goal
 

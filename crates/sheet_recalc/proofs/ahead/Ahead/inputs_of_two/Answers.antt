@@ -1,5 +1,4 @@
-use Rattle.std.{proofs.Common.{ℕ, List, [], ◌∷◌, sym, subst}, specs.List.{Contains}}
-use Rattle.dep_order.proofs.Following.{contains_here, contains_there}
+use Rattle.{std.{proofs.Common.{ℕ, List, [], ◌∷◌, sym, subst}, specs.List.{Contains}}, dep_order.proofs.Following.{contains_here, contains_there}}
 use Rattle.formula_core.{specs.Changes.{IsNameChanged}, specs.Plans.{IsNameSound}}
 use Rattle.sheet_recalc.{specs.ProposedSheet.{outline_of, proposed_change}, proofs.PlannedNames.{formula_told, of_two}}
 use Rattle.sheet_recalc.proofs.ahead.Ahead.inputs_of_two.Goals as goal

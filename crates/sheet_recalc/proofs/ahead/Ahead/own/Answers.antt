@@ -1,13 +1,10 @@
-use Rattle.std.proofs.Common.{sym, subst, IfOk}
-use Rattle.arrays_core.{specs.Arrays.{IsArray}, specs.Outcomes.{Outcome}}
-use Rattle.change_rules.specs.Currency.{applied}
+use Rattle.{std.proofs.Common.{sym, subst, IfOk}, arrays_core.{specs.Arrays.{IsArray}, specs.Outcomes.{Outcome}}, change_rules.specs.Currency.{applied}}
 use Rattle.formula_core.{specs.Changes.{FitsIn}, specs.Inputs.{IsInput}}
 use Rattle.sheet_recalc.{specs.ProposedSheet.{outline_of}, proofs.PlannedNames.{own_formula, data_fits, data_input, data_changed, data_sound, none_input, none_changed, none_sound}}
 use Rattle.sheet_recalc.proofs.ahead.Ahead.own.Goals as goal
 
 pub unreachable-requires : goal.unreachable-requires
-unreachable-requires c =
-    own_formula (outline_of c.args.self.now.proposed.now) c.requires.ahead.proposed c.in-Formula.field-0 c.in-Formula.is c.requires.done
+unreachable-requires c = own_formula (outline_of c.args.self.now.proposed.now) c.requires.ahead.proposed c.in-Formula.field-0 c.in-Formula.is c.requires.done
 
 pub lent-requires : goal.lent-requires
 lent-requires c = c.requires.ahead.proposed.current
@@ -23,8 +20,7 @@ returns-in-Data-clause-input c =
     (subst (λ (r : Outcome). IsInput (applied d r) d c.of.result) c.lent.ensures c.of.ensures.is)
 
 pub returns-in-Data-clause-changed : goal.returns-in-Data-clause-changed
-returns-in-Data-clause-changed c =
-    data_changed (outline_of c.args.self.now.proposed.now) c.requires.ahead.proposed c.in-Data.delta c.in-Data.is
+returns-in-Data-clause-changed c = data_changed (outline_of c.args.self.now.proposed.now) c.requires.ahead.proposed c.in-Data.delta c.in-Data.is
 
 pub returns-in-Data-clause-sound : goal.returns-in-Data-clause-sound
 returns-in-Data-clause-sound c =
@@ -37,9 +33,7 @@ returns-in-Removed-clause-input c =
     none_input (outline_of c.args.self.now.proposed.now) c.requires.ahead.proposed c.in-Removed.is c.unknown.result c.unknown.ensures
 
 pub returns-in-Removed-clause-changed : goal.returns-in-Removed-clause-changed
-returns-in-Removed-clause-changed c =
-    none_changed (outline_of c.args.self.now.proposed.now) c.requires.ahead.proposed c.in-Removed.is
+returns-in-Removed-clause-changed c = none_changed (outline_of c.args.self.now.proposed.now) c.requires.ahead.proposed c.in-Removed.is
 
 pub returns-in-Removed-clause-sound : goal.returns-in-Removed-clause-sound
-returns-in-Removed-clause-sound c =
-    none_sound (outline_of c.args.self.now.proposed.now) c.requires.ahead.proposed c.in-Removed.is
+returns-in-Removed-clause-sound c = none_sound (outline_of c.args.self.now.proposed.now) c.requires.ahead.proposed c.in-Removed.is

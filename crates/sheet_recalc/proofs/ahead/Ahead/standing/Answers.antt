@@ -1,7 +1,5 @@
-use Rattle.std.{proofs.Common.{◌∙◌, sym, subst, IfOk}, proofs.lemmas.Bool.{false≢true}}
-use Rattle.arrays_core.{specs.Arrays.{IsArray}, specs.Outcomes.{Outcome}}
-use Rattle.formula_core.{specs.Changes.{FitsIn}, specs.Outcomes.{read}}
-use Rattle.index_region.specs.declared.delta.Delta.{Delta}
+use Rattle.{std.{proofs.Common.{◌∙◌, sym, subst, IfOk}, proofs.lemmas.Bool.{false≢true}}, arrays_core.{specs.Arrays.{IsArray}, specs.Outcomes.{Outcome}}}
+use Rattle.{formula_core.{specs.Changes.{FitsIn}, specs.Outcomes.{read}}, index_region.specs.declared.delta.Delta.{Delta}}
 use Rattle.sheet_recalc.{specs.Entries.{names_of}, specs.Meaning.{val}, specs.ProposedSheet.{outline_of}, specs.Planning.{IsUntouched}, proofs.NameEquality.{equal-same}, proofs.PlannedNames.{rest_input, untouched_input, untouched_changed, untouched_sound}}
 use Rattle.sheet_recalc.proofs.ahead.Ahead.standing.Goals as goal
 

@@ -1,5 +1,4 @@
-use Rattle.std.{proofs.Common.{◌≡◌, ◌∙◌, List, ℕ, sym, subst}, specs.Map.{keys_of}}
-use Rattle.dep_order.specs.Users.{EndsWith}
+use Rattle.{std.{proofs.Common.{◌≡◌, ◌∙◌, List, ℕ, sym, subst}, specs.Map.{keys_of}}, dep_order.specs.Users.{EndsWith}}
 use Rattle.sheet_recalc.{proofs.Live.{ends_with_last}, proofs.NameEquality.{equal-true}}
 use Rattle.sheet_recalc.proofs.plans.Plans.keep_reach.Goals as goal
 

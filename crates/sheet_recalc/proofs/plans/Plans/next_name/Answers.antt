@@ -1,5 +1,4 @@
-use Rattle.std.proofs.Common.{◌≡◌, ◌+◌, ◌-◌, ◌<◌, sym, arith}
-use Rattle.sheet_recalc.proofs.Entered.{names_more, name_at}
+use Rattle.{std.proofs.Common.{◌≡◌, ◌+◌, ◌-◌, ◌<◌, sym, arith}, sheet_recalc.proofs.Entered.{names_more, name_at}}
 use Rattle.sheet_recalc.proofs.plans.Plans.next_name.Goals as goal
 
 pub returns-in-Some : goal.returns-in-Some

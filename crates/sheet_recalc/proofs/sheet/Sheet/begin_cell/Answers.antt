@@ -1,7 +1,5 @@
 use Rattle.std.{proofs.Common.{◌≡◌, ◌∙◌, ap, subst, Ok, Some}, specs.Option.{option_map}, proofs.lemmas.Result.{IfErr-weaker}}
-use Rattle.apl_expr.specs.Trees.{literal_of}
-use Rattle.arrays_core.specs.Arrays.{ArrayValue}
-use Rattle.index_region.specs.Patches.{FitsPatch, patched}
+use Rattle.{apl_expr.specs.Trees.{literal_of}, arrays_core.specs.Arrays.{ArrayValue}, index_region.specs.Patches.{FitsPatch, patched}}
 use Rattle.sheet_recalc.{specs.Names.{SheetValue, Data, binding}, specs.Cells.{cell_put}, specs.Entries.{binding_of, HasData}, proofs.Live.{binding_of_name}, proofs.Refused.{refused_patch}, proofs.Asked.{if_ok_map, few_at_first, free, cell_pending}}
 use Rattle.sheet_recalc.proofs.sheet.Sheet.begin_cell.Goals as goal
 

@@ -1,5 +1,4 @@
-use Rattle.std.{proofs.Common.{ap, subst}, proofs.lemmas.Result.{IfErr-weaker}}
-use Rattle.apl_expr.specs.Trees.{Tree, tree_of}
+use Rattle.{std.{proofs.Common.{ap, subst}, proofs.lemmas.Result.{IfErr-weaker}}, apl_expr.specs.Trees.{Tree, tree_of}}
 use Rattle.formula_core.specs.Formulas.{FormulaValue}
 use Rattle.sheet_recalc.{specs.Names.{Formula}, specs.Changes.{CannotPut}, proofs.Refused.{refused_define}, proofs.Asked.{if_ok_map, few_at_first, free, define_pending}}
 use Rattle.sheet_recalc.proofs.sheet.Sheet.begin_define.Goals as goal

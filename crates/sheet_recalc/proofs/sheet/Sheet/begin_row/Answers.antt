@@ -1,7 +1,5 @@
 use Rattle.std.{proofs.Common.{◌≡◌, ◌∙◌, ap, subst, Ok, Some}, specs.Option.{option_map}, proofs.lemmas.Result.{IfErr-weaker}}
-use Rattle.apl_expr.specs.Trees.{literal_of}
-use Rattle.arrays_core.{specs.Arrays.{ArrayValue}, specs.Growth.{grown_by}}
-use Rattle.index_region.specs.Tails.{FitsTail}
+use Rattle.{apl_expr.specs.Trees.{literal_of}, arrays_core.{specs.Arrays.{ArrayValue}, specs.Growth.{grown_by}}, index_region.specs.Tails.{FitsTail}}
 use Rattle.sheet_recalc.{specs.Names.{SheetValue, Data, binding}, specs.Rows.{row_put}, specs.Entries.{binding_of, HasData}, proofs.Live.{binding_of_name}, proofs.Refused.{refused_tail}, proofs.Asked.{if_ok_map, few_at_first, free, row_pending}}
 use Rattle.sheet_recalc.proofs.sheet.Sheet.begin_row.Goals as goal
 

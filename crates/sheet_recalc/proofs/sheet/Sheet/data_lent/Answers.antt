@@ -1,8 +1,5 @@
-use Rattle.std.{proofs.Common.{◌≡◌, ◌∙◌, ap, subst, true}, proofs.lemmas.Result.{IfErr-weaker, err_from_is_err_and}}
-use Rattle.apl_expr.specs.Trees.{tree_of}
-use Rattle.change_core.specs.Meters.{ticked, MeterValue}
-use Rattle.index_region.specs.declared.delta.Delta.{Delta}
-use Rattle.formula_core.specs.Plans.{tree_cost}
+use Rattle.{std.{proofs.Common.{◌≡◌, ◌∙◌, ap, subst, true}, proofs.lemmas.Result.{IfErr-weaker, err_from_is_err_and}}, apl_expr.specs.Trees.{tree_of}}
+use Rattle.{change_core.specs.Meters.{ticked, MeterValue}, index_region.specs.declared.delta.Delta.{Delta}, formula_core.specs.Plans.{tree_cost}}
 use Rattle.sheet_recalc.{specs.Costs.{names_at_rest}, specs.ProposedSheet.{names_with}, specs.Changes.{Store, CannotBecome}, specs.Pending.{IsProposedOn}, specs.declared.proposal.Proposal.TheVariants.{Data}, proofs.Asked.{on_ok_map, data_pending}, proofs.Refused.{refused_put, refused_data}}
 use Rattle.sheet_recalc.proofs.sheet.Sheet.data_lent.Goals as goal
 

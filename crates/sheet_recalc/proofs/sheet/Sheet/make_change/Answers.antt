@@ -67,14 +67,7 @@ returns-clause-made c = λ change lays.
     record { name = c.args.name; proposal = c.args.proposal; plans = c.begun.new.plans; growth = c.in_ok-growth.growth; is_cut = false; ticks = c.args.meter.ticks; meter = c.args.meter } in
     let laid : IsLaidOut t p c.args.spent = laid_out t p c.args.spent begun.proposed begun.can c.in_ok-growth.ensures (begun.way c.args.meter.ticks c.requires.even) begun.first begun.all refl refl small in
     let proposed = subst (λ (s : SheetValue). IsProposedOn s c.args.name c.args.proposal c.args.spent p) c.self.view_is
-    (record {
-      names_are = refl;
-      name_is = refl;
-      proposal_is = refl;
-      begun = laid;
-      even = c.requires.even;
-      room = begun.can.room;
-    }) in
+    (record { names_are = refl; name_is = refl; proposal_is = refl; begun = laid; even = c.requires.even; room = begun.can.room }) in
     let pending = still_pending t p c.plan_all.new.plans c.ticks-self-inside.result c.plan_all.new.meter c.ticks-self-inside.ensures c.ticks-self-inside.type_inv done.way done.all done.left done.current s same change (lays p proposed) in
     let left = none_left t p c.plan_all.new.plans c.ticks-self-inside.result c.plan_all.new.meter c.ticks-self-inside.ensures c.ticks-self-inside.type_inv done.way done.all done.left done.current c.args.spent laid in
     let after : Pending = record p { plans = c.plan_all.new.plans; ticks = c.ticks-self-inside.result; meter = c.plan_all.new.meter } in

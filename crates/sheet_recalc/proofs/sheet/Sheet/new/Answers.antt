@@ -1,5 +1,4 @@
-use Rattle.std.{proofs.Common.{arith}, proofs.lemmas.Bool.{false≢true}}
-use Rattle.sheet_recalc.proofs.Live.{live_empty}
+use Rattle.{std.{proofs.Common.{arith}, proofs.lemmas.Bool.{false≢true}}, sheet_recalc.proofs.Live.{live_empty}}
 use Rattle.sheet_recalc.proofs.sheet.Sheet.new.Goals as goal
 
 pub invariant_of-result : goal.invariant_of-result

@@ -1,5 +1,4 @@
-use Rattle.std.proofs.lemmas.Result.{IfErr-weaker}
-use Rattle.sheet_recalc.{specs.Changes.{Put}, proofs.Refused.{refused_put}, proofs.Asked.{on_ok_map, put_pending}}
+use Rattle.{std.proofs.lemmas.Result.{IfErr-weaker}, sheet_recalc.{specs.Changes.{Put}, proofs.Refused.{refused_put}, proofs.Asked.{on_ok_map, put_pending}}}
 use Rattle.sheet_recalc.proofs.sheet.Sheet.put_array.Goals as goal
 
 pub returns-clause-ok : goal.returns-clause-ok

@@ -1,56 +1,41 @@
-use Rattle.std.proofs.Common.{◌≡◌, ℕ, List, length, get_or, subst, sym, ap, ◌∙◌, arith}
-use Rattle.arrays_core.specs.Arrays.{ArrayValue}
-use Rattle.function_names.{specs.declared.along.Along.{Along}, specs.Axes.{axis_at}}
-use Rattle.index_region.{specs.ArgumentLists.{of_two_arguments}, proofs.Passing.{two_arguments}}
-use Rattle.change_core.{specs.RuleModels.{HasShape}, specs.Sourced.{left_used, right_used}}
-use Rattle.structural_fns.{specs.Catenate.{joined_places, catenate_form, catenate_source, side_box, catenate_left_box, catenate_right_box}, specs.Laws.JoinedAxes.{JoinedFacts, joined_facts}, proofs.Calls.{form_of_two, box_of_right}}
+use Rattle.{std.proofs.Common.{◌≡◌, ℕ, List, length, subst, sym, ap, ◌∙◌, arith}, function_names.specs.Axes.{axis_at}}
+use Rattle.{index_region.proofs.Passing.{two_arguments}, change_core.specs.Sourced.{left_used, right_used}}
+use Rattle.structural_fns.{specs.Catenate.{joined_places, catenate_form, catenate_source, side_box, catenate_left_box, catenate_right_box}, specs.Laws.JoinedAxes.{JoinedFacts, joined_facts}, proofs.Calls.{form_of_two, box_of_right}, proofs.catenate.CatenateAnnounced.box_of.Goals.{After-index-args-1}}
 use Rattle.structural_fns.proofs.catenate.CatenateAnnounced.box_of.Goals as goal
 
-facts : (along : Along) (args : List ArrayValue) (a b : ArrayValue) (shape : List ℕ) → length args ≡ 2 → a ≡ get_or args 0 a → b ≡ get_or args 1 b
-    → HasShape (of_two_arguments (catenate_form along) args) shape → JoinedFacts along a b shape
-facts along args a b shape count first second checked =
-    let form = form_of_two (catenate_form along) args a b shape (two_arguments args a b count first second) checked in
-    subst (λ (s : List ℕ). JoinedFacts along a b s) form.shaped (joined_facts along a b form.form form.is)
+-- the two arguments, and the shape of their result
+facts : (c : After-index-args-1) → JoinedFacts c.args.self.now.along c.index-args-0.result c.index-args-1.result c.args.shape.now
+facts c =
+    let form = form_of_two (catenate_form c.args.self.now.along) c.args.args.now c.index-args-0.result c.index-args-1.result c.args.shape.now
+    (two_arguments c.args.args.now c.index-args-0.result c.index-args-1.result c.requires.count c.index-args-0.is c.index-args-1.is) c.requires.checked in
+    subst (λ (s : List ℕ). JoinedFacts c.args.self.now.along c.index-args-0.result c.index-args-1.result s) form.shaped (joined_facts c.args.self.now.along c.index-args-0.result c.index-args-1.result form.form form.is)
 
 pub overflow_cast-shape : goal.overflow_cast-shape
-overflow_cast-shape c =
-    let h = facts c.args.self.now.along c.args.args.now c.index-args-0.result c.index-args-1.result c.args.shape.now c.requires.count c.index-args-0.is c.index-args-1.is c.requires.checked in
-    omega (arith, h.few)
+overflow_cast-shape c = let few = (facts (goal.at.overflow_cast-shape c).After-index-args-1).few in omega arith
 
 pub axis_at-axis-requires : goal.axis_at-axis-requires
-axis_at-axis-requires c =
-    (facts c.args.self.now.along c.args.args.now c.index-args-0.result c.index-args-1.result c.args.shape.now c.requires.count c.index-args-0.is c.index-args-1.is c.requires.checked).on_axis
+axis_at-axis-requires c = (facts (goal.at.axis_at-axis-requires c).After-index-args-1).on_axis
 
 pub side_box-requires-clause-rank : goal.side_box-requires-clause-rank
-side_box-requires-clause-rank c =
-    (facts c.args.self.now.along c.args.args.now c.index-args-0.result c.index-args-1.result c.args.shape.now c.requires.count c.index-args-0.is c.index-args-1.is c.requires.checked).few
+side_box-requires-clause-rank c = (facts (goal.at.side_box-requires-clause-rank c).After-index-args-1).few
 
 pub side_box-requires-2-clause-rank : goal.side_box-requires-2-clause-rank
-side_box-requires-2-clause-rank c =
-    (facts c.args.self.now.along c.args.args.now c.index-args-0.result c.index-args-1.result c.args.shape.now c.requires.count c.index-args-0.is c.index-args-1.is c.requires.checked).few
+side_box-requires-2-clause-rank c = (facts (goal.at.side_box-requires-2-clause-rank c).After-index-args-1).few
 
 pub side_box-requires-clause-there : goal.side_box-requires-clause-there
-side_box-requires-clause-there c =
-    let h = facts c.args.self.now.along c.args.args.now c.index-args-0.result c.index-args-1.result c.args.shape.now c.requires.count c.index-args-0.is c.index-args-1.is c.requires.checked in
-    rw c.axis_at-axis.ensures.is h.below
+side_box-requires-clause-there c = rw c.axis_at-axis.ensures.is (facts (goal.at.side_box-requires-clause-there c).After-index-args-1).below
 
 pub joined_places-before-requires : goal.joined_places-before-requires
-joined_places-before-requires c =
-    let h = facts c.args.self.now.along c.args.args.now c.index-args-0.result c.index-args-1.result c.args.shape.now c.requires.count c.index-args-0.is c.index-args-1.is c.requires.checked in
-    rw c.axis_at-axis.ensures.is h.below
+joined_places-before-requires c = rw c.axis_at-axis.ensures.is (facts (goal.at.joined_places-before-requires c).After-index-args-1).below
 
 pub side_box-requires-2-clause-there : goal.side_box-requires-2-clause-there
-side_box-requires-2-clause-there c =
-    let h = facts c.args.self.now.along c.args.args.now c.index-args-0.result c.index-args-1.result c.args.shape.now c.requires.count c.index-args-0.is c.index-args-1.is c.requires.checked in
-    rw c.axis_at-axis.ensures.is h.below
+side_box-requires-2-clause-there c = rw c.axis_at-axis.ensures.is (facts (goal.at.side_box-requires-2-clause-there c).After-index-args-1).below
 
 pub side_box-requires-clause-near : goal.side_box-requires-clause-near
-side_box-requires-clause-near c =
-    (facts c.args.self.now.along c.args.args.now c.index-args-0.result c.index-args-1.result c.args.shape.now c.requires.count c.index-args-0.is c.index-args-1.is c.requires.checked).left
+side_box-requires-clause-near c = (facts (goal.at.side_box-requires-clause-near c).After-index-args-1).left
 
 pub side_box-requires-2-clause-near : goal.side_box-requires-2-clause-near
-side_box-requires-2-clause-near c =
-    (facts c.args.self.now.along c.args.args.now c.index-args-0.result c.index-args-1.result c.args.shape.now c.requires.count c.index-args-0.is c.index-args-1.is c.requires.checked).right
+side_box-requires-2-clause-near c = (facts (goal.at.side_box-requires-2-clause-near c).After-index-args-1).right
 
 pub returns : goal.returns
 returns c =

@@ -14,6 +14,5 @@ item_from-requires-clause-right_typed c =
 pub returns-clause-typed : goal.returns-clause-typed
 returns-clause-typed c =
     let two = two_arguments c.args.args.now c.index-args-0.result c.index-args-1.result c.requires.count c.index-args-0.is c.index-args-1.is in
-    let item = c.item_from.result in
-    let typed = join_typed c.args.self.now.along c.index-args-0.result c.index-args-1.result item (c.item_from.ensures.typed ∙ c.joined_type.ensures) in
-    subst (λ args. HasTypeOf (of_two_arguments (catenate_form c.args.self.now.along) args) item) (sym two) typed
+    let typed = join_typed c.args.self.now.along c.index-args-0.result c.index-args-1.result c.item_from.result (c.item_from.ensures.typed ∙ c.joined_type.ensures) in
+    subst (λ args. HasTypeOf (of_two_arguments (catenate_form c.args.self.now.along) args) c.item_from.result) (sym two) typed

@@ -1,21 +1,21 @@
-use Rattle.std.{proofs.Common.{◌≡◌, ◌≢◌, ◌<◌, ap, sym, subst, ◌∙◌, length, Ok, ◌++◌, ◌∷◌, [], arith}, proofs.lemmas.Result.{on_ok_weaker}, proofs.lemmas.List.{get_or_append_left}}
-use Rattle.arrays_core.specs.Building.{with_row}
-use Rattle.function_names.specs.Axes.{axis_at}
-use Rattle.index_region.{specs.ArgumentLists.{of_two_arguments}, proofs.Passing.{two_arguments}}
-use Rattle.structural_fns.{specs.Catenate.{joined_places, catenate_item}, proofs.SteppedRows.{at_end}, proofs.JoinedRows.{IsJoinedRow, axis_below, places_within, left_inside, right_inside, left_is_typed, right_is_typed, row_of_both, row_of_left, row_of_right}}
-use Rattle.structural_fns.proofs.catenate.CatenateRowPrimitive.extend_row.Goals.{After-joined_places-places}
+use Rattle.std.{proofs.Common.{◌≡◌, ◌≢◌, ◌<◌, ap, sym, ◌∙◌, length, Ok, ◌∷◌, [], arith}, proofs.lemmas.Result.{on_ok_weaker}, proofs.lemmas.List.{get_or_append_left, get_or_push}}
+use Rattle.{function_names.specs.Axes.{axis_at}, index_region.proofs.Passing.{two_arguments}}
+use Rattle.structural_fns.{specs.Catenate.{joined_places}, proofs.JoinedRows.{IsJoinedRow, axis_below, places_within, left_inside, right_inside, left_is_typed, right_is_typed, row_of_both, row_of_left, row_of_right}, proofs.catenate.CatenateRowPrimitive.extend_row.Goals.{After-joined_places-places}}
 use Rattle.structural_fns.proofs.catenate.CatenateRowPrimitive.extend_row.Goals as goal
+
+-- the arguments are two
+two : (c : After-joined_places-places) → c.args.args.now ≡ c.index-args-0.result ∷ c.index-args-1.result ∷ []
+two c = two_arguments c.args.args.now c.index-args-0.result c.index-args-1.result c.requires.arguments c.index-args-0.is c.index-args-1.is
 
 -- the row of the result that is written
 joined : (c : After-joined_places-places)
     → IsJoinedRow c.args.self.now.along c.index-args-0.result c.index-args-1.result c.args.row.now c.args.count c.args.items.now.item_type c.axis_at-axis.result c.joined_places-places.result
 joined c =
-    let rank = c.joined_rank-rank.ensures.is in
     record {
-      meant = c.axis_at-axis.ensures.is ∙ ap (λ n. axis_at n c.args.self.now.along) rank;
-      as_many = c.joined_places-places.ensures.is ∙ ap (λ n. joined_places n c.axis_at-axis.result c.index-args-0.result) rank;
-      below = let on = c.axis_at-axis.ensures.below c.joined_rank-rank.ensures.low in omega (arith, rank, on);
-      row_in = rw (two_arguments c.args.args.now c.index-args-0.result c.index-args-1.result c.requires.arguments c.index-args-0.is c.index-args-1.is) at c.requires.row;
+      meant = c.axis_at-axis.ensures.is ∙ ap (λ n. axis_at n c.args.self.now.along) c.joined_rank-rank.ensures.is;
+      as_many = c.joined_places-places.ensures.is ∙ ap (λ n. joined_places n c.axis_at-axis.result c.index-args-0.result) c.joined_rank-rank.ensures.is;
+      below = let on = c.axis_at-axis.ensures.below c.joined_rank-rank.ensures.low in omega (arith, c.joined_rank-rank.ensures.is, on);
+      row_in = rw (two c) at c.requires.row;
     }
 
 -- a row that does not go along the axis has a place of it
@@ -26,7 +26,7 @@ pub extend_side-requires-clause-inside : goal.extend_side-requires-clause-inside
 extend_side-requires-clause-inside c =
     let row_is = joined (goal.at.extend_side-requires-clause-inside c).After-joined_places-places in
     let fits = places_within row_is c.if-axis-row.true in
-    λ i low high. left_inside row_is i (omega arith) (omega arith) (let e = at_end c.args.row.now i c.axis_at-axis.result c.if-axis-row.true in omega arith)
+    λ i low high. left_inside row_is i (omega arith) (omega arith) (let e = get_or_push c.args.row.now i 0 c.axis_at-axis.result (sym c.if-axis-row.true) in omega arith)
 
 pub extend_side-requires-clause-typed : goal.extend_side-requires-clause-typed
 extend_side-requires-clause-typed c = left_is_typed (joined (goal.at.extend_side-requires-clause-typed c).After-joined_places-places)
@@ -38,7 +38,7 @@ pub extend_side-requires-then-axis-row-clause-inside : goal.extend_side-requires
 extend_side-requires-then-axis-row-clause-inside c =
     let row_is = joined (goal.at.extend_side-requires-then-axis-row-clause-inside c).After-joined_places-places in
     let fits = places_within row_is c.if-axis-row.true in
-    λ i low high. right_inside row_is i (omega arith) (omega arith) (let e = at_end c.args.row.now i c.axis_at-axis.result c.if-axis-row.true in omega arith)
+    λ i low high. right_inside row_is i (omega arith) (omega arith) (let e = get_or_push c.args.row.now i 0 c.axis_at-axis.result (sym c.if-axis-row.true) in omega arith)
 
 pub extend_side-requires-then-axis-row-clause-typed : goal.extend_side-requires-then-axis-row-clause-typed
 extend_side-requires-then-axis-row-clause-typed c = λ some. right_is_typed (joined (goal.at.extend_side-requires-then-axis-row-clause-typed c).After-joined_places-places) some ∙ sym c.in_ok-extend_side.ensures.typed
@@ -46,10 +46,8 @@ extend_side-requires-then-axis-row-clause-typed c = λ some. right_is_typed (joi
 pub returns-then-axis-row-clause-items : goal.returns-then-axis-row-clause-items
 returns-then-axis-row-clause-items c =
     let here = (goal.at.returns-then-axis-row-clause-items c).After-joined_places-places in
-    let two = two_arguments c.args.args.now c.index-args-0.result c.index-args-1.result c.requires.arguments c.index-args-0.is c.index-args-1.is in
-    on_ok_weaker c.extend_side-then-axis-row.result (λ e.
-    subst (λ xs. with_row c.args.items.now.items (λ i. of_two_arguments (λ x y. catenate_item c.args.self.now.along x y (c.args.row.now ++ i ∷ [])) xs) c.args.count ≡ Ok c.extend_side-then-axis-row.new.items.items)
-    (sym two) (row_of_both (joined here) c.args.items.now.items c.extend_side.new.items.items c.if-axis-row.true c.in_ok-extend_side.ensures.items ∙ ap (λ xs. Ok xs) (sym e))) c.extend_side-then-axis-row.ensures.items
+    rw (two here) (on_ok_weaker c.extend_side-then-axis-row.result
+    (λ e. row_of_both (joined here) c.args.items.now.items c.extend_side.new.items.items c.if-axis-row.true c.in_ok-extend_side.ensures.items ∙ ap (λ xs. Ok xs) (sym e)) c.extend_side-then-axis-row.ensures.items)
 
 pub bounds-row-axis : goal.bounds-row-axis
 bounds-row-axis c = on_axis (goal.at.bounds-row-axis c).After-joined_places-places c.if-axis-row.false
@@ -78,15 +76,11 @@ extend_side-requires-else-row-axis-clause-typed c = right_is_typed (joined (goal
 pub returns-then-row-axis-clause-items : goal.returns-then-row-axis-clause-items
 returns-then-row-axis-clause-items c =
     let here = (goal.at.returns-then-row-axis-clause-items c).After-joined_places-places in
-    let two = two_arguments c.args.args.now c.index-args-0.result c.index-args-1.result c.requires.arguments c.index-args-0.is c.index-args-1.is in
-    on_ok_weaker c.extend_side-then-row-axis.result (λ e.
-    subst (λ xs. with_row c.args.items.now.items (λ i. of_two_arguments (λ x y. catenate_item c.args.self.now.along x y (c.args.row.now ++ i ∷ [])) xs) c.args.count ≡ Ok c.extend_side-then-row-axis.new.items.items)
-    (sym two) (row_of_left (joined here) c.args.items.now.items (on_axis here c.if-axis-row.false) c.if-row-axis.true ∙ ap (λ xs. Ok xs) (sym e))) c.extend_side-then-row-axis.ensures.items
+    rw (two here) (on_ok_weaker c.extend_side-then-row-axis.result
+    (λ e. row_of_left (joined here) c.args.items.now.items (on_axis here c.if-axis-row.false) c.if-row-axis.true ∙ ap (λ xs. Ok xs) (sym e)) c.extend_side-then-row-axis.ensures.items)
 
 pub returns-else-row-axis-clause-items : goal.returns-else-row-axis-clause-items
 returns-else-row-axis-clause-items c =
     let here = (goal.at.returns-else-row-axis-clause-items c).After-joined_places-places in
-    let two = two_arguments c.args.args.now c.index-args-0.result c.index-args-1.result c.requires.arguments c.index-args-0.is c.index-args-1.is in
-    on_ok_weaker c.extend_side-else-row-axis.result (λ e.
-    subst (λ xs. with_row c.args.items.now.items (λ i. of_two_arguments (λ x y. catenate_item c.args.self.now.along x y (c.args.row.now ++ i ∷ [])) xs) c.args.count ≡ Ok c.extend_side-else-row-axis.new.items.items)
-    (sym two) (row_of_right (joined here) c.args.items.now.items (on_axis here c.if-axis-row.false) c.if-row-axis.false ∙ ap (λ xs. Ok xs) (sym e))) c.extend_side-else-row-axis.ensures.items
+    rw (two here) (on_ok_weaker c.extend_side-else-row-axis.result
+    (λ e. row_of_right (joined here) c.args.items.now.items (on_axis here c.if-axis-row.false) c.if-row-axis.false ∙ ap (λ xs. Ok xs) (sym e)) c.extend_side-else-row-axis.ensures.items)

@@ -1,6 +1,4 @@
-use Rattle.std.proofs.Common.{subst}
-use Rattle.arrays_core.specs.Arrays.{IsAnswerTo}
-use Rattle.index_region.proofs.Arguments.{whole_of_two}
+use Rattle.{std.proofs.Common.{subst}, arrays_core.specs.Arrays.{IsAnswerTo}, index_region.proofs.Arguments.{whole_of_two}}
 use Rattle.structural_fns.specs.Drop.{drop_form, drop_item}
 use Rattle.structural_fns.proofs.drop_places.DropPlaces.apply.Goals as goal
 

@@ -1,5 +1,4 @@
-use Rattle.std.{proofs.Common.{◌≡◌, true, nat_eq, length, arith}, proofs.lemmas.Bool.{eqb-true}}
-use Rattle.arrays_core.specs.Shapes.{is_index_of}
+use Rattle.{std.{proofs.Common.{◌≡◌, true, nat_eq, length, arith}, proofs.lemmas.Bool.{eqb-true}}, arrays_core.specs.Shapes.{is_index_of}}
 use Rattle.index_region.{specs.Arguments.{is_list, counts_as_numbers, numbers}, proofs.Passing.{passed, place_inside}}
 use Rattle.structural_fns.{specs.AxisCounts.{counted_shape}, specs.Drop.{dropped_shape, kept_places}, proofs.Counting.{numbers_long}, proofs.SourcePlaces.{kept_inside, uncounted_inside}}
 use Rattle.structural_fns.proofs.drop_places.DropPlaces.place_of.Goals as goal

@@ -1,6 +1,4 @@
-use Rattle.std.proofs.Common.{subst}
-use Rattle.arrays_core.specs.Arrays.{IsAnswerTo}
-use Rattle.index_region.proofs.Arguments.{whole_of_two}
+use Rattle.{std.proofs.Common.{subst}, arrays_core.specs.Arrays.{IsAnswerTo}, index_region.proofs.Arguments.{whole_of_two}}
 use Rattle.structural_fns.specs.DyadicTranspose.{transpose_by_form, transpose_by_item}
 use Rattle.structural_fns.proofs.dyadic_transpose.DyadicTranspose.apply.Goals as goal
 

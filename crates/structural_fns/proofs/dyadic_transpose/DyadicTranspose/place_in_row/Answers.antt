@@ -1,5 +1,4 @@
-use Rattle.std.proofs.Common.{◌≡◌, ◌+◌, ◌++◌, ◌∷◌, [], arith}
-use Rattle.arrays_core.specs.Shapes.{places_before}
+use Rattle.{std.proofs.Common.{◌≡◌, ◌+◌, ◌++◌, ◌∷◌, [], arith}, arrays_core.specs.Shapes.{places_before}}
 use Rattle.structural_fns.{specs.DyadicTranspose.{axes_to, gathered}, proofs.Entries.{entries_long}, proofs.SourcePlaces.{gathered_inside}}
 use Rattle.structural_fns.proofs.dyadic_transpose.DyadicTranspose.place_in_row.Goals as goal
 

@@ -1,6 +1,4 @@
-use Rattle.std.proofs.Common.{subst, sym}
-use Rattle.arrays_core.specs.Arrays.{IsAnswerTo}
-use Rattle.index_region.proofs.Arguments.{whole_of_one}
+use Rattle.{std.proofs.Common.{subst, sym}, arrays_core.specs.Arrays.{IsAnswerTo}, index_region.proofs.Arguments.{whole_of_one}}
 use Rattle.structural_fns.specs.Ravel.{ravel_form, ravel_item}
 use Rattle.structural_fns.proofs.ravel.RavelAnnounced.whole.Goals as goal
 

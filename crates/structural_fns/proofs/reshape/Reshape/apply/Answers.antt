@@ -1,5 +1,4 @@
-use Rattle.std.proofs.Common.{◌≤◌, length, sym, ◌∙◌, subst, arith}
-use Rattle.arrays_core.specs.Shapes.{size}
+use Rattle.{std.proofs.Common.{◌≤◌, length, sym, ◌∙◌, subst, arith}, arrays_core.specs.Shapes.{size}}
 use Rattle.structural_fns.proofs.Runs.{reshape_answer, recycled_answer}
 use Rattle.structural_fns.proofs.reshape.Reshape.apply.Goals as goal
 

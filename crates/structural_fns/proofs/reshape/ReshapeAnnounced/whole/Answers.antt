@@ -1,6 +1,4 @@
-use Rattle.std.proofs.Common.{subst, sym}
-use Rattle.arrays_core.specs.Arrays.{IsAnswerTo}
-use Rattle.index_region.proofs.Arguments.{whole_of_two}
+use Rattle.{std.proofs.Common.{subst, sym}, arrays_core.specs.Arrays.{IsAnswerTo}, index_region.proofs.Arguments.{whole_of_two}}
 use Rattle.structural_fns.specs.Reshape.{reshape_form, reshape_item}
 use Rattle.structural_fns.proofs.reshape.ReshapeAnnounced.whole.Goals as goal
 

@@ -1,6 +1,4 @@
-use Rattle.std.proofs.Common.{subst}
-use Rattle.arrays_core.specs.Arrays.{IsAnswerTo}
-use Rattle.index_region.proofs.Arguments.{whole_of_one}
+use Rattle.{std.proofs.Common.{subst}, arrays_core.specs.Arrays.{IsAnswerTo}, index_region.proofs.Arguments.{whole_of_one}}
 use Rattle.structural_fns.specs.Reverse.{reverse_form, reverse_item}
 use Rattle.structural_fns.proofs.reverse.Reverse.apply.Goals as goal
 

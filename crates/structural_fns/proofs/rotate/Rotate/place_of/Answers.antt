@@ -1,6 +1,5 @@
 use Rattle.std.proofs.Common.{◌≡◌, IsTrue, subst, sym, length, ap, arith, remove, ◌∙◌, w64, to_z, of_z}
-use Rattle.arrays_core.{specs.Shapes.{is_index_of}, proofs.Shapes.{as_long}}
-use Rattle.function_names.specs.Axes.{axis_at}
+use Rattle.{arrays_core.{specs.Shapes.{is_index_of}, proofs.Shapes.{as_long}}, function_names.specs.Axes.{axis_at}}
 use Rattle.structural_fns.{specs.Laws.RotatedLines.{rotation_facts, removed_inside}, proofs.SourcePlaces.{rotated_inside}}
 use Rattle.structural_fns.proofs.rotate.Rotate.place_of.Goals as goal
 

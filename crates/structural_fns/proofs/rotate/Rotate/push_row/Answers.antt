@@ -25,7 +25,4 @@ loop-before-preserved c =
     let gave : rule (0 + j + 1) ≡ Ok c.item.result =
     item_at along a b row c.args.count c.args.items.now.item_type c.requires.row j (c.position.result - 1) (omega arith) (omega arith) ∙ ap (λ x. Ok x) (sym c.item.ensures.is) in
     let made = with_row_more c.args.items.now.items c.loop-before.items.items rule (λ k. c.item.result) j 1 (j + 1) refl (λ k h. (let same : j + k + 1 ≡ 0 + j + 1 = omega arith in ap rule same ∙ gave)) c.loop-before.invariant.made in
-    record {
-      made = made ∙ ap (λ xs. Ok xs) (sym c.in_ok-push.ensures.items);
-      typed = c.in_ok-push.ensures.typed ∙ c.loop-before.invariant.typed;
-    }
+    record { made = made ∙ ap (λ xs. Ok xs) (sym c.in_ok-push.ensures.items); typed = c.in_ok-push.ensures.typed ∙ c.loop-before.invariant.typed }

@@ -1,6 +1,4 @@
-use Rattle.std.proofs.Common.{◌≡◌, ◌++◌, ◌∷◌, [], Ok}
-use Rattle.arrays_core.specs.Building.{with_row}
-use Rattle.structural_fns.specs.Rotate.{rotate_item}
+use Rattle.{std.proofs.Common.{◌≡◌, ◌++◌, ◌∷◌, [], Ok}, arrays_core.specs.Building.{with_row}, structural_fns.specs.Rotate.{rotate_item}}
 use Rattle.structural_fns.proofs.rotate.Rotate.push_row.Given as goal
 
 abbrev pub invariant-loop-before : goal.invariant-loop-before

@@ -1,7 +1,5 @@
-use Rattle.std.proofs.Common.{subst, sym, Result}
-use Rattle.arrays_core.{specs.Arrays.{ArrayValue, IsAnswerTo}, specs.declared.item.Kind.{Kind}}
-use Rattle.index_region.proofs.Arguments.{whole_of_two}
-use Rattle.structural_fns.specs.Rotate.{rotate_form, rotate_item}
+use Rattle.{std.proofs.Common.{subst, sym, Result}, arrays_core.{specs.Arrays.{ArrayValue, IsAnswerTo}, specs.declared.item.Kind.{Kind}}}
+use Rattle.{index_region.proofs.Arguments.{whole_of_two}, structural_fns.specs.Rotate.{rotate_form, rotate_item}}
 use Rattle.structural_fns.proofs.rotate.RotateAnnounced.whole.Goals as goal
 
 pub returns : goal.returns

@@ -1,45 +1,24 @@
-use Rattle.std.{proofs.Common.{◌≡◌, ℕ, ◌+◌, ◌-◌, ◌<◌, ap, sym, ◌∙◌, get_or, arith, Ok, ◌++◌, ◌∷◌, []}, proofs.lemmas.Result.{on_ok_weaker}}
-use Rattle.arrays_core.{specs.Items.{fill}, specs.Shapes.{places_before}, proofs.Rows.{with_row_none, with_row_more}}
-use Rattle.index_region.specs.Sources.{Place, Fill}
-use Rattle.structural_fns.{specs.AxisCounts.{uncounted}, specs.Take.{take_item, take_source}, proofs.TakenRows.{source_there, no_source_there, taken_long, at_index, kept_item, kept_fill, kept_inside, first_place}}
+use Rattle.{std.proofs.Common.{◌+◌, ap, sym, ◌∙◌, get_or, arith, Ok, ◌++◌, ◌∷◌, []}, arrays_core.{specs.Items.{fill}, proofs.Rows.{row_put}}}
+use Rattle.structural_fns.{specs.Take.{take_item}, proofs.TakenRows.{KeptRow, taken_long, kept_row, kept_fill}, proofs.take.Take.extend_kept.Goals.{After-places_before}}
 use Rattle.structural_fns.proofs.take.Take.extend_kept.Goals as goal
 
 pub overflow_add-before : goal.overflow_add-before
 overflow_add-before c = omega (arith, c.requires.room, c.requires.some)
 
+-- the items that are kept stand from here on
+kept_here : (c : After-places_before) → KeptRow c.args.counts.now c.args.array.now c.args.row.now c.args.before c.args.kept c.places_before.result
+kept_here c =
+    let long = taken_long c.args.counts.now c.args.array.now c.args.row.now (c.args.before + 1) c.requires.place in
+    rw (c.places_before.ensures.is, c.shape-in-Place.ensures.is, c.as_slice-in-Place.ensures) (kept_row c.args.counts.now c.args.array.now c.args.row.now long.axes long.counts c.args.before c.args.kept c.requires.axis c.in-Place.arg _
+    (rw (c.as_slice.ensures, c.index_in_row-first.ensures.is) at c.in-Place.ensures.is))
+
 pub extend_run-requires-clause-inside : goal.extend_run-requires-clause-inside
-extend_run-requires-clause-inside c =
-    let a = c.args.counts.now in
-    let b = c.args.array.now in
-    let row = c.args.row.now in
-    let before = c.args.before in
-    let long = taken_long a b row (before + 1) c.requires.place in
-    let from : Place c.in-Place.arg c.in-Place.at.items ≡ take_source a b (row ++ (before + 1) ∷ []) = rw (c.as_slice.ensures, c.index_in_row-first.ensures.is) at c.in-Place.ensures.is in
-    let source = source_there _ c.in-Place.arg c.in-Place.at.items (uncounted b (at_index a b row long.axes long.counts (before + 1))) from in
-    let place = first_place a b row long.axes long.counts before c.args.kept c.requires.axis source.there in
-    let begins : c.places_before.result ≡ places_before b.shape (uncounted b (at_index a b row long.axes long.counts (before + 1))) =
-    rw (c.shape-in-Place.ensures.is, c.as_slice-in-Place.ensures, source.is) at c.places_before.ensures.is in
-    let inside = kept_inside a b row long.axes long.counts before c.args.kept c.requires.axis c.requires.some c.shape.ensures.sound source.there in
-    omega arith
+extend_run-requires-clause-inside c = (kept_here (goal.at.extend_run-requires-clause-inside c).After-places_before).inside c.requires.some c.shape.ensures.sound
 
 pub returns-in-Place-clause-items : goal.returns-in-Place-clause-items
 returns-in-Place-clause-items c =
-    let a = c.args.counts.now in
-    let b = c.args.array.now in
-    let row = c.args.row.now in
-    let before = c.args.before in
-    let long = taken_long a b row (before + 1) c.requires.place in
-    let from : Place c.in-Place.arg c.in-Place.at.items ≡ take_source a b (row ++ (before + 1) ∷ []) = rw (c.as_slice.ensures, c.index_in_row-first.ensures.is) at c.in-Place.ensures.is in
-    let source = source_there _ c.in-Place.arg c.in-Place.at.items (uncounted b (at_index a b row long.axes long.counts (before + 1))) from in
-    let place = first_place a b row long.axes long.counts before c.args.kept c.requires.axis source.there in
-    let begins : c.places_before.result ≡ places_before b.shape (uncounted b (at_index a b row long.axes long.counts (before + 1))) =
-    rw (c.shape-in-Place.ensures.is, c.as_slice-in-Place.ensures, source.is) at c.places_before.ensures.is in
-    let old = c.args.items.now.items in
-    let rule = λ (i : ℕ). take_item a b (row ++ (before + i) ∷ []) in
-    let f = λ (k : ℕ). get_or b.items (c.places_before.result + k) (fill b.item_type) in
-    let each : (j : ℕ) → j < c.args.kept → rule (0 + j + 1) ≡ Ok (f j) = λ j h.
-    kept_item a b row long.axes long.counts before c.args.kept c.requires.axis j h source.there ∙ ap (λ k. Ok (get_or b.items k (fill b.item_type))) (omega arith) in
-    on_ok_weaker c.extend_run.result (λ e. with_row_more old old rule f 0 c.args.kept c.args.kept (omega arith) each (with_row_none old rule) ∙ ap (λ xs. Ok xs) (sym e)) c.extend_run.ensures.items
+    row_put c.extend_run.result c.args.items.now.items c.extend_run.new.items.items (λ i. take_item c.args.counts.now c.args.array.now (c.args.row.now ++ (c.args.before + i) ∷ []))
+    (λ k. get_or c.args.array.now.items (c.places_before.result + k) (fill c.args.array.now.item_type)) c.args.kept (kept_here (goal.at.returns-in-Place-clause-items c).After-places_before).item c.extend_run.ensures.items
 
 pub returns-clause-items : goal.returns-clause-items
 returns-clause-items c =
@@ -47,11 +26,7 @@ returns-clause-items c =
     let b = c.args.array.now in
     let row = c.args.row.now in
     let long = taken_long a b row (c.args.before + 1) c.requires.place in
-    let from : Fill ≡ take_source a b (row ++ (c.args.before + 1) ∷ []) = rw (c.as_slice.ensures, c.index_in_row-first.ensures.is) at c.in-Fill.ensures.is in
-    let none = no_source_there _ (uncounted b (at_index a b row long.axes long.counts (c.args.before + 1))) from in
-    let old = c.args.items.now.items in
-    let rule = λ (i : ℕ). take_item a b (row ++ (c.args.before + i) ∷ []) in
-    let put : c.fill.result ≡ fill b.item_type = c.fill.ensures ∙ ap fill c.item_type.ensures.is in
-    let each : (j : ℕ) → j < c.args.kept → rule (0 + j + 1) ≡ Ok c.fill.result = λ j h.
-    kept_fill a b row long.axes long.counts c.args.before c.args.kept c.requires.axis j h none ∙ ap (λ x. Ok x) (sym put) in
-    on_ok_weaker c.extend_with.result (λ e. with_row_more old old rule (λ k. c.fill.result) 0 c.args.kept c.args.kept (omega arith) each (with_row_none old rule) ∙ ap (λ xs. Ok xs) (sym e)) c.extend_with.ensures.items
+    let put = c.fill.ensures ∙ ap fill c.item_type.ensures.is in
+    row_put c.extend_with.result c.args.items.now.items c.extend_with.new.self.items (λ i. take_item a b (row ++ (c.args.before + i) ∷ [])) (λ k. c.fill.result) c.args.kept
+    (λ j h. kept_fill a b row long.axes long.counts c.args.before c.args.kept c.requires.axis (rw (c.as_slice.ensures, c.index_in_row-first.ensures.is) at c.in-Fill.ensures.is) j h ∙ ap (λ x. Ok x) (sym put))
+    c.extend_with.ensures.items

@@ -1,5 +1,4 @@
-use Rattle.std.proofs.Common.{◌≡◌, true, sym, ◌∙◌}
-use Rattle.arrays_core.specs.Shapes.{is_index_of}
+use Rattle.{std.proofs.Common.{◌≡◌, true, sym, ◌∙◌}, arrays_core.specs.Shapes.{is_index_of}}
 use Rattle.structural_fns.{specs.AxisCounts.{counted_shape}, proofs.SourcePlaces.{uncounted_inside}}
 use Rattle.structural_fns.proofs.take.Take.source.Goals as goal
 

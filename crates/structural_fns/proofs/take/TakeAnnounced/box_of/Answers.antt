@@ -1,5 +1,4 @@
-use Rattle.std.proofs.Common.{arith}
-use Rattle.index_region.proofs.Passing.{two_arguments}
+use Rattle.{std.proofs.Common.{arith}, index_region.proofs.Passing.{two_arguments}}
 use Rattle.structural_fns.{specs.Laws.CountedAxes.{counted_fits}, proofs.Calls.{fit_of_right}}
 use Rattle.structural_fns.proofs.take.TakeAnnounced.box_of.Goals as goal
 

@@ -1,7 +1,5 @@
-use Rattle.std.proofs.Common.{subst, sym, Result}
-use Rattle.arrays_core.{specs.Arrays.{ArrayValue, IsAnswerTo}, specs.declared.item.Kind.{Kind}}
-use Rattle.index_region.proofs.Arguments.{whole_of_one}
-use Rattle.structural_fns.specs.Transpose.{transpose_form, transpose_item}
+use Rattle.{std.proofs.Common.{subst, sym, Result}, arrays_core.{specs.Arrays.{ArrayValue, IsAnswerTo}, specs.declared.item.Kind.{Kind}}}
+use Rattle.{index_region.proofs.Arguments.{whole_of_one}, structural_fns.specs.Transpose.{transpose_form, transpose_item}}
 use Rattle.structural_fns.proofs.transpose.TransposeAnnounced.whole.Goals as goal
 
 pub returns : goal.returns

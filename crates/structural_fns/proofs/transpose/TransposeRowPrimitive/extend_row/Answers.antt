@@ -1,7 +1,7 @@
-use Rattle.std.{proofs.Common.{◌≡◌, ℕ, ◌+◌, ◌-◌, ◌*◌, List, ap, sym, subst, ◌∙◌, length, length-drop, get_or, take, drop, reverse, arith, Ok, ◌++◌, ◌∷◌, []}, proofs.lemmas.Result.{on_ok_weaker}, proofs.lemmas.List.{take_all}}
-use Rattle.arrays_core.{specs.Building.{listed, with_row}, specs.Items.{fill}, specs.Shapes.{size, places_before}}
-use Rattle.index_region.specs.ArgumentLists.{of_one_argument}
-use Rattle.structural_fns.{specs.Transpose.{transpose_form, transpose_item}, proofs.SteppedRows.{row_some, one_argument, transposed_row, transposed_steps, transposed_items, fewer_axes}}
+use Rattle.std.{proofs.Common.{◌≡◌, ℕ, ◌+◌, ◌-◌, ◌*◌, List, ap, sym, ◌∙◌, length, length-drop, get_or, take, drop, reverse, arith, Ok, ◌++◌, ◌∷◌, []}, proofs.lemmas.Result.{on_ok_weaker}, proofs.lemmas.List.{take_all}}
+use Rattle.arrays_core.{specs.Building.{listed}, specs.Items.{fill}, specs.Shapes.{size, places_before}}
+use Rattle.index_region.{specs.ArgumentLists.{of_one_argument}, proofs.Passing.{one_argument}}
+use Rattle.structural_fns.{specs.Transpose.{transpose_form}, proofs.SteppedRows.{row_some, transposed_row, transposed_steps, transposed_items, fewer_axes}}
 use Rattle.structural_fns.proofs.transpose.TransposeRowPrimitive.extend_row.Goals as goal
 
 pub places_before-first-requires-clause-in_range : goal.places_before-first-requires-clause-in_range
@@ -26,8 +26,7 @@ extend_evenly-requires-clause-inside c =
     let b = c.index-args-0.result in
     let row = c.args.row.now in
     let one = one_argument c.args.args.now b c.requires.arguments c.index-args-0.is in
-    let shape : c.as_slice-3.result.now ≡ b.shape = c.as_slice-3.ensures ∙ c.shape-shape.ensures.is in
-    let step : c.size-step.result ≡ size (drop 1 b.shape) = rw (from_second, shape) at c.size-step.ensures in
+    let step : c.size-step.result ≡ size (drop 1 b.shape) = rw (from_second, c.as_slice-3.ensures ∙ c.shape-shape.ensures.is) at c.size-step.ensures in
     let place : c.places_before-first.result ≡ places_before b.shape (reverse (row ++ 1 ∷ [])) =
     rw (c.shape-shape.ensures.is, c.as_slice-2.ensures, c.from_last-at.ensures.is, c.as_slice.ensures, c.index_in_row-index.ensures.is) at c.places_before-first.ensures.is in
     rw step (transposed_steps b row c.args.count c.args.items.now.item_type (rw one at c.requires.row) c.places_before-first.result (omega (arith, place)) c.shape-shape.ensures.sound)
@@ -37,14 +36,13 @@ returns-clause-items c =
     let b = c.index-args-0.result in
     let row = c.args.row.now in
     let one = one_argument c.args.args.now b c.requires.arguments c.index-args-0.is in
-    let shape : c.as_slice-3.result.now ≡ b.shape = c.as_slice-3.ensures ∙ c.shape-shape.ensures.is in
-    let step : c.size-step.result ≡ size (drop 1 b.shape) = rw (from_second, shape) at c.size-step.ensures in
+    let step : c.size-step.result ≡ size (drop 1 b.shape) = rw (from_second, c.as_slice-3.ensures ∙ c.shape-shape.ensures.is) at c.size-step.ensures in
     let place : c.places_before-first.result ≡ places_before b.shape (reverse (row ++ 1 ∷ [])) =
     rw (c.shape-shape.ensures.is, c.as_slice-2.ensures, c.from_last-at.ensures.is, c.as_slice.ensures, c.index_in_row-index.ensures.is) at c.places_before-first.ensures.is in
     let made = transposed_items b row c.args.count c.args.items.now.item_type (rw one at c.requires.row) c.places_before-first.result (omega (arith, place)) c.args.items.now.items in
-    on_ok_weaker c.extend_evenly.result (λ e.
-    subst (λ xs. with_row c.args.items.now.items (λ i. of_one_argument (λ x. transpose_item x (row ++ i ∷ [])) xs) c.args.count ≡ Ok c.extend_evenly.new.items.items) (sym one)
-    (made ∙ ap (λ m. Ok (c.args.items.now.items ++ listed c.args.count (λ k. get_or b.items (c.places_before-first.result + k * m) (fill b.item_type)))) (sym step) ∙ ap (λ xs. Ok xs) (sym e))) c.extend_evenly.ensures.items
+    rw one (on_ok_weaker c.extend_evenly.result (λ e. made
+    ∙ ap (λ m. Ok (c.args.items.now.items ++ listed c.args.count (λ k. get_or b.items (c.places_before-first.result + k * m) (fill b.item_type)))) (sym step) ∙ ap (λ xs. Ok xs) (sym e))
+    c.extend_evenly.ensures.items)
 
 pub extend_evenly-requires-clause-some : goal.extend_evenly-requires-clause-some
 extend_evenly-requires-clause-some c = row_some (of_one_argument transpose_form c.args.args.now) c.args.row.now c.args.count c.args.items.now.item_type c.requires.row
