@@ -138,7 +138,7 @@ told_all tells count place block width x s climb inside wide told =
     let all : min width (count - block * width) ≡ count = omega (arith, start, wide) in
     subst (tells s) (λ i. segment x (start i) (all i)) told
 
--- a block that no join made is that of the place alone, or the line ends with it
+-- a block that no join made has one place, or the line ends with it
 pub alone_up : (count place block width : ℕ) → (block * width ≡ place) × (width ≡ 1 ⊎ count ≤ place + 1) → (block % 2 ≡ 0) × (count ≤ block * width + width)
     → (block / 2 * (2 * width) ≡ place) × (2 * width ≡ 1 ⊎ count ≤ place + 1)
 alone_up count place block width nothing alone =

@@ -24,7 +24,7 @@ spot_inside unit step blocks line place some h p =
     let order : step * (unit * blocks) ≡ blocks * (unit * step) = grind arith in
     omega (arith, mul-add-lt (line / step * unit + place) step (line % step) (unit * blocks) row (mod_below line step some), order, spot_is unit step line place)
 
--- lines of which some lie within so few slots are as short
+-- lines whose numbers fit into fewer than 2^62 slots are as short
 pub short_lines : (count step slots before : ℕ) → 0 < step → before + count * step ≤ slots → slots < 2 ^ 62 → count < 2 ^ 62
 short_lines count step slots before apart ends few =
     omega (arith, ends, mul-le count 1 count step (omega arith) (omega (arith, apart)), few)
