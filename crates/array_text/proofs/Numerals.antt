@@ -1,7 +1,7 @@
 -- The text and the width of a number.
-use Rattle.std.{proofs.Common.{◌≡◌, ℕ, ℤ, pos, negsuc, ◌+◌, ◌*◌, ◌^◌, ◌<◌, true, false, List, [], ◌∷◌, ◌++◌, length, get_or, map, refl, sym, ap, ◌∙◌, arith, w64}, specs.Prelude.{decimal, encode_utf8, encode_utf8_all, max}, specs.List.{range_with_len, fold}, specs.Int.Signed.{lt_z}, proofs.Math.IntN.{nat_abs}}
-use Rattle.std.{proofs.lemmas.Int.{ints, to_z-of_z}, proofs.lemmas.List.Sums.{fold-append}, proofs.lemmas.List.FromFn.{map-range_with_len_more}, proofs.lemmas.Fmt.{IsAscii-decimal}, proofs.lemmas.Str.Ascii.{encodes-IsAscii}}
-use Rattle.array_text.specs.Text.{number_text, number_width, number_characters, column_width, matrix_number}
+use Rattle.std.{proofs.Common.{◌≡◌, ℕ, zero, suc, ℤ, pos, negsuc, ◌+◌, ◌*◌, ◌^◌, ◌<◌, ◌≤◌, ◌/◌, ◌%◌, true, false, List, [], ◌∷◌, ◌++◌, length, get_or, map, refl, sym, ap, ◌∙◌, arith, w64}, specs.Prelude.{decimal, encode_utf8, encode_utf8_all, max}, specs.List.{range_with_len, fold}, specs.Int.Signed.{lt_z}}
+use Rattle.std.{proofs.Math.IntN.{nat_abs}, proofs.Math.Nat.{one-le-pow}, proofs.lemmas.Int.{ints, to_z-of_z}, proofs.lemmas.List.{length-append}, proofs.lemmas.List.Sums.{fold-append}, proofs.lemmas.List.FromFn.{map-range_with_len_more}, proofs.lemmas.Fmt.{IsAscii-decimal, decimal_by_steps, length-decimal-le}}
+use Rattle.{std.proofs.lemmas.Str.Ascii.{encodes-IsAscii}, array_text.specs.Text.{number_text, number_width, number_characters, column_width, matrix_number}}
 use mir.Val.{to_z, of_z, SFits}
 
 digits_are_their_bytes : (n : ℕ) → n < 2 ^ 64 → encode_utf8_all (decimal n) ≡ decimal n
@@ -43,3 +43,18 @@ unfolding column_width
 column_width-more columns zs column row =
     let width = λ (r : ℕ). number_width (matrix_number columns zs r column) in
     ap (fold max 0) (map-range_with_len_more width 0 row row (omega arith)) ∙ fold-append max 0 (map width (range_with_len 0 row)) (width row ∷ [])
+
+-- as many digits as the power of ten that is not above the number, and one more
+long_enough : (k n : ℕ) → n < 2 ^ 64 → 10 ^ k ≤ n → k < length (decimal n)
+long_enough k n small most = decimal_by_steps (λ m ds. (j : ℕ) → 10 ^ j ≤ m → j < length ds) one more n small k most
+  where
+    one : (m : ℕ) → m < 10 → (j : ℕ) → 10 ^ j ≤ m → j < length ((48 + m) ∷ [])
+    one m few zero le = omega arith
+    one m few (suc j) le = let some = one-le-pow j 10 (omega arith) in absurd (omega arith)
+
+    more : (m : ℕ) (ds : List ℕ) → 10 ≤ m → ((j : ℕ) → 10 ^ j ≤ m / 10 → j < length ds) → (j : ℕ) → 10 ^ j ≤ m → j < length (ds ++ ((48 + m % 10) ∷ []))
+    more m ds many h zero le = omega (arith, length-append ds ((48 + m % 10) ∷ []))
+    more m ds many h (suc j) le = omega (arith, length-append ds ((48 + m % 10) ∷ []), h j (omega arith))
+
+pub digits_of_power : (k n : ℕ) → n < 2 ^ 64 → 10 ^ k ≤ n → n < 10 * 10 ^ k → length (decimal n) ≡ k + 1
+digits_of_power k n small most next = let few = length-decimal-le (suc k) n (omega arith) (omega arith) small in let many = long_enough k n small most in omega arith

@@ -1,6 +1,6 @@
 //! The text of an array of numbers.
 
-ghost use Rattle.std.specs.Prelude.{◌≡◌, ◌+◌, ◌*◌, ◌<◌, ◌≤◌, ◌++◌, length, IfOk, OnOk, string_bytes};
+ghost use Rattle.std.specs.Prelude.{◌≡◌, ◌+◌, ◌*◌, ◌<◌, ◌≤◌, ◌++◌, length, decimal, IfOk, OnOk, string_bytes};
 ghost use Rattle.array_text.specs.Text.{number_text, number_width, right_justified, number_line, column_width, column_widths, number_row, number_plane};
 
 use crate::planes::Printed;
@@ -19,13 +19,23 @@ fn push_number(out: &mut String, number: i64) -> Result<(), AllocError>
     out.push_str(buffer.format(number.unsigned_abs()))
 }
 
-/// The width of a number, in characters.
+/// Counts the digits of a number.
+fn digits_in(number: u64) -> usize
+    ensures value { result ≡ length (decimal number) }
+    ensures small { result ≤ 20 }
+{
+    match number.checked_ilog10() {
+        Some(power) => power as usize + 1,
+        None => 1,
+    }
+}
+
+/// Returns the width of a number, in characters.
 fn width_of(number: i64) -> usize
     ensures value { result ≡ number_width number }
     ensures small { result ≤ 41 }
 {
-    let mut buffer = Buffer::new();
-    let digits = buffer.format(number.unsigned_abs()).len();
+    let digits = digits_in(number.unsigned_abs());
     if number < 0 { digits + 1 } else { digits }
 }
 
