@@ -310,10 +310,9 @@ fn give_up(rest: &[Spanned]) -> Result<Command, ParseFault>
     }
 }
 
-/// The command of this word, which is no change, with what comes after it.
+/// Returns the command of this word, with what comes after it.
 fn worded(alloc: Global, word: Name, rest: &[Spanned]) -> Result<Command, ParseFault>
-    requires short { 2 + length rest.now ≤ most_tokens }
-    requires no_change { IsNoChange (Sign right_parenthesis ∷ Named word ∷ lexemes rest.now) }
+    requires { 2 + length rest.now ≤ most_tokens }
     ensures { IsCommand (Sign right_parenthesis ∷ Named word ∷ lexemes rest.now) result }
 {
     match word.text() {
@@ -324,7 +323,7 @@ fn worded(alloc: Global, word: Name, rest: &[Spanned]) -> Result<Command, ParseF
         "STEP" => step(rest),
         "COMMIT" => commit(rest),
         "DROP" => give_up(rest),
-        _ => Err(ParseFault::Syntax),
+        _ => Ok(Command::Change(worded_change(alloc, word, rest)?)),
     }
 }
 
@@ -345,10 +344,9 @@ fn show(alloc: Global, tokens: &[Spanned], command: &mut Command) -> Result<(), 
     }
 }
 
-/// Puts the command of the word that stands at the front, which is no change.
+/// Puts the command of the word that stands at the front.
 fn worded_into(alloc: Global, front: Front<'_>, command: &mut Command) -> Result<(), ParseFault>
-    requires short { 2 + length front.rest.now ≤ most_tokens }
-    requires no_change { IsNoChange (Sign right_parenthesis ∷ Named front.name ∷ lexemes front.rest.now) }
+    requires { 2 + length front.rest.now ≤ most_tokens }
     ensures { IsCommand (Sign right_parenthesis ∷ Named front.entry.name ∷ lexemes front.entry.rest.now) (put_in result command.new) }
 {
     match worded(alloc, front.name, front.rest) {
@@ -357,19 +355,6 @@ fn worded_into(alloc: Global, front: Front<'_>, command: &mut Command) -> Result
             Ok(())
         }
         Err(fault) => Err(fault),
-    }
-}
-
-/// Puts what a line asks for that is not empty and no change.
-fn no_change(alloc: Global, tokens: &[Spanned], command: &mut Command) -> Result<(), ParseFault>
-    requires some { 0 < length tokens.now }
-    requires short { length tokens.now ≤ most_tokens }
-    requires no_change { IsNoChange (lexemes tokens.now) }
-    ensures { IsCommand (lexemes tokens.now) (put_in result command.new) }
-{
-    match command_word(tokens) {
-        Some(front) => worded_into(alloc, front, command),
-        None => show(alloc, tokens, command),
     }
 }
 
@@ -423,9 +408,12 @@ fn command_of(alloc: Global, tokens: &[Spanned], command: &mut Command) -> Resul
         *command = Command::Nothing;
         return Ok(());
     }
+    if let Some(front) = command_word(tokens) {
+        return worded_into(alloc, front, command);
+    }
     match change_into(alloc, tokens, command) {
         Ok(()) => Ok(()),
-        Err(ParseFault::Syntax) => no_change(alloc, tokens, command),
+        Err(ParseFault::Syntax) => show(alloc, tokens, command),
         Err(ParseFault::Limit) => Err(ParseFault::Limit),
         Err(ParseFault::NoMemory) => Err(ParseFault::NoMemory),
     }

@@ -1,9 +1,8 @@
 //! The edit of a cell: its positions and its literal, after `NAME [`; and a literal that stands alone.
 
-ghost use Rattle.std.specs.Prelude.{◌≡◌, ◌∷◌, Some, [], IfSome};
+ghost use Rattle.std.specs.Prelude.{Some, []};
 ghost use Rattle.apl_tokens.specs.Lexemes.{lexeme, lexemes};
-ghost use Rattle.apl_expr.specs.Edits.{Open, Items, Write, edit_of, edit_text, edit_sign, edit_step, edit_end, edits, EditSteps, EditGives, LiteralGives};
-ghost use Rattle.apl_expr.specs.Trees.{Numbers};
+ghost use Rattle.apl_expr.specs.Edits.{Open, Items, edit_of, edit_text, edit_sign, edit_step, edit_end, edits, EditSteps, EditGives, LiteralGives};
 
 use crate::expr::Literal;
 use crate::fault::ParseFault;
@@ -98,35 +97,14 @@ fn read_on(
     edit_end(edit)
 }
 
-/// The position and the number where the tokens are `position ] ← number`, as in an edit of one number of a vector.
-#[tactic(auto, unfolding(crate::specs::Edits::edits))]
-fn one_number(tokens: &[Spanned]) -> Option<(i64, i64)>
-    ensures { IfSome result (λ r. edits (lexemes tokens.now) (Some (Open [])) ≡ Some (Write (r.0 ∷ []) (Numbers (r.1 ∷ [])))) }
-{
-    let [first, second, third, last] = tokens else {
-        return None;
-    };
-    match (&first.token, &second.token, &third.token, &last.token) {
-        (Token::Num(position), Token::Mark(']'), Token::Mark('←'), Token::Num(number)) => {
-            Some((*position, *number))
-        }
-        _ => None,
-    }
-}
-
-/// The positions and the literal of the edit that the tokens are. The most usual one is read by itself: it takes no memory.
+/// Reads the positions and the literal of the edit that the tokens are.
 pub(crate) fn edited(
     alloc: Global,
     tokens: &[Spanned],
 ) -> Result<(CellPositions, Literal), ParseFault>
     ensures { EditGives result (edits (lexemes tokens.now) (Some (Open []))) }
 {
-    let mut positions = SmallVec::new(alloc);
-    if let Some((position, number)) = one_number(tokens) {
-        positions.push(position)?;
-        return Ok((positions, Literal::Num(number)));
-    }
-    read_on(alloc, Edit::Open(positions), tokens)
+    read_on(alloc, Edit::Open(SmallVec::new(alloc)), tokens)
 }
 
 /// The literal that the tokens are.

@@ -1,5 +1,5 @@
 use Rattle.{std.{proofs.Common.{◌≡◌, ◌∙◌, ℕ, false, Some, None, List, sym, ap}, specs.Prelude.{if◌then◌else◌}}, apl_tokens.specs.Lexemes.{Lexeme, lexemes}}
-use Rattle.apl_expr.{specs.Symbols.{stands_alone}, specs.Functions.{function, product_in, fold_in, fold_along_in, product_or_less, fold_along_or_less, fold_or_less, function_at}}
+use Rattle.apl_expr.{specs.Symbols.{stands_alone}, specs.Functions.{function, product_in, product_or_less, fold_along_or_less, fold_or_less, function_at}}
 use Rattle.apl_expr.proofs.functions.function_at.Goals as goal
 
 -- a sign that does not stand alone begins a product, a fold, or less
