@@ -21,10 +21,17 @@ use std::alloc::{AllocError, Global};
 /// The most axes of a table.
 const MOST_TABLE_AXES: usize = 2;
 
-/// The text of an expression's value, or of its error.
+/// Returns the text of an expression's value, or of its error. The array of a name that is present is printed where it lies, and not copied.
 pub(crate) fn show(alloc: Global, sheet: &Sheet, expr: &Expr) -> Result<String, AllocError>
     ensures { IfOk result (λ text. string_bytes text ≡ shown_text (eval (tree_of expr.now) (val sheet.now.names))) }
 {
+    if let Expr::Name(name) = expr {
+        match sheet.value(*name) {
+            Some(Ok(array)) => return print(alloc, array),
+            Some(Err(fault)) => return print_fault(alloc, &fault),
+            None => {}
+        }
+    }
     match sheet.show(expr)? {
         Ok(array) => print(alloc, &array),
         Err(fault) => print_fault(alloc, &fault),
