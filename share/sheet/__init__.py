@@ -8,6 +8,7 @@
   recovery    the log of a session, by which one that was not saved goes on
   commands    the forms of the lines that begin with ]; each NAME_commands has the commands of one subject
   tables      tables in files
+  numerals    fields as whole numbers: decimals, thousands, empty fields
   arrays      arrays as lines
   storing     the array of a name
   scripts     the lines by which a sheet is saved

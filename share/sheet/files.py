@@ -9,8 +9,9 @@ import os
 import shutil
 import stat
 import tempfile
+from functools import partial
 from pathlib import Path
-from typing import BinaryIO, Iterable, Iterator, List, Mapping, NamedTuple, Optional, Sequence, Tuple
+from typing import BinaryIO, Callable, Iterable, Iterator, List, Mapping, NamedTuple, Optional, Sequence, Tuple
 
 from .errors import Mistake
 from .journal import Binding, Change, Journal, Source
@@ -133,27 +134,50 @@ def save(file: str, raw: bytes, home: Home | None, may_replace: bool) -> Tuple[s
     A Mistake, and nothing is written: where another file is there than the home, or the home was changed by someone else, unless it may be
     replaced; where the file is no ordinary one; where the system refuses it.
     """
+    path = put(file, raw, there_already(file), partial(check_home, file, home), may_replace)
+    return str(path), digest_of(raw)
+
+
+def export(file: str, raw: bytes, may_replace: bool) -> None:
+    """Writes what is no script to a file. A file that was there stays, with a Mistake, or is kept as FILE~ where it may be replaced."""
+    there = f"{file} is there already; --replace puts the new one in its place and keeps that file as {file}~"
+    put(file, raw, there, lambda target: refuse(there), may_replace)
+
+
+def refuse(mistake: str) -> None:
+    raise Mistake(mistake)
+
+
+def put(file: str, raw: bytes, there: str, check: Callable[[Path], None], may_replace: bool) -> Path:
+    """Writes a file, and returns its path; calls `check` with the path of one that is there, unless it may be replaced, and keeps it as FILE~.
+
+    A Mistake, and nothing is written: `there` if someone else makes the file meanwhile, and where the system refuses it.
+    """
     try:
         target = Path(os.path.realpath(file))
         if target.exists():
-            check_target(file, target, home, may_replace)
+            check_writable(file, target)
+            if not may_replace:
+                check(target)
             keep_old(target)
         write(target, raw, target.exists())
     except FileExistsError:
-        raise Mistake(there_already(file)) from None
+        raise Mistake(there) from None
     except (OSError, ValueError) as error:
         raise Mistake(f"{file} cannot be written: {reason(error)}") from None
-    return str(target), digest_of(raw)
+    return target
 
 
-def check_target(file: str, target: Path, home: Home | None, may_replace: bool) -> None:
-    """Raises a Mistake if a file that is there may not be replaced."""
+def check_writable(file: str, target: Path) -> None:
+    """Raises a Mistake, or the error of the system, if a file that is there cannot be replaced."""
     if not target.is_file():
         raise Mistake(f"{file} cannot be written: it is no ordinary file")
     if not os.access(target, os.W_OK):
         raise PermissionError(errno.EACCES, os.strerror(errno.EACCES))
-    if may_replace:
-        return
+
+
+def check_home(file: str, home: Home | None, target: Path) -> None:
+    """Raises a Mistake if a file that is there is not the home, or was changed by someone else."""
     if not home or home.path != str(target):
         raise Mistake(there_already(file))
     if digest_of(target.read_bytes()) != home.digest:

@@ -12,7 +12,7 @@ SIGNS = frozenset("+-×÷*⋆|∣⌈⌊~∼<≤=≥>≠∧^∨⍲⍱⍴,⍪↑�
 MISTAKEN = {"Δ": "∆", "ι": "⍳", "ρ": "⍴", "ε": "∊", "−": "- or ¯", "‾": "¯", "∙": ".", "‘": "'", "’": "'", "\u00a0": "a blank"}
 OUTSIDE = {"OFF": "off", "QUIT": "off", "EXIT": "off", "BYE": "off", "HELP": "help", "SAVE": "save", "LOAD": "load", "COPY": "load"}
 OUTSIDE.update({"VARS": "names", "FNS": "names", "CLEAR": "clear", "UNDO": "undo", "REDO": "redo", "TABLE": "table", "SHOW": "show"})
-OUTSIDE.update({"EDIT": "edit", "RENAME": "rename", "WHY": "why", "WATCH": "watch", "RECOVER": "recover"})
+OUTSIDE.update({"EDIT": "edit", "RENAME": "rename", "WHY": "why", "WATCH": "watch", "RECOVER": "recover", "PRINT": "print"})
 PLACES = r"\s*¯?[0-9]+(?:\s*;\s*¯?[0-9]+)*\s*"
 LITERAL = r"(?:''|¯?[0-9]+(?:[ \t]+¯?[0-9]+)*)"
 BEGIN, END = "(?<![A-Za-z∆⍙0-9_])", "(?![A-Za-z∆⍙0-9_])"  # of a name
@@ -34,6 +34,7 @@ SLIPS = [
     (r"[0-9)\]]\s*(?P<at>[xX])(?![a-z])", "times is ×, by the keys `-"),
     (rf"^{NAME}\s*(?P<at>\[)(?!{PLACES}\]\s*←\s*{LITERAL}$).*←", EDITS),
     (rf"^\)\s*ROW\s*{NAME}{END}\s*(?!{LITERAL}$)(?:(?P<at>\S)|$)", "a row is a literal: )ROW D 1 2 3"),
+    (rf"^\)\s*CSV\s*{NAME}{END}\s*(?P<at>>)", "]csv FILE NAME writes a table file"),
     (rf"^\)\s*(?:ERASE|CSV)\s*{NAME}{END}\s*(?P<at>\S)", "this takes one name"),
     (r"[0-9](?P<at>E)[0-9]", "numbers are whole, and written out in digits"),
     (rf"{BEGIN}(?P<name>{NAME})(?P<at>\()(?P<inside>[0-9¯ \t]+|[^();']*;[^()']*)\)", r"an index stands in brackets: \g<name>[\g<inside>]"),

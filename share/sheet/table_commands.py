@@ -4,13 +4,14 @@ from __future__ import annotations
 
 import re
 from contextlib import contextmanager
-from typing import TYPE_CHECKING, Iterator, Sequence
+from typing import TYPE_CHECKING, Any, Iterator, Optional, Sequence
 
 from .arrays import lines_of_array
 from .commands import command, counted
 from .errors import Mistake
 from .lines import NAME
-from .tables import Table, shortened, table_in, text_of
+from .numerals import NUMBER, Numerals, decimals_of, is_within
+from .tables import Table, encoding_of, separator_in, separator_of, shortened, table_in, text_of
 
 if TYPE_CHECKING:
     from .session import Session
@@ -19,32 +20,55 @@ MANY_ITEMS = 1 << 20  # of an array; of more, the program is asked before they a
 
 
 @command(
-    "]table NAME FILE [--header] [--columns 2-7] [--separator ;]",
-    "puts the numbers of a table file under a name; --header skips its titles, --columns takes some columns (2-7, or 1,3,5-)",
+    "]table NAME FILE [--header] [--columns 2-7] [--separator ;] [--decimals 2] [--comma] [--point] [--thousands] [--empty 0] [--encoding cp1252]",
+    "puts the numbers of a table file under a name; --header skips its titles, --columns takes some columns (2-7, or 1,3,5-, or titles)",
 )
-def put_table(session: Session, name: str, file: str, header: bool, columns: str | None, separator: str | None) -> None:
+def put_table(
+    session: Session,
+    name: str,
+    file: str,
+    header: bool,
+    columns: Optional[str],
+    separator: Optional[str],
+    encoding: Optional[str],
+    **options: Any,
+) -> None:
+    numerals = numerals_of(**options)
     with memory_for(file):
-        table = table_of(file, header, separator)
+        table = table_of(session, file, header, separator, encoding)
         wanted = columns_of(table, columns) if columns else [*range(1, table.width + 1)]
-        numbers, each = table.numbers(wanted)
+        numbers, each = table.numbers(wanted, numerals)
         check_size(session, shape := [table.height, len(wanted)])
         put_array(session, file, f"]table {name} {file}", name, shape, numbers, each)
+    if numerals.decimals:
+        session.remark(f"{name} counts units of 0.{'1'.zfill(numerals.decimals)}: 1{'0' * numerals.decimals} stands for 1")
 
 
 @command(
-    "]labels NAME FILE COLUMN [--header] [--separator ;]",
+    "]labels NAME FILE COLUMN [--header] [--separator ;] [--encoding cp1252]",
     "puts a column of names from a table file under a name, as a matrix of characters with a row for each record",
 )
-def put_labels(session: Session, name: str, file: str, column: str, header: bool, separator: str | None) -> None:
+def put_labels(
+    session: Session, name: str, file: str, column: str, header: bool, separator: Optional[str], encoding: Optional[str]
+) -> None:
     with memory_for(file):
-        table = table_of(file, header, separator)
+        table = table_of(session, file, header, separator, encoding)
         if len(wanted := columns_of(table, column)) != 1:
-            raise Mistake(f"COLUMN is one number, and not {column}")
+            raise Mistake(f"COLUMN is one number or title, and not {column}")
         labels = table.labels(wanted[0])
         width = max(map(len, labels), default=0)
         check_size(session, shape := [table.height, width])
         items = "".join(label.ljust(width) for label in labels)
         put_array(session, file, f"]labels {name} {file} {column}", name, shape, items)
+
+
+def numerals_of(decimals: Optional[str], comma: bool, point: bool, thousands: bool, empty: Optional[str]) -> Numerals:
+    """Returns what the numbers look like, as the options say."""
+    if comma and point:
+        raise Mistake("--comma and --point are two decimal signs")
+    if empty is not None and not (NUMBER.fullmatch(empty) and is_within(Numerals().numbers([empty])[0][0])):
+        raise Mistake("--empty is followed by the whole number that an empty field stands for")
+    return Numerals(decimals_of(decimals), "," * comma or "." * point, thousands, empty or "")
 
 
 @contextmanager
@@ -56,28 +80,46 @@ def memory_for(file: str) -> Iterator[None]:
         raise Mistake(f"{file}: there is no memory for this table") from None
 
 
-def table_of(file: str, header: bool, separator: str | None) -> Table:
+def table_of(session: Session, file: str, header: bool, separator: Optional[str], encoding: Optional[str]) -> Table:
     """Returns the table in a file, without its titles."""
-    sign = "," if separator is None else "\t" if separator == "tab" else separator
-    if len(sign) != 1 or sign in '"-+¯0123456789\n\r\0' or "\ud800" <= sign <= "\udfff":  # those are bytes that are no UTF-8
-        raise Mistake("--separator is followed by one sign that is in no number, or by the word tab")
-    return table_in(file, text_of(file), sign, header)
+    sign = separator_of(separator)
+    text = text_of(file, encoding and encoding_of(encoding))
+    if sign is None and (sign := separator_in(file, text)) != ",":
+        session.remark(f"the fields of {file} are parted by {'tab' if sign == chr(9) else sign}")
+    return table_in(file, text, sign, header)
 
 
 def columns_of(table: Table, text: str) -> list[int]:
-    """Returns the columns that are named as 3, as 2-7, as 5- (to the last), or as several of these with commas between them."""
+    """Returns the columns that are named by titles, as 3, as 2-7, as 5- (to the last), or as several of these with commas between them."""
     if not table.width:
         raise Mistake(f"{table.file} has no records, so it has no columns")
-    columns: list[int] = []
-    for part in text.split(","):
-        ends = re.fullmatch("([0-9]{1,9})(?:(-)([0-9]{0,9}))?", part)
-        if not ends:
-            raise Mistake(f"'{shortened(part)}' names no columns; 3, 2-7 and 5- do")
-        first, last = int(ends[1]), int(ends[3] or (table.width if ends[2] else ends[1]))
-        if first < 1 or last > table.width or first > last:
-            raise Mistake(f"'{part}' names no columns of a table of {table.width}")
-        columns += range(first, last + 1)
-    return columns
+    if text in (table.titles or ()):  # a title may have commas
+        return [column_of(table, text)]
+    return [column for part in text.split(",") for column in columns_of_part(table, part)]
+
+
+def columns_of_part(table: Table, part: str) -> Sequence[int]:
+    """Returns the columns that one part names."""
+    ends = re.fullmatch("([0-9]{1,9})(?:(-)([0-9]{0,9}))?", part)
+    if part in (table.titles or ()):
+        return [column_of(table, part)]
+    if not ends:
+        kinds = "titles of the first record, or 3, 2-7 and 5-" if table.titles else "3, 2-7 and 5-"
+        raise Mistake(f"'{shortened(part)}' names no columns; {kinds} do")
+    first, last = int(ends[1]), int(ends[3] or (table.width if ends[2] else ends[1]))
+    if first < 1 or last > table.width or first > last:
+        raise Mistake(f"'{part}' names no columns of a table of {table.width}")
+    return range(first, last + 1)
+
+
+def column_of(table: Table, title: str) -> int:
+    """Returns the column with a title; a Mistake if there are two, or if the title is the number of another column."""
+    places = [place for place, it in enumerate(table.titles or (), 1) if it == title]
+    if len(places) > 1:
+        raise Mistake(f"{table.file}: {len(places)} columns have the title '{shortened(title)}'; their numbers are {', '.join(map(str, places))}")
+    if title.isascii() and title.isdigit() and 1 <= int(title[:9]) <= table.width and int(title) != places[0]:
+        raise Mistake(f"{table.file}: '{title}' is the title of column {places[0]}, and the number of another one")
+    return places[0]
 
 
 def check_size(session: Session, shape: Sequence[int]) -> None:

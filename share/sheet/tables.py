@@ -1,7 +1,8 @@
-"""Tables in files. A field stays the text that it is: the program reads it as a number."""
+"""Tables in files. A plain field stays the text that it is: the program reads it as a number."""
 
 from __future__ import annotations
 
+import codecs
 import csv
 import io
 import os
@@ -9,32 +10,36 @@ import re
 import stat
 import sys
 from itertools import repeat
-from typing import Sequence
+from typing import Optional, Sequence
 
 from .errors import Mistake
+from .numerals import MOST_DECIMALS, Numerals, is_plain, is_within
 
-NUMBER = re.compile("[ \t]*([-+¯]?)([0-9]+)[ \t]*")
-SIGN_OF = {"": "", "+": "", "-": "-", "¯": "-"}
-LEAST, GREATEST = -(1 << 63), (1 << 63) - 1
 LARGEST = 256  # MiB of a file
-
-DIGITS = bytes.maketrans(b"123456789", b"0" * 9)
-NOT_PLAIN = [b"--", b"0-", b"-,", b"-\n", b",,", b",\n", b"\n,", b"0" * 19]  # stands in no plain record, each digit being 0
+SEPARATORS = ",;\t|"  # that are looked for in a file
+MARKED = [(codecs.BOM_UTF32_LE, "utf-32"), (codecs.BOM_UTF32_BE, "utf-32"), (codecs.BOM_UTF16_LE, "utf-16"), (codecs.BOM_UTF16_BE, "utf-16")]
 
 
 class Table:
     """The records of a file; of plain ones each is a text of numbers with blanks between, and of others there are the fields in turn.
 
     width    the number of fields of each record
-    first    the number of the first record: 2 where titles stand before it
+    titles   the fields of the record of titles; None where there is none
     records  the plain records; none where there are fields in turn
     in_turn  the fields of records that are not plain
     uneven   the Mistake of the record behind them, if that has not as many fields as the first
     """
 
-    def __init__(self, file: str, width: int, first: int, records: Sequence[str] = (), in_turn: Sequence[str] = ()) -> None:
-        self.file, self.width, self.first, self.records, self.in_turn = file, width, first, records, in_turn
+    def __init__(
+        self, file: str, width: int, titles: Optional[Sequence[str]], records: Sequence[str] = (), in_turn: Sequence[str] = ()
+    ) -> None:
+        self.file, self.width, self.titles, self.records, self.in_turn = file, width, titles, records, in_turn
         self.uneven: Mistake | None = None
+
+    @property
+    def first(self) -> int:
+        """The number of the first record that has no titles."""
+        return 1 if self.titles is None else 2
 
     @property
     def height(self) -> int:
@@ -51,27 +56,40 @@ class Table:
             kept[place :: len(wanted)] = fields[column - 1 :: self.width]
         return kept
 
-    def numbers(self, wanted: Sequence[int]) -> tuple[Sequence[str], int]:
+    def numbers(self, wanted: Sequence[int], numerals: Numerals = Numerals()) -> tuple[Sequence[str], int]:
         """Returns the numbers of these columns, as texts, and how many stand in each; a Mistake names the first field that is none."""
-        if self.records and wanted == [*range(1, self.width + 1)]:
+        if self.records and numerals.is_whole and wanted == [*range(1, self.width + 1)]:
             return self.records, self.width
         fields, width = self.columns(wanted), len(wanted)
-        text = "\n".join(fields)
-        if not self.records and ("" in fields or "," in text or text.count("\n") >= len(fields) or not is_plain(text)):
-            fields = [self.number(field, place // width, wanted[place % width]) for place, field in enumerate(fields)]
+        if not (self.records and numerals.is_whole):
+            fields = self.read(fields, wanted, numerals)
         self.check_end()
         return fields, 1
 
-    def number(self, field: str, place: int, column: int) -> str:
-        """Returns the number in a field without plus sign and zeros before it; a Mistake if there is none of 64 bits."""
-        number = NUMBER.fullmatch(field)
-        if not number:
-            record = place + self.first
-            raise Mistake(f"{self.where(record, column)} is no whole number: '{shortened(field)}'{advice(field, record, column)}")
-        sign, digits = SIGN_OF[number[1]], number[2].lstrip("0") or "0"
-        if len(digits) > 18 and (len(digits) > 19 or not LEAST <= int(sign + digits) <= GREATEST):
-            raise Mistake(f"{self.where(place + self.first, column)} is beyond 64 bits: {shortened(field.strip())}")
-        return sign + digits
+    def read(self, fields: Sequence[str], wanted: Sequence[int], numerals: Numerals) -> Sequence[str]:
+        """Returns the numbers of fields, by the one decimal sign by which all are numbers; a Mistake names the first field that is none."""
+        readings = numerals.readings()
+        found = [reading.numbers(fields) for reading in readings]
+        well = [numbers for numbers, failed in found if failed is None]
+        if not well:
+            failed = max(place or 0 for _, place in found)
+            raise self.refused(fields[failed], failed, wanted, numerals)
+        if len(well) == 2 and well[0] != well[1]:
+            differs = next(place for place, pair in enumerate(zip(*well)) if pair[0] != pair[1])
+            where = self.where(differs // len(wanted) + self.first, wanted[differs % len(wanted)])
+            raise Mistake(f"{where} can be two numbers: '{shortened(fields[differs])}'; add --comma or --point, the decimal sign")
+        return well[0]
+
+    def refused(self, field: str, place: int, wanted: Sequence[int], numerals: Numerals) -> Mistake:
+        """Returns the Mistake of a field that is no number of 64 bits by every decimal sign."""
+        record, column = place // len(wanted) + self.first, wanted[place % len(wanted)]
+        numbers = [number for number in (reading.number(field) for reading in numerals.readings()) if number]
+        if any(not is_within(number) for number in numbers):
+            return Mistake(f"{self.where(record, column)} is beyond 64 bits: {shortened(field.strip())}")
+        if numbers:
+            return Mistake(f"{self.where(record, column)} has another decimal sign than a field before it: '{shortened(field)}'")
+        kind = "number" if numerals.decimals else "whole number"
+        return Mistake(f"{self.where(record, column)} is no {kind}: '{shortened(field)}'{advice(field, record, column, numerals)}")
 
     def where(self, record: int, column: int) -> str:
         return f"{self.file}: record {record} field {column}"
@@ -91,32 +109,38 @@ class Table:
             raise self.uneven
 
 
-def is_plain(text: str, separator: str = ",") -> bool:
-    """Returns whether all fields are up to 18 digits with - or nothing before them, as in most tables: a million in some milliseconds."""
-    if separator != "," and "," in text:  # a field has it, and below it would pass for a separator
-        return False
-    raw = text.encode().replace(separator.encode(), b",")
-    signs = b"\n" + raw.translate(DIGITS) + b"\n"
-    return not signs.translate(None, b"0-,\n") and not any(pair in signs for pair in NOT_PLAIN)
-
-
 def shortened(field: str) -> str:
     """Returns the first line of a field for a message, at most 60 characters of it."""
     start = field[:60].partition("\n")[0].partition("\r")[0]
     return start if start == field else f"{start}…"
 
 
-def advice(field: str, record: int, column: int) -> str:
-    """Returns how a field that is no number can be mended."""
+def advice(field: str, record: int, column: int, numerals: Numerals) -> str:
+    """Returns how a field that is no number can be mended: by an option, where one reads it."""
     if ";" in field or "\t" in field:
         return "; if this parts the fields, add --separator ';' or --separator tab"
     if not field.strip():
-        return "; write 0 into empty cells"
-    if re.fullmatch(r"\s*[-+¯]?[0-9]+[.,][0-9]+\s*", field):
-        return "; numbers are whole here: keep cents for euros, for instance"
+        return "; --empty 0 reads an empty field as 0"
+    if option := option_for(field, numerals):
+        return f"; {option} reads it"
     if record == 1:
         return "; if the first record has titles, add --header"
     return "; --columns takes the columns of numbers alone, and ]labels one of names" if column == 1 else ""
+
+
+def option_for(field: str, numerals: Numerals) -> Optional[str]:
+    """Returns the option, or the options, by which a field would be a number; None if there are none."""
+    decimals = re.search("[.,]([0-9]+)[ \t]*$", field)
+    places = min(max(len(decimals[1]) if decimals else 0, numerals.decimals), MOST_DECIMALS)
+    thousands = numerals._replace(has_thousands=True)
+    wider = {f"--decimals {places}": numerals._replace(decimals=places), "--thousands": thousands}
+    options = [option for option, it in wider.items() if it != numerals and is_read_by(it, field)]
+    both = thousands._replace(decimals=places)
+    return " or ".join(options) or (f"--thousands --decimals {places}" if is_read_by(both, field) else None)
+
+
+def is_read_by(numerals: Numerals, field: str) -> bool:
+    return any(reading.number(field) for reading in numerals.readings())
 
 
 def bytes_of(file: str) -> bytes:
@@ -135,13 +159,53 @@ def bytes_of(file: str) -> bytes:
         raise Mistake(f"{file} cannot be read: no file has such a name") from None
 
 
-def text_of(file: str) -> str:
-    """Returns the text of a table file."""
+def text_of(file: str, encoding: Optional[str] = None) -> str:
+    """Returns the text of a table file: in UTF-8, or as a mark at its beginning or an encoding that is told says."""
+    raw = bytes_of(file)
+    marked = next((name for mark, name in MARKED if raw.startswith(mark)), "utf-8-sig")
     try:
-        return bytes_of(file).decode("utf-8-sig")
-    except UnicodeDecodeError as error:
-        line = error.object.count(b"\n", 0, error.start) + 1
-        raise Mistake(f"{file}: line {line} is not UTF-8; save the table again as CSV in UTF-8") from None
+        return raw.decode(encoding or marked).lstrip("\ufeff" if encoding else "")
+    except UnicodeError as error:
+        line = error.object.count(b"\n", 0, error.start) + 1 if isinstance(error, UnicodeDecodeError) else 1
+        name = (encoding or marked).upper().replace("-SIG", "")
+        hint = "" if encoding else "; add --encoding cp1252 if it is of another spreadsheet, or save the table as CSV in UTF-8"
+        raise Mistake(f"{file}: line {line} is not {name}{hint}") from None
+
+
+def encoding_of(name: str) -> str:
+    """Returns the name of an encoding of texts; a Mistake if there is none."""
+    try:
+        "".encode(name)
+        return name
+    except (LookupError, ValueError):
+        raise Mistake(f"'{shortened(name)}' is no encoding; utf-16, cp1252 and latin-1 are some") from None
+
+
+def separator_of(word: Optional[str]) -> Optional[str]:
+    """Returns the sign that is named behind --separator, None without it; a Mistake if it can part no fields."""
+    sign = "\t" if word == "tab" else word
+    if sign is not None and (len(sign) != 1 or sign in '"-+¯0123456789\n\r\0' or "\ud800" <= sign <= "\udfff"):  # those are bytes that are no UTF-8
+        raise Mistake("--separator is followed by one sign that is in no number, or by the word tab")
+    return sign
+
+
+def separator_in(file: str, text: str) -> str:
+    """Returns the sign that parts the fields of all records; a Mistake if there are two. It is the comma where there is none."""
+    present = [sign for sign in SEPARATORS if sign in text]
+    fitting = [sign for sign in present if are_even(text, sign)] if present not in ([], [","]) else present
+    if len(fitting) > 1:
+        words = " or ".join("tab" if sign == "\t" else f"'{sign}'" for sign in fitting)
+        raise Mistake(f"{file}: more than one sign can part the fields; add --separator {words}")
+    return fitting[0] if fitting else ","
+
+
+def are_even(text: str, separator: str) -> bool:
+    """Returns whether a sign parts each record into as many fields, more than one."""
+    try:
+        widths = {len(record) for record in csv.reader(io.StringIO(text, newline=""), delimiter=separator) if record}
+    except csv.Error:
+        return False
+    return len(widths) == 1 and widths != {1}
 
 
 def table_in(file: str, text: str, separator: str, has_titles: bool) -> Table:
@@ -150,7 +214,7 @@ def table_in(file: str, text: str, separator: str, has_titles: bool) -> Table:
     A Mistake if it cannot be read. Of a record that has not as many fields as the first, the table has the Mistake.
     """
     csv.field_size_limit(sys.maxsize)
-    titles, rest = cut_titles(text, separator) if has_titles else ([], text)
+    titles, rest = cut_titles(text, separator) if has_titles else (None, text)
     if rest is not None and is_plain(rest.replace("\r\n", "\n"), separator):
         return plain_table(file, titles, rest.replace("\r\n", "\n"), separator)
     widths: list[int] = []
@@ -162,7 +226,8 @@ def table_in(file: str, text: str, separator: str, has_titles: bool) -> Table:
     except csv.Error as error:
         raise Mistake(f"{file}: record {len(widths) + 1} cannot be read: {error}") from None
     width, height = widths[0] if widths else 0, even_records(widths)
-    table = Table(file, width, 1 + has_titles, in_turn=fields[width * has_titles : width * height])
+    titles = fields[:width] if has_titles else None
+    table = Table(file, width, titles, in_turn=fields[width * has_titles : width * height])
     table.uneven = uneven_record(file, widths)
     return table
 
@@ -175,13 +240,13 @@ def cut_titles(text: str, separator: str) -> tuple[list[str], str | None]:
     return (records[0], rest) if len(records) == 2 else ([], None)  # the 0 stands in the first record where a quote is open
 
 
-def plain_table(file: str, titles: list[str], text: str, separator: str) -> Table:
+def plain_table(file: str, titles: Optional[list[str]], text: str, separator: str) -> Table:
     """Returns the table of plain records, which stand one on each line."""
     records = [*filter(None, text.replace(separator, " ").split("\n"))]
-    widths = [len(titles)] * bool(titles) + [blanks + 1 for blanks in map(str.count, records, repeat(" "))]
+    widths = [len(titles or ())] * bool(titles) + [blanks + 1 for blanks in map(str.count, records, repeat(" "))]
     if mistake := uneven_record(file, widths):
         raise mistake
-    return Table(file, widths[0] if widths else 0, 2 if titles else 1, records)
+    return Table(file, widths[0] if widths else 0, titles or None, records)
 
 
 def even_records(widths: Sequence[int]) -> int:

@@ -34,6 +34,7 @@ NOTES = [
     ("quit", "is ]off meant?"),
     (")OFF", "is ]off meant?"),
     (")vars", "is ]names meant?"),
+    (")DATA T←1 2\n)CSV T > t.csv", "]csv FILE NAME writes a table file"),
     (")data D←1", "commands are in capitals: )DATA\n"),
     (")Names", "commands are in capitals: )NAMES\n"),
     (")COL D 1 2", "there is no )COL; )ROW puts a row behind D, and )DATA D←D,5 6 a column"),

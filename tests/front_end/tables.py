@@ -15,7 +15,7 @@ from .rooms import SECONDS, TOP, Outcome, Room, Test, named_tests
 def table_as_the_program(room: Room, row: dict[str, Any]) -> Outcome:
     """A row of tests/tables.json: where the program takes the table so does ]table, with the same answers; else both name one place."""
     room.put("t.csv", row["file"])
-    status, printed, messages = room.call(lines="]table D t.csv" + " --header" * row["header"] + "\n" + row["lines"])
+    status, printed, messages = room.call(lines="]table D t.csv --separator ," + " --header" * row["header"] + "\n" + row["lines"])
     if row["status"] == 0:
         return (status, printed, messages), (0, row["output"], "")
     place = [f"{word.lower()} {number}" for word, number in re.findall("(RECORD|FIELD) ([0-9]+)", row["said"])]
@@ -39,10 +39,10 @@ TABLES = {  # a file, lines, their output, and a part of their messages
     "no column": ("1,2\n", "]table A t.csv --columns x\n", "", "'x' names no columns"),
     "semicolons": ("1;2\n3;4\n", "]table A t.csv --separator ;\nA\n", "1 2\n3 4\n", ""),
     "tabs": ("1\t2\n3\t4\n", "]table A t.csv --separator tab\nA\n", "1 2\n3 4\n", ""),
-    "another separator than told": ("1;2\n", "]table A t.csv\n", "", "add --separator ';'"),
+    "another separator than told": ("1;2\n", "]table A t.csv --separator ,\n", "", "add --separator ';'"),
     "titles without the flag": ("a,b\n1,2\n", "]table A t.csv\n", "", "add --header"),
-    "a decimal": ("1,2\n1,2.5\n", "]table A t.csv\n", "", "t.csv: record 2 field 2 is no whole number: '2.5'; numbers are whole here"),
-    "an empty cell": ("1,2\n1,\n", "]table A t.csv\n", "", "write 0 into empty cells"),
+    "a decimal": ("1,2\n1,2.5\n", "]table A t.csv\n", "", "t.csv: record 2 field 2 is no whole number: '2.5'; --decimals 1 reads it"),
+    "an empty cell": ("1,2\n1,\n", "]table A t.csv\n", "", "; --empty 0 reads an empty field as 0"),
     "a name": ("1,2\nx,2\n", "]table A t.csv\n", "", "--columns takes the columns of numbers alone"),
     "bytes that are no text": (b"1,2\n3,\xff\n", "]table A t.csv\n", "", "line 2 is not UTF-8"),
     "no file": ("", "]table A absent.csv\n", "", "absent.csv cannot be read: No such file or directory"),
@@ -71,7 +71,7 @@ TABLES = {  # a file, lines, their output, and a part of their messages
     "many digits": (f"{'1' * 5000}\n", "]table A t.csv\n", "", f"record 1 field 1 is beyond 64 bits: {'1' * 60}…\n"),
     "a long field": (f"{'x' * 5000}\n", "]table A t.csv\n", "", f"record 1 field 1 is no whole number: '{'x' * 60}…'; if"),
     "a quote that is not closed": ('"5,6\n7,8\n9,10\n', "]table A t.csv\n", "", "record 1 field 1 is no whole number: '5,6…'; if"),
-    "a field before a short record": ("1;2,5\n3;4\n", "]table A t.csv\n", "", "record 1 field 1 is no whole number: '1;2'; if this parts"),
+    "a field before a short record": ("1;2,5\n3;4\n", "]table A t.csv --separator ,\n", "", "record 1 field 1 is no whole number: '1;2'; if this parts"),
     "a long title": (f"{'x' * 200000},b\n1,2\n", "]table A t.csv --header\nA\n", "1 2\n", ""),
     "a title that is not closed": ('a","b\n1,2\n', "]table A t.csv --header\n⍴A\n", "0 2\n", ""),
     "bytes that are no text behind a mark": (b"\xef\xbb\xbf1,2\n\xff\n", "]table A t.csv\n", "", "line 2 is not UTF-8"),
@@ -89,7 +89,7 @@ TABLES = {  # a file, lines, their output, and a part of their messages
 }
 for sign, word in ((";", ";"), ("\t", "tab"), ("|", "'|'"), (" ", "' '"), ("€", "€")):  # where a comma parts no fields, it stands in one
     for titles, flag in (("", ""), (f"Preis{sign}Menge\n", " --header")):
-        said = f"t.csv: record {2 if titles else 1} field 1 is no whole number: '12,50'; numbers are whole here"
+        said = f"t.csv: record {2 if titles else 1} field 1 is no whole number: '12,50'; --decimals 2 reads it"
         lines = f"]table A t.csv --separator {word}{flag}\n]table B t.csv --columns 2 --separator {word}{flag}\n,B\n"
         TABLES[f"decimal commas, parted by {word}{flag}"] = f"{titles}12,50{sign}100\n3,99{sign}250\n", lines, "100 250\n", said
 
@@ -189,7 +189,7 @@ def irregular_case(chosen: random.Random) -> Case:
 def with_separator(chosen: random.Random, text: str) -> tuple[str, str]:
     """Returns a table with any separator in place of the comma, and the flag that names it."""
     sign = chosen.choice([",", ",", ";", "|", "€"])
-    return text.translate({ord(","): sign, ord(sign): ","}), f" --separator '{sign}'" if sign != "," else ""
+    return text.translate({ord(","): sign, ord(sign): ","}), f" --separator '{sign}'"
 
 
 def taken_by_the_program(room: Room, case: Case) -> str:

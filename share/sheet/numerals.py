@@ -1,0 +1,138 @@
+"""How fields are read as whole numbers: decimals, thousands and empty fields are translated exactly, where options ask for it."""
+
+from __future__ import annotations
+
+import re
+from functools import lru_cache
+from typing import List, NamedTuple, Optional, Pattern, Sequence, Tuple
+
+from .errors import Mistake
+
+NUMBER = re.compile("[ \t]*([-+¯]?)([0-9]+)[ \t]*")
+SIGN_OF = {"": "", "+": "", "-": "-", "¯": "-"}
+LEAST, GREATEST = -(1 << 63), (1 << 63) - 1
+MARKS = ",."  # the decimal signs
+GAPS = " \u00a0\u2009\u202f'’"  # between thousands, as the other decimal sign is
+MOST_DECIMALS = 18
+
+DIGITS = bytes.maketrans(b"123456789", b"0" * 9)
+NOT_PLAIN = [b"--", b"0-", b"-,", b"-\n", b",,", b",\n", b"\n,", b"0" * 19]  # stands in no plain record, each digit being 0
+
+
+def is_plain(text: str, separator: str = ",") -> bool:
+    """Returns whether all fields are up to 18 digits with - or nothing before them, as in most tables: a million in some milliseconds."""
+    if separator != "," and "," in text:  # a field has it, and below it would pass for a separator
+        return False
+    raw = text.encode().replace(separator.encode(), b",")
+    signs = b"\n" + raw.translate(DIGITS) + b"\n"
+    return not signs.translate(None, b"0-,\n") and not any(pair in signs for pair in NOT_PLAIN)
+
+
+def are_plain(fields: Sequence[str]) -> bool:
+    """Returns whether all of these fields are plain."""
+    text = "\n".join(fields)
+    return "" not in fields and "," not in text and text.count("\n") < len(fields) and is_plain(text)
+
+
+@lru_cache(None)
+def form(mark: str, decimals: int, has_thousands: bool) -> Pattern[str]:
+    """Returns the form of a number: its sign, its whole part, and its decimals behind the mark, with or without a whole part."""
+    part = rf"{re.escape(mark)}([0-9]{{1,{decimals}}})" if decimals else "([^\\s\\S])"
+    gaps = re.escape(MARKS.replace(mark, "") + GAPS)
+    whole = rf"[0-9]{{1,3}}(?:([{gaps}])[0-9]{{3}}(?:\3[0-9]{{3}})*)?|[0-9]+" if has_thousands else "[0-9]+()"
+    return re.compile(rf"[ \t]*([-+¯]?)(?:({whole})(?:{part})?|{part})[ \t]*")
+
+
+class Numerals(NamedTuple):
+    """What the numbers of a table look like.
+
+    decimals       how many decimals a number has at most: it is read in units of the last one
+    mark           the decimal sign, or nothing where the fields tell which one it is
+    has_thousands  whether thousands may be set apart
+    empty          the number that an empty field stands for, or nothing where an empty field is refused
+    """
+
+    decimals: int = 0
+    mark: str = ""
+    has_thousands: bool = False
+    empty: str = ""
+
+    @property
+    def is_whole(self) -> bool:
+        """True where numbers are digits alone."""
+        return not (self.decimals or self.has_thousands)
+
+    def readings(self) -> list[Numerals]:
+        """Returns the same for each decimal sign that it may be."""
+        return [self._replace(mark=mark) for mark in (MARKS if not self.mark and not self.is_whole else self.mark or ".")]
+
+    def number(self, field: str) -> Optional[str]:
+        """Returns the number in a field as its digits, without zeros before them; None if the field is no number."""
+        found = form(self.mark, self.decimals, self.has_thousands).fullmatch(field if field.strip(" \t") else self.empty)
+        if not found:
+            return None
+        whole = "".join(filter(str.isdigit, found[2] or ""))
+        digits = whole + (found[4] or found[5] or "").ljust(self.decimals, "0")
+        return SIGN_OF[found[1]] + (digits.lstrip("0") or "0")
+
+    def numbers(self, fields: Sequence[str]) -> Tuple[Sequence[str], Optional[int]]:
+        """Returns the numbers in fields, up to the first field that is no number of 64 bits, and the place of that field, if there is one."""
+        if self.empty:
+            fields = [field if field.strip(" \t") else self.empty for field in fields]
+        looks_plain = all(self.number(field) for field in fields[:100])  # so that a reading by the wrong mark ends soon
+        plain = self.plain_numbers(fields) if looks_plain else None
+        if plain is not None:
+            return plain, None
+        numbers = []
+        for place, field in enumerate(fields):
+            number = self.number(field)
+            if number is None or not is_within(number):
+                return numbers, place
+            numbers.append(number)
+        return numbers, None
+
+    def plain_numbers(self, fields: Sequence[str]) -> Optional[Sequence[str]]:
+        """Returns the numbers in fields where each is digits, perhaps behind a -, and decimals behind the mark; else None."""
+        if self.decimals and "" not in fields and "-" not in fields:
+            return self.full_numbers(fields) or self.filled_numbers(fields)
+        return fields if are_plain(fields) else None
+
+    def full_numbers(self, fields: Sequence[str]) -> Optional[Sequence[str]]:
+        """Returns the same where each number has all decimals: then only the mark goes."""
+        text, end = "\n".join(fields), -self.decimals
+        if text.count(self.mark) != len(fields) or {field[end - 1 : end] for field in fields} != {self.mark}:
+            return None
+        numbers = text.replace(self.mark, "").split("\n")
+        return numbers if len(numbers) == len(fields) and are_plain(numbers) else None
+
+    def filled_numbers(self, fields: Sequence[str]) -> Optional[Sequence[str]]:
+        """Returns the same where numbers may have fewer decimals: zeros take their places."""
+        parts = [field.partition(self.mark) for field in fields]
+        if any(len(part) > self.decimals or mark and not part for _, mark, part in parts):
+            return None
+        zeros = "0" * self.decimals
+        numbers = [whole + (part + zeros)[: self.decimals] for whole, _, part in parts]
+        return numbers if are_plain(numbers) else None
+
+
+def is_within(number: str) -> bool:
+    """Returns whether a number without zeros before it has 64 bits."""
+    return len(number) <= 18 or len(number) <= 20 and LEAST <= int(number) <= GREATEST
+
+
+def decimals_of(word: Optional[str]) -> int:
+    """Returns the number behind --decimals, 0 without it; a Mistake if there may not be as many."""
+    if word is None:
+        return 0
+    if not re.fullmatch("[0-9]{1,2}", word) or not 1 <= int(word) <= MOST_DECIMALS:
+        raise Mistake(f"--decimals is followed by a number from 1 to {MOST_DECIMALS}")
+    return int(word)
+
+
+def with_decimals(items: Sequence[str], decimals: int, mark: str) -> List[str]:
+    """Returns numbers as the program prints them, with - for ¯ and with a decimal sign before their last digits."""
+    numbers = " ".join(items).replace("¯", "-").split(" ") if items else []
+    if not decimals:
+        return numbers
+    filled = [number.zfill(decimals + 1 + (number[0] == "-")) for number in numbers]
+    return [f"{number[:-decimals]}{mark}{number[-decimals:]}" for number in filled]
