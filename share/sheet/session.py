@@ -8,7 +8,7 @@ from functools import partial
 from typing import Callable, Dict, Iterable, List, NamedTuple, Optional, Sequence, Tuple
 
 from . import notes, pager, places
-from . import change_commands, export_commands, file_commands, help_commands, name_commands, table_commands  # noqa: F401: they fill commands.COMMANDS
+from . import change_commands, export_commands, file_commands, grouping_commands, help_commands, name_commands, table_commands  # noqa: F401: they fill commands.COMMANDS
 from .answers import Answer, answer, first_refusal
 from .arrays import literal
 from .commands import run
@@ -125,6 +125,11 @@ class Session:
     def remark(self, remark: str) -> None:
         """Tells a note on the line that is answered."""
         self.tell(f"{self.place}: note: {remark}" if self.place else f"  {remark}")
+
+    def inform(self, remark: str) -> None:
+        """Tells a note on what a line has done, unless only errors and refusals are wanted."""
+        if not self.is_check:
+            self.remark(remark)
 
     def show_value(self, lines: Sequence[str], is_text: bool = False) -> None:
         """Shows a value, or a text, in the pager if it is beyond the screen."""

@@ -40,8 +40,7 @@ def put_table(
         numbers, each = table.numbers(wanted, numerals)
         check_size(session, shape := [table.height, len(wanted)])
         put_array(session, file, f"]table {name} {file}", name, shape, numbers, each)
-    if numerals.decimals:
-        session.remark(f"{name} counts units of 0.{'1'.zfill(numerals.decimals)}: 1{'0' * numerals.decimals} stands for 1")
+    remark_on_units(session, name, numerals)
 
 
 @command(
@@ -60,6 +59,12 @@ def put_labels(
         check_size(session, shape := [table.height, width])
         items = "".join(label.ljust(width) for label in labels)
         put_array(session, file, f"]labels {name} {file} {column}", name, shape, items)
+
+
+def remark_on_units(session: Session, name: str, numerals: Numerals) -> None:
+    """Tells what a number of a name stands for, if that has decimals."""
+    if numerals.decimals:
+        session.inform(f"{name} counts units of 0.{'1'.zfill(numerals.decimals)}: 1{'0' * numerals.decimals} stands for 1")
 
 
 def numerals_of(decimals: Optional[str], comma: bool, point: bool, thousands: bool, empty: Optional[str]) -> Numerals:
@@ -85,7 +90,7 @@ def table_of(session: Session, file: str, header: bool, separator: Optional[str]
     sign = separator_of(separator)
     text = text_of(file, encoding and encoding_of(encoding))
     if sign is None and (sign := separator_in(file, text)) != ",":
-        session.remark(f"the fields of {file} are parted by {'tab' if sign == chr(9) else sign}")
+        session.inform(f"the fields of {file} are parted by {'tab' if sign == chr(9) else sign}")
     return table_in(file, text, sign, header)
 
 
