@@ -164,7 +164,9 @@ def text_of(file: str, encoding: Optional[str] = None) -> str:
     raw = bytes_of(file)
     marked = next((name for mark, name in MARKED if raw.startswith(mark)), "utf-8-sig")
     try:
-        return raw.decode(encoding or marked).lstrip("\ufeff" if encoding else "")
+        text = raw.decode(encoding or marked).lstrip("\ufeff" if encoding else "")
+        text.encode()  # some encodings have signs that no other text has
+        return text
     except UnicodeError as error:
         line = error.object.count(b"\n", 0, error.start) + 1 if isinstance(error, UnicodeDecodeError) else 1
         name = (encoding or marked).upper().replace("-SIG", "")

@@ -55,6 +55,7 @@ CASES = {  # a file, lines, their output, and a part of their messages; those of
     "another encoding": ("Müller,7\n".encode("latin-1"), "]labels A t.csv 1\n", "", "t.csv: line 1 is not UTF-8; add --encoding cp1252"),
     "half a sign": (b"\xff\xfe1", "]table A t.csv\n", "", "t.csv: line 1 is not UTF-16"),
     "no encoding": ("1\n", "]table A t.csv --encoding klingon\n", "", "'klingon' is no encoding"),
+    "half a sign by its number": (b"\\ud800,1\n", "]labels A t.csv 1 --encoding unicode_escape\n", "", "t.csv: line 1 is not UNICODE_ESCAPE"),
     "an encoding of bytes": ("1\n", "]table A t.csv --encoding hex\n", "", "'hex' is no encoding"),
     "UTF-8 that is told": (b"\xef\xbb\xbf1,2\n", "]table A t.csv --encoding utf-8\nA\n", "1 2\n", ""),
 }
