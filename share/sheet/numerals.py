@@ -71,9 +71,9 @@ class Numerals(NamedTuple):
         found = form(self.mark, self.decimals, self.has_thousands).fullmatch(field if field.strip(" \t") else self.empty)
         if not found:
             return None
-        whole = "".join(filter(str.isdigit, found[2] or ""))
-        digits = whole + (found[4] or found[5] or "").ljust(self.decimals, "0")
-        return SIGN_OF[found[1]] + (digits.lstrip("0") or "0")
+        sign, whole, gap, part, part_alone = found.groups("")
+        digits = (whole.replace(gap, "") if gap else whole) + (part or part_alone).ljust(self.decimals, "0")
+        return SIGN_OF[sign] + (digits.lstrip("0") or "0")
 
     def numbers(self, fields: Sequence[str]) -> Tuple[Sequence[str], Optional[int]]:
         """Returns the numbers in fields, up to the first field that is no number of 64 bits, and the place of that field, if there is one."""
