@@ -9,7 +9,7 @@ from typing import TYPE_CHECKING, List, Optional, Sequence
 from . import files, storing
 from .commands import command, counted
 from .errors import Mistake
-from .numerals import decimals_of, with_decimals
+from .numerals import date_of, dates_of, decimals_of, with_decimals
 from .tables import separator_of
 
 if TYPE_CHECKING:
@@ -19,7 +19,7 @@ Labels = Optional[List[str]]
 
 
 @command(
-    "]csv FILE NAME [--rows LABELS] [--titles LABELS] [--separator ;] [--decimals 2] [--comma] [--replace]",
+    "]csv FILE NAME [--rows LABELS] [--titles LABELS] [--separator ;] [--decimals 2] [--comma] [--dates DD.MM.YYYY] [--replace]",
     "writes numbers as a table file, perhaps with names of its rows and titles of its columns; --replace where another file is there",
 )
 def write_table(
@@ -31,10 +31,11 @@ def write_table(
     separator: Optional[str],
     decimals: Optional[str],
     comma: bool,
+    dates: Optional[str],
     replace: bool,
 ) -> None:
     sign = separator_of(separator) or ","
-    records = records_of(session, name, rows, titles, decimals, comma)
+    records = records_of(session, name, rows, titles, decimals, comma, dates)
     text = io.StringIO(newline="")
     csv.writer(text, delimiter=sign, lineterminator="\n").writerows(records)
     if not session.is_check:
@@ -43,11 +44,19 @@ def write_table(
 
 
 @command(
-    "]print NAME [--rows LABELS] [--titles LABELS] [--decimals 2] [--comma]",
+    "]print NAME [--rows LABELS] [--titles LABELS] [--decimals 2] [--comma] [--dates DD.MM.YYYY]",
     "shows numbers in columns, perhaps with names of the rows, titles of the columns and a decimal sign",
 )
-def print_table(session: Session, name: str, rows: Optional[str], titles: Optional[str], decimals: Optional[str], comma: bool) -> None:
-    records = records_of(session, name, rows, titles, decimals, comma)
+def print_table(
+    session: Session,
+    name: str,
+    rows: Optional[str],
+    titles: Optional[str],
+    decimals: Optional[str],
+    comma: bool,
+    dates: Optional[str],
+) -> None:
+    records = records_of(session, name, rows, titles, decimals, comma, dates)
     widths = [max(map(len, column)) for column in zip(*records)]
     lines = []
     for record in records:
@@ -58,7 +67,15 @@ def print_table(session: Session, name: str, rows: Optional[str], titles: Option
     session.show_value(lines, is_text=True)
 
 
-def records_of(session: Session, name: str, rows: Optional[str], titles: Optional[str], decimals: Optional[str], comma: bool) -> List[List[str]]:
+def records_of(
+    session: Session,
+    name: str,
+    rows: Optional[str],
+    titles: Optional[str],
+    decimals: Optional[str],
+    comma: bool,
+    dates: Optional[str],
+) -> List[List[str]]:
     """Returns the numbers of a name as records of texts, with names of rows before them and titles above them."""
     array = array_of(session, name)
     if array.is_text:
@@ -67,6 +84,8 @@ def records_of(session: Session, name: str, rows: Optional[str], titles: Optiona
         raise Mistake(f"{name} has {len(array.shape)} axes, and a table has two")
     height, width = ([1, 1, *array.shape])[-2:]
     numbers = with_decimals(array.items, decimals_of(decimals), "," if comma else ".")
+    if dates is not None:
+        numbers = [date_of(number, dates_of(dates)) for number in with_decimals(array.items, 0, "")]
     records = [[*numbers[at * width : (at + 1) * width]] for at in range(height)]
     if rows:
         labels = labels_of(session, rows, height, "records")

@@ -3,6 +3,7 @@
 from __future__ import annotations
 
 import re
+from datetime import date, timedelta
 from functools import lru_cache
 from typing import List, NamedTuple, Optional, Pattern, Sequence, Tuple
 
@@ -14,6 +15,8 @@ LEAST, GREATEST = -(1 << 63), (1 << 63) - 1
 MARKS = ",."  # the decimal signs
 GAPS = " \u00a0\u2009\u202f'’"  # between thousands, as the other decimal sign is
 MOST_DECIMALS = 18
+DAY_0 = date(1899, 12, 30)  # as spreadsheets count days
+DATE_FORM = re.compile(r"(YYYY|MM|DD)([-./])(YYYY|MM|DD)\2(YYYY|MM|DD)")
 
 DIGITS = bytes.maketrans(b"123456789", b"0" * 9)
 NOT_PLAIN = [b"--", b"0-", b"-,", b"-\n", b",,", b",\n", b"\n,", b"0" * 19]  # stands in no plain record, each digit being 0
@@ -43,6 +46,39 @@ def form(mark: str, decimals: int, has_thousands: bool) -> Pattern[str]:
     return re.compile(rf"[ \t]*([-+¯]?)(?:({whole})(?:{part})?|{part})[ \t]*")
 
 
+@lru_cache(None)
+def date_form(word: str) -> Pattern[str]:
+    """Returns the form of the dates that a word as DD.MM.YYYY names: a day and a month may have one digit."""
+    parts = {"YYYY": "(?P<year>[0-9]{4})", "MM": "(?P<month>[0-9]{1,2})", "DD": "(?P<day>[0-9]{1,2})"}
+    return re.compile("[ \t]*" + re.sub("YYYY|MM|DD", lambda part: parts[part[0]], re.escape(word)) + "[ \t]*")
+
+
+def day_of(field: str, word: str) -> Optional[str]:
+    """Returns the number of the day that a field names by its date; None if it names none."""
+    found = date_form(word).fullmatch(field)
+    try:
+        return str((date(int(found["year"]), int(found["month"]), int(found["day"])) - DAY_0).days) if found else None
+    except ValueError:
+        return None
+
+
+def date_of(number: str, word: str) -> str:
+    """Returns the date of a day; a Mistake if it is not of the years 1 to 9999."""
+    try:
+        day = DAY_0 + timedelta(days=int(number))
+    except OverflowError:
+        raise Mistake(f"{number} is the number of no day of the years 1 to 9999") from None
+    return word.replace("YYYY", f"{day.year:04}").replace("MM", f"{day.month:02}").replace("DD", f"{day.day:02}")
+
+
+def dates_of(word: Optional[str]) -> str:
+    """Returns the word behind --dates, or nothing without it; a Mistake if it names no form of dates."""
+    found = DATE_FORM.fullmatch(word or "")
+    if word is not None and not (found and len({found[1], found[3], found[4]}) == 3):
+        raise Mistake("--dates is followed by the form of a date, as YYYY-MM-DD, DD.MM.YYYY or MM/DD/YYYY")
+    return word or ""
+
+
 class Numerals(NamedTuple):
     """What the numbers of a table look like.
 
@@ -50,12 +86,14 @@ class Numerals(NamedTuple):
     mark           the decimal sign, or nothing where the fields tell which one it is
     has_thousands  whether thousands may be set apart
     empty          the number that an empty field stands for, or nothing where an empty field is refused
+    dates          the form of dates, which are read as numbers of days, or nothing
     """
 
     decimals: int = 0
     mark: str = ""
     has_thousands: bool = False
     empty: str = ""
+    dates: str = ""
 
     @property
     def is_whole(self) -> bool:
@@ -68,6 +106,9 @@ class Numerals(NamedTuple):
 
     def number(self, field: str) -> Optional[str]:
         """Returns the number in a field as its digits, without zeros before them; None if the field is no number."""
+        day = day_of(field, self.dates) if self.dates else None
+        if day is not None:
+            return day
         found = form(self.mark, self.decimals, self.has_thousands).fullmatch(field if field.strip(" \t") else self.empty)
         if not found:
             return None

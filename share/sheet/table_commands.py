@@ -10,7 +10,7 @@ from .arrays import lines_of_array
 from .commands import command, counted
 from .errors import Mistake
 from .lines import NAME
-from .numerals import NUMBER, Numerals, decimals_of, is_within
+from .numerals import NUMBER, Numerals, dates_of, decimals_of, is_within
 from .tables import Table, encoding_of, separator_in, separator_of, shortened, table_in, text_of
 
 if TYPE_CHECKING:
@@ -20,7 +20,7 @@ MANY_ITEMS = 1 << 20  # of an array; of more, the program is asked before they a
 
 
 @command(
-    "]table NAME FILE [--header] [--columns 2-7] [--separator ;] [--decimals 2] [--comma] [--point] [--thousands] [--empty 0] [--encoding cp1252]",
+    "]table NAME FILE [--header] [--columns 2-7] [--separator ;] [--decimals 2] [--comma] [--point] [--thousands] [--empty 0] [--dates DD.MM.YYYY] [--encoding cp1252]",
     "puts the numbers of a table file under a name; --header skips its titles, --columns takes some columns (2-7, or 1,3,5-, or titles)",
 )
 def put_table(
@@ -67,13 +67,17 @@ def remark_on_units(session: Session, name: str, numerals: Numerals) -> None:
         session.inform(f"{name} counts units of 0.{'1'.zfill(numerals.decimals)}: 1{'0' * numerals.decimals} stands for 1")
 
 
-def numerals_of(decimals: Optional[str], comma: bool, point: bool, thousands: bool, empty: Optional[str]) -> Numerals:
+def numerals_of(
+    decimals: Optional[str], comma: bool, point: bool, thousands: bool, empty: Optional[str], dates: Optional[str] = None
+) -> Numerals:
     """Returns what the numbers look like, as the options say."""
     if comma and point:
         raise Mistake("--comma and --point are two decimal signs")
     if empty is not None and not (NUMBER.fullmatch(empty) and is_within(Numerals().numbers([empty])[0][0])):
         raise Mistake("--empty is followed by the whole number that an empty field stands for")
-    return Numerals(decimals_of(decimals), "," * comma or "." * point, thousands, empty or "")
+    if dates and decimals:
+        raise Mistake("--dates and --decimals do not go together: a day is a whole number; read the columns under two names")
+    return Numerals(decimals_of(decimals), "," * comma or "." * point, thousands, empty or "", dates_of(dates))
 
 
 @contextmanager

@@ -121,6 +121,8 @@ def advice(field: str, record: int, column: int, numerals: Numerals) -> str:
         return "; if this parts the fields, add --separator ';' or --separator tab"
     if not field.strip():
         return "; --empty 0 reads an empty field as 0"
+    if numerals.dates and re.fullmatch("[0-9]+[-./][0-9]+[-./][0-9]+", field.strip()):
+        return f", and no date as {numerals.dates}"
     if option := option_for(field, numerals):
         return f"; {option} reads it"
     if record == 1:

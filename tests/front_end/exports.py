@@ -21,6 +21,8 @@ CASES = {  # lines behind SALES, what they print, the file t.csv, and a part of 
     "no records": (")DATA N←0 3⍴0\n]csv t.csv N --titles Y\n", "", "2024,2025,2026\n", "1 record written"),
     "columns": ("]print P --rows L --titles Y --decimals 2\n", "          2024  2025   2026\nbolt     12.50  3.99  -0.05\nframe  1000.00  0.07   0.00\n", None, ""),
     "columns alone": ("]print P\n", "  1250  399  -5\n100000    7   0\n", None, ""),
+    "dates": (")DATA A←46023 1\n]print A --dates DD.MM.YYYY\n]csv t.csv A --dates YYYY-MM-DD\n", "01.01.2026  31.12.1899\n", "2026-01-01,1899-12-31\n", "1 record"),
+    "no dates": ("]print P --dates DD/MM/YYYY\n)DATA A←9999999\n]print A --dates DD/MM/YYYY\n", "03/06/1903  02/02/1901  25/12/1899\n14/10/2173  06/01/1900  30/12/1899\n", None, "9999999 is the number of no day of the years 1 to 9999"),
     "an error": ("]csv t.csv E\n", "", None, "E shows DOMAIN ERROR IN E, and no array\n"),
     "no name": ("]print Q\n", "", None, "Q is not there\n"),
     "characters": ("]csv t.csv L\n", "", None, "L is characters; --rows and --titles take those\n"),
