@@ -15,7 +15,7 @@ if TYPE_CHECKING:
     from .session import Session
 
 Value = Union[str, bool, None, List[str]]
-PART = re.compile(r"\[(?P<flag>--\w+)(?: (?P<example>[^\]]+))?\]|(?P<optional>\[)?(?P<word>[A-Z]+)(?P<many>\.\.)?\]?")
+PART = re.compile(r"\[(?P<flag>--[a-z-]+)(?: (?P<example>[^\]]+))?\]|(?P<optional>\[)?(?P<word>[A-Z]+)(?P<many>\.\.)?\]?")
 # a blank in it, and a ⍝ within quotes or within a word, begins no comment
 COMMENT = re.compile(r"""((?:'[^']*'|"(?:\\.|[^"\\])*"|\\.|(?<=[^\s])⍝|[^'"\\⍝])*)⍝.*""", re.DOTALL)
 
@@ -55,8 +55,8 @@ class Form:
         return Mistake(f"{what}; the form is {self.text}")
 
     def values(self, texts: Sequence[str]) -> Dict[str, Value]:
-        """Returns the values of words and flags by their names, in small letters; a Mistake if the form is another one."""
-        values: Dict[str, Value] = {flag[2:]: None if takes_word else False for flag, takes_word in self.flags.items()}
+        """Returns the values of words and flags by their names, in small letters, with _ for -; a Mistake if the form is another one."""
+        values: Dict[str, Value] = {name_of(flag): None if takes_word else False for flag, takes_word in self.flags.items()}
         waiting, words = [*texts], []
         while waiting:
             text = waiting.pop(0)
@@ -67,7 +67,7 @@ class Form:
             elif self.flags[text] and not waiting:
                 raise self.mistake(f"a word is missing behind {text}")
             else:
-                values[text[2:]] = waiting.pop(0) if self.flags[text] else True
+                values[name_of(text)] = waiting.pop(0) if self.flags[text] else True
         return {**values, **self.values_of_words(words)}
 
     def values_of_words(self, texts: List[str]) -> Dict[str, Value]:
@@ -85,6 +85,11 @@ class Form:
         if texts:
             raise self.mistake(f"{texts[0]} is too much")
         return values
+
+
+def name_of(flag: str) -> str:
+    """Returns the name of the parameter that has the value of a flag."""
+    return flag[2:].replace("-", "_")
 
 
 class Command(NamedTuple):

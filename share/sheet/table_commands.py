@@ -44,17 +44,17 @@ def put_table(
 
 
 @command(
-    "]labels NAME FILE COLUMN [--header] [--separator ;] [--encoding cp1252]",
+    "]labels NAME FILE COLUMN [--header] [--separator ;] [--one-line] [--encoding cp1252]",
     "puts a column of names from a table file under a name, as a matrix of characters with a row for each record",
 )
 def put_labels(
-    session: Session, name: str, file: str, column: str, header: bool, separator: Optional[str], encoding: Optional[str]
+    session: Session, name: str, file: str, column: str, header: bool, separator: Optional[str], one_line: bool, encoding: Optional[str]
 ) -> None:
     with memory_for(file):
         table = table_of(session, file, header, separator, encoding)
         if len(wanted := columns_of(table, column)) != 1:
             raise Mistake(f"COLUMN is one number or title, and not {column}")
-        labels = table.labels(wanted[0])
+        labels = table.labels(wanted[0], one_line)
         width = max(map(len, labels), default=0)
         check_size(session, shape := [table.height, width])
         items = "".join(label.ljust(width) for label in labels)

@@ -94,12 +94,14 @@ class Table:
     def where(self, record: int, column: int) -> str:
         return f"{self.file}: record {record} field {column}"
 
-    def labels(self, column: int) -> list[str]:
-        """Returns the fields of a column; a Mistake names the first one that has more than one line."""
+    def labels(self, column: int, one_line: bool = False) -> list[str]:
+        """Returns the fields of a column; a Mistake names the first one of more lines, unless each end of a line becomes a blank."""
         labels = self.columns([column])
+        if one_line:
+            labels = [re.sub("\r\n|\r|\n", " ", label) for label in labels]
         for place, label in enumerate(labels):
             if "\n" in label or "\r" in label:
-                raise Mistake(f"{self.where(place + self.first, column)} has more than one line")
+                raise Mistake(f"{self.where(place + self.first, column)} has more than one line; --one-line puts a blank for each end of a line")
         self.check_end()
         return labels
 

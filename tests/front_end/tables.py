@@ -54,6 +54,7 @@ TABLES = {  # a file, lines, their output, and a part of their messages
     "labels of plain numbers": ("1,-05\n2,3\n", "]labels L t.csv 2\nL\n", "-05\n3  \n", ""),
     "labels with quotes": ("it's\n'\né⍝\n", "]labels L t.csv 1\nL\n", "it's\n'   \né⍝  \n", ""),
     "a label of two lines": ('"a\nb"\n', "]labels L t.csv 1\n", "", "has more than one line"),
+    "labels in one line": ('"a\nb"\n"c\r\nd"\n', "]labels L t.csv 1 --one-line\nL\n", "a b\nc d\n", ""),
     "a label of two lines, with CR": ('"a\rb"\n', "]labels L t.csv 1\n", "", "record 1 field 1 has more than one line"),
     "labels of no records": ("", "]labels L t.csv 1\n", "", "t.csv has no records, so it has no columns"),
     "labels of titles alone": ("a,b\n", "]labels L t.csv 1 --header\n⍴L\n", "0 0\n", ""),
