@@ -83,7 +83,8 @@ def records_of(
     if len(array.shape) > 2:
         raise Mistake(f"{name} has {len(array.shape)} axes, and a table has two")
     height, width = ([1, 1, *array.shape])[-2:]
-    numbers = with_decimals(array.items, decimals_of(decimals), "," if comma else ".")
+    own = session.binding(name).decimals
+    numbers = with_decimals(array.items, own if decimals is None else decimals_of(decimals), "," if comma else ".")
     if dates is not None:
         numbers = [date_of(number, dates_of(dates)) for number in with_decimals(array.items, 0, "")]
     records = [[*numbers[at * width : (at + 1) * width]] for at in range(height)]

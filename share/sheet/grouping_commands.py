@@ -12,6 +12,7 @@ from .errors import Mistake
 from .numerals import is_within
 from .table_commands import check_size, columns_of, memory_for, not_taken_in, numerals_of, remark_on_units, table_of
 from .tables import Table, shortened
+from .units import with_units
 
 if TYPE_CHECKING:
     from .session import Session
@@ -47,7 +48,8 @@ def pivot(
         axes = [ordered([*dict.fromkeys(labels)], sorted) for labels in keys]
         check_size(session, shape := [len(labels) for labels in axes] + [1] * (len(axes) == 1))
         totals = totals_of(axes, keys, amounts)
-        put(session, file, name, shape[: len(axes)], totals, axes)
+        decimals = 0 if sum is None else numerals.decimals
+        put(session, file, name, shape[: len(axes)], totals, axes, decimals)
     if sum is not None:
         remark_on_units(session, name, numerals)
 
@@ -85,9 +87,11 @@ def totals_of(axes: Sequence[Sequence[str]], keys: Sequence[Sequence[str]], amou
     return [*map(str, totals)]
 
 
-def put(session: Session, file: str, name: str, shape: List[int], totals: List[str], axes: Sequence[Sequence[str]]) -> None:
+def put(
+    session: Session, file: str, name: str, shape: List[int], totals: List[str], axes: Sequence[Sequence[str]], decimals: int
+) -> None:
     """Binds a name to totals, and two further names to the labels of their rows and columns."""
-    lines = lines_of_array(name, shape, totals, session.journal.spare_name(name))
+    lines = with_units(lines_of_array(name, shape, totals, session.journal.spare_name(name)), name, decimals)
     for labels, suffix in zip(axes, SUFFIXES):
         width = max(map(len, labels), default=0)
         items = "".join(label.ljust(width) for label in labels)

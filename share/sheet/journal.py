@@ -8,6 +8,7 @@ from itertools import count
 from typing import Dict, Iterable, List, Mapping, NamedTuple, Optional, Sequence
 
 from .lines import BLANKS, Line
+from .units import decimals_in
 
 MOST_NAMES = 1024  # names of a sheet
 
@@ -42,15 +43,23 @@ class Source(NamedTuple):
 class Binding:
     """The binding of a name.
 
-    is_data  whether it is data, and not a formula
-    text     the line that makes it; None if there is no single one
-    place    the last line of a script that had a part in it, or None
-    source   the state of the table file when it was read, or None
+    is_data   whether it is data, and not a formula
+    text      the line that makes it; None if there is no single one
+    place     the last line of a script that had a part in it, or None
+    source    the state of the table file when it was read, or None
+    decimals  how many decimals its numbers stand for, as the comment of the line says that made it; an edit or a row leaves them
+    is_edit   whether an edit or a row made it of the binding before
     """
 
     def __init__(self, is_data: bool, text: Optional[str] = None, place: Optional[Place] = None) -> None:
         self.is_data, self.text, self.place = is_data, text, place
         self.source: Optional[Source] = None
+        self.decimals, self.is_edit = 0, False
+
+    def follow(self, former: Optional[Binding]) -> None:
+        """Takes over the decimals of the binding before, if an edit or a row made it of that."""
+        if self.is_edit and former:
+            self.decimals, self.is_edit = former.decimals, False
 
     @functools.cached_property
     def references(self) -> List[str]:
@@ -92,6 +101,9 @@ def change_of(line: Line, place: Optional[Place] = None) -> Change:
     elif line.kind != "erase":
         is_whole = line.kind == "data" and not line.references
         binding = Binding(True, text if is_whole else None, place)
+        binding.is_edit = line.kind != "data"
+    if binding and not binding.is_edit:
+        binding.decimals = decimals_in(text)
     return Change(text, [line.text], {line.name or "": binding}, [place] if place else [])
 
 
@@ -101,6 +113,8 @@ def joined(title: str, changes: Sequence[Change]) -> Change:
     before: Dict[str, Optional[Binding]] = {}
     for change in changes:
         for name, binding in change.bound.items():
+            if binding:
+                binding.follow(bound.get(name))
             if binding is None or bound.get(name, binding) is None:
                 bound.pop(name, None)  # a name that comes after its removal goes last
             bound[name] = binding
@@ -182,6 +196,9 @@ class Journal:
     def add(self, change: Change) -> Change:
         """Appends a change, and returns it."""
         change.before = {name: self.bindings.get(name) for name in change.bound}
+        for name, binding in change.bound.items():
+            if binding:
+                binding.follow(change.before[name])
         self.changes.append(change)
         self.undone.clear()
         bind(self.bindings, change)

@@ -10,6 +10,7 @@ from .arrays import rows_of_array
 from .commands import command
 from .errors import Mistake
 from .lines import NAME, PIECE, without_comment
+from .units import units_of, with_units
 
 if TYPE_CHECKING:
     from .session import Session
@@ -23,7 +24,8 @@ def show_names(session: Session) -> None:
     for name, binding in session.journal.bindings.items():
         array = storing.Array(session.program, name)
         shape = " ".join(map(str, array.shape)) or "scalar"
-        kind = array.error or ("characters " if array.is_text else "numbers ") + shape
+        units = f" {units_of(binding.decimals)}" * bool(binding.decimals)
+        kind = array.error or ("characters " if array.is_text else "numbers ") + shape + units
         formula = "" if binding.is_data else without_comment(binding.text or "").split("←", 1)[1].strip()
         rows.append((name, "data" if binding.is_data else "formula", kind, formula))
     widths = [max(len(row[column]) for row in rows) for column in range(3)] if rows else []
@@ -37,7 +39,7 @@ def show_line(session: Session, name: str) -> None:
         session.show(binding.text)
         return
     array = storing.Array(session.program, name)
-    lines = rows_of_array(name, array.shape, array.items, name)
+    lines = with_units(rows_of_array(name, array.shape, array.items, name), name, binding.decimals)
     kind = "characters" if array.is_text else "numbers"
     summary = f"⍝ {name} is data: {kind}, {' '.join(map(str, array.shape))}"
     session.show_value(lines if len(lines) <= MOST_LINES else [summary], is_text=True)
@@ -45,10 +47,11 @@ def show_line(session: Session, name: str) -> None:
 
 @command("]edit NAME", "gives the line back that makes a name, to be edited at the terminal")
 def edit(session: Session, name: str) -> None:
-    text = session.binding(name).text
-    lines = [text] if text else storing.one_line(session.program, name)
+    binding = session.binding(name)
+    lines = [binding.text] if binding.text else storing.one_line(session.program, name)
     if not lines:
         raise Mistake(f"{name} is data of more than one line; {name}[..]←.. edits an item of it")
+    lines = lines if binding.text else with_units(lines, name, binding.decimals)
     if session.is_typed:
         session.draft = lines[0]
     else:
@@ -62,7 +65,7 @@ def rename(session: Session, old: str, new: str) -> None:
         raise Mistake(f"{new} is no name")
     if new in bindings:
         raise Mistake(f"{new} is there already")
-    text = binding.text or f")DATA {old}←{old}"
+    text = binding.text or with_units([f")DATA {old}←{old}"], old, binding.decimals)[0]
     head = f")DATA {new}←" if binding.is_data else f"{new}←"
     made = head + text.partition("←")[2]
     users = [renamed(user.text or "", old, new) for user in bindings.values() if old in user.references]

@@ -11,6 +11,7 @@ from .journal import Journal, Source, reaching
 from .lines import BLANKS, LONGEST, NAME, Line, without_comment
 from .program import Program
 from .storing import Array
+from .units import decimals_in, with_units
 
 TABLE = re.compile(rf"\][{BLANKS}]*(?:table|labels)[{BLANKS}]+({NAME})\b")
 SHOWING = re.compile(rf"\][{BLANKS}]*(?:names|show|why|watch|keys|help)\b")
@@ -191,6 +192,8 @@ class Script:
         commented = f"{lines[0]} {comment}"
         if comment and binding.is_data and without_comment(lines[0]) == lines[0] and len(commented.encode()) <= LONGEST:
             lines[0] = commented
+        if not binding.text and binding.decimals != max(map(decimals_in, lines)):
+            lines = with_units(lines, name, binding.decimals)
         return [MadeLine(f"{line}{self.end}", name) for line in lines]
 
     def lines_of_data(self, name: str) -> List[str]:

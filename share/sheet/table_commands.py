@@ -13,6 +13,8 @@ from .lines import NAME
 from .numerals import NUMBER, Numerals, dates_of, decimals_of, is_within
 from .tables import Table, encoding_of, separator_in, separator_of, shortened, table_in, text_of
 
+from .units import units_of, with_units
+
 if TYPE_CHECKING:
     from .session import Session
 
@@ -36,10 +38,12 @@ def put_table(
     numerals = numerals_of(**options)
     with memory_for(file):
         table = table_of(session, file, header, separator, encoding)
+        if separator is None:
+            check_comma(table, numerals)
         wanted = columns_of(table, columns) if columns else [*range(1, table.width + 1)]
         numbers, each = table.numbers(wanted, numerals)
         check_size(session, shape := [table.height, len(wanted)])
-        put_array(session, file, f"]table {name} {file}", name, shape, numbers, each)
+        put_array(session, file, f"]table {name} {file}", name, shape, numbers, each, numerals.decimals)
     remark_on_units(session, name, numerals)
 
 
@@ -64,7 +68,7 @@ def put_labels(
 def remark_on_units(session: Session, name: str, numerals: Numerals) -> None:
     """Tells what a number of a name stands for, if that has decimals."""
     if numerals.decimals:
-        session.inform(f"{name} counts units of 0.{'1'.zfill(numerals.decimals)}: 1{'0' * numerals.decimals} stands for 1")
+        session.inform(f"{name} is {units_of(numerals.decimals)}: 1{'0' * numerals.decimals} stands for 1")
 
 
 def numerals_of(
@@ -96,6 +100,16 @@ def table_of(session: Session, file: str, header: bool, separator: Optional[str]
     if sign is None and (sign := separator_in(file, text)) != ",":
         session.inform(f"the fields of {file} are parted by {'tab' if sign == chr(9) else sign}")
     return table_in(file, text, sign, header)
+
+
+def check_comma(table: Table, numerals: Numerals) -> None:
+    """Raises a Mistake if the comma that parts the fields could stand in numbers instead, one in each record."""
+    if numerals.is_whole or table.width < 2 or table.separator != "," or not table.height:
+        return
+    fields, width = table.fields, table.width
+    for reading in numerals.readings():
+        if all(reading.number(",".join(fields[at : at + width])) for at in range(0, table.height * width, width)):
+            raise Mistake(f"{table.file}: the comma can part fields or stand in numbers; add --separator , or, for one number a record, --separator ;")
 
 
 def columns_of(table: Table, text: str) -> list[int]:
@@ -146,11 +160,14 @@ def not_taken_in(refusal: str, shape: Sequence[int]) -> Mistake:
     return Mistake(f"{refusal}: {counted(shape[0], 'record')} of {shape[1]} are not taken in")
 
 
-def put_array(session: Session, file: str, title: str, name: str, shape: list[int], items: str | Sequence[str], each: int = 1) -> None:
+def put_array(
+    session: Session, file: str, title: str, name: str, shape: list[int], items: str | Sequence[str], each: int = 1, decimals: int = 0
+) -> None:
     """Binds a name to data that comes from a file."""
     if not re.fullmatch(NAME, name):
         raise Mistake(f"{name} is no name")
     try:
-        session.change(title, lines_of_array(name, shape, items, session.journal.spare_name(name), each), file)
+        lines = lines_of_array(name, shape, items, session.journal.spare_name(name), each)
+        session.change(title, with_units(lines, name, decimals), file)
     except Mistake as refused:
         raise not_taken_in(str(refused), shape) from None

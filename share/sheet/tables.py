@@ -23,17 +23,24 @@ MARKED = [(codecs.BOM_UTF32_LE, "utf-32"), (codecs.BOM_UTF32_BE, "utf-32"), (cod
 class Table:
     """The records of a file; of plain ones each is a text of numbers with blanks between, and of others there are the fields in turn.
 
-    width    the number of fields of each record
-    titles   the fields of the record of titles; None where there is none
-    records  the plain records; none where there are fields in turn
-    in_turn  the fields of records that are not plain
-    uneven   the Mistake of the record behind them, if that has not as many fields as the first
+    separator  the sign between the fields
+    width      the number of fields of each record
+    titles     the fields of the record of titles; None where there is none
+    records    the plain records; none where there are fields in turn
+    in_turn    the fields of records that are not plain
+    uneven     the Mistake of the record behind them, if that has not as many fields as the first
     """
 
     def __init__(
-        self, file: str, width: int, titles: Optional[Sequence[str]], records: Sequence[str] = (), in_turn: Sequence[str] = ()
+        self,
+        file: str,
+        separator: str,
+        width: int,
+        titles: Optional[Sequence[str]],
+        records: Sequence[str] = (),
+        in_turn: Sequence[str] = (),
     ) -> None:
-        self.file, self.width, self.titles, self.records, self.in_turn = file, width, titles, records, in_turn
+        self.file, self.separator, self.width, self.titles, self.records, self.in_turn = file, separator, width, titles, records, in_turn
         self.uneven: Mistake | None = None
 
     @property
@@ -233,7 +240,7 @@ def table_in(file: str, text: str, separator: str, has_titles: bool) -> Table:
         raise Mistake(f"{file}: record {len(widths) + 1} cannot be read: {error}") from None
     width, height = widths[0] if widths else 0, even_records(widths)
     titles = fields[:width] if has_titles else None
-    table = Table(file, width, titles, in_turn=fields[width * has_titles : width * height])
+    table = Table(file, separator, width, titles, in_turn=fields[width * has_titles : width * height])
     table.uneven = uneven_record(file, widths)
     return table
 
@@ -252,7 +259,7 @@ def plain_table(file: str, titles: Optional[list[str]], text: str, separator: st
     widths = [len(titles or ())] * bool(titles) + [blanks + 1 for blanks in map(str.count, records, repeat(" "))]
     if mistake := uneven_record(file, widths):
         raise mistake
-    return Table(file, widths[0] if widths else 0, titles or None, records)
+    return Table(file, separator, widths[0] if widths else 0, titles or None, records)
 
 
 def even_records(widths: Sequence[int]) -> int:

@@ -12,7 +12,7 @@ ORDERS = "customer;month;amount\nKant;10;12,50\nHegel;9;3,99\nKant;9;0,75\nKant;
 PIVOT = "]pivot S t.csv --rows customer"
 CASES = {  # a file, lines, their output, and a part of their messages
     "two axes": (ORDERS, f"{PIVOT} --columns month --sum amount --decimals 2\nS\nS_ROWS\nS_COLUMNS\n", "2000  75\n   0 399\nKant \nHegel\n10\n9 \n", "2 labels in S_ROWS by 2 labels in S_COLUMNS\n"),
-    "sorted": (ORDERS, f"{PIVOT} --columns month --sum amount --decimals 2 --sorted\nS\nS_ROWS\nS_COLUMNS\n", "399    0\n 75 2000\nHegel\nKant \n9 \n10\n", "S counts units of 0.01"),
+    "sorted": (ORDERS, f"{PIVOT} --columns month --sum amount --decimals 2 --sorted\nS\nS_ROWS\nS_COLUMNS\n", "399    0\n 75 2000\nHegel\nKant \n9 \n10\n", "S is in units of 0.01"),
     "one axis": (ORDERS, f"{PIVOT} --count\nS\n⍴S\nS_ROWS\n)NAMES\n", "3 1\n2\nKant \nHegel\nS\nS_ROWS\n", "2 labels in S_ROWS\n"),
     "columns by number": (ORDERS, "]pivot S t.csv --rows 2 --columns 1 --count\nS\n", "1 1\n2 0\n".replace("1 1\n2 0", "2 0\n1 1"), "2 labels in S_ROWS by 2"),
     "no sum": (ORDERS, f"{PIVOT}\n", "", "]pivot takes --rows with a title, and either --sum with one or --count\n"),

@@ -13,7 +13,7 @@ from .rooms import Outcome, Room, Test
 
 PRICES = "Preis;Menge\n12,50;100\n3,9;250\n-0,75;40\n"
 CASES = {  # a file, lines, their output, and a part of their messages; those of refusals begin with a place
-    "decimals": (PRICES, "]table A t.csv --header --decimals 2\nA\n", "1250 10000\n 390 25000\n ¯75  4000\n", "A counts units of 0.01: 100 stands for 1\n"),
+    "decimals": (PRICES, "]table A t.csv --header --decimals 2\nA\n", "1250 10000\n 390 25000\n ¯75  4000\n", "A is in units of 0.01: 100 stands for 1\n"),
     "more decimals than told": (PRICES, "]table A t.csv --header --decimals 1\n", "", "t.csv: record 2 field 1 is no number: '12,50'; --decimals 2 reads it"),
     "the other decimal sign": (PRICES, "]table A t.csv --header --decimals 2 --point\n", "", "t.csv: record 2 field 1 is no number: '12,50'"),
     "two decimal signs": ("1,5;2\n3;4.5\n", "]table A t.csv --decimals 1\n", "", "record 2 field 2 has another decimal sign than a field before it: '4.5'"),
@@ -52,6 +52,10 @@ CASES = {  # a file, lines, their output, and a part of their messages; those of
     "a title that is another number": ("2,1\n5,6\n", "]table A t.csv --header --columns 1\n", "", "'1' is the title of column 2, and the number of another one"),
     "semicolons that are found": ("1;2\n3;4\n", "]table A t.csv\nA\n", "1 2\n3 4\n", "the fields of t.csv are parted by ;"),
     "tabs that are found": ("1\t2\n3\t4\n", "]table A t.csv\nA\n", "1 2\n3 4\n", "parted by tab"),
+    "a comma that could be either": ("12,50\n3,99\n", "]table A t.csv --decimals 2\n", "", "t.csv: the comma can part fields or stand in numbers; add --separator ,"),
+    "thousands that could be fields": ("1,234\n5,678\n", "]table A t.csv --thousands\n", "", "t.csv: the comma can part fields or stand in numbers"),
+    "a comma that is told": ("12,50\n3,99\n", "]table A t.csv --decimals 2 --separator ;\nA\n]table A t.csv --decimals 2 --separator ,\nA\n", "1250\n 399\n1200 5000\n 300 9900\n", ""),
+    "a comma that parts fields": ("12.5,50\n3,99\n", "]table A t.csv --decimals 2\nA\n", "1250 5000\n 300 9900\n", "units of 0.01"),
     "two separators": ("1,5;2\n3,5;4\n", "]table A t.csv\n", "", "t.csv: more than one sign can part the fields; add --separator ',' or ';'"),
     "UTF-16": ("1,2\n".encode("utf-16"), "]table A t.csv\nA\n", "1 2\n", ""),
     "UTF-16 without a mark": ("1,2\n".encode("utf-16-le"), "]table A t.csv --encoding utf-16-le\nA\n", "1 2\n", ""),
