@@ -9,6 +9,7 @@
   commands    the forms of the lines that begin with ]; each NAME_commands has the commands of one subject
   tables      tables in files
   numerals    fields as whole numbers: decimals, thousands, empty fields
+  dates       dates as numbers of days
   units       how many decimals a name has, as a comment says
   arrays      arrays as lines
   storing     the array of a name

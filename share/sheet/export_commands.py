@@ -8,8 +8,9 @@ from typing import TYPE_CHECKING, List, Optional, Sequence
 
 from . import files, storing
 from .commands import command, counted
+from .dates import date_of, dates_of
 from .errors import Mistake
-from .numerals import date_of, dates_of, decimals_of, with_decimals
+from .numerals import decimals_of, with_decimals
 from .tables import separator_of
 
 if TYPE_CHECKING:

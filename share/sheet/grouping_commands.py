@@ -1,4 +1,4 @@
-"""The commands that group and sort: ]pivot, which totals a long list by its keys, and ]sort, which makes an order. They are tested, and not proved."""
+"""The commands that group and sort: ]pivot totals a long list by its labels, and ]sort makes an order. They are tested, and not proved."""
 
 from __future__ import annotations
 

@@ -8,7 +8,8 @@ from functools import partial
 from typing import Callable, Dict, Iterable, List, NamedTuple, Optional, Sequence, Tuple
 
 from . import notes, pager, places
-from . import change_commands, export_commands, file_commands, grouping_commands, help_commands, name_commands, table_commands  # noqa: F401: they fill commands.COMMANDS
+from . import change_commands, export_commands, file_commands, grouping_commands  # noqa: F401: they fill commands.COMMANDS
+from . import help_commands, name_commands, table_commands  # noqa: F401
 from .answers import Answer, answer, first_refusal
 from .arrays import literal
 from .commands import run

@@ -8,11 +8,11 @@ from typing import TYPE_CHECKING, Any, Iterator, Optional, Sequence
 
 from .arrays import lines_of_array
 from .commands import command, counted
+from .dates import dates_of
 from .errors import Mistake
 from .lines import NAME
-from .numerals import NUMBER, Numerals, dates_of, decimals_of, is_within
+from .numerals import NUMBER, Numerals, decimals_of, is_within
 from .tables import Table, encoding_of, separator_in, separator_of, shortened, table_in, text_of
-
 from .units import units_of, with_units
 
 if TYPE_CHECKING:
@@ -109,7 +109,8 @@ def check_comma(table: Table, numerals: Numerals) -> None:
     fields, width = table.fields, table.width
     for reading in numerals.readings():
         if all(reading.number(",".join(fields[at : at + width])) for at in range(0, table.height * width, width)):
-            raise Mistake(f"{table.file}: the comma can part fields or stand in numbers; add --separator , or, for one number a record, --separator ;")
+            advice = "add --separator , or, for one number a record, --separator ;"
+            raise Mistake(f"{table.file}: the comma can part fields or stand in numbers; {advice}")
 
 
 def columns_of(table: Table, text: str) -> list[int]:

@@ -11,10 +11,25 @@ from .rooms import Outcome, Room, Test, named_tests
 ORDERS = "customer;month;amount\nKant;10;12,50\nHegel;9;3,99\nKant;9;0,75\nKant;10;7,50\n"
 PIVOT = "]pivot S t.csv --rows customer"
 CASES = {  # a file, lines, their output, and a part of their messages
-    "two axes": (ORDERS, f"{PIVOT} --columns month --sum amount --decimals 2\nS\nS_ROWS\nS_COLUMNS\n", "2000  75\n   0 399\nKant \nHegel\n10\n9 \n", "2 labels in S_ROWS by 2 labels in S_COLUMNS\n"),
-    "sorted": (ORDERS, f"{PIVOT} --columns month --sum amount --decimals 2 --sorted\nS\nS_ROWS\nS_COLUMNS\n", "399    0\n 75 2000\nHegel\nKant \n9 \n10\n", "S is in units of 0.01"),
+    "two axes": (
+        ORDERS,
+        f"{PIVOT} --columns month --sum amount --decimals 2\nS\nS_ROWS\nS_COLUMNS\n",
+        "2000  75\n   0 399\nKant \nHegel\n10\n9 \n",
+        "2 labels in S_ROWS by 2 labels in S_COLUMNS\n",
+    ),
+    "sorted": (
+        ORDERS,
+        f"{PIVOT} --columns month --sum amount --decimals 2 --sorted\nS\nS_ROWS\nS_COLUMNS\n",
+        "399    0\n 75 2000\nHegel\nKant \n9 \n10\n",
+        "S is in units of 0.01",
+    ),
     "one axis": (ORDERS, f"{PIVOT} --count\nS\n⍴S\nS_ROWS\n)NAMES\n", "3 1\n2\nKant \nHegel\nS\nS_ROWS\n", "2 labels in S_ROWS\n"),
-    "columns by number": (ORDERS, "]pivot S t.csv --rows 2 --columns 1 --count\nS\n", "1 1\n2 0\n".replace("1 1\n2 0", "2 0\n1 1"), "2 labels in S_ROWS by 2"),
+    "columns by number": (
+        ORDERS,
+        "]pivot S t.csv --rows 2 --columns 1 --count\nS\n",
+        "1 1\n2 0\n".replace("1 1\n2 0", "2 0\n1 1"),
+        "2 labels in S_ROWS by 2",
+    ),
     "no sum": (ORDERS, f"{PIVOT}\n", "", "]pivot takes --rows with a title, and either --sum with one or --count\n"),
     "a sum and a count": (ORDERS, f"{PIVOT} --sum amount --count\n", "", "]pivot takes --rows with a title"),
     "no rows": (ORDERS, "]pivot S t.csv --count\n", "", "]pivot takes --rows with a title"),
@@ -24,9 +39,17 @@ CASES = {  # a file, lines, their output, and a part of their messages
     "a total beyond 64 bits": (
         "k,a\nx,9223372036854775807\nx,1\n", "]pivot S t.csv --rows k --sum a\n", "", "the total of x is beyond 64 bits: 9223372036854775808\n",
     ),
-    "a total that comes back": ("k,a\nx,9223372036854775807\nx,1\nx,-1\n", "]pivot S t.csv --rows k --sum a\nS\n⍴S\n", "9223372036854775807\n1\n", ""),
+    "a total that comes back": (
+        "k,a\nx,9223372036854775807\nx,1\nx,-1\n",
+        "]pivot S t.csv --rows k --sum a\nS\n⍴S\n",
+        "9223372036854775807\n1\n",
+        "",
+    ),
     "too many totals": (
-        "r,c\n" + "".join(f"{number},{number}\n" for number in range(1100)), "A←1\n]pivot S t.csv --rows r --columns c --count\n)NAMES\n", "A\n", "LIMIT ERROR",
+        "r,c\n" + "".join(f"{number},{number}\n" for number in range(1100)),
+        "A←1\n]pivot S t.csv --rows r --columns c --count\n)NAMES\n",
+        "A\n",
+        "LIMIT ERROR",
     ),
     "a list of titles alone": ("k,a\n", "]pivot S t.csv --rows k --sum a\n⍴S\n⍴S_ROWS\n", "0\n0 0\n", "0 labels in S_ROWS"),
     "the order of a column": ("", ")DATA T←3 2⍴5 1 2 9 5 0\n]sort O T 1\nO\nT[O;]\n]sort O T 1 --down\nO\n", "2 1 3\n2 9\n5 1\n5 0\n1 3 2\n", ""),
@@ -54,7 +77,8 @@ def saved_totals(room: Room) -> Outcome:
     room.call("s.apl", "-", lines="]save\n")
     kept = (room.folder / "s.apl").read_text()
     room.call("s.apl", "-", lines="S[1;1]←7\n]save\n")
-    return (kept, room.call("s.apl", lines="")[0], room.call("s.apl", "-", lines="S\nS_ROWS\nS_COLUMNS\nT\n")[1]), (script, 0, "7 1\n0 1\nKant \nHegel\n10\n9 \n9\n")
+    status, shown = room.call("s.apl", "-", lines="S\nS_ROWS\nS_COLUMNS\nT\n")[:2]
+    return (kept, status, shown), (script, 0, "7 1\n0 1\nKant \nHegel\n10\n9 \n9\n")
 
 
 def random_lists(room: Room) -> Outcome:

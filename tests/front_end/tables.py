@@ -72,7 +72,12 @@ TABLES = {  # a file, lines, their output, and a part of their messages
     "many digits": (f"{'1' * 5000}\n", "]table A t.csv\n", "", f"record 1 field 1 is beyond 64 bits: {'1' * 60}…\n"),
     "a long field": (f"{'x' * 5000}\n", "]table A t.csv\n", "", f"record 1 field 1 is no whole number: '{'x' * 60}…'; if"),
     "a quote that is not closed": ('"5,6\n7,8\n9,10\n', "]table A t.csv\n", "", "record 1 field 1 is no whole number: '5,6…'; if"),
-    "a field before a short record": ("1;2,5\n3;4\n", "]table A t.csv --separator ,\n", "", "record 1 field 1 is no whole number: '1;2'; if this parts"),
+    "a field before a short record": (
+        "1;2,5\n3;4\n",
+        "]table A t.csv --separator ,\n",
+        "",
+        "record 1 field 1 is no whole number: '1;2'; if this parts",
+    ),
     "a long title": (f"{'x' * 200000},b\n1,2\n", "]table A t.csv --header\nA\n", "1 2\n", ""),
     "a title that is not closed": ('a","b\n1,2\n', "]table A t.csv --header\n⍴A\n", "0 2\n", ""),
     "bytes that are no text behind a mark": (b"\xef\xbb\xbf1,2\n\xff\n", "]table A t.csv\n", "", "line 2 is not UTF-8"),

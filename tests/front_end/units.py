@@ -10,7 +10,8 @@ CASES = {  # lines, and what they print
     "a table": (READ + "]print P\n]names\n", "12.50\n 3.99\nP  data  numbers 2 1 in units of 0.01\n"),
     "an edit and a row": (READ + "P[1;1]←5\n)ROW P 700\n]print P\n", "0.05\n3.99\n7.00\n"),
     "data and formulas by hand": (
-        ")DATA D←1250 399 ⍝ prices, in units of 0.01\nT←+/D ⍝ in units of 0.01\nN←⍴D\n]print D\n]print T\n]print N\n", "12.50  3.99\n16.49\n2\n",
+        ")DATA D←1250 399 ⍝ prices, in units of 0.01\nT←+/D ⍝ in units of 0.01\nN←⍴D\n]print D\n]print T\n]print N\n",
+        "12.50  3.99\n16.49\n2\n",
     ),
     "another number of decimals": (")DATA D←1250 ⍝ in units of 0.001\n]print D\n]print D --decimals 1\n", "1.250\n125.0\n"),
     "data that is bound anew": (READ + ")DATA P←7\n]print P\n]undo\n]print P\n]redo\n]print P\n", "7\n12.50\n 3.99\n7\n"),
