@@ -21,7 +21,7 @@ use std::alloc::{AllocError, Global};
 /// The most axes of a table.
 const MOST_TABLE_AXES: usize = 2;
 
-/// Returns the text of an expression's value, or of its error. The array of a name that is present is printed where it lies, and not copied.
+/// Returns the text of an expression's value or error. A name's array is borrowed from the sheet, not copied.
 pub(crate) fn show(alloc: Global, sheet: &Sheet, expr: &Expr) -> Result<String, AllocError>
     ensures { IfOk result (λ text. string_bytes text ≡ shown_text (eval (tree_of expr.now) (val sheet.now.names))) }
 {
