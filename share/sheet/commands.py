@@ -88,7 +88,7 @@ class Form:
 
 
 def name_of(flag: str) -> str:
-    """Returns the name of the parameter that has the value of a flag."""
+    """Returns the parameter name of a flag."""
     return flag[2:].replace("-", "_")
 
 

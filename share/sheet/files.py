@@ -139,7 +139,7 @@ def save(file: str, raw: bytes, home: Home | None, may_replace: bool) -> Tuple[s
 
 
 def export(file: str, raw: bytes, may_replace: bool) -> None:
-    """Writes what is no script to a file. A file that was there stays, with a Mistake, or is kept as FILE~ where it may be replaced."""
+    """Writes an exported file. An existing file is a Mistake, or is kept as FILE~ if `may_replace`."""
     there = f"{file} is there already; --replace puts the new one in its place and keeps that file as {file}~"
     put(file, raw, there, lambda target: refuse(there), may_replace)
 
@@ -149,9 +149,9 @@ def refuse(mistake: str) -> None:
 
 
 def put(file: str, raw: bytes, there: str, check: Callable[[Path], None], may_replace: bool) -> Path:
-    """Writes a file, and returns its path; calls `check` with the path of one that is there, unless it may be replaced, and keeps it as FILE~.
+    """Writes a file and returns its path. An existing file is passed to `check` unless `may_replace`, and is kept as FILE~.
 
-    A Mistake, and nothing is written: `there` if someone else makes the file meanwhile, and where the system refuses it.
+    Raises a Mistake and writes nothing if another process creates the file meanwhile (`there`), or the system refuses.
     """
     try:
         target = Path(os.path.realpath(file))
@@ -169,7 +169,7 @@ def put(file: str, raw: bytes, there: str, check: Callable[[Path], None], may_re
 
 
 def check_writable(file: str, target: Path) -> None:
-    """Raises a Mistake, or the error of the system, if a file that is there cannot be replaced."""
+    """Raises a Mistake, or the error of the system, if an existing file cannot be replaced."""
     if not target.is_file():
         raise Mistake(f"{file} cannot be written: it is no ordinary file")
     if not os.access(target, os.W_OK):
@@ -177,7 +177,7 @@ def check_writable(file: str, target: Path) -> None:
 
 
 def check_home(file: str, home: Home | None, target: Path) -> None:
-    """Raises a Mistake if a file that is there is not the home, or was changed by someone else."""
+    """Raises a Mistake if an existing file is not the home, or someone else changed it."""
     if not home or home.path != str(target):
         raise Mistake(there_already(file))
     if digest_of(target.read_bytes()) != home.digest:

@@ -10,7 +10,7 @@ from .arrays import lines_of_array
 from .commands import command, counted
 from .errors import Mistake
 from .numerals import is_within
-from .table_commands import check_size, columns_of, memory_for, not_taken_in, numerals_of, remark_on_units, table_of
+from .table_commands import check_name, check_size, columns_of, memory_for, not_taken_in, numerals_of, remark_on_units, table_of
 from .tables import Table, shortened
 from .units import with_units
 
@@ -38,6 +38,7 @@ def pivot(
     encoding: Optional[str],
     **options: Any,
 ) -> None:
+    check_name(name)
     if rows is None or (sum is None) != count:
         raise Mistake("]pivot takes --rows with a title, and either --sum with one or --count")
     numerals = numerals_of(**options)
@@ -55,7 +56,7 @@ def pivot(
 
 
 def column_of(table: Table, text: str) -> int:
-    """Returns the one column that is named by its title or its number."""
+    """Returns a single column by its title or number."""
     if len(wanted := columns_of(table, text)) != 1:
         raise Mistake(f"'{shortened(text)}' names {len(wanted)} columns, and one is wanted")
     return wanted[0]
@@ -66,14 +67,14 @@ def labels_of(table: Table, text: str) -> List[str]:
 
 
 def ordered(labels: List[str], is_sorted: bool) -> List[str]:
-    """Returns labels as they came first, or sorted: by their numbers if all are whole numbers."""
+    """Returns labels in order of appearance, or sorted: numerically if all are whole numbers."""
     if not is_sorted:
         return labels
     return sorted(labels, key=int) if all(map(WHOLE.fullmatch, labels)) else sorted(labels)
 
 
 def totals_of(axes: Sequence[Sequence[str]], keys: Sequence[Sequence[str]], amounts: Sequence[str]) -> List[str]:
-    """Returns the exact total of each combination of labels, in row-major order; a Mistake if one is beyond 64 bits."""
+    """Returns the exact total for each combination of labels in row-major order; a Mistake beyond 64 bits."""
     places: Dict[Tuple[str, ...], int] = {}
     for label in axes[0]:
         for other in axes[1] if len(axes) == 2 else [""]:
@@ -90,7 +91,7 @@ def totals_of(axes: Sequence[Sequence[str]], keys: Sequence[Sequence[str]], amou
 def put(
     session: Session, file: str, name: str, shape: List[int], totals: List[str], axes: Sequence[Sequence[str]], decimals: int
 ) -> None:
-    """Binds a name to totals, and two further names to the labels of their rows and columns."""
+    """Binds a name to totals, and NAME_ROWS and NAME_COLUMNS to their labels."""
     lines = with_units(lines_of_array(name, shape, totals, session.journal.spare_name(name)), name, decimals)
     for labels, suffix in zip(axes, SUFFIXES):
         width = max(map(len, labels), default=0)
@@ -105,9 +106,10 @@ def put(
 
 @command(
     "]sort ORDER NAME [COLUMN] [--down]",
-    "puts the order of the rows of a table or of labels under a name, so that T[ORDER;] is sorted: by a column, or by all; --down from the greatest",
+    "puts a sort order of the rows of NAME under ORDER: by a column, or by whole rows; T[ORDER;] is sorted, --down in descending order",
 )
 def sort(session: Session, order: str, name: str, column: Optional[str], down: bool) -> None:
+    check_name(order)
     session.binding(name)
     array = storing.Array(session.program, name)
     if array.error or not 1 <= len(array.shape) <= 2:
@@ -119,7 +121,7 @@ def sort(session: Session, order: str, name: str, column: Optional[str], down: b
 
 
 def keys_of(array: storing.Array, column: Optional[str]) -> List[Any]:
-    """Returns what the rows of an array are sorted by: a column of it, or all their items."""
+    """Returns the sort keys of the rows: the items of a column, or whole rows."""
     width = array.shape[1] if len(array.shape) == 2 else 1
     items = array.items if array.is_text else [int(item.replace("¯", "-")) for item in array.items]
     rows = [items[at * width : (at + 1) * width] for at in range(array.shape[0])]

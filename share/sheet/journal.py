@@ -47,8 +47,8 @@ class Binding:
     text      the line that makes it; None if there is no single one
     place     the last line of a script that had a part in it, or None
     source    the state of the table file when it was read, or None
-    decimals  how many decimals its numbers stand for, as the comment of the line says that made it; an edit or a row leaves them
-    is_edit   whether an edit or a row made it of the binding before
+    decimals  the decimals of its unit, from the comment of its line; an edit or a row keeps them
+    is_edit   whether an edit or a row made it from the binding before
     """
 
     def __init__(self, is_data: bool, text: Optional[str] = None, place: Optional[Place] = None) -> None:
@@ -57,7 +57,7 @@ class Binding:
         self.decimals, self.is_edit = 0, False
 
     def follow(self, former: Optional[Binding]) -> None:
-        """Takes over the decimals of the binding before, if an edit or a row made it of that."""
+        """Copies the decimals of the binding before, for an edit or a row."""
         if self.is_edit and former:
             self.decimals, self.is_edit = former.decimals, False
 

@@ -1,4 +1,4 @@
-"""How fields are read as whole numbers: decimals, thousands and empty fields are translated exactly, where options ask for it."""
+"""Reads fields as whole numbers: decimals, thousands, dates and empty fields, as the options allow."""
 
 from __future__ import annotations
 
@@ -30,14 +30,14 @@ def is_plain(text: str, separator: str = ",") -> bool:
 
 
 def are_plain(fields: Sequence[str]) -> bool:
-    """Returns whether all of these fields are plain."""
+    """Returns whether every field is plain."""
     text = "\n".join(fields)
     return "" not in fields and "," not in text and text.count("\n") < len(fields) and is_plain(text)
 
 
 @lru_cache(None)
 def form(mark: str, decimals: int, has_thousands: bool) -> Pattern[str]:
-    """Returns the form of a number: its sign, its whole part, and its decimals behind the mark, with or without a whole part."""
+    """Returns the pattern of a number. Groups: sign, whole part, gap between thousands, decimals, decimals without a whole part."""
     part = rf"{re.escape(mark)}([0-9]{{1,{decimals}}})" if decimals else "([^\\s\\S])"
     gaps = re.escape(MARKS.replace(mark, "") + GAPS)
     whole = rf"[0-9]{{1,3}}(?:([{gaps}])[0-9]{{3}}(?:\3[0-9]{{3}})*)?|[0-9]+" if has_thousands else "[0-9]+()"
@@ -45,13 +45,13 @@ def form(mark: str, decimals: int, has_thousands: bool) -> Pattern[str]:
 
 
 class Numerals(NamedTuple):
-    """What the numbers of a table look like.
+    """The number format of a table. Numbers are read in units of their last decimal.
 
-    decimals       how many decimals a number has at most: it is read in units of the last one
-    mark           the decimal sign, or nothing where the fields tell which one it is
-    has_thousands  whether thousands may be set apart
-    empty          the number that an empty field stands for, or nothing where an empty field is refused
-    dates          the form of dates, which are read as numbers of days, or nothing
+    decimals       the greatest number of decimals
+    mark           the decimal sign; empty if the fields decide
+    has_thousands  whether a gap may separate thousands
+    empty          the number for an empty field; empty if such a field is refused
+    dates          the form of dates; empty if there are none
     """
 
     decimals: int = 0
@@ -62,15 +62,15 @@ class Numerals(NamedTuple):
 
     @property
     def is_whole(self) -> bool:
-        """True where numbers are digits alone."""
+        """True for numbers without decimals and gaps."""
         return not (self.decimals or self.has_thousands)
 
     def readings(self) -> list[Numerals]:
-        """Returns the same for each decimal sign that it may be."""
+        """Returns one format for each possible decimal sign."""
         return [self._replace(mark=mark) for mark in (MARKS if not self.mark and not self.is_whole else self.mark or ".")]
 
     def number(self, field: str) -> Optional[str]:
-        """Returns the number in a field as its digits, without zeros before them; None if the field is no number."""
+        """Returns the number in a field without leading zeros; None if the field is no number."""
         day = day_of(field, self.dates) if self.dates else None
         if day is not None:
             return day
@@ -82,10 +82,10 @@ class Numerals(NamedTuple):
         return SIGN_OF[sign] + (digits.lstrip("0") or "0")
 
     def numbers(self, fields: Sequence[str]) -> Tuple[Sequence[str], Optional[int]]:
-        """Returns the numbers in fields, up to the first field that is no number of 64 bits, and the place of that field, if there is one."""
+        """Returns the numbers in fields and None, or the numbers before the first bad field and its place. Numbers have 64 bits."""
         if self.empty:
             fields = [field if field.strip(" \t") else self.empty for field in fields]
-        looks_plain = all(self.number(field) for field in fields[:100])  # so that a reading by the wrong mark ends soon
+        looks_plain = all(self.number(field) for field in fields[:100])  # the wrong mark fails here already
         plain = self.plain_numbers(fields) if looks_plain else None
         if plain is not None:
             return plain, None
@@ -98,13 +98,13 @@ class Numerals(NamedTuple):
         return numbers, None
 
     def plain_numbers(self, fields: Sequence[str]) -> Optional[Sequence[str]]:
-        """Returns the numbers in fields where each is digits, perhaps behind a -, and decimals behind the mark; else None."""
+        """Fast path for fields of digits with an optional - and decimals; None if a field has another form."""
         if self.decimals and "" not in fields and "-" not in fields:
             return self.full_numbers(fields) or self.filled_numbers(fields)
         return fields if are_plain(fields) else None
 
     def full_numbers(self, fields: Sequence[str]) -> Optional[Sequence[str]]:
-        """Returns the same where each number has all decimals: then only the mark goes."""
+        """Fast path for numbers with all decimals: removes the mark."""
         text, end = "\n".join(fields), -self.decimals
         if text.count(self.mark) != len(fields) or {field[end - 1 : end] for field in fields} != {self.mark}:
             return None
@@ -112,7 +112,7 @@ class Numerals(NamedTuple):
         return numbers if len(numbers) == len(fields) and are_plain(numbers) else None
 
     def filled_numbers(self, fields: Sequence[str]) -> Optional[Sequence[str]]:
-        """Returns the same where numbers may have fewer decimals: zeros take their places."""
+        """Fast path for numbers with fewer decimals: appends zeros."""
         parts = [field.partition(self.mark) for field in fields]
         if any(len(part) > self.decimals or mark and not part for _, mark, part in parts):
             return None
@@ -122,12 +122,12 @@ class Numerals(NamedTuple):
 
 
 def is_within(number: str) -> bool:
-    """Returns whether a number without zeros before it has 64 bits."""
+    """Returns whether a number without leading zeros has 64 bits."""
     return len(number) <= 18 or len(number) <= 20 and LEAST <= int(number) <= GREATEST
 
 
 def decimals_of(word: Optional[str]) -> int:
-    """Returns the number behind --decimals, 0 without it; a Mistake if there may not be as many."""
+    """Returns the number behind --decimals, 0 without the option; a Mistake for another word."""
     if word is None:
         return 0
     if not re.fullmatch("[0-9]{1,2}", word) or not 1 <= int(word) <= MOST_DECIMALS:
@@ -136,7 +136,7 @@ def decimals_of(word: Optional[str]) -> int:
 
 
 def with_decimals(items: Sequence[str], decimals: int, mark: str) -> List[str]:
-    """Returns numbers as the program prints them, with - for ¯ and with a decimal sign before their last digits."""
+    """Returns numbers of the program with - for ¯ and a decimal sign before their last `decimals` digits."""
     numbers = " ".join(items).replace("¯", "-").split(" ") if items else []
     if not decimals:
         return numbers

@@ -124,11 +124,11 @@ class Session:
             self.remark(remark)
 
     def remark(self, remark: str) -> None:
-        """Tells a note on the line that is answered."""
+        """Prints a note on the current line."""
         self.tell(f"{self.place}: note: {remark}" if self.place else f"  {remark}")
 
     def inform(self, remark: str) -> None:
-        """Tells a note on what a line has done, unless only errors and refusals are wanted."""
+        """Prints a note, except under --check."""
         if not self.is_check:
             self.remark(remark)
 

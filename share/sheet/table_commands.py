@@ -66,7 +66,7 @@ def put_labels(
 
 
 def remark_on_units(session: Session, name: str, numerals: Numerals) -> None:
-    """Tells what a number of a name stands for, if that has decimals."""
+    """Tells the unit of a name with decimals."""
     if numerals.decimals:
         session.inform(f"{name} is {units_of(numerals.decimals)}: 1{'0' * numerals.decimals} stands for 1")
 
@@ -74,11 +74,11 @@ def remark_on_units(session: Session, name: str, numerals: Numerals) -> None:
 def numerals_of(
     decimals: Optional[str], comma: bool, point: bool, thousands: bool, empty: Optional[str], dates: Optional[str] = None
 ) -> Numerals:
-    """Returns what the numbers look like, as the options say."""
+    """Returns the number format that the options name."""
     if comma and point:
         raise Mistake("--comma and --point are two decimal signs")
     if empty is not None and not (NUMBER.fullmatch(empty) and is_within(Numerals().numbers([empty])[0][0])):
-        raise Mistake("--empty is followed by the whole number that an empty field stands for")
+        raise Mistake("--empty is followed by the whole number for empty fields")
     if dates and decimals:
         raise Mistake("--dates and --decimals do not go together: a day is a whole number; read the columns under two names")
     return Numerals(decimals_of(decimals), "," * comma or "." * point, thousands, empty or "", dates_of(dates))
@@ -103,18 +103,18 @@ def table_of(session: Session, file: str, header: bool, separator: Optional[str]
 
 
 def check_comma(table: Table, numerals: Numerals) -> None:
-    """Raises a Mistake if the comma that parts the fields could stand in numbers instead, one in each record."""
+    """Raises a Mistake if each record is also a single number with a comma, so that the separator is ambiguous."""
     if numerals.is_whole or table.width < 2 or table.separator != "," or not table.height:
         return
     fields, width = table.fields, table.width
     for reading in numerals.readings():
         if all(reading.number(",".join(fields[at : at + width])) for at in range(0, table.height * width, width)):
-            advice = "add --separator , or, for one number a record, --separator ;"
+            advice = "add --separator , or --separator ; for one number in each record"
             raise Mistake(f"{table.file}: the comma can part fields or stand in numbers; {advice}")
 
 
 def columns_of(table: Table, text: str) -> list[int]:
-    """Returns the columns that are named by titles, as 3, as 2-7, as 5- (to the last), or as several of these with commas between them."""
+    """Returns columns by a list of titles and numbers: 3, 2-7, 5- (to the last) or Qty, with commas between them."""
     if not table.width:
         raise Mistake(f"{table.file} has no records, so it has no columns")
     if text in (table.titles or ()):  # a title may have commas
@@ -123,7 +123,7 @@ def columns_of(table: Table, text: str) -> list[int]:
 
 
 def columns_of_part(table: Table, part: str) -> Sequence[int]:
-    """Returns the columns that one part names."""
+    """Returns the columns of one part of such a list."""
     ends = re.fullmatch("([0-9]{1,9})(?:(-)([0-9]{0,9}))?", part)
     if part in (table.titles or ()):
         return [column_of(table, part)]
@@ -137,11 +137,11 @@ def columns_of_part(table: Table, part: str) -> Sequence[int]:
 
 
 def column_of(table: Table, title: str) -> int:
-    """Returns the column with a title; a Mistake if there are two, or if the title is the number of another column."""
+    """Returns the column with a title; a Mistake if two columns have it, or it is the number of another column."""
     places = [place for place, it in enumerate(table.titles or (), 1) if it == title]
     if len(places) > 1:
         raise Mistake(f"{table.file}: {len(places)} columns have the title '{shortened(title)}'; their numbers are {', '.join(map(str, places))}")
-    if title.isascii() and title.isdigit() and 1 <= int(title[:9]) <= table.width and int(title) != places[0]:
+    if re.fullmatch("[0-9]{1,9}", title) and 1 <= int(title) <= table.width and int(title) != places[0]:
         raise Mistake(f"{table.file}: '{title}' is the title of column {places[0]}, and the number of another one")
     return places[0]
 
@@ -161,12 +161,16 @@ def not_taken_in(refusal: str, shape: Sequence[int]) -> Mistake:
     return Mistake(f"{refusal}: {counted(shape[0], 'record')} of {shape[1]} are not taken in")
 
 
+def check_name(name: str) -> None:
+    if not re.fullmatch(NAME, name):
+        raise Mistake(f"{name} is no name")
+
+
 def put_array(
     session: Session, file: str, title: str, name: str, shape: list[int], items: str | Sequence[str], each: int = 1, decimals: int = 0
 ) -> None:
-    """Binds a name to data that comes from a file."""
-    if not re.fullmatch(NAME, name):
-        raise Mistake(f"{name} is no name")
+    """Binds a name to data from a file."""
+    check_name(name)
     try:
         lines = lines_of_array(name, shape, items, session.journal.spare_name(name), each)
         session.change(title, with_units(lines, name, decimals), file)

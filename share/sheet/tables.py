@@ -1,4 +1,4 @@
-"""Tables in files. A plain field stays the text that it is: the program reads it as a number."""
+"""Tables in files. Plain fields stay texts, which the program reads as numbers."""
 
 from __future__ import annotations
 
@@ -16,7 +16,7 @@ from .errors import Mistake
 from .numerals import MOST_DECIMALS, Numerals, is_plain, is_within
 
 LARGEST = 256  # MiB of a file
-SEPARATORS = ",;\t|"  # that are looked for in a file
+SEPARATORS = ",;\t|"  # candidates without --separator
 MARKED = [(codecs.BOM_UTF32_LE, "utf-32"), (codecs.BOM_UTF32_BE, "utf-32"), (codecs.BOM_UTF16_LE, "utf-16"), (codecs.BOM_UTF16_BE, "utf-16")]
 
 
@@ -25,7 +25,7 @@ class Table:
 
     separator  the sign between the fields
     width      the number of fields of each record
-    titles     the fields of the record of titles; None where there is none
+    titles     the record of titles; None without --header
     records    the plain records; none where there are fields in turn
     in_turn    the fields of records that are not plain
     uneven     the Mistake of the record behind them, if that has not as many fields as the first
@@ -45,7 +45,7 @@ class Table:
 
     @property
     def first(self) -> int:
-        """The number of the first record that has no titles."""
+        """The number of the first record behind the titles."""
         return 1 if self.titles is None else 2
 
     @property
@@ -74,21 +74,21 @@ class Table:
         return fields, 1
 
     def read(self, fields: Sequence[str], wanted: Sequence[int], numerals: Numerals) -> Sequence[str]:
-        """Returns the numbers of fields, by the one decimal sign by which all are numbers; a Mistake names the first field that is none."""
+        """Returns the numbers in fields by the only possible decimal sign; a Mistake names the first bad or ambiguous field."""
         readings = numerals.readings()
         found = [reading.numbers(fields) for reading in readings]
         well = [numbers for numbers, failed in found if failed is None]
         if not well:
             failed = max(place or 0 for _, place in found)
             raise self.refused(fields[failed], failed, wanted, numerals)
-        if len(well) == 2 and well[0] != well[1]:
-            differs = next(place for place, pair in enumerate(zip(*well)) if pair[0] != pair[1])
+        differs = next((place for place, (one, other) in enumerate(zip(*well)) if int(one) != int(other)), None) if len(well) == 2 else None
+        if differs is not None:
             where = self.where(differs // len(wanted) + self.first, wanted[differs % len(wanted)])
             raise Mistake(f"{where} can be two numbers: '{shortened(fields[differs])}'; add --comma or --point, the decimal sign")
         return well[0]
 
     def refused(self, field: str, place: int, wanted: Sequence[int], numerals: Numerals) -> Mistake:
-        """Returns the Mistake of a field that is no number of 64 bits by every decimal sign."""
+        """Returns the Mistake of a field that is no number of 64 bits."""
         record, column = place // len(wanted) + self.first, wanted[place % len(wanted)]
         numbers = [number for number in (reading.number(field) for reading in numerals.readings()) if number]
         if any(not is_within(number) for number in numbers):
@@ -102,7 +102,7 @@ class Table:
         return f"{self.file}: record {record} field {column}"
 
     def labels(self, column: int, one_line: bool = False) -> list[str]:
-        """Returns the fields of a column; a Mistake names the first one of more lines, unless each end of a line becomes a blank."""
+        """Returns the fields of a column. `one_line` replaces line ends by blanks; without it such a field is a Mistake."""
         labels = self.columns([column])
         if one_line:
             labels = [re.sub("\r\n|\r|\n", " ", label) for label in labels]
@@ -125,7 +125,7 @@ def shortened(field: str) -> str:
 
 
 def advice(field: str, record: int, column: int, numerals: Numerals) -> str:
-    """Returns how a field that is no number can be mended: by an option, where one reads it."""
+    """Returns a hint for a field that is no number: the option that reads it, or another remedy."""
     if ";" in field or "\t" in field:
         return "; if this parts the fields, add --separator ';' or --separator tab"
     if not field.strip():
@@ -140,7 +140,7 @@ def advice(field: str, record: int, column: int, numerals: Numerals) -> str:
 
 
 def option_for(field: str, numerals: Numerals) -> Optional[str]:
-    """Returns the option, or the options, by which a field would be a number; None if there are none."""
+    """Returns the options that would read a field as a number; None if there are none."""
     decimals = re.search("[.,]([0-9]+)[ \t]*$", field)
     places = min(max(len(decimals[1]) if decimals else 0, numerals.decimals), MOST_DECIMALS)
     thousands = numerals._replace(has_thousands=True)
@@ -171,22 +171,22 @@ def bytes_of(file: str) -> bytes:
 
 
 def text_of(file: str, encoding: Optional[str] = None) -> str:
-    """Returns the text of a table file: in UTF-8, or as a mark at its beginning or an encoding that is told says."""
+    """Returns the text of a table file. Without `encoding` the byte order mark decides, and UTF-8 is the default."""
     raw = bytes_of(file)
     marked = next((name for mark, name in MARKED if raw.startswith(mark)), "utf-8-sig")
     try:
         text = raw.decode(encoding or marked).lstrip("\ufeff" if encoding else "")
-        text.encode()  # some encodings have signs that no other text has
+        text.encode()  # refuses lone surrogates
         return text
     except UnicodeError as error:
         line = error.object.count(b"\n", 0, error.start) + 1 if isinstance(error, UnicodeDecodeError) else 1
         name = (encoding or marked).upper().replace("-SIG", "")
-        hint = "" if encoding else "; add --encoding cp1252 if it is of another spreadsheet, or save the table as CSV in UTF-8"
+        hint = "" if encoding else "; add --encoding cp1252 for files of older spreadsheets, or save the table as CSV in UTF-8"
         raise Mistake(f"{file}: line {line} is not {name}{hint}") from None
 
 
 def encoding_of(name: str) -> str:
-    """Returns the name of an encoding of texts; a Mistake if there is none."""
+    """Returns the name of a text encoding; a Mistake if Python has none of that name."""
     try:
         "".encode(name)
         return name
@@ -195,7 +195,7 @@ def encoding_of(name: str) -> str:
 
 
 def separator_of(word: Optional[str]) -> Optional[str]:
-    """Returns the sign that is named behind --separator, None without it; a Mistake if it can part no fields."""
+    """Returns the sign behind --separator, None without the option; a Mistake for a sign of numbers."""
     sign = "\t" if word == "tab" else word
     if sign is not None and (len(sign) != 1 or sign in '"-+¯0123456789\n\r\0' or "\ud800" <= sign <= "\udfff"):  # those are bytes that are no UTF-8
         raise Mistake("--separator is followed by one sign that is in no number, or by the word tab")
@@ -203,7 +203,7 @@ def separator_of(word: Optional[str]) -> Optional[str]:
 
 
 def separator_in(file: str, text: str) -> str:
-    """Returns the sign that parts the fields of all records; a Mistake if there are two. It is the comma where there is none."""
+    """Returns the only sign that splits all records evenly, or the comma if there is none; a Mistake if there are several."""
     present = [sign for sign in SEPARATORS if sign in text]
     fitting = [sign for sign in present if are_even(text, sign)] if present not in ([], [","]) else present
     if len(fitting) > 1:
@@ -213,7 +213,7 @@ def separator_in(file: str, text: str) -> str:
 
 
 def are_even(text: str, separator: str) -> bool:
-    """Returns whether a sign parts each record into as many fields, more than one."""
+    """Returns whether a sign splits all records into the same number of fields, at least two."""
     try:
         widths = {len(record) for record in csv.reader(io.StringIO(text, newline=""), delimiter=separator) if record}
     except csv.Error:

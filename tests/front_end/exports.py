@@ -1,4 +1,4 @@
-"""Arrays that are written as table files, and shown in columns, with names and decimals."""
+"""]csv and ]print: files and columns with labels, decimals and dates."""
 
 from __future__ import annotations
 
@@ -43,6 +43,12 @@ CASES = {  # lines behind SALES, what they print, the file t.csv, and a part of 
         None,
         "9999999 is the number of no day of the years 1 to 9999",
     ),
+    "dates and decimals": (
+        "]print P --dates DD.MM.YYYY --decimals 2\n",
+        "",
+        None,
+        "--dates and --decimals do not go together",
+    ),
     "an error": ("]csv t.csv E\n", "", None, "E shows DOMAIN ERROR IN E, and no array\n"),
     "no name": ("]print Q\n", "", None, "Q is not there\n"),
     "characters": ("]csv t.csv L\n", "", None, "L is characters; --rows and --titles take those\n"),
@@ -64,7 +70,7 @@ def export(room: Room, lines: str, output: str, file: str | None, said: str) -> 
 
 
 def replaced_file(room: Room) -> Outcome:
-    """A file that is there stays, unless it may be replaced; then it is kept."""
+    """An existing file stays without --replace; with it the old file is kept as t.csv~."""
     room.put("t.csv", "old\n")
     first = room.messages(SALES + "]csv t.csv P")
     kept = (room.folder / "t.csv").read_text()
@@ -81,7 +87,7 @@ def checked_script(room: Room) -> Outcome:
 
 
 def random_exports(room: Room) -> Outcome:
-    """Numbers that are written with decimals are those of Decimal, and are read again as they were."""
+    """]csv writes the same decimals as Decimal, and ]table reads them back."""
     chosen, lines, wanted = random.Random(7), [], []
     for number in range(60):
         height, width, decimals = chosen.randint(1, 4), chosen.randint(1, 4), chosen.choice([0, 0, 1, 2, 5, 18])

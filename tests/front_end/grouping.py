@@ -59,6 +59,8 @@ CASES = {  # a file, lines, their output, and a part of their messages
     "no such column": ("", ")DATA T←3 2⍴0\n]sort O T 3\n", "", "T has 2 columns, and '3' is none of them\n"),
     "the order of a number": ("", ")DATA S←7\n]sort O S\n", "", "S has 0 axes, and no rows\n"),
     "the order of an error": ("", "E←1÷0\n]sort O E\n", "", "E shows DOMAIN ERROR IN E\n"),
+    "no name": ("", ")DATA V←1 2\n]sort 1X V\n", "", "1X is no name\n"),
+    "a list under no name": (ORDERS, "]pivot 1X t.csv --rows 1 --count\n", "", "1X is no name\n"),
     "the order of nothing": ("", "]sort O Q\n", "", "Q is not there\n"),
 }
 
