@@ -1,4 +1,4 @@
-"""Long lists that are totalled by labels, and orders of rows."""
+"""]pivot and ]sort."""
 
 from __future__ import annotations
 
@@ -72,7 +72,7 @@ def grouping(room: Room, file: str, lines: str, output: str, said: str) -> Outco
 
 
 def saved_totals(room: Room) -> Outcome:
-    """A script with ]pivot is saved as it is; where a total was edited its data is written out."""
+    """Saving keeps a ]pivot line, and writes the data of an edited total."""
     room.put("t.csv", ORDERS)
     script = f"{PIVOT} --columns month --count\nT←+/,S\n"
     room.put("s.apl", script)
@@ -84,7 +84,7 @@ def saved_totals(room: Room) -> Outcome:
 
 
 def random_lists(room: Room) -> Outcome:
-    """Totals of random lists are those of a counter."""
+    """]pivot agrees with a counter on random lists."""
     chosen, lines, wanted = random.Random(5), [], []
     for number in range(40):
         records = [(chosen.choice("abcdefg"), chosen.choice(["x", "yy", "z z"]), chosen.randint(-99, 99)) for _ in range(chosen.randint(1, 60))]

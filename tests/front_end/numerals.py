@@ -1,4 +1,4 @@
-"""Numbers with decimals and thousands, empty fields, titles, separators and encodings of table files."""
+"""Formats of table files: decimals, thousands, dates, empty fields, titles, separators and encodings."""
 
 from __future__ import annotations
 
@@ -19,7 +19,7 @@ CASES = {  # a file, lines, their output, and a part of their messages; those of
         "1250 10000\n 390 25000\n ¯75  4000\n",
         "A is in units of 0.01: 100 stands for 1\n",
     ),
-    "more decimals than told": (
+    "too many decimals": (
         PRICES,
         "]table A t.csv --header --decimals 1\n",
         "",
@@ -45,13 +45,13 @@ CASES = {  # a file, lines, their output, and a part of their messages; those of
         "",
         "record 1 field 1 can be two numbers: '1,234'; add --comma or --point",
     ),
-    "a decimal comma that is told": (
+    "a given decimal comma": (
         "1,234;5\n",
         "]table A t.csv --separator ; --thousands --decimals 3 --comma\nA\n",
         "1234 5000\n",
         "units of 0.001",
     ),
-    "a decimal point that is told": (
+    "a given decimal point": (
         "1,234;5\n",
         "]table A t.csv --separator ; --thousands --decimals 3 --point\nA\n",
         "1234000 5000\n",
@@ -119,7 +119,7 @@ CASES = {  # a file, lines, their output, and a part of their messages; those of
         "t.csv: the comma can part fields or stand in numbers; add --separator ,",
     ),
     "thousands that could be fields": ("1,234\n5,678\n", "]table A t.csv --thousands\n", "", "t.csv: the comma can part fields or stand in numbers"),
-    "a comma that is told": (
+    "a given comma": (
         "12,50\n3,99\n",
         "]table A t.csv --decimals 2 --separator ;\nA\n]table A t.csv --decimals 2 --separator ,\nA\n",
         "1250\n 399\n1200 5000\n 300 9900\n",
@@ -136,19 +136,19 @@ CASES = {  # a file, lines, their output, and a part of their messages; those of
     "no encoding": ("1\n", "]table A t.csv --encoding klingon\n", "", "'klingon' is no encoding"),
     "half a sign by its number": (b"\\ud800,1\n", "]labels A t.csv 1 --encoding unicode_escape\n", "", "t.csv: line 1 is not UNICODE_ESCAPE"),
     "an encoding of bytes": ("1\n", "]table A t.csv --encoding hex\n", "", "'hex' is no encoding"),
-    "UTF-8 that is told": (b"\xef\xbb\xbf1,2\n", "]table A t.csv --encoding utf-8\nA\n", "1 2\n", ""),
+    "a given UTF-8": (b"\xef\xbb\xbf1,2\n", "]table A t.csv --encoding utf-8\nA\n", "1 2\n", ""),
 }
 
 
 def table(room: Room, file: str | bytes, lines: str, output: str, said: str) -> Outcome:
-    """A table is read, perhaps with a note, or refused at its place."""
+    """Reads a table, or expects its refusal."""
     room.put("t.csv", file)
     status, printed, messages = room.call(lines=lines)
     return (printed, status, said in messages or messages), (output, int(not output), True)
 
 
 class Options(NamedTuple):
-    """Options of ]table, and how a number is written."""
+    """Options of ]table."""
 
     decimals: int
     mark: str
@@ -163,7 +163,7 @@ class Options(NamedTuple):
 
 
 def written(chosen: random.Random, options: Options) -> str:
-    """Returns a field: mostly a number as the options say, and sometimes in another form."""
+    """Returns a random field, mostly a number in the format of the options."""
     if chosen.random() < 0.06:
         return chosen.choice(["", " ", "-", "x", "1,2,3", "1.5", "1,5", "1.000", "1,000", "1 000", "--1", "5.", ",5", "0.5-", "99999999999999999999"])
     decimals = chosen.randint(0, options.decimals + (chosen.random() < 0.05))
@@ -174,7 +174,7 @@ def written(chosen: random.Random, options: Options) -> str:
 
 
 def value(field: str, mark: str, options: Options) -> Optional[int]:
-    """Returns the number in a field in units of its last decimal, by Decimal; None if it is none."""
+    """Returns the number in a field in units of the last decimal, by Decimal; None if there is none."""
     text = field.strip(" \t") or ("" if options.empty is None else str(options.empty))
     sign, text = (text[0], text[1:]) if text[:1] in tuple("+-¯") else ("", text)
     whole, point, part = text.partition(mark)
@@ -194,7 +194,7 @@ def value(field: str, mark: str, options: Options) -> Optional[int]:
 
 
 def wanted(text: str, separator: str, options: Options) -> str:
-    """Returns the items that ]table is to read, or a part of what it is to say, worked out by Decimal and csv."""
+    """Returns the expected items, or the expected place of the refusal, computed by Decimal and csv."""
     records = [record for record in csv.reader(io.StringIO(text, newline=""), delimiter=separator) if record]
     fields = [field for record in records for field in record]
     found = [[value(field, mark, options) for field in fields] for mark in options.mark or ",."]
@@ -210,7 +210,7 @@ def wanted(text: str, separator: str, options: Options) -> str:
 
 
 def random_options(room: Room, seed: int) -> Outcome:
-    """Tables of any options are read as Decimal and csv read them, or refused at the same field."""
+    """]table agrees with Decimal and csv on random tables and options, also about the first bad field."""
     chosen, cases, lines = random.Random(seed), [], []
     for number in range(100):
         empty = chosen.choice([None, None, 0, -3])

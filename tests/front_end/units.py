@@ -1,4 +1,4 @@
-"""Names whose comment says how many decimals they have."""
+"""Units of names, which are comments of their lines."""
 
 from __future__ import annotations
 
@@ -33,7 +33,7 @@ def units(room: Room, lines: str, output: str) -> Outcome:
 
 
 def saved_units(room: Room) -> Outcome:
-    """A saved sheet has the comment, and only once, however often it is saved."""
+    """Saving keeps the unit, and writes it once."""
     room.put("t.csv", PRICES)
     room.put("s.apl", ")DATA D←7 8 ⍝ per piece, in units of 0.1\n)DATA E←1\n")
     lines = READ + "P[1;1]←5\nD[1]←9\n]save\n"
