@@ -1,5 +1,4 @@
 pub mod Regions
-pub mod KeptPlaces
 pub mod Covers
 pub mod Sourced
 pub mod UsedWays

@@ -1,5 +1,5 @@
 -- What may change of a result where boxes of the arguments changed.
-use Rattle.std.specs.Prelude.{ℕ, zero, suc, List, [], ◌∷◌, replicate, Bool, true, false, Option, Some, None, Result, Ok, Err, IsTrue, if◌then◌else◌}
+use Rattle.std.specs.Prelude.{ℕ, List, ◌∷◌, Bool, true, false, Option, Some, None, Result, Ok, Err, IsTrue, if◌then◌else◌}
 use Rattle.arrays_core.{specs.declared.item.Kind.{Kind}, specs.Arrays.{ArrayValue}}
 use Rattle.index_region.{specs.Boxes.{Interval, is_within, fits, met, unless_empty, join_boxes}, specs.Checks.{Form}}
 use Rattle.change_core.{specs.declared.reach.Reach.{Reach}, specs.declared.reach.Reach.TheVariants.{Unmoved, Inside, Anew}, specs.RuleModels.{Use, RuleModel}}
@@ -27,12 +27,6 @@ changed_by shape u (Some region) = bounded shape (u.box region)
 abbrev pub changed : List ℕ → List Use → List (Option (List Interval)) → Option (List Interval)
 changed shape (u ∷ uses) (m ∷ moves) = join_boxes (changed_by shape u m) (changed shape uses moves)
 changed shape _ _ = None
-
--- of so many arguments one changed, in this box
-abbrev pub only_at : ℕ → ℕ → List Interval → List (Option (List Interval))
-only_at zero which region = []
-only_at (suc n) zero region = Some region ∷ replicate n None
-only_at (suc n) (suc which) region = None ∷ only_at n which region
 
 -- a selector changed
 abbrev pub is_anew : List Bool → List (Option (List Interval)) → Bool

@@ -1,7 +1,7 @@
 -- What a rule says of a function of arrays.
-use Rattle.std.specs.Prelude.{◌≡◌, ℕ, zero, suc, List, [], ◌∷◌, Bool, false, Option, Some, None, Result, Ok, Err, IsTrue, get_or}
-use Rattle.arrays_core.{specs.declared.item.Item.{Item}, specs.declared.item.ItemType.{ItemType}, specs.declared.item.Kind.{Kind}, specs.Arrays.{ArrayValue}, specs.Shapes.{size}}
-use Rattle.index_region.{specs.Boxes.{Interval, fits}, specs.Checks.{Form, form_of}}
+use Rattle.std.specs.Prelude.{◌≡◌, ℕ, zero, suc, List, [], ◌∷◌, Bool, Option, None, Result, Ok, Err, IsTrue}
+use Rattle.arrays_core.{specs.declared.item.Item.{Item}, specs.declared.item.Kind.{Kind}, specs.Arrays.{ArrayValue}, specs.Shapes.{size}}
+use Rattle.index_region.{specs.Boxes.{Interval, fits}, specs.Checks.{Form}}
 
 -- how a result uses an argument: the index lists of the argument that an item of the result reads, and the intervals of
 -- the result that a changed box of the argument may change
@@ -34,18 +34,9 @@ FitsAt [] which region = Unit {0}
 FitsAt (a ∷ args) zero region = IsTrue (fits region a.shape)
 FitsAt (a ∷ args) (suc which) region = FitsAt args which region
 
--- the shape of one of the arguments
-abbrev pub shape_at : List ArrayValue → ℕ → List ℕ
-shape_at [] which = []
-shape_at (a ∷ args) zero = a.shape
-shape_at (a ∷ args) (suc which) = shape_at args which
-
--- the result has the places of one of the arguments, and of these may change what changed of the argument
-abbrev pub KeepsPlaces : RuleModel → List ArrayValue → ℕ → Type 0
-KeepsPlaces p args which =
-    ((t : ItemType) × (p.form args ≡ Ok (form_of (shape_at args which) t)))
-    × (get_or p.selectors which false ≡ false)
-    × ((region : List Interval) → box_at (p.uses (shape_at args which) args) which region ≡ Some region)
+-- the checks pass
+abbrev pub Passes : Result Form Kind → Type 0
+Passes r = (f : Form) × (r ≡ Ok f)
 
 -- the checks pass, and this is the shape of the result
 abbrev pub HasShape : Result Form Kind → List ℕ → Type 0

@@ -1,19 +1,22 @@
 //! Functions of arrays that say what a change of their arguments changes of their result.
 
-ghost use Rattle.std.specs.Prelude.{◌≡◌, ◌<◌, ℕ, List, Bool, length, get_or, false, IfSome, IsTrue, Ok};
+ghost use Rattle.std.specs.Prelude.{◌≡◌, ◌≤◌, ◌<◌, ℕ, List, Bool, length, map, get_or, false, IfSome, IfOk, IfErr, OnOk, IsTrue, Ok, Err};
 ghost use Rattle.arrays_core.specs.Arrays.{ArrayValue, IsAnswerTo};
+ghost use Rattle.arrays_core.specs.Limits.{most_axes};
 ghost use Rattle.arrays_core.specs.Shapes.{IsWithinLimits};
 ghost use Rattle.index_region.specs.Boxes.{fits};
 ghost use Rattle.index_region.specs.Checks.{whole, form_of};
-ghost use Rattle.change_core.specs.RuleModels.{Use, FitsAt, HasShape, KeepsPlaces, box_at};
+ghost use Rattle.change_core.specs.RuleModels.{Use, FitsAt, HasShape, Passes, box_at};
+ghost use Rattle.change_core.specs.Reaches.{AllFit, reach_of};
 ghost use Rattle.change_core.specs.Tightness.{IsTight};
 ghost use Rattle.change_core.specs.Growth.{IsGrowing, never};
 ghost use Rattle.change_core.specs.Parts.{HoldsItems, items_in};
 
 use crate::meter::Meter;
+use crate::reach::{Reach, Reached, as_reach, bounded, join_boxes};
 use crate::rule::Rule;
 use arrays_core::{ApplyFault, Array, Item, ItemType, Kind, Shape, size};
-use index_region::{IndexBox, Intervals, Primitive, Seen, apply};
+use index_region::{ChangedBox, IndexBox, Intervals, Primitive, Seen, apply};
 use std::alloc::Global;
 
 /// A function of arrays that says what a change of its arguments changes of its result: it is a `Rule`. What gives items here ticks no meter; `Rule`,
@@ -34,16 +37,6 @@ pub trait Announced: Primitive {
         requires count { length args.now ≡ Self.arity self.now }
         requires marks { length grown.now ≡ length args.now }
         ensures { result ≡ growth self.now args.now grown.now };
-
-    /// The result has the places of this argument, and of these may change what changed of the argument, as far as that is known without
-    /// the shape of the result.
-    fn keeps_places(&self, _args: &[Seen], _which: usize) -> bool
-        requires count { length _args.now ≡ Self.arity self.now }
-        requires below { _which < length _args.now }
-        ensures { IsTrue result → KeepsPlaces (record { selectors = selectors self.now; form = Self.form self.now; item = Self.item self.now; uses = uses self.now; grows = growth self.now }) _args.now _which }
-    {
-        false
-    }
 
     /// An item of the result may be made from many items of the arguments. Where that is not so, what changes of the result is made from the arguments as
     /// they are seen, without a copy of one that was patched. This says how a result is best made, and nothing of what it is.
@@ -68,6 +61,61 @@ pub trait Announced: Primitive {
         requires fit { FitsAt args.now which region.now }
         requires checked { HasShape (Self.form self.now args.now) shape.now }
         ensures { result ≡ box_at (uses self.now shape.now args.now) which region.now };
+
+    /// Checks the arguments, and returns the places of the result that may change, as `Rule` has it. Override it if they are known without the shape of the
+    /// result.
+    fn reached<M: ChangedBox>(&self, args: &[Seen], moved: &[M]) -> Result<Reached, Kind>
+        requires count { length args.now ≡ Self.arity self.now }
+        requires moves { length moved.now ≡ length args.now }
+        requires fit { AllFit args.now (map M.changed moved.now) }
+        ensures err { IfErr result (λ kind. Self.form self.now args.now ≡ Err kind) }
+        ensures passes { OnOk result (Passes (Self.form self.now args.now)) }
+        ensures reach { IfOk result (λ r. r.reach ≡ reach_of (record { selectors = selectors self.now; form = Self.form self.now; item = Self.item self.now; uses = uses self.now; grows = growth self.now }) args.now (map M.changed moved.now)) }
+    {
+        self.reached_by_boxes(args, moved)
+    }
+
+    /// Does the same by the shape of the result: joins the boxes that each argument may change to the least box. An impl with its own `reached` calls it if it
+    /// knows no shorter way.
+    fn reached_by_boxes<M: ChangedBox>(&self, args: &[Seen], moved: &[M]) -> Result<Reached, Kind>
+        requires count { length args.now ≡ Self.arity self.now }
+        requires moves { length moved.now ≡ length args.now }
+        requires fit { AllFit args.now (map M.changed moved.now) }
+        ensures err { IfErr result (λ kind. Self.form self.now args.now ≡ Err kind) }
+        ensures passes { OnOk result (Passes (Self.form self.now args.now)) }
+        ensures reach { IfOk result (λ r. r.reach ≡ reach_of (record { selectors = selectors self.now; form = Self.form self.now; item = Self.item self.now; uses = uses self.now; grows = growth self.now }) args.now (map M.changed moved.now)) }
+    {
+        match self.shape_of(args) {
+            Ok((shape, _)) => Ok(Reached {
+                reach: self.reach_in(args, shape.as_slice(), moved),
+                reads_few: !self.reads_many_items(),
+            }),
+            Err(kind) => Err(kind),
+        }
+    }
+
+    /// Returns the places that may change of a result of this shape.
+    fn reach_in<M: ChangedBox>(&self, args: &[Seen], shape: &[u32], moved: &[M]) -> Reach
+        requires count { length args.now ≡ Self.arity self.now }
+        requires moves { length moved.now ≡ length args.now }
+        requires fit { AllFit args.now (map M.changed moved.now) }
+        requires checked { HasShape (Self.form self.now args.now) shape.now }
+        requires rank { length shape.now ≤ most_axes }
+        ensures { result ≡ reach_of (record { selectors = selectors self.now; form = Self.form self.now; item = Self.item self.now; uses = uses self.now; grows = growth self.now }) args.now (map M.changed moved.now) }
+    {
+        let mut reached = None;
+        for later in 0..moved.len() {
+            let which = moved.len() - 1 - later;
+            if let Some(region) = moved[which].changed_box() {
+                if self.selects(which) {
+                    return Reach::Anew;
+                }
+                let changed = bounded(shape, self.box_of(args, shape, which, region));
+                reached = join_boxes(changed, reached);
+            }
+        }
+        as_reach(reached)
+    }
 
     /// The whole result. A type that has an `apply` of its own answers with that by a line in its impl, as a trait cannot call what stands in the type alone.
     fn whole(&self, alloc: Global, args: &[Seen]) -> Result<Array, ApplyFault>
@@ -112,14 +160,6 @@ impl<P: Announced> Rule for P {
         self.shape_of(args)
     }
 
-    fn keeps_places(&self, args: &[Seen], which: usize) -> bool {
-        Announced::keeps_places(self, args, which)
-    }
-
-    fn reads_many_items(&self) -> bool {
-        Announced::reads_many_items(self)
-    }
-
     fn item(&self, args: &[Seen], index: &[u32], meter: &mut Meter) -> Result<Item, Kind> {
         meter.tick();
         self.item_at(args, index)
@@ -158,18 +198,12 @@ impl<P: Announced> Rule for P {
         Announced::grows(self, args, grown)
     }
 
-    fn selects(&self, which: usize) -> bool {
-        Announced::selects(self, which)
+    fn reads_many_items(&self) -> bool {
+        Announced::reads_many_items(self)
     }
 
-    fn box_of(
-        &self,
-        args: &[Seen],
-        shape: &[u32],
-        which: usize,
-        region: &IndexBox,
-    ) -> Option<Intervals> {
-        Announced::box_of(self, args, shape, which, region)
+    fn reached<M: ChangedBox>(&self, args: &[Seen], moved: &[M]) -> Result<Reached, Kind> {
+        Announced::reached(self, args, moved)
     }
 
     ghost tight = { P.tight };

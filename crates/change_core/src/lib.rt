@@ -10,5 +10,5 @@ mod rule;
 pub use announced::Announced;
 pub use count::Count;
 pub use meter::Meter;
-pub use reach::{Reach, growth_extends, last_place, reach_covers};
+pub use reach::{Reach, Reached, growth_extends, last_place, reach_covers};
 pub use rule::Rule;

@@ -21,6 +21,16 @@ pub enum Reach {
     Anew,
 }
 
+/// A rule's answer to a change of its arguments in boxes.
+#[derive(Drop)]
+pub struct Reached {
+    /// The places of the result that may change.
+    pub reach: Reach,
+    /// One item alone is made from few items of the arguments, without a copy of one that was patched. It chooses the way to make an item; no contract
+    /// rests on it.
+    pub reads_few: bool,
+}
+
 /// The least box that holds both, where there are two.
 pub(crate) fn join_boxes(left: Option<IndexBox>, right: Option<IndexBox>) -> Option<IndexBox>
     requires { (a b : List (ℕ × ℕ)) → left ≡ Some a → right ≡ Some b → length a ≡ length b }

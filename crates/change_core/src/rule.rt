@@ -1,24 +1,23 @@
 //! What a change rule is.
 
-ghost use Rattle.std.specs.Prelude.{◌≡◌, ◌+◌, ◌≤◌, ◌<◌, length, get_or, IfOk, IsTrue, Ok, false};
+ghost use Rattle.std.specs.Prelude.{◌≡◌, ◌+◌, ◌≤◌, length, map, IfOk, IfErr, OnOk, IsTrue, Ok, Err};
 ghost use Rattle.arrays_core.specs.Arrays.{IsAnswerTo};
-ghost use Rattle.arrays_core.specs.Limits.{most_axes};
 ghost use Rattle.arrays_core.specs.Shapes.{IsWithinLimits};
 ghost use Rattle.index_region.specs.Boxes.{box_size, fits};
 ghost use Rattle.index_region.specs.Checks.{whole, form_of};
 ghost use Rattle.index_region.specs.Answers.{IsFormAnswerTo, IsPlaceOf, HasTypeOf};
 
 use crate::meter::Meter;
-use crate::reach::{Reach, as_reach, bounded, join_boxes};
+use crate::reach::{Reach, Reached};
 use arrays_core::{ApplyFault, Array, Item, ItemType, Kind, Shape, shape_of, size};
-use index_region::{IndexBox, Intervals, Seen};
+use index_region::{ChangedBox, IndexBox, Seen};
 use std::alloc::Global;
 
 /// A function of arrays, by its checks, its items, and what a change of its arguments changes of its result, with its laws: the boxes hold all that
 /// changes, and the result grows where it says so. It has no way to an item that does not tick. None of `shape`, `item`, `grows` and `reach` takes
 /// memory.
 pub trait Rule {
-    ghost use Rattle.change_core.specs.RuleModels.{RuleModel, FitsAt, HasShape, KeepsPlaces, box_at, form_size};
+    ghost use Rattle.change_core.specs.RuleModels.{RuleModel, Passes, form_size};
     ghost use Rattle.change_core.specs.Reaches.{AllFit, reach_of};
     ghost use Rattle.change_core.specs.Meters.{ticked};
     ghost use Rattle.change_core.specs.Parts.{HoldsItems, items_in};
@@ -127,63 +126,21 @@ pub trait Rule {
         requires marks { length grown.now ≡ length args.now }
         ensures { result ≡ (model self.now).grows args.now grown.now };
 
-    /// The result has the places of this argument, and of these may change what changed of the argument, as far as that is known without
-    /// the shape of the result: then a change of one place need not look for it.
-    fn keeps_places(&self, _args: &[Seen], _which: usize) -> bool
-        requires count { length _args.now ≡ length (model self.now).selectors }
-        requires below { _which < length _args.now }
-        ensures { IsTrue result → KeepsPlaces (model self.now) _args.now _which }
-    {
-        false
-    }
-
     /// An item of the result may be made from many items of the arguments. Where that is not so, what changes of the result is made from the arguments as
     /// they are seen, without a copy of one that was patched. This says how a result is best made, and nothing of what it is.
     fn reads_many_items(&self) -> bool {
         true
     }
 
-    /// A change of the argument makes the result anew, its shape too.
-    fn selects(&self, which: usize) -> bool
-        ensures { result ≡ get_or (model self.now).selectors which false };
-
-    /// The intervals of the result that a changed box of an argument may change. The shape of the result is given.
-    fn box_of(
-        &self,
-        args: &[Seen],
-        shape: &[u32],
-        which: usize,
-        region: &IndexBox,
-    ) -> Option<Intervals>
-        requires count { length args.now ≡ length (model self.now).selectors }
-        requires below { which < length args.now }
-        requires fit { FitsAt args.now which region.now }
-        requires checked { HasShape ((model self.now).form args.now) shape.now }
-        ensures { result ≡ box_at ((model self.now).uses shape.now args.now) which region.now };
-
-    /// What may change of the result, whose shape is given, where the arguments are these now, and changed in the boxes
-    /// that are given.
-    fn reach_in(&self, args: &[Seen], shape: &[u32], moved: &[Option<IndexBox>]) -> Reach
+    /// Checks the arguments, and returns the places of the result that may change: the arguments are these now, and changed in these boxes. Returns the error
+    /// of the first check that fails.
+    fn reached<M: ChangedBox>(&self, args: &[Seen], moved: &[M]) -> Result<Reached, Kind>
         requires count { length args.now ≡ length (model self.now).selectors }
         requires moves { length moved.now ≡ length args.now }
-        requires fit { AllFit args.now moved.now }
-        requires checked { HasShape ((model self.now).form args.now) shape.now }
-        requires rank { length shape.now ≤ most_axes }
-        ensures { result ≡ reach_of (model self.now) args.now moved.now }
-    {
-        let mut reached = None;
-        for later in 0..moved.len() {
-            let which = moved.len() - 1 - later;
-            if let Some(region) = &moved[which] {
-                if self.selects(which) {
-                    return Reach::Anew;
-                }
-                let changed = bounded(shape, self.box_of(args, shape, which, region));
-                reached = join_boxes(changed, reached);
-            }
-        }
-        as_reach(reached)
-    }
+        requires fit { AllFit args.now (map M.changed moved.now) }
+        ensures err { IfErr result (λ kind. (model self.now).form args.now ≡ Err kind) }
+        ensures passes { OnOk result (Passes ((model self.now).form args.now)) }
+        ensures reach { IfOk result (λ r. r.reach ≡ reach_of (model self.now) args.now (map M.changed moved.now)) };
 
     /// What may change of the result, where the arguments are these now, and changed in the boxes that are given.
     fn reach(&self, args: &[Seen], moved: &[Option<IndexBox>]) -> Reach
@@ -192,8 +149,8 @@ pub trait Rule {
         requires fit { AllFit args.now moved.now }
         ensures { result ≡ reach_of (model self.now) args.now moved.now }
     {
-        match self.shape(args) {
-            Ok((shape, _)) => self.reach_in(args, shape.as_slice(), moved),
+        match self.reached(args, moved) {
+            Ok(reached) => reached.reach,
             Err(_) => Reach::Anew,
         }
     }

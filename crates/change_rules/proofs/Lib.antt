@@ -2,7 +2,7 @@ pub mod Walked
 pub mod PatchRight
 pub mod Refreshed
 pub mod Nodes
-mod KeptPlace
+mod OneBox
 pub mod GrownRight
 pub mod NodeRight
 pub mod Right

@@ -1,13 +1,14 @@
 //! The arguments of a node as they are handed in: each as it is now, with what changed of it.
 
-ghost use Rattle.std.specs.Prelude.{◌≡◌, IfOk, ◌||◌};
-ghost use Rattle.change_rules.specs.Nodes.{views, moved, moved_by, all_same, starts_anew, is_whole, is_grown, is_grown_at_most, all_patched_at_most, marks};
+ghost use Rattle.std.specs.Prelude.{◌≡◌, IfOk, map, ◌||◌};
+ghost use Rattle.change_rules.specs.Nodes.{views, moved, all_same, starts_anew, is_whole, is_grown, is_grown_at_most, all_patched_at_most, marks};
 ghost use Rattle.std.specs.List.{list_all, list_any};
+ghost use Rattle.index_region.specs.Moves.{changed_box};
 ghost use Rattle.arrays_core.specs.Arrays.{IsArray};
 ghost use Rattle.change_core.specs.Tightness.{Each};
 
 use arrays_core::{Array, Fault};
-use index_region::{Delta, IndexBox, Seen};
+use index_region::{Delta, Moved, Seen};
 use std::alloc::{AllocError, Global};
 
 /// The arguments as they are now.
@@ -34,28 +35,19 @@ pub(crate) fn views_are_arrays(args: &[(Seen, &Delta)])
     }
 }
 
-/// The changed boxes of the arguments.
-pub(crate) fn moves_of(
+/// Returns the changed places of each argument.
+#[tactic(auto, using(crate::proofs::OneBox::tells_box))]
+pub(crate) fn moves_of<'c>(
     alloc: Global,
-    args: &[(Seen, &Delta)],
-) -> Result<Vec<Option<IndexBox>>, AllocError>
-    ensures { IfOk result (λ v. v.items ≡ moved args.now) }
+    args: &[(Seen, &'c Delta)],
+) -> Result<Vec<Moved<'c>>, AllocError>
+    ensures { IfOk result (λ v. map changed_box v.items ≡ moved args.now) }
 {
     let mut moves = Vec::new(alloc);
     for (_, delta) in args {
-        moves.push(moved_by(delta))?;
+        moves.push(Moved::of(delta))?;
     }
     Ok(moves)
-}
-
-/// The changed box of an argument.
-pub(crate) fn moved_by(delta: &Delta) -> Option<IndexBox>
-    ensures { result ≡ moved_by delta.now }
-{
-    match delta {
-        Delta::Patch(patch) => Some(patch.region().copy()),
-        _ => None,
-    }
 }
 
 /// No argument changed.

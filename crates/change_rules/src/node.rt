@@ -1,11 +1,12 @@
 //! The change of a node, from the changes of its arguments.
 
-ghost use Rattle.std.specs.Prelude.{◌≡◌, ◌+◌, is_ok, ◌≤◌, ◌<◌, length, IfOk, OnOk, Ok, Some, false};
+ghost use Rattle.std.specs.Prelude.{◌≡◌, ◌+◌, is_ok, ◌≤◌, ◌<◌, length, map, IfOk, OnOk, Ok, Some, false};
 ghost use Rattle.arrays_core.specs.Arrays.{IsArray};
 ghost use Rattle.arrays_core.specs.Shapes.{IsWithinLimits};
 ghost use Rattle.arrays_core.specs.declared.item.ItemType.{ItemType as TypeOfItems};
 ghost use Rattle.index_region.specs.Boxes.{box_size};
 ghost use Rattle.index_region.specs.Checks.{form_of};
+ghost use Rattle.index_region.specs.Moves.{changed_box};
 ghost use Rattle.change_core.specs.Growth.{last_place};
 ghost use Rattle.change_core.specs.Tightness.{Each};
 ghost use Rattle.change_core.specs.Reaches.{AllFit};
@@ -17,14 +18,15 @@ ghost use Rattle.change_rules.specs.Nodes.{views, moved, is_error, all_same, nod
 ghost use Rattle.change_rules.specs.Currency.{BringsUpToDate, HasAxis, IsRight};
 
 use crate::arguments::{
-    all_same, grown_at_most, is_grown, marks_of, moved_by, moves_of, patched_at_most, starts_anew,
+    all_same, grown_at_most, is_grown, marks_of, moves_of, patched_at_most, starts_anew,
     views_are_arrays, views_of,
 };
 use crate::evaluation::evaluate;
+use crate::one_place::{OnePlace, is_one_place};
 use crate::patch::patch_of;
 use arrays_core::{Array, Fault, Shape, outcome, shape_of, size};
-use change_core::{Meter, Reach, Rule, last_place};
-use index_region::{Delta, IndexBox, Seen, Tail};
+use change_core::{Meter, Reach, Reached, Rule, last_place};
+use index_region::{Delta, IndexBox, Moved, Seen, Tail};
 use std::alloc::{AllocError, Global};
 
 /// The change of a node that held an array, where arguments were patched, and what it costs. The change is written where it is wanted, here and below: it
@@ -33,42 +35,42 @@ fn reached<R: Rule>(
     alloc: Global,
     rule: &R,
     args: &[Seen],
-    boxes: &[Option<IndexBox>],
+    moves: &[Moved],
     change: &mut Delta,
     meter: &mut Meter,
 ) -> Result<u32, AllocError>
     requires count { length args.now ≡ length (R.model rule.now).selectors }
-    requires boxes { length boxes.now ≡ length args.now }
-    requires fit { AllFit args.now boxes.now }
+    requires moves { length moves.now ≡ length args.now }
+    requires fit { AllFit args.now (map changed_box moves.now) }
     requires small { meter.old.ticks ≤ most_ticks }
-    ensures delta { OnOk result (change.new ≡ reached_delta (R.model rule.now) args.now boxes.now) }
-    ensures cost { IfOk result (λ n. n ≡ reached_cost (R.model rule.now) args.now boxes.now) }
-    ensures ticks { meter.new.ticks ≤ meter.old.ticks + reached_cost (R.model rule.now) args.now boxes.now }
+    ensures delta { OnOk result (change.new ≡ reached_delta (R.model rule.now) args.now (map changed_box moves.now)) }
+    ensures cost { IfOk result (λ n. n ≡ reached_cost (R.model rule.now) args.now (map changed_box moves.now)) }
+    ensures ticks { meter.new.ticks ≤ meter.old.ticks + reached_cost (R.model rule.now) args.now (map changed_box moves.now) }
     ensures exact { IfOk result (λ n. is_error change.new ≡ false → meter.new.ticks ≡ ticked meter.old.ticks n) }
     ensures rises { meter.old.ticks ≤ meter.new.ticks }
     ensures joins { meter.new.joins ≡ meter.old.joins }
 {
-    match rule.shape(args) {
+    let reached = match rule.reached(args, moves) {
+        Ok(reached) => reached,
         Err(kind) => {
             *change = Delta::Whole(Err(kind.into()));
+            return Ok(0);
+        }
+    };
+    let Reached { reach, reads_few } = reached;
+    match reach {
+        Reach::Unmoved => {
+            *change = Delta::Same;
             Ok(0)
         }
-        Ok(form) => match rule.reach_in(args, form.0.as_slice(), boxes) {
-            Reach::Unmoved => {
-                *change = Delta::Same;
-                Ok(0)
+        Reach::Inside(region) => {
+            if reads_few && is_one_place(&region) {
+                *change = OnePlace::of(rule, args, region, meter).delta();
+                return Ok(1);
             }
-            Reach::Inside(region) => {
-                let cost = region.size() as u32;
-                patch_of(alloc, rule, args, &form, region, change, meter)?;
-                Ok(cost)
-            }
-            Reach::Anew => {
-                let cost = size(form.0.as_slice());
-                *change = Delta::Whole(evaluate(alloc, rule, args, meter)?);
-                Ok(cost)
-            }
-        },
+            patch_of(alloc, rule, args, region, change, meter)
+        }
+        Reach::Anew => change_anew(alloc, rule, args, change, meter),
     }
 }
 
@@ -77,7 +79,7 @@ fn change_from<R: Rule>(
     alloc: Global,
     rule: &R,
     seen: &[Seen],
-    boxes: &[Option<IndexBox>],
+    moves: &[Moved],
     args: &[(Seen, &Delta)],
     old: &Result<Array, Fault>,
     change: &mut Delta,
@@ -86,7 +88,7 @@ fn change_from<R: Rule>(
     requires count { length args.now ≡ length (R.model rule.now).selectors }
     requires fit { AllFit (views args.now) (moved args.now) }
     requires seen { seen.now ≡ views args.now }
-    requires boxes { boxes.now ≡ moved args.now }
+    requires moves { map changed_box moves.now ≡ moved args.now }
     requires some { all_same args.now ≡ false }
     requires small { meter.old.ticks ≤ most_ticks }
     ensures delta { OnOk result (change.new ≡ node_delta (R.model rule.now) args.now old.now) }
@@ -97,7 +99,7 @@ fn change_from<R: Rule>(
     ensures joins { meter.new.joins ≡ meter.old.joins }
 {
     if old.is_ok() && patched_at_most(args) {
-        return reached(alloc, rule, seen, boxes, change, meter);
+        return reached(alloc, rule, seen, moves, change, meter);
     }
     if starts_anew(args, old) {
         return change_anew(alloc, rule, seen, change, meter);
@@ -257,6 +259,7 @@ fn tail_of_one<R: Rule>(
 
 /// The change of a node, and what it costs. Views and boxes of up to three arguments take no memory.
 #[inline(always)]
+#[tactic(auto, using(crate::proofs::OneBox::moved_of_one, crate::proofs::OneBox::moved_of_two))]
 fn change_of<R: Rule>(
     alloc: Global,
     rule: &R,
@@ -283,13 +286,13 @@ fn change_of<R: Rule>(
     match args {
         [(a, d)] => {
             let seen = [a.again()];
-            let boxes = [moved_by(d)];
-            change_from(alloc, rule, &seen, &boxes, args, old, change, meter)
+            let moves = [Moved::of(d)];
+            change_from(alloc, rule, &seen, &moves, args, old, change, meter)
         }
         [(a, d), (b, e)] => {
             let seen = [a.again(), b.again()];
-            let boxes = [moved_by(d), moved_by(e)];
-            change_from(alloc, rule, &seen, &boxes, args, old, change, meter)
+            let moves = [Moved::of(d), Moved::of(e)];
+            change_from(alloc, rule, &seen, &moves, args, old, change, meter)
         }
         _ => change_of_more(alloc, rule, args, old, change, meter),
     }
@@ -318,13 +321,13 @@ fn change_of_more<R: Rule>(
     match args {
         [(a, d), (b, e), (c, f)] => {
             let seen = [a.again(), b.again(), c.again()];
-            let boxes = [moved_by(d), moved_by(e), moved_by(f)];
-            change_from(alloc, rule, &seen, &boxes, args, old, change, meter)
+            let moves = [Moved::of(d), Moved::of(e), Moved::of(f)];
+            change_from(alloc, rule, &seen, &moves, args, old, change, meter)
         }
         _ => {
             let seen = views_of(alloc, args)?;
-            let boxes = moves_of(alloc, args)?;
-            change_from(alloc, rule, &seen, &boxes, args, old, change, meter)
+            let moves = moves_of(alloc, args)?;
+            change_from(alloc, rule, &seen, &moves, args, old, change, meter)
         }
     }
 }

@@ -3,9 +3,11 @@
 ghost use Rattle.std.specs.Prelude.{◌≡◌, ◌+◌, ◌≤◌, length, false, Ok, IsTrue, IfOk, OnOk};
 ghost use Rattle.index_region.specs.Answers.{IsFormAnswerTo};
 ghost use Rattle.index_region.specs.Boxes.{box_size, fits};
+ghost use Rattle.index_region.specs.Checks.{Form};
+ghost use Rattle.change_core.specs.declared.reach.Reach.TheVariants.{Inside};
 ghost use Rattle.change_core.specs.Meters.{ticked};
 ghost use Rattle.change_core.specs.Parts.{HoldsItems, items_in};
-ghost use Rattle.change_rules.specs.Nodes.{is_error, patch_delta};
+ghost use Rattle.change_rules.specs.Nodes.{is_error, delta_in};
 
 use crate::evaluation::all_of;
 use crate::one_place::OnePlace;
@@ -50,34 +52,37 @@ fn goes_item_by_item<R: Rule>(rule: &R, args: &[Seen]) -> bool {
     !rule.reads_many_items() || args.iter().all(|arg| arg.places() <= FEW_PLACES)
 }
 
-/// The patch of a box of the result, or the first error in it, put in place of another change. One place takes no memory where it
+/// Replaces a change by the patch of a box of the result, or by the first error in it, and returns the cost. One place takes no memory where it
 /// is not all of the result, or where few items of the arguments are read.
 pub(crate) fn patch_of<R: Rule>(
     alloc: Global,
     rule: &R,
     args: &[Seen],
-    form: &(Shape, ItemType),
     region: IndexBox,
     change: &mut Delta,
     meter: &mut Meter,
-) -> Result<(), AllocError>
+) -> Result<u32, AllocError>
     requires count { length args.now ≡ length (R.model rule.now).selectors }
-    requires checked { IsFormAnswerTo ((R.model rule.now).form args.now) (Ok form.now) }
-    requires fit { IsTrue (fits region form.now.0.items) }
-    ensures delta { OnOk result (change.new ≡ patch_delta form.now.1 region (items_in ((R.model rule.now).item args.now) region)) }
+    requires checked { (f : Form) × ((R.model rule.now).form args.now ≡ Ok f) × IsTrue (fits region f.shape) }
+    ensures delta { OnOk result (change.new ≡ delta_in ((R.model rule.now).form args.now) ((R.model rule.now).item args.now) (Inside region)) }
+    ensures cost { IfOk result (λ n. n ≡ box_size region) }
     ensures ticks { meter.new.ticks ≤ meter.old.ticks + box_size region }
     ensures exact { OnOk result (is_error change.new ≡ false → meter.new.ticks ≡ ticked meter.old.ticks (box_size region)) }
     ensures rises { meter.old.ticks ≤ meter.new.ticks }
     ensures joins { meter.new.joins ≡ meter.old.joins }
 {
-    if region.size() == 1 && (size(form.0.as_slice()) > 1 || goes_item_by_item(rule, args)) {
-        let place = OnePlace::of(rule, args, region, meter);
-        *change = place.delta();
-        return Ok(());
+    let form = match rule.shape(args) {
+        Ok(form) => form,
+        Err(_) => unreachable!(),
+    };
+    let cost = region.size() as u32;
+    if cost == 1 && (size(form.0.as_slice()) > 1 || goes_item_by_item(rule, args)) {
+        *change = OnePlace::of(rule, args, region, meter).delta();
+        return Ok(cost);
     }
-    match outcome(items_of(alloc, rule, args, form, &region, meter))? {
+    match outcome(items_of(alloc, rule, args, &form, &region, meter))? {
         Ok(values) => *change = Delta::Patch(Patch::of(region, values)),
         Err(fault) => *change = Delta::Whole(Err(fault)),
     }
-    Ok(())
+    Ok(cost)
 }

@@ -63,13 +63,13 @@ pub typed_limited : (shape : List ℕ) (item_type : ItemType) (item : Item) → 
 typed_limited shape item_type item h = typed_if (is_within_limits shape) _ shape item_type item h
 
 -- the one argument of a list of one
-pub one_argument : (args : List ArrayValue) (b : ArrayValue) → length args ≡ 1 → b ≡ get_or args 0 b → args ≡ b ∷ []
+pub one_argument : {A : Type 0} (args : List A) (b : A) → length args ≡ 1 → b ≡ get_or args 0 b → args ≡ b ∷ []
 one_argument [] b h e = absurd (omega arith)
 one_argument (x ∷ []) b h e = rw e refl
 one_argument (x ∷ y ∷ rest) b h e = absurd (omega arith)
 
 -- the two arguments of a list of two
-pub two_arguments : (args : List ArrayValue) (a b : ArrayValue) → length args ≡ 2 → a ≡ get_or args 0 a → b ≡ get_or args 1 b → args ≡ a ∷ b ∷ []
+pub two_arguments : {A : Type 0} (args : List A) (a b : A) → length args ≡ 2 → a ≡ get_or args 0 a → b ≡ get_or args 1 b → args ≡ a ∷ b ∷ []
 two_arguments [] a b h d e = absurd (omega arith)
 two_arguments (x ∷ []) a b h d e = absurd (omega arith)
 two_arguments (x ∷ y ∷ []) a b h d e = rw (d, e) refl

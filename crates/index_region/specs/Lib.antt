@@ -9,6 +9,7 @@ pub mod Boxes
 pub mod BoxLaws
 pub mod Patches
 pub mod Tails
+pub mod Moves
 -- What bodies use.
 pub mod Advancing
 pub mod NewItems

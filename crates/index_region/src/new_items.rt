@@ -1,6 +1,6 @@
 //! New items.
 
-ghost use Rattle.std.specs.Prelude.{◌≡◌, ◌<◌, ◌↔◌, All, length, get_or, map, IfOk, IfSome, IsNone};
+ghost use Rattle.std.specs.Prelude.{◌≡◌, ◌<◌, ◌↔◌, ◌∷◌, [], All, length, get_or, map, IfOk, IfSome, IsNone};
 ghost use Rattle.arrays_core.specs.Items.{fill, type_of};
 ghost use Rattle.arrays_core.specs.declared.item.Item.TheVariants.{Num};
 ghost use Rattle.arrays_core.specs.declared.item.ItemType.TheVariants.{Nums, Chars};
@@ -61,6 +61,18 @@ impl NewItems {
             NewItems::One(Item::Num(number)) => Some(slice::from_ref(number)),
             NewItems::One(Item::Char(_)) => None,
             NewItems::Many(array) => array.numbers(),
+        }
+    }
+
+    /// Returns the item that lies by itself; None where an array holds the items.
+    #[inline(always)]
+    pub(crate) fn only(&self) -> Option<Item>
+        ensures items { IfSome result (λ item. items_of self.now ≡ item ∷ []) }
+        ensures typed { IfSome result (λ item. type_of_items self.now ≡ type_of item) }
+    {
+        match self {
+            NewItems::One(item) => Some(*item),
+            NewItems::Many(_) => None,
         }
     }
 

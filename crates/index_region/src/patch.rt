@@ -82,6 +82,9 @@ impl Patch {
         ensures is { result ≡ get_or self.now.items (box_offset self.now.region index.now) (fill self.now.item_type) }
         ensures typed { type_of result ≡ self.now.item_type }
     {
+        if let Some(item) = self.items.only() {
+            return item;
+        }
         // The count says that the offset has 32 bits.
         let _count = self.items.count();
         self.items.item(self.region.offset(index) as u32)
@@ -92,6 +95,10 @@ impl Patch {
         requires { FitsPatch array.old self.now }
         ensures { array.new ≡ patched array.old self.now }
     {
+        if let Some(item) = self.items.only() {
+            self.write_only(item, array);
+            return;
+        }
         let items = self.items.count();
         // The shape of the array says that it has one item for each place.
         let _one_item_a_place = array.shape();
@@ -103,5 +110,20 @@ impl Patch {
                 self.region.advance(&mut index);
             }
         }
+    }
+
+    /// Writes the only new item into an array.
+    fn write_only(&self, item: Item, array: &mut Array)
+        requires fits { FitsPatch array.old self.now }
+        requires only { self.now.items ≡ item ∷ [] }
+        requires typed { type_of item ≡ self.now.item_type }
+        ensures { array.new ≡ patched array.old self.now }
+    {
+        // The count says that the box has one place, and the shape that the array has one item for each place.
+        let _count = self.items.count();
+        let _one_item_a_place = array.shape();
+        let first = self.region.index_at(0);
+        let place = position(array.shape(), first.as_slice());
+        array.write_at(place, item);
     }
 }

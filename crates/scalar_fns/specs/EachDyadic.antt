@@ -1,5 +1,5 @@
 -- What may change of a scalar function of two arrays: the places that changed, or all by an array that is extended.
-use Rattle.std.specs.Prelude.{ℕ, ◌==◌, if◌then◌else◌, List, [], ◌∷◌, map, false, Some, Result, Ok, bytes_eq}
+use Rattle.std.specs.Prelude.{◌≡◌, ℕ, ◌==◌, Bool, true, if◌then◌else◌, List, [], ◌∷◌, map, false, Some, Result, Ok, bytes_eq}
 use Rattle.arrays_core.{specs.declared.item.Item.{Item}, specs.declared.item.ItemType.TheVariants.{Nums}, specs.declared.item.Kind.{Kind}, specs.Arrays.{ArrayValue}, specs.Shapes.{size}}
 use Rattle.function_names.specs.declared.scalar.Scalar2.{Scalar2}
 use Rattle.scalar_fns.{specs.ScalarExtension.{common, extended, for_shape}, specs.Growth.{each_dyadic_grows}}
@@ -10,6 +10,10 @@ use Rattle.change_core.{specs.RuleModels.{RuleModel, Use}, specs.Growth.{growing
 -- numbers in the common shape, where there is one
 abbrev pub each_dyadic_form : ArrayValue → ArrayValue → Result Form Kind
 each_dyadic_form a b = for_shape (common a.shape b.shape) (λ shape. Ok (form_of shape Nums))
+
+-- the checks pass, and each of the arrays that changed has the shape of the result
+abbrev pub KeepsPlaces : ArrayValue → ArrayValue → (left_changed right_changed : Bool) → Type 0
+KeepsPlaces a b left_changed right_changed = (shape : List ℕ) × ((common a.shape b.shape ≡ Ok shape) × ((left_changed ≡ true → a.shape ≡ shape) × (right_changed ≡ true → b.shape ≡ shape)))
 
 -- the item at an index list
 abbrev pub each_dyadic_item : Scalar2 → ArrayValue → ArrayValue → List ℕ → Result Item Kind

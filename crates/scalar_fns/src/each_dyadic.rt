@@ -1,18 +1,20 @@
 //! Scalar functions of two arrays as change rules.
 
-ghost use Rattle.std.specs.Prelude.{◌≡◌};
+ghost use Rattle.std.specs.Prelude.{◌≡◌, ℕ, List, Some, length, IsTrue, bytes_eq};
 ghost use Rattle.std.proofs.Common.{rules};
 ghost use Rattle.index_region.specs.ArgumentLists.{of_two_arguments};
-ghost use Rattle.scalar_fns.specs.EachDyadic.{each_dyadic_form, each_dyadic_item, each_dyadic_rule};
+ghost use Rattle.index_region.specs.Boxes.{join_boxes};
+ghost use Rattle.change_core.specs.Reaches.{as_reach};
+ghost use Rattle.scalar_fns.specs.EachDyadic.{KeepsPlaces, each_dyadic_form, each_dyadic_item, each_dyadic_rule};
 ghost use Rattle.scalar_fns.specs.Laws.EachDyadic.{each_dyadic_tight};
 ghost use Rattle.scalar_fns.specs.Laws.EachDyadicGrowth.{each_dyadic_growing};
 ghost use Rattle.scalar_fns.specs.Growth.{is_extended_to};
 
 use crate::scalar_extension::{apply_two, common_shape, extended_item};
 use arrays_core::{ApplyFault, Array, Item, ItemType, Kind, Shape};
-use change_core::Announced;
+use change_core::{Announced, Reach, Reached};
 use function_names::Scalar2;
-use index_region::{IndexBox, Intervals, Primitive, Seen, apply};
+use index_region::{ChangedBox, IndexBox, Intervals, Primitive, Seen, apply};
 use item_fns::two;
 use std::alloc::Global;
 
@@ -28,6 +30,37 @@ fn is_extended_to(array: &Seen, other: &Seen) -> bool
     ensures { result ≡ is_extended_to array.now other.now }
 {
     other.places() == 1 && other.shape().len() <= array.shape().len()
+}
+
+/// The two arrays have one shape.
+fn have_one_shape(left: &Seen, right: &Seen) -> bool
+    ensures { result ≡ bytes_eq left.now.shape right.now.shape }
+{
+    left.shape().as_slice() == right.shape().as_slice()
+}
+
+/// Returns whether it is known at once that the checks pass and that each array that changed has the shape of the result.
+fn keep_places(left: &Seen, right: &Seen, left_changed: bool, right_changed: bool) -> bool
+    ensures { IsTrue result → KeepsPlaces left.now right.now left_changed right_changed }
+{
+    match (left_changed, right_changed) {
+        (true, true) => have_one_shape(left, right),
+        (true, false) => is_extended_to(left, right) || have_one_shape(left, right),
+        (false, _) => is_extended_to(right, left) || have_one_shape(left, right),
+    }
+}
+
+/// Returns the least box that holds the changed places of both arguments.
+fn joined<M: ChangedBox>(left: &M, right: &M) -> Reach
+    requires { (a b : List (ℕ × ℕ)) → M.changed left.now ≡ Some a → M.changed right.now ≡ Some b → length a ≡ length b }
+    ensures { result ≡ as_reach (join_boxes (M.changed left.now) (M.changed right.now)) }
+{
+    match (left.changed_box(), right.changed_box()) {
+        (None, None) => Reach::Unmoved,
+        (Some(region), None) => Reach::Inside(region.copy()),
+        (None, Some(region)) => Reach::Inside(region.copy()),
+        (Some(region), Some(other)) => Reach::Inside(region.hull(other)),
+    }
 }
 
 impl Primitive for EachDyadic {
@@ -65,17 +98,8 @@ impl Announced for EachDyadic {
         match (grown[0], grown[1]) {
             (true, false) => is_extended_to(left, right),
             (false, true) => is_extended_to(right, left),
-            (true, true) => left.shape().as_slice() == right.shape().as_slice(),
+            (true, true) => have_one_shape(left, right),
             (false, false) => false,
-        }
-    }
-
-    fn keeps_places(&self, args: &[Seen], which: usize) -> bool {
-        let (left, right) = (&args[0], &args[1]);
-        if which == 0 {
-            is_extended_to(left, right)
-        } else {
-            is_extended_to(right, left)
         }
     }
 
@@ -96,6 +120,20 @@ impl Announced for EachDyadic {
             return Some(region.intervals().copy());
         }
         Some(Intervals::whole(shape))
+    }
+
+    fn reached<M: ChangedBox>(&self, args: &[Seen], moved: &[M]) -> Result<Reached, Kind> {
+        let (left, right) = (&args[0], &args[1]);
+        let (of_left, of_right) = (&moved[0], &moved[1]);
+        let left_changed = of_left.changed_box().is_some();
+        let right_changed = of_right.changed_box().is_some();
+        if !keep_places(left, right, left_changed, right_changed) {
+            return self.reached_by_boxes(args, moved);
+        }
+        Ok(Reached {
+            reach: joined(of_left, of_right),
+            reads_few: true,
+        })
     }
 
     fn whole(&self, alloc: Global, args: &[Seen]) -> Result<Array, ApplyFault> {

@@ -8,9 +8,9 @@ ghost use Rattle.scalar_fns.specs.Laws.EachMonadicGrowth.{each_monadic_growing};
 
 use crate::scalar_extension::apply_one;
 use arrays_core::{ApplyFault, Array, Item, ItemType, Kind, Shape, position, shape_of};
-use change_core::Announced;
+use change_core::{Announced, Reach, Reached};
 use function_names::Scalar1;
-use index_region::{IndexBox, Intervals, Primitive, Seen, apply};
+use index_region::{ChangedBox, IndexBox, Intervals, Primitive, Seen, apply};
 use item_fns::one;
 use std::alloc::Global;
 
@@ -53,10 +53,6 @@ impl Announced for EachMonadic {
         grown[0]
     }
 
-    fn keeps_places(&self, _args: &[Seen], _which: usize) -> bool {
-        true
-    }
-
     fn selects(&self, _which: usize) -> bool {
         false
     }
@@ -69,6 +65,17 @@ impl Announced for EachMonadic {
         region: &IndexBox,
     ) -> Option<Intervals> {
         Some(region.intervals().copy())
+    }
+
+    fn reached<M: ChangedBox>(&self, _args: &[Seen], moved: &[M]) -> Result<Reached, Kind> {
+        let reach = match moved[0].changed_box() {
+            None => Reach::Unmoved,
+            Some(region) => Reach::Inside(region.copy()),
+        };
+        Ok(Reached {
+            reach,
+            reads_few: true,
+        })
     }
 
     fn whole(&self, alloc: Global, args: &[Seen]) -> Result<Array, ApplyFault> {

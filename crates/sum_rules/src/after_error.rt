@@ -25,9 +25,9 @@ use crate::totals::line_total;
 use arrays_core::{
     ApplyFault, Array, Item, ItemType, Kind, Shape, index_of_position, outcome, size, with_axis,
 };
-use change_core::{Meter, Reach, Rule};
+use change_core::{Announced, Meter, Reach, Rule};
 use fold_trees::has_trees;
-use index_region::{Delta, IndexBox, Patch, Seen};
+use index_region::{Delta, IndexBox, Moved, Patch, Seen};
 use reduce_fns::Reduce;
 use std::alloc::{AllocError, Global};
 
@@ -212,7 +212,7 @@ pub(crate) fn change_after_error<S: LineTotals>(
             return Ok(0);
         }
     };
-    let moved = [Some(patch.region().copy())];
+    let moved = [Moved::Inside(patch.region())];
     match fold.reach_in(&args, form.0.as_slice(), &moved) {
         Reach::Inside(lines) => {
             let cost = size(form.0.as_slice());

@@ -31,10 +31,10 @@ use crate::line_totals::{LineTotals, TreeALine};
 use arrays_core::{
     ApplyFault, Array, Fault, Item, ItemType, Kind, Shape, outcome, places_before, shape_of,
 };
-use change_core::{Meter, Reach, Rule};
+use change_core::{Announced, Meter, Reach, Rule};
 use change_rules::refresh_with_cost;
 use fold_trees::SumTree;
-use index_region::{Along, Delta, IndexBox, Patch, Seen, Tail};
+use index_region::{Along, Delta, IndexBox, Moved, Patch, Seen, Tail};
 use item_fns::Scalar2;
 use reduce_fns::Reduce;
 use std::alloc::{AllocError, Global};
@@ -166,7 +166,7 @@ fn change_by_trees<S: LineTotals>(
             return Ok(0);
         }
     };
-    let moved = [Some(patch.region().copy())];
+    let moved = [Moved::Inside(patch.region())];
     match fold.reach_in(&args, form.0.as_slice(), &moved) {
         Reach::Unmoved => {
             *change = Delta::Same;

@@ -44,7 +44,7 @@ common_right a b one low =
       | inr f ↦ cond-false _ _ _ f
     ])
 
-common_same : (a : List ℕ) → common a a ≡ Ok a
+pub common_same : (a : List ℕ) → common a a ≡ Ok a
 common_same a = elim (cases_Bool (size a == 1)) [
   | inl t ↦ common_left a a (eqb-true _ _ t) (omega arith)
   | inr f ↦ cond-false _ _ _ f ∙ cond-false _ _ _ f ∙ cond-true _ _ (Err Rank) (eq-eqb (length a) (length a) refl) ∙ cond-true _ _ (Err Length) ((bytes_eq-Decides a a).1 refl)

@@ -5,17 +5,17 @@ use Rattle.change_rules.proofs.node.change_from.Goals as goal
 pub returns-then-patched_at_most-clause-delta : goal.returns-then-patched_at_most-clause-delta
 returns-then-patched_at_most-clause-delta g c =
     IfOk-weaker c.reached.result _ _ (λ r e. e ∙ delta_reached (g.R.Rule.model c.args.rule.now) c.args.args.now c.args.old.now c.requires.some (sym c.is_ok.ensures.value ∙ c.if-is_ok.true) (sym c.patched_at_most.ensures ∙ c.if-patched_at_most.true))
-    (rw (c.requires.seen, c.requires.boxes) at c.reached.ensures.delta)
+    (rw (c.requires.seen, c.requires.moves) at c.reached.ensures.delta)
 
 pub returns-then-patched_at_most-clause-cost : goal.returns-then-patched_at_most-clause-cost
 returns-then-patched_at_most-clause-cost g c =
     IfOk-weaker c.reached.result _ _ (λ r e. e ∙ cost_reached (g.R.Rule.model c.args.rule.now) c.args.args.now c.args.old.now c.requires.some (sym c.is_ok.ensures.value ∙ c.if-is_ok.true) (sym c.patched_at_most.ensures ∙ c.if-patched_at_most.true))
-    (rw (c.requires.seen, c.requires.boxes) at c.reached.ensures.cost)
+    (rw (c.requires.seen, c.requires.moves) at c.reached.ensures.cost)
 
 pub returns-then-patched_at_most-clause-ticks : goal.returns-then-patched_at_most-clause-ticks
 returns-then-patched_at_most-clause-ticks g c =
     subst (λ (n : ℕ). c.reached.new.meter.ticks ≤ c.args.meter.now.ticks + n) (cost_reached (g.R.Rule.model c.args.rule.now) c.args.args.now c.args.old.now c.requires.some (sym c.is_ok.ensures.value ∙ c.if-is_ok.true) (sym c.patched_at_most.ensures ∙ c.if-patched_at_most.true))
-    (rw (c.requires.seen, c.requires.boxes) at c.reached.ensures.ticks)
+    (rw (c.requires.seen, c.requires.moves) at c.reached.ensures.ticks)
 
 -- an argument changed otherwise than by a patch, as the node held an array
 otherwise : (g : Over) (c : goal.After-change_grown g) → all_patched_at_most c.args.args.now ≡ false

@@ -1,18 +1,32 @@
-use Rattle.{std.proofs.Common.{arith, IsTrue}, index_region.specs.Boxes.{fits}, change_core.{proofs.Covers.{reaches_inside}, proofs.Filling.{few_places}}}
-use Rattle.change_rules.{proofs.Items.{inside_fit}, proofs.node.reached.Given.{Over}, proofs.node.reached.Goals.{In-Inside}}
+use Rattle.{std.proofs.Common.{◌≡◌, ◌∙◌, map, sym, arith}, index_region.{specs.Boxes.{box_size}, specs.Moves.{changed_box}}}
+use Rattle.change_core.{specs.declared.reach.Reach.TheVariants.{Inside}, specs.Reaches.{reach_of}}
+use Rattle.change_rules.{specs.Nodes.{reached_cost}, proofs.OneBox.{box_checked, box_cost, single}, proofs.node.reached.Given.{Over}, proofs.node.reached.Goals.{In-Inside}}
 use Rattle.change_rules.proofs.node.reached.Goals as goal
 
--- the box that may change lies in the result
-fit : (g : Over) (c : In-Inside g) → IsTrue (fits c.in-Inside.region c.in-Ok.form.0.items)
-fit g c =
-    inside_fit _ c.in-Ok.form.0.items c.in-Ok.form.1 _ c.in-Inside.region c.in-Ok.ensures.0 c.in-Inside.ensures
-    (reaches_inside (g.R.Rule.model c.args.rule.now) c.args.args.now c.args.boxes.now)
+-- a box of the result may change
+reach : (g : Over) (c : In-Inside g) → Inside c.in-Inside.region ≡ reach_of (g.R.Rule.model c.args.rule.now) c.args.args.now (map changed_box c.args.moves.now)
+reach g c = sym c.in-Inside.is ∙ c.in-Ok.ensures.reach
 
-pub size-cost-requires : goal.size-cost-requires
-size-cost-requires g c = omega (arith, few_places c.in-Inside.region _ (fit g (goal.at.size-cost-requires g c).In-Inside) c.in-Ok.ensures.2)
+-- it costs as many items as it has places
+cost_is : (g : Over) (c : In-Inside g) → reached_cost (g.R.Rule.model c.args.rule.now) c.args.args.now (map changed_box c.args.moves.now) ≡ box_size c.in-Inside.region
+cost_is g c = box_cost (g.R.Rule.model c.args.rule.now) c.args.args.now (map changed_box c.args.moves.now) c.in-Inside.region c.in-Ok.ensures.passes (reach g c)
 
-pub overflow_cast-cost : goal.overflow_cast-cost
-overflow_cast-cost g c = omega (arith, c.size-cost.ensures, few_places c.in-Inside.region _ (fit g (goal.at.overflow_cast-cost g c).In-Inside) c.in-Ok.ensures.2)
+pub of-requires-clause-one : goal.of-requires-clause-one
+of-requires-clause-one g c = single c.in-Inside.region (sym c.is_one_place.ensures ∙ c.if-is_one_place.true)
 
-pub patch_of-requires-clause-fit : goal.patch_of-requires-clause-fit
-patch_of-requires-clause-fit g c = fit g (goal.at.patch_of-requires-clause-fit g c).In-Inside
+pub of-requires-clause-checked : goal.of-requires-clause-checked
+of-requires-clause-checked g c =
+    box_checked (g.R.Rule.model c.args.rule.now) c.args.args.now (map changed_box c.args.moves.now) c.in-Inside.region c.in-Ok.ensures.passes (reach g (goal.at.of-requires-clause-checked g c).In-Inside)
+
+pub patch_of-requires-clause-checked : goal.patch_of-requires-clause-checked
+patch_of-requires-clause-checked g c =
+    box_checked (g.R.Rule.model c.args.rule.now) c.args.args.now (map changed_box c.args.moves.now) c.in-Inside.region c.in-Ok.ensures.passes (reach g (goal.at.patch_of-requires-clause-checked g c).In-Inside)
+
+pub returns-then-is_one_place-clause-cost : goal.returns-then-is_one_place-clause-cost
+returns-then-is_one_place-clause-cost g c =
+    sym (cost_is g (goal.at.returns-then-is_one_place-clause-cost g c).In-Inside ∙ single c.in-Inside.region (sym c.is_one_place.ensures ∙ c.if-is_one_place.true))
+
+pub returns-then-is_one_place-clause-ticks : goal.returns-then-is_one_place-clause-ticks
+returns-then-is_one_place-clause-ticks g c =
+    let one = cost_is g (goal.at.returns-then-is_one_place-clause-ticks g c).In-Inside ∙ single c.in-Inside.region (sym c.is_one_place.ensures ∙ c.if-is_one_place.true) in
+    omega (arith, one, c.of.ensures.ticks)

@@ -1,27 +1,26 @@
-use Rattle.{std.proofs.Common.{◌∙◌, sym, arith}, change_rules.proofs.KeptPlace.{held_array, few_changed, place_checked, kept_delta, kept_cost}}
+use Rattle.{std.proofs.Common.{◌≡◌, ◌∙◌, map, sym}, index_region.specs.Moves.{changed_box}}
+use Rattle.change_core.{specs.declared.reach.Reach.TheVariants.{Inside}, specs.Reaches.{reach_of}}
+use Rattle.change_rules.{proofs.OneBox.{box_checked, held_array, node_box_cost, node_box_delta, single}, proofs.one_place.changed_place.Given.{Over}, proofs.one_place.changed_place.Goals.{In-Inside}}
 use Rattle.change_rules.proofs.one_place.changed_place.Goals as goal
 
-pub size-requires : goal.size-requires
-size-requires g c =
-    let h = c.in-Some.ensures in
-    omega (arith, few_changed c.args.args.now c.in-Some.which c.in-Some.region.now h.below h.only c.requires.fit c.requires.sound)
+-- a box of the result may change
+reach : (g : Over) (c : In-Inside g) → Inside c.in-Inside.region ≡ reach_of (g.R.Rule.model c.args.rule.now) c.args.seen.now (map changed_box c.args.moves.now)
+reach g c = sym c.in-Inside.is ∙ c.in-Ok.ensures.reach
+
+pub of-requires-clause-one : goal.of-requires-clause-one
+of-requires-clause-one g c = single c.in-Inside.region (sym c.is_one_place.ensures ∙ c.if-not-is_one_place.false)
 
 pub of-requires-clause-checked : goal.of-requires-clause-checked
 of-requires-clause-checked g c =
-    let h = c.in-Some.ensures in
-    let keeps = c.keeps_places.ensures c.if-not-keeps_places.false in
-    rw c.copy.ensures (place_checked c.args.args.now c.in-Some.which c.in-Some.region.now h.below h.only c.requires.fit (g.R.Rule.model c.args.rule.now) c.args.seen.now c.requires.seen keeps)
+    box_checked (g.R.Rule.model c.args.rule.now) c.args.seen.now (map changed_box c.args.moves.now) c.in-Inside.region c.in-Ok.ensures.passes (reach g (goal.at.of-requires-clause-checked g c).In-Inside)
 
-pub returns-clause-cost : goal.returns-clause-cost
-returns-clause-cost g c =
-    let h = c.in-Some.ensures in
-    let keeps = c.keeps_places.ensures c.if-not-keeps_places.false in
-    kept_cost c.args.args.now c.in-Some.which c.in-Some.region.now h.below h.only c.requires.fit (g.R.Rule.model c.args.rule.now) c.args.seen.now c.requires.seen keeps
-    c.args.old.now h.some (held_array c.args.old.now (sym c.if-is_err.false ∙ c.is_err.ensures.value)) h.patched (sym c.size.ensures ∙ c.if-size-ne1.false)
+pub returns-else-not-is_one_place-clause-delta : goal.returns-else-not-is_one_place-clause-delta
+returns-else-not-is_one_place-clause-delta g c =
+    node_box_delta (g.R.Rule.model c.args.rule.now) c.args.seen.now (map changed_box c.args.moves.now) c.in-Inside.region c.in-Ok.ensures.passes (reach g (goal.at.returns-else-not-is_one_place-clause-delta g c).In-Inside)
+    c.args.args.now c.requires.seen c.requires.moves c.args.old.now (held_array c.args.old.now (sym c.if-is_err.false ∙ c.is_err.ensures.value)) (sym c.patched_at_most.ensures ∙ c.if-not-patched_at_most.false) _ c.of.ensures.delta
 
-pub returns-clause-delta : goal.returns-clause-delta
-returns-clause-delta g c =
-    let h = c.in-Some.ensures in
-    let keeps = c.keeps_places.ensures c.if-not-keeps_places.false in
-    kept_delta c.args.args.now c.in-Some.which c.in-Some.region.now h.below h.only c.requires.fit (g.R.Rule.model c.args.rule.now) c.args.seen.now c.requires.seen keeps
-    c.args.old.now h.some (held_array c.args.old.now (sym c.if-is_err.false ∙ c.is_err.ensures.value)) h.patched _ (rw c.copy.ensures at c.of.ensures.delta)
+pub returns-else-not-is_one_place-clause-cost : goal.returns-else-not-is_one_place-clause-cost
+returns-else-not-is_one_place-clause-cost g c =
+    sym (single c.in-Inside.region (sym c.is_one_place.ensures ∙ c.if-not-is_one_place.false))
+    ∙ node_box_cost (g.R.Rule.model c.args.rule.now) c.args.seen.now (map changed_box c.args.moves.now) c.in-Inside.region c.in-Ok.ensures.passes (reach g (goal.at.returns-else-not-is_one_place-clause-cost g c).In-Inside)
+    c.args.args.now c.requires.seen c.requires.moves c.args.old.now (held_array c.args.old.now (sym c.if-is_err.false ∙ c.is_err.ensures.value)) (sym c.patched_at_most.ensures ∙ c.if-not-patched_at_most.false)

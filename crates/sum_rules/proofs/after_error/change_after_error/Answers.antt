@@ -13,7 +13,7 @@ form_is g c = subst (λ (a : ArrayValue). reduce_form c.args.fold.along a ≡ Ok
 -- the lines of the box that changed
 lines_are : (g : Over) (c : After-shape-axes g) → c.in-Inside.lines ≡ box_of_lines (axis_at (length c.shape-axes.result.now.items) c.args.fold.along) c.args.patch.now.region
 lines_are g c =
-    let reach = c.in-Inside.ensures ∙ (λ i. reach_of (total_rule c.args.fold) (c.again.ensures i ∷ []) (Some ((c.copy.ensures ∙ c.region.ensures) i) ∷ [])) in
+    let reach = c.in-Inside.ensures ∙ (λ i. reach_of (total_rule c.args.fold) (c.again.ensures i ∷ []) (Some (c.region.ensures i) ∷ [])) in
     reached_box c.args.fold _ _ _ c.requires.lines c.requires.one _ _ (form_is g (goal.at-After-shape-axes g c).In-Ok) c.in-Inside.lines reach
     ∙ ap (λ (s : List ℕ). box_of_lines (axis_at (length s) c.args.fold.along) c.args.patch.now.region) (sym c.shape-axes.ensures.is)
 
@@ -26,7 +26,7 @@ totals_now-totals-requires-clause-changed g c = lines_are g (goal.at.totals_now-
 pub unreachable-requires : goal.unreachable-requires
 unreachable-requires g c =
     c.in_default.not-Inside (box_of_lines (axis_at (length c.args.array.now.shape) c.args.fold.along) c.args.patch.now.region)
-    (c.reach_in.ensures ∙ (λ i. reach_of (total_rule c.args.fold) (c.again.ensures i ∷ []) (Some ((c.copy.ensures ∙ c.region.ensures) i) ∷ []))
+    (c.reach_in.ensures ∙ (λ i. reach_of (total_rule c.args.fold) (c.again.ensures i ∷ []) (Some (c.region.ensures i) ∷ []))
     ∙ reach_is c.args.fold _ _ _ c.requires.lines c.requires.one _ _ (form_is g (goal.at.unreachable-requires g c).In-Ok))
 
 pub returns-clause-delta : goal.returns-clause-delta

@@ -15,7 +15,7 @@ cost_is g c = reached_size c.args.fold _ _ _ c.requires.lines c.requires.one _ _
 
 -- the box that is reached
 reach_is : (g : Over) (c : In-Inside g) → Inside c.in-Inside.region ≡ reach_of (total_rule c.args.fold) (c.args.array.now ∷ []) (Some c.args.patch.now.region ∷ [])
-reach_is g c = c.in-Inside.ensures ∙ (λ i. reach_of (total_rule c.args.fold) (c.again.ensures i ∷ []) (Some ((c.copy.ensures ∙ c.region.ensures) i) ∷ []))
+reach_is g c = c.in-Inside.ensures ∙ (λ i. reach_of (total_rule c.args.fold) (c.again.ensures i ∷ []) (Some (c.region.ensures i) ∷ []))
 
 pub size-cost-requires : goal.size-cost-requires
 size-cost-requires g c =
@@ -47,5 +47,5 @@ returns-in-Inside-clause-exact g c = λ sound.
 
 pub returns-in-Unmoved-clause-least : goal.returns-in-Unmoved-clause-least
 returns-in-Unmoved-clause-least g c =
-    let reach = c.in-Unmoved.ensures ∙ (λ i. reach_of (total_rule c.args.fold) (c.again.ensures i ∷ []) (Some ((c.copy.ensures ∙ c.region.ensures) i) ∷ [])) in
+    let reach = c.in-Unmoved.ensures ∙ (λ i. reach_of (total_rule c.args.fold) (c.again.ensures i ∷ []) (Some (c.region.ensures i) ∷ [])) in
     absurd (some_reached c.args.fold _ _ _ c.requires.lines c.requires.one _ _ (form_is g (goal.at.returns-in-Unmoved-clause-least g c).In-Ok) reach)
