@@ -11,10 +11,13 @@ from .commands import command, counted
 from .dates import date_of, dates_of
 from .errors import Mistake
 from .numerals import decimals_of, with_decimals
+from .pager import Frozen
 from .tables import separator_of
 
 if TYPE_CHECKING:
     from .session import Session
+
+GAP = "  "  # between columns of ]print
 
 
 class Layout(NamedTuple):
@@ -63,8 +66,9 @@ def print_table(session: Session, name: str, **options: Any) -> None:
         fields = [field.rjust(width) for field, width in zip(record, widths)]
         if layout.rows:
             fields[0] = record[0].ljust(widths[0])
-        lines.append("  ".join(fields).rstrip())
-    session.show_value(lines, is_text=True)
+        lines.append(GAP.join(fields).rstrip())
+    label_columns = widths[0] + len(GAP) if layout.rows and widths else 0
+    session.show_value(lines, frozen=Frozen(int(bool(layout.titles)), label_columns))
 
 
 def records_of(session: Session, name: str, layout: Layout) -> List[List[str]]:

@@ -1,6 +1,6 @@
 """The parts of an expression that the program has read, with their places: operands, and the functions between them.
 
-Nothing is worked out here, and no expression is refused: the program does both.
+Only the program evaluates or refuses an expression.
 """
 
 from __future__ import annotations

@@ -10,7 +10,7 @@ from .arrays import lines_of_array
 from .commands import command, counted
 from .errors import Mistake
 from .numerals import is_within
-from .table_commands import check_name, check_size, columns_of, memory_for, not_taken_in, numerals_of, remark_on_units, table_of
+from .table_commands import FileKind, check_name, check_size, columns_of, memory_for, not_taken_in, numerals_of, remark_on_units, table_of
 from .tables import Table, shortened
 from .units import with_units
 
@@ -22,7 +22,7 @@ SUFFIXES = ("_ROWS", "_COLUMNS")  # of the names of labels
 
 
 @command(
-    "]pivot NAME FILE [--rows CUSTOMER] [--columns MONTH] [--sum AMOUNT] [--count] [--sorted] [--separator ;] [--decimals 2] [--comma] [--point] [--thousands] [--empty 0] [--encoding cp1252]",
+    "]pivot NAME FILE [--rows CUSTOMER] [--columns MONTH] [--sum AMOUNT] [--count] [--sorted] [--separator ;] [--decimals 2] [--comma] [--point] [--thousands] [--empty 0] [--encoding cp1252] [--sheet PRICES] [--range B2:F40]",
     "puts totals of a long list with titles under a name, by the labels of a column, or of two; the labels go under NAME_ROWS and NAME_COLUMNS",
 )
 def pivot(
@@ -34,16 +34,15 @@ def pivot(
     sum: Optional[str],
     count: bool,
     sorted: bool,
-    separator: Optional[str],
-    encoding: Optional[str],
     **options: Any,
 ) -> None:
     check_name(name)
     if rows is None or (sum is None) != count:
         raise Mistake("]pivot takes --rows with a title, and either --sum with one or --count")
+    kind = FileKind.taken_from(options)
     numerals = numerals_of(**options)
     with memory_for(file):
-        table = table_of(session, file, True, separator, encoding)
+        table = table_of(session, file, True, kind)
         keys = [labels_of(table, title) for title in (rows, columns) if title is not None]
         amounts = ["1"] * table.height if sum is None else table.numbers([column_of(table, sum)], numerals)[0]
         axes = [ordered([*dict.fromkeys(labels)], sorted) for labels in keys]
@@ -95,6 +94,7 @@ def put(
     lines = with_units(lines_of_array(name, shape, totals, session.journal.spare_name(name)), name, decimals)
     for labels, suffix in zip(axes, SUFFIXES):
         width = max(map(len, labels), default=0)
+        check_size(session, [len(labels), width])
         items = "".join(label.ljust(width) for label in labels)
         lines += lines_of_array(f"{name}{suffix}", [len(labels), width], items, session.journal.spare_name(name + suffix))
     try:

@@ -4,8 +4,19 @@ from __future__ import annotations
 
 import contextlib
 import os
+import re
 import shutil
-from typing import Sequence
+import subprocess
+from typing import NamedTuple, Sequence
+
+HEADER_VERSION = 600  # of less, from which it keeps titles in sight
+
+
+class Frozen(NamedTuple):
+    """The lines and columns at the head of a table that stay in sight."""
+
+    lines: int = 0
+    columns: int = 0
 
 
 def is_wanted(lines: Sequence[str], is_text: bool) -> bool:
@@ -17,10 +28,25 @@ def is_wanted(lines: Sequence[str], is_text: bool) -> bool:
     return rows >= size.lines or len(lines) > 1 and not is_text and max(map(len, lines)) > size.columns
 
 
-def show(lines: Sequence[str]) -> None:
+def show(lines: Sequence[str], frozen: Frozen = Frozen()) -> None:
     """Shows a value in the pager, which cuts lines at the edge of the screen and moves them by the arrow keys."""
     import pydoc  # a start that shows no page does not wait for it
 
-    os.environ.setdefault("LESS", "-S")
-    with contextlib.suppress(OSError):
-        pydoc.pager("".join(f"{line}\n" for line in lines))
+    own = os.environ.get("LESS", "-S")
+    has_header = any(frozen) and less_version() >= HEADER_VERSION
+    os.environ["LESS"] = f"{own} --header={frozen.lines},{frozen.columns}" if has_header else own
+    try:
+        with contextlib.suppress(OSError):
+            pydoc.pager("".join(f"{line}\n" for line in lines))
+    finally:
+        os.environ["LESS"] = own
+
+
+def less_version() -> int:
+    """Returns the version of less, 0 if there is none that says it."""
+    try:
+        ran = subprocess.run(["less", "--version"], stdin=subprocess.DEVNULL, capture_output=True, text=True, timeout=1)
+    except (OSError, ValueError, subprocess.SubprocessError):
+        return 0
+    found = re.match("less ([0-9]+)", ran.stdout)
+    return int(found[1]) if found else 0

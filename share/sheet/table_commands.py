@@ -1,10 +1,10 @@
-"""The commands about tables in files: ]table and ]labels."""
+"""The commands that read tables in files: ]table and ]labels."""
 
 from __future__ import annotations
 
 import re
 from contextlib import contextmanager
-from typing import TYPE_CHECKING, Any, Iterator, Optional, Sequence
+from typing import TYPE_CHECKING, Any, Dict, Iterator, NamedTuple, Optional, Sequence
 
 from .arrays import lines_of_array
 from .commands import command, counted
@@ -14,6 +14,7 @@ from .lines import NAME
 from .numerals import NUMBER, Numerals, decimals_of, is_within
 from .tables import Table, encoding_of, separator_in, separator_of, shortened, table_in, text_of
 from .units import units_of, with_units
+from .workbooks import is_workbook, table_in_workbook
 
 if TYPE_CHECKING:
     from .session import Session
@@ -21,24 +22,30 @@ if TYPE_CHECKING:
 MANY_ITEMS = 1 << 20  # of an array; of more, the program is asked before they are gathered
 
 
+class FileKind(NamedTuple):
+    """The options of a file: two of text files, and two of workbooks."""
+
+    separator: Optional[str]
+    encoding: Optional[str]
+    sheet: Optional[str]
+    range: Optional[str]
+
+    @classmethod
+    def taken_from(cls, options: Dict[str, Any]) -> FileKind:
+        """Removes these options from others, and returns them."""
+        return cls(*(options.pop(field) for field in cls._fields))
+
+
 @command(
-    "]table NAME FILE [--header] [--columns 2-7] [--separator ;] [--decimals 2] [--comma] [--point] [--thousands] [--empty 0] [--dates DD.MM.YYYY] [--encoding cp1252]",
+    "]table NAME FILE [--header] [--columns 2-7] [--separator ;] [--decimals 2] [--comma] [--point] [--thousands] [--empty 0] [--dates DD.MM.YYYY] [--encoding cp1252] [--sheet PRICES] [--range B2:F40]",
     "puts the numbers of a table file under a name; --header skips its titles, --columns takes some columns (2-7, or 1,3,5-, or titles)",
 )
-def put_table(
-    session: Session,
-    name: str,
-    file: str,
-    header: bool,
-    columns: Optional[str],
-    separator: Optional[str],
-    encoding: Optional[str],
-    **options: Any,
-) -> None:
+def put_table(session: Session, name: str, file: str, header: bool, columns: Optional[str], **options: Any) -> None:
+    kind = FileKind.taken_from(options)
     numerals = numerals_of(**options)
     with memory_for(file):
-        table = table_of(session, file, header, separator, encoding)
-        if separator is None:
+        table = table_of(session, file, header, kind)
+        if kind.separator is None:
             check_comma(table, numerals)
         wanted = columns_of(table, columns) if columns else [*range(1, table.width + 1)]
         numbers, each = table.numbers(wanted, numerals)
@@ -48,14 +55,12 @@ def put_table(
 
 
 @command(
-    "]labels NAME FILE COLUMN [--header] [--separator ;] [--one-line] [--encoding cp1252]",
+    "]labels NAME FILE COLUMN [--header] [--separator ;] [--one-line] [--encoding cp1252] [--sheet PRICES] [--range B2:F40]",
     "puts a column of names from a table file under a name, as a matrix of characters with a row for each record",
 )
-def put_labels(
-    session: Session, name: str, file: str, column: str, header: bool, separator: Optional[str], one_line: bool, encoding: Optional[str]
-) -> None:
+def put_labels(session: Session, name: str, file: str, column: str, header: bool, one_line: bool, **options: Any) -> None:
     with memory_for(file):
-        table = table_of(session, file, header, separator, encoding)
+        table = table_of(session, file, header, FileKind.taken_from(options))
         if len(wanted := columns_of(table, column)) != 1:
             raise Mistake(f"COLUMN is one number or title, and not {column}")
         labels = table.labels(wanted[0], one_line)
@@ -93,10 +98,16 @@ def memory_for(file: str) -> Iterator[None]:
         raise Mistake(f"{file}: there is no memory for this table") from None
 
 
-def table_of(session: Session, file: str, header: bool, separator: Optional[str], encoding: Optional[str]) -> Table:
-    """Returns the table in a file, without its titles."""
-    sign = separator_of(separator)
-    text = text_of(file, encoding and encoding_of(encoding))
+def table_of(session: Session, file: str, header: bool, kind: FileKind) -> Table:
+    """Returns the table in a file, without its titles; a Mistake for an option of another kind of file."""
+    if is_workbook(file):
+        if kind.separator or kind.encoding:
+            raise Mistake("--separator and --encoding are for text files; a workbook has --sheet and --range")
+        return table_in_workbook(file, kind.sheet, kind.range, header)
+    if kind.sheet or kind.range:
+        raise Mistake("--sheet and --range are for workbooks, whose names end with .xlsx")
+    sign = separator_of(kind.separator)
+    text = text_of(file, kind.encoding and encoding_of(kind.encoding))
     if sign is None and (sign := separator_in(file, text)) != ",":
         session.inform(f"the fields of {file} are parted by {'tab' if sign == chr(9) else sign}")
     return table_in(file, text, sign, header)

@@ -17,6 +17,8 @@ from .numerals import MOST_DECIMALS, Numerals, is_plain, is_within
 
 LARGEST = 256  # MiB of a file
 SEPARATORS = ",;\t|"  # candidates without --separator
+OLDER_FORMAT = b"\xd0\xcf\x11\xe0"  # begins an encrypted workbook, and one of the format .xls
+ARCHIVE = b"PK\x03\x04"  # begins a workbook, and any other zip archive
 MARKED = [(codecs.BOM_UTF32_LE, "utf-32"), (codecs.BOM_UTF32_BE, "utf-32"), (codecs.BOM_UTF16_LE, "utf-16"), (codecs.BOM_UTF16_BE, "utf-16")]
 
 
@@ -76,7 +78,7 @@ class Table:
     def read(self, fields: Sequence[str], wanted: Sequence[int], numerals: Numerals) -> Sequence[str]:
         """Returns the numbers in fields by the only possible decimal sign; a Mistake names the first bad or ambiguous field."""
         readings = numerals.readings()
-        found = [reading.numbers(fields) for reading in readings]
+        found = [reading.numbers(self.written(fields, reading)) for reading in readings]
         well = [numbers for numbers, failed in found if failed is None]
         if not well:
             failed = max(place or 0 for _, place in found)
@@ -87,6 +89,10 @@ class Table:
             raise Mistake(f"{where} can be two numbers: '{shortened(fields[differs])}'; add --comma or --point, the decimal sign")
         return well[0]
 
+    def written(self, fields: Sequence[str], _reading: Numerals) -> Sequence[str]:
+        """Returns fields as texts in a number format; fields of a text file are."""
+        return fields
+
     def refused(self, field: str, place: int, wanted: Sequence[int], numerals: Numerals) -> Mistake:
         """Returns the Mistake of a field that is no number of 64 bits."""
         record, column = place // len(wanted) + self.first, wanted[place % len(wanted)]
@@ -96,7 +102,7 @@ class Table:
         if numbers:
             return Mistake(f"{self.where(record, column)} has another decimal sign than a field before it: '{shortened(field)}'")
         kind = "number" if numerals.decimals else "whole number"
-        return Mistake(f"{self.where(record, column)} is no {kind}: '{shortened(field)}'{advice(field, record, column, numerals)}")
+        return Mistake(f"{self.where(record, column)} is no {kind}: '{shortened(field)}'{advice(field, record, column, numerals, self.separator)}")
 
     def where(self, record: int, column: int) -> str:
         return f"{self.file}: record {record} field {column}"
@@ -124,9 +130,9 @@ def shortened(field: str) -> str:
     return start if start == field else f"{start}…"
 
 
-def advice(field: str, record: int, column: int, numerals: Numerals) -> str:
+def advice(field: str, record: int, column: int, numerals: Numerals, separator: str) -> str:
     """Returns a hint for a field that is no number: the option that reads it, or another remedy."""
-    if ";" in field or "\t" in field:
+    if separator and (";" in field or "\t" in field):
         return "; if this parts the fields, add --separator ';' or --separator tab"
     if not field.strip():
         return "; --empty 0 reads an empty field as 0"
@@ -173,6 +179,8 @@ def bytes_of(file: str) -> bytes:
 def text_of(file: str, encoding: Optional[str] = None) -> str:
     """Returns the text of a table file. Without `encoding` the byte order mark decides, and UTF-8 is the default."""
     raw = bytes_of(file)
+    if raw.startswith((OLDER_FORMAT, ARCHIVE)):
+        raise Mistake(f"{file} is no text, but a workbook or an archive; the name of a workbook ends with .xlsx")
     marked = next((name for mark, name in MARKED if raw.startswith(mark)), "utf-8-sig")
     try:
         text = raw.decode(encoding or marked).lstrip("\ufeff" if encoding else "")

@@ -11,7 +11,7 @@ from typing import Iterator
 
 from .rooms import SECONDS, TOP, Outcome, Room, Test, named_tests
 
-FOLDERS = ["share/sheet", "tests/front_end", "tests/hostile_input"]
+FOLDERS = ["share/sheet", "tests/front_end", "tests/hostile_input", "tests/in_browser"]
 
 
 def functions_without_hints(path: Path) -> Iterator[str]:
@@ -25,7 +25,7 @@ def functions_without_hints(path: Path) -> Iterator[str]:
 
 
 def hints(_room: Room) -> Outcome:
-    paths = [path for folder in FOLDERS for path in sorted((TOP / folder).glob("*.py"))]
+    paths = [path for folder in FOLDERS for path in sorted((TOP / folder).rglob("*.py"))]
     return [function for path in paths for function in functions_without_hints(path)], []
 
 

@@ -166,6 +166,27 @@ def pager(room: Room, more: str) -> Outcome:
     return (paged, (room.folder / "log").read_text().split()), ([], [*rows, "T", "8", "T", "10"])
 
 
+LESS = """#!/bin/sh
+if [ "$1" = --version ]; then echo "less {version} (POSIX regular expressions)"; exit; fi
+echo "$LESS" > options
+cat > paged
+"""
+
+
+def frozen_titles(room: Room, version: str, options: str) -> Outcome:
+    """]print gives a table wider than the screen to less, which keeps titles and labels in sight from version 600 on."""
+    room.put("less", LESS.format(version=version))
+    (room.folder / "less").chmod(0o755)
+    room.environment.update(TERM="xterm", PAGER="less", PATH=f"{room.folder}:{room.environment['PATH']}")
+    room.environment.pop("LESS", None)
+    screen = Screen(room)
+    for line in (")DATA P`[2 60`r1000000\n", ")DATA L`[2 5`r'bolt frame'\n", ")DATA Y`[`i60\n", "]print P --rows L --titles Y\n"):
+        screen.keys(line)
+    screen.end()
+    pages = [(room.folder / name).read_text() for name in ("options", "paged") if (room.folder / name).exists()]
+    return (pages[:1], [line[:16] for line in "".join(pages[1:]).splitlines()]), ([f"{options}\n"], [" " * 13 + "1  ", "bolt   1000000  ", "frame  1000000  "])
+
+
 def tests(_times: int) -> list[Test]:
     streams = ["<&-", ">&-", "2>&-"]
     closings = [" ".join(some) for number in (1, 2, 3) for some in itertools.combinations(streams, number)]
@@ -176,5 +197,7 @@ def tests(_times: int) -> list[Test]:
     bugs = [Test(f"bug in a command: {fault}", bug_in_a_command, (fault,)) for fault in errors]
     hanging = [Test(f"hanging program: {is_typed}", hanging_program, (is_typed,)) for is_typed in (True, False)]
     pages = [Test(f"pager {more}", pager, (more,)) for more in ("", "> log")]
+    versions = {"608": "-S --header=1,7", "590": "-S", "v": "-S"}
+    pages += [Test(f"frozen titles by less {version}", frozen_titles, (version, options)) for version, options in versions.items()]
     calls = [full_output, paths_that_are_none, lost_folder, end_in_a_file, pipe_that_is_loaded, program_that_closes_its_output]
     return [*closed, *output, *bugs, *hanging, *pages, *named_tests([*calls, reader_that_dies])]

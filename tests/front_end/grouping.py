@@ -51,6 +51,12 @@ CASES = {  # a file, lines, their output, and a part of their messages
         "A\n",
         "LIMIT ERROR",
     ),
+    "one long label of many": (
+        f"k\n{'b' * 100000}\n" + "".join(f"{number}\n" for number in range(100)),
+        "A←1\n]pivot S t.csv --rows k --count\n)NAMES\n",
+        "A\n",
+        "LIMIT ERROR: 101 records of 100000 are not taken in\n",
+    ),
     "a list of titles alone": ("k,a\n", "]pivot S t.csv --rows k --sum a\n⍴S\n⍴S_ROWS\n", "0\n0 0\n", "0 labels in S_ROWS"),
     "the order of a column": ("", ")DATA T←3 2⍴5 1 2 9 5 0\n]sort O T 1\nO\nT[O;]\n]sort O T 1 --down\nO\n", "2 1 3\n2 9\n5 1\n5 0\n1 3 2\n", ""),
     "the order of rows": ("", ")DATA T←3 2⍴5 1 2 9 5 0\n]sort O T\nO\n]sort O T --down\nO\n", "2 3 1\n1 3 2\n", ""),

@@ -2,6 +2,7 @@
 
 from __future__ import annotations
 
+import importlib.util
 import re
 import shlex
 import subprocess
@@ -34,9 +35,11 @@ def printed_by(room: Room, line: str) -> str:
 
 
 def commands_of_manual(room: Room) -> Outcome:
-    """The calls of docs/SHEET.md: the lines of the blocks that ```console opens."""
+    """The calls of docs/SHEET.md: the lines of the blocks that ```console opens. Those about workbooks need openpyxl."""
     blocks = "".join(re.findall("^```console\n(.*?)^```$", (TOP / "docs/SHEET.md").read_text(), re.MULTILINE | re.DOTALL))
     calls = re.findall(r"^\$ (.*)\n((?:(?!\$ ).*\n)*)", blocks, re.MULTILINE)
+    if not importlib.util.find_spec("openpyxl"):
+        calls = [call for call in calls if ".xlsx" not in call[0]]
     begin = " ".join(map(shlex.quote, room.words()))
     came = [printed_by(room, line.replace("bin/sheet", begin)) for line, _ in calls]
     return (came, bool(calls)), ([wanted for _, wanted in calls], True)
