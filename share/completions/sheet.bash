@@ -4,7 +4,7 @@ _sheet() {
   if [[ $before = --program || $before = "=" ]]; then # a = is a word of its own
     mapfile -t COMPREPLY < <(compgen -f -- "$word")
   elif [[ $word = -* ]]; then
-    mapfile -t COMPREPLY < <(compgen -W "- --check --program --version --help" -- "$word")
+    mapfile -t COMPREPLY < <(compgen -W "- --check --headless --help --port --program --version --web" -- "$word")
   else
     mapfile -t COMPREPLY < <(compgen -d -- "$word"; compgen -f -X "!*.apl" -- "$word")
   fi

@@ -8,6 +8,8 @@
   recovery    the log of a session, by which one that was not saved goes on
   commands    the forms of the lines that begin with ]; each NAME_commands has the commands of one subject
   tables      tables in files
+  workbooks   tables in sheets of workbooks
+  cells       cells of workbooks as fields of tables
   numerals    fields as whole numbers: decimals, thousands, empty fields
   dates       dates as numbers of days
   units       how many decimals a name has, as a comment says
@@ -27,5 +29,6 @@
   progress    how much of a long task is done
   interrupts  the signals that stop a line or end the session
   version     the version, as CHANGELOG.md says it
+  view        the sheet in a browser: a package, whose first file names its modules
   starting    the words of bin/sheet
 """

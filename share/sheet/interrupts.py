@@ -16,9 +16,9 @@ DELAY = 0.1  # seconds from a signal until a wait is ended that has not seen it
 
 
 class Signals:
-    """The handler of all signals: each raises an exception, wherever the front end is, unless signals are held.
+    """The handler of all signals: each raises an exception in the main thread, wherever that is, unless signals are held.
 
-    A signal that raises holds those behind it until the session goes on, so no second one cuts off the work that the first one has begun.
+    Other threads get no signals, so holding and releasing them there does nothing. A signal that raises holds those behind it until the session goes on, so no second one cuts off the work that the first one has begun.
     While signals are held, Ctrl-C does nothing, and one of ENDING is only noted.
 
     are_held        whether no signal raises
@@ -66,6 +66,9 @@ class Signals:
     @contextlib.contextmanager
     def held(self) -> Iterator[None]:
         """Holds signals in a block, and releases them behind it unless they were held before."""
+        if not is_main_thread():
+            yield
+            return
         were_held, self.are_held = self.are_held, True
         try:
             yield
@@ -76,6 +79,9 @@ class Signals:
     @contextlib.contextmanager
     def delayed(self) -> Iterator[None]:
         """Holds signals in a block, behind which Ctrl-C raises too if it came there, unless signals were held before."""
+        if not is_main_thread():
+            yield
+            return
         self.is_interrupted = False
         with self.held():
             yield
@@ -85,6 +91,9 @@ class Signals:
     @contextlib.contextmanager
     def without_interrupts(self) -> Iterator[None]:
         """Ignores Ctrl-C in a block; the signals of ENDING still raise."""
+        if not is_main_thread():
+            yield
+            return
         kept = signal.signal(signal.SIGINT, signal.SIG_IGN)
         try:
             yield
@@ -95,6 +104,10 @@ class Signals:
     def status(self) -> int:
         """The exit status of a session that a signal has ended; 0 if none has."""
         return 128 + self.ending if self.ending else 0
+
+
+def is_main_thread() -> bool:
+    return threading.current_thread() is threading.main_thread()
 
 
 def wake_behind_signals() -> None:

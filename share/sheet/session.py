@@ -3,13 +3,16 @@
 from __future__ import annotations
 
 import os
+import threading
 import traceback
+from contextlib import ExitStack
 from functools import partial
-from typing import Callable, Dict, Iterable, List, NamedTuple, Optional, Sequence, Tuple
+from pathlib import Path
+from typing import TYPE_CHECKING, Callable, Dict, Iterable, List, NamedTuple, Optional, Sequence, Tuple
 
 from . import notes, pager, places
 from . import change_commands, export_commands, file_commands, grouping_commands  # noqa: F401: they fill commands.COMMANDS
-from . import help_commands, name_commands, table_commands  # noqa: F401
+from . import help_commands, name_commands, table_commands, view_commands, workbook_commands  # noqa: F401
 from .answers import Answer, answer, first_refusal
 from .arrays import literal
 from .commands import run
@@ -24,6 +27,9 @@ from .progress import Progress
 from .recovery import Log, event_of, is_open_elsewhere, joined_to, redone, saved, undone
 from .storing import one_line
 from .watching import Watch
+
+if TYPE_CHECKING:
+    from .view.serving import Server
 
 CELLS = 1000  # edits of one change that have an inverse each; more are undone by making the sheet again
 
@@ -56,6 +62,11 @@ class Session:
     draft       a line that is given back to the person to be edited
     on_screen   the prompt and the line that was typed last; None over pipes
     is_settled  whether the journal has every change that the program has accepted
+    lock        held while a line is answered; pages in a browser use the session too
+    followers   called with each change that is made or taken back
+    server      the server of the page of the sheet, if ]view has begun one
+    top         the folder whose bin/ has the program, as a rule
+    at_end      calls for the end of the session, as the end of the server
     """
 
     def __init__(self, program: Program, show: Callable[[str], None], tell: Callable[[str], None], is_check: bool = False) -> None:
@@ -70,6 +81,11 @@ class Session:
         self.faults, self.draft, self.is_settled = 0, "", True
         self.loading: List[Tuple[int, int]] = []
         self.changed: Dict[str, Optional[Binding]] = {}
+        self.lock = threading.RLock()
+        self.followers: List[Callable[[Change], None]] = []
+        self.server: Optional[Server] = None
+        self.top = Path()
+        self.at_end = ExitStack()
 
     @property
     def is_typed(self) -> bool:
@@ -81,6 +97,11 @@ class Session:
 
         A line of a script that is stopped by Ctrl-C stops the script too.
         """
+        with self.lock:
+            self.take_alone(text, place)
+
+    def take_alone(self, text: str, place: Optional[Place]) -> None:
+        """Answers a line as `take` does; the lock is held."""
         outer, self.place = self.place, place
         try:
             self.make_ready()
@@ -132,10 +153,10 @@ class Session:
         if not self.is_check:
             self.remark(remark)
 
-    def show_value(self, lines: Sequence[str], is_text: bool = False) -> None:
-        """Shows a value, or a text, in the pager if it is beyond the screen."""
+    def show_value(self, lines: Sequence[str], is_text: bool = False, frozen: pager.Frozen = pager.Frozen()) -> None:
+        """Shows a value, or a text, in the pager if it is beyond the screen; `frozen` lines and columns stay in sight there."""
         if self.is_typed and self.has_screen and pager.is_wanted(lines, is_text):
-            pager.show(lines)
+            pager.show(lines, frozen)
             return
         if not self.is_check:
             for line in lines:
@@ -147,12 +168,12 @@ class Session:
             self.watch.show(self, self.changed)
             self.changed = {}
 
-    def reply(self, line: Line) -> Reply:
-        """Gives a line of the language to the program, takes its change in, and returns the answer, with notes on it."""
+    def reply(self, line: Line, give: Optional[Callable[[Program, Line], Answer]] = None) -> Reply:
+        """Gives a line of the language to the program by `give`, or by `answer`; takes its change in, and returns the answer, with notes on it."""
         made = None if self.place else self.journal.made_by(line)
         inverse = self.inverse(made) if made else None
         self.is_settled = False
-        reply = answer(self.program, line)
+        reply = (give or answer)(self.program, line)
         with signals.held():
             change = None if reply.is_fault else self.journal.accept(line, self.place, inverse)
             self.settle(event_of(change) if change else [], change)
@@ -165,7 +186,10 @@ class Session:
 
     def settle(self, events: Sequence[str], change: Optional[Change] = None) -> None:
         """Logs events of the journal, and notes the names that a change among them binds; signals are held."""
-        self.changed.update(change.bound if change else {})
+        if change:
+            self.changed.update(change.bound)
+            for follow in self.followers:
+                follow(change)
         if self.log and events:
             self.log.append(events, self.journal, self.home)
         self.is_settled = True

@@ -7,17 +7,19 @@ import contextlib
 import os
 import signal
 import sys
+from functools import partial
 from pathlib import Path
-from typing import NoReturn, Sequence, TextIO
+from typing import Callable, NoReturn, Sequence, TextIO
 
 from . import file_commands, files, recovery
-from .errors import End, Lost, OutputFailed, Stopped
+from .errors import End, Lost, Mistake, OutputFailed, Stopped
 from .interrupts import signals
 from .program import Program, ProgramFailed
 from .recovery import Log
 from .session import Session, told_of
 from .terminal import Terminal
 from .version import version_line
+from .view_commands import HIGHEST_PORT
 
 WORDS = """A sheet of APL formulas at the terminal. docs/SHEET.md tells of it, docs/LANGUAGE.md of the language.
 
@@ -33,9 +35,19 @@ def words() -> argparse.ArgumentParser:
     parser.add_argument("scripts", nargs="*", metavar="SCRIPT", help="a file of lines, or - for standard input")
     check = "tell of errors and refusals alone, also of names that show an error, and write no file"
     parser.add_argument("--check", action="store_true", help=check)
+    parser.add_argument("--web", action="store_true", help="show the sheet in a browser; Save there writes SCRIPT, if one is named")
+    parser.add_argument("--port", type=port_of, default=0, metavar="PORT", help="the port of --web; as a rule a free one")
+    parser.add_argument("--headless", action="store_true", help="open no browser for --web, and tell the address alone")
     parser.add_argument("--program", metavar="PROGRAM", help="the program that answers; as a rule the one beside this one")
     parser.add_argument("--version", action="version", version=version_line(), help="print the version, and nothing else")
     return parser
+
+
+def port_of(text: str) -> int:
+    """Returns the number of a port; argparse reports a ValueError."""
+    if not text.isdecimal() or int(text) > HIGHEST_PORT:
+        raise argparse.ArgumentTypeError(f"{text} is no port; ports are numbers up to {HIGHEST_PORT}")
+    return int(text)
 
 
 class Output:
@@ -101,12 +113,15 @@ def main(top: Path) -> int:
     signals.install()
     output, program = Output(), Program([options.program or str(Path(top, "bin", "aplsheet"))])
     session = Session(program, output.show, output.tell, options.check)
-    session.has_screen = output.has_screen
+    session.has_screen, session.top = output.has_screen, top
     try:
         program.start()
-        answer_and_keep(session, options.scripts or ["-"], output)
+        answering: Answering = answer
+        if options.web:
+            answering = partial(answer_pages, port=options.port, opens=not options.headless)
+        answer_and_keep(session, options.scripts or ["-"] * (not options.web), output, answering)
         output.flush()
-    except (ProgramFailed, Lost) as failure:
+    except (ProgramFailed, Lost, Mistake) as failure:
         sys.exit(f"sheet: {failure}")
     except (KeyboardInterrupt, Stopped):
         return 128 + signal.SIGINT
@@ -129,17 +144,21 @@ def open_streams() -> None:
         getattr(sys, name).reconfigure(encoding="utf-8", errors="surrogateescape", line_buffering=True)
 
 
-def answer_and_keep(session: Session, scripts: Sequence[str], output: Output) -> None:
-    """Answers the lines of each script, and ends the log of the session after any exception; no signal interrupts that.
+Answering = Callable[[Session, Sequence[str], Output], None]
+
+
+def answer_and_keep(session: Session, scripts: Sequence[str], output: Output, answering: Answering) -> None:
+    """Answers the lines of each script, and ends the session and its log after any exception; no signal interrupts that.
 
     A signal that raises holds the others itself. So they are held below also where one raises just before the call that holds them.
     """
     try:
         try:
-            answer(session, scripts, output)
+            answering(session, scripts, output)
         finally:
             signals.hold()
     finally:
+        session.at_end.close()
         if session.log:
             end(session, session.log)
 
@@ -170,6 +189,35 @@ def answer(session: Session, scripts: Sequence[str], output: Output) -> None:
         session.check_names()
 
 
+def answer_pages(session: Session, scripts: Sequence[str], output: Output, port: int, opens: bool) -> None:
+    """Answers the lines of each script, and then those of pages in a browser, until Ctrl-C. A single script that is not there is a new one."""
+    from .view import running  # the server's modules would make each start at a terminal slower
+
+    if "-" in scripts or session.is_check:
+        sys.exit(f"sheet: --web does not go together with {'--check' if session.is_check else 'lines from standard input'}")
+    is_new = len(scripts) == 1 and not os.path.lexists(scripts[0])
+    for script in [] if is_new else scripts:
+        run_script(session, script, scripts)
+    begin_log(session, output)
+    server = running.begin(session, scripts[0] if len(scripts) == 1 else None, port, opens)
+    with contextlib.suppress(KeyboardInterrupt):
+        output.tell("Ctrl-C ends")
+        server.serve_forever(0.2)
+    session.faults = 0
+    if server.lost:
+        raise server.lost
+
+
+def begin_log(session: Session, output: Output) -> Log:
+    """Begins the log of a session, offers those that did not end well, and returns the log."""
+    log = session.log = Log(output.tell)
+    log.begin(session.journal, session.home)
+    session.tell_of_others()
+    for offer in file_commands.offers([*recovery.unended()]):
+        output.tell(f"not saved: {offer}")
+    return log
+
+
 def run_script(session: Session, script: str, scripts: Sequence[str]) -> None:
     """Answers the lines of a script; if there is no other one, the sheet comes from it."""
     is_alone = not session.journal.bindings and [script] == [name for name in scripts if name != "-"]
@@ -184,15 +232,11 @@ def run_script(session: Session, script: str, scripts: Sequence[str]) -> None:
 def answer_typed(session: Session, output: Output) -> None:
     """Answers the lines that are typed at a terminal, and logs the session. It ends at once only if the sheet is kept then."""
     output.part()
-    session.log = Log(output.tell)
-    session.log.begin(session.journal, session.home)
-    session.tell_of_others()
-    for offer in file_commands.offers([*recovery.unended()]):
-        output.tell(f"not saved: {offer}")
+    log = begin_log(session, output)
     output.tell("aplsheet: ]help tells of the commands, ]keys of the keys of the symbols; Ctrl-D ends")
     typed, is_warned = Terminal(session), False
     typed.run()
-    while not (is_warned or session.journal.is_saved or session.log.is_written(session.journal, session.home)):
+    while not (is_warned or session.journal.is_saved or log.is_written(session.journal, session.home)):
         is_warned = True
         output.tell("the sheet is not saved, and no file can be written; ]save FILE elsewhere, or end once more and lose it")
         typed.run()

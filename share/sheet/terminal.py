@@ -16,7 +16,7 @@ from .lines import COMMAND_WORDS, NAME
 from .session import Session
 
 PROMPT = " " * 6  # so that answers, which begin at the left edge, stand out
-TAKES_FILE = re.compile(r"\s*\](?:save|load|table\s+\S+|labels\s+\S+)\s+(?P<path>(?:\\.|[^\s\\])*)$")
+TAKES_FILE = re.compile(r"\s*\](?:save|load|csv|export|(?:table|labels|pivot)\s+\S+)\s+(?P<path>(?:\\.|[^\s\\])*)$")
 
 
 class Terminal:

@@ -1,0 +1,1 @@
+"""Tests of the sheet in a browser, which tests/web runs: a module for each subject."""
