@@ -1,4 +1,4 @@
--- What stands at the front of the bytes of an edit.
+-- The lexemes at the front of the bytes of an edit.
 use Rattle.std.{proofs.Common.{◌≡◌, ℕ, ◌+◌, ◌<◌, ◌≤◌, List, [], ◌∷◌, ◌++◌, length, refl, sym, ap, ◌∙◌, subst, append_assoc, arith, Bool, true, false, lit<, lit≤}, specs.Prelude.{ℤ, codes, Some, slice_get, ◌==◌, ◌||◌, ◌&&◌, encode_utf8_all, Ok}, specs.Char.{is_ascii_digit, is_ascii_alphabetic, len_utf8}}
 use Rattle.std.{specs.List.{list_all}, specs.Str.{chars, IsAscii, IsUtf8}, proofs.lemmas.Str.{chars-append, chars_from_encodes, chars-nil, IsUtf8-from_ascii}, proofs.lemmas.Str.Ascii.{encodes-IsAscii, IsAscii-nil, IsAscii-cons}, proofs.lemmas.List.{append-nil}}
 use Rattle.apl_tokens.{specs.Limits.{longest_name}, specs.Signs.{space, right_parenthesis, high_minus, delta, delta_underbar, left_arrow, left_bracket, right_bracket, semicolon}, specs.Lexemes.{Lexeme, Number, Named, Sign}}
@@ -30,7 +30,7 @@ unfolding chars
 arrow_next [] = refl
 arrow_next (b ∷ bs) = refl
 
--- all of them pass, and what comes after them does not
+-- the bytes of a run pass the test, and the rest does not continue it
 first_passes : (p q : Bool) → (p && q) ≡ true → p ≡ true
 first_passes true q both = refl
 first_passes false q both = cc
@@ -100,7 +100,7 @@ reads_number is_negative k d ds us digits ascii fits is = record {
   );
 }
 
--- one after the other
+-- two parts in sequence
 both_read : (C D : List ℕ → Type 0) (bs us vs : List ℕ) (ls ks : List Lexeme) → ReadsBefore C bs us ls → C (chars us) → ReadsBefore D us vs ks → ReadsBefore D bs vs (ls ++ ks)
 both_read C D bs us vs ls ks f met g = record {
   reads = λ n. (
@@ -120,7 +120,7 @@ name_and_bracket name bs us vs reads is =
     both_read EndsName (λ cs. Unit {0}) bs us vs (Named name ∷ []) (Sign left_bracket ∷ []) reads (subst (λ (cs : List ℕ). EndsName cs) (sym (ap chars is ∙ ascii_next left_bracket vs (lit< tt))) refl)
     (byte_sign us vs left_bracket is (lit< tt) refl)
 
--- the name that a function finds: the letters, the first of which is one that a name begins with
+-- the name at the front: its first letter may begin a name
 pub letters_read : (name letters rest text vs : List ℕ) (first end : ℕ) → text ≡ letters ++ rest → rest ≡ end ∷ vs → Some first ≡ slice_get letters 0 → is_ascii_alphabetic first ≡ true → list_all is_name_part letters ≡ true → IsAscii letters → name ≡ letters → length letters ≤ longest_name → ReadsBefore EndsName text (end ∷ vs) (Named name ∷ [])
 letters_read name [] rest text vs first end whole bracket is letter parts ascii same short = cc
 letters_read name (c ∷ xs) rest text vs first end whole bracket is letter parts ascii same short =
@@ -131,7 +131,7 @@ letters_read name (c ∷ xs) rest text vs first end whole bracket is letter part
     (subst (λ (n : List ℕ). ReadsBefore EndsName ((c ∷ xs) ++ rest) rest (Named n ∷ [])) (sym same)
     (reads_name c xs rest starts (others_pass (is_name_part c) (list_all is_name_part xs) parts) ascii short)))
 
--- the number that a function finds
+-- the number at the front
 pub digits_read : (is_negative : Bool) (k : ℤ) (digits rest text : List ℕ) → text ≡ digits ++ rest → (length digits ≡ 0 → ⊥) → list_all is_ascii_digit digits ≡ true → IsAscii digits → fits_number is_negative (decimal_from 0 digits) ≡ true → k ≡ signed is_negative (decimal_from 0 digits) → ReadsBefore EndsNumber (minus_bytes is_negative ++ text) rest (Number k ∷ [])
 digits_read is_negative k [] rest text whole some all ascii fits is = absurd (some refl)
 digits_read is_negative k (d ∷ ds) rest text whole some all ascii fits is =

@@ -1,4 +1,4 @@
--- The bytes of a name, and zeros up to the room.
+-- A name is stored as its bytes, and zeros after them.
 use Rattle.std.{proofs.Common.{◌≡◌, ℕ, ◌-◌, ◌≤◌, List, ◌++◌, length, drop, ap, ◌∙◌, arith, length-append, length-drop}, specs.Prelude.{replicate}, proofs.Math.Seq.{drop-append_seam}, proofs.lemmas.List.{length-replicate, drop-replicate}}
 
 module _ (room : ℕ) (zeros bytes : List ℕ) (are_zeros : zeros ≡ replicate room 0) (fits : length bytes ≤ room) where

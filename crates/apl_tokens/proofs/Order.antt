@@ -1,4 +1,4 @@
--- The tokens of a text stand in the order of their spans.
+-- The tokens of a text are in the order of their spans.
 use Rattle.std.{proofs.Common.{◌≡◌, ℕ, ◌+◌, ◌<◌, ◌≤◌, List, [], ◌∷◌, ◌++◌, length, Ok, Err, refl, subst, arith, Bool}, specs.Prelude.{encode_utf8_all}, specs.Char.{is_ascii_digit, len_utf8}, proofs.lemmas.Str.{len_utf8_bounds}}
 use Rattle.apl_tokens.{specs.Characters.{doubled, quoted}, specs.Scans.{SpannedLexeme, with_front, IsRun, stop, more, IsNumber, plain, minus, Scans, done, comment, blank, sign, text, number, word, strange, open_text, lone_minus, joined, too_great, too_long}, specs.Order.{InOrder}}
 use Rattle.apl_tokens.proofs.Sound.{Found, digit_len, width, width_cons, width_append}

@@ -1,4 +1,4 @@
--- A byte behind the end of a name is zero, as its room has it; names of the same words are the same.
+-- The bytes after the end of a name are zero; names with the same words are equal.
 use Rattle.std.{proofs.Common.{◌≡◌, ℕ, zero, suc, ◌+◌, ◌-◌, ◌/◌, ◌<◌, ◌≤◌, List, [], ◌∷◌, length, take, drop, refl, ap, ◌∙◌, sym, get_or, arith}, specs.Prelude.{replicate, true, false, ◌^◌}, proofs.lemmas.Grind.{same_number_lists}, specs.Bool.{one_answer}, specs.Int.{w64, to_le_bytes, from_le_bytes}}
 use Rattle.std.{specs.Str.{bytes_eq}, proofs.lemmas.Nat.{from_le_bytes-to_le_bytes_8}, proofs.lemmas.Slice.Eq.{bytes_eq-Decides}}
 use Rattle.apl_tokens.{specs.Limits.{longest_name}, specs.Words.{eight_bytes, word_at, word_start, count_of_words}}
@@ -41,11 +41,11 @@ same_answer a b same = one_answer true (bytes_eq a b) (λ h. same, λ h. refl) (
 pub other_answer : (a b : List ℕ) → (a ≡ b → ⊥) → false ≡ bytes_eq a b
 other_answer a b other = one_answer false (bytes_eq a b) (λ h. cc, λ h. absurd (other h)) (bytes_eq-Decides a b)
 
--- the number of a word is its own
+-- different numbers have different bytes
 pub one_number : (m n : ℕ) → m < 2 ^ 64 → n < 2 ^ 64 → to_le_bytes w64 m ≡ to_le_bytes w64 n → m ≡ n
 one_number m n fits fits' same = sym (from_le_bytes-to_le_bytes_8 m fits) ∙ ap (from_le_bytes w64) same ∙ from_le_bytes-to_le_bytes_8 n fits'
 
--- what holds below a number and at it, holds below the next
+-- a claim for all numbers below n, and for n, holds for all below n + 1
 pub one_more : (P : ℕ → Type 0) (n : ℕ) → ((k : ℕ) → k < n → P k) → P n → (k : ℕ) → k < n + 1 → P k
 one_more P zero below at zero h = at
 one_more P zero below at (suc k) h = absurd (omega (arith, h))

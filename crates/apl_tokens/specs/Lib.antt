@@ -1,4 +1,4 @@
--- What public contracts mean.
+-- Used by public contracts.
 pub mod Words
 pub mod Lexemes
 pub mod Signs
@@ -7,10 +7,10 @@ pub mod Characters
 pub mod Scans
 pub mod Scanning
 pub mod Spans
--- What proofs and bodies use.
+-- Used by proofs and bodies.
 pub mod Scanner
 pub mod Order
 pub mod NumberEdits
 pub mod Reading
--- Proofs that impls give with their types: what contracts see of them is the bytes.
+-- Proofs given with types: contracts see a name as its bytes.
 pub mod Laws

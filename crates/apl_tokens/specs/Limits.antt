@@ -1,6 +1,6 @@
--- How long a token may be.
+-- The limits of a token.
 use Rattle.std.specs.Prelude.{ℕ}
 
--- the most bytes of a name
+-- the greatest length of a name, in bytes
 abbrev pub longest_name : ℕ
 longest_name = 63

@@ -1,4 +1,4 @@
--- How a span prints.
+-- The text of a span.
 use Rattle.std.specs.Prelude.{ℕ, List, ◌++◌, codes, decimal}
 use Rattle.apl_tokens.specs.declared.token.Span.{Span}
 

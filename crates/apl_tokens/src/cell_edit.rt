@@ -1,4 +1,4 @@
-//! The edit of a cell by a number, read from the bytes of a line: no list of tokens is made, and no memory is asked for.
+//! Reads the edit of an item by a number from the bytes of a line. Builds no list of tokens and allocates nothing.
 
 ghost use Rattle.std.specs.Prelude.{◌≡◌, ◌<◌, ◌≤◌, [], ◌∷◌, ◌++◌, length, IfSome};
 ghost use Rattle.std.specs.Str.{chars};
@@ -12,21 +12,22 @@ use crate::name::Name;
 use smallvec::SmallVec;
 use std::alloc::Global;
 
-/// The positions of a cell: up to four lie in the value itself, and more take memory.
+/// The positions of a cell: up to four are stored inline, more on the heap.
 pub type CellPositions = SmallVec<i64, 4>;
 
-/// An edit of one item by a number: `NAME[positions]←number`.
+/// The edit of one item by a number: `NAME[positions]←number`.
 #[derive(Debug, Drop)]
 pub struct NumberEdit {
-    /// The name whose item it is.
+    /// The name whose item changes.
     pub name: Name,
-    /// Where the item stands, a number an axis.
+    /// The position on each axis.
     pub positions: CellPositions,
-    /// What the item becomes.
+    /// The new value of the item.
     pub number: i64,
 }
 
-/// The positions at the front, of which there are few, that `]` follows: they are put into the list, and what comes after them is answered.
+/// Reads one to four positions from the front, with `;` between them and `]` at the end, and appends them to the list. Returns the bytes after
+/// `]`.
 fn positions_front<'a>(text: &'a [u8], positions: &mut CellPositions) -> Option<&'a [u8]>
     requires none { positions.old.items ≡ [] }
     requires inline { positions.old.capacity ≡ 4 }
@@ -48,8 +49,8 @@ fn positions_front<'a>(text: &'a [u8], positions: &mut CellPositions) -> Option<
     None
 }
 
-/// The edit that a line is, where it is `NAME[positions]←number`: a name in letters of ASCII, one to four positions with `;` between them, and
-/// nothing else, no blanks either. `None` says nothing: the line may be such an edit, or any other line, or none.
+/// Reads a line of the form `NAME[positions]←number`: a name in ASCII letters, one to four positions with `;` between them, and no blanks.
+/// Returns `None` for every other line, and for some edits too.
 pub fn number_edit(alloc: Global, text: &str) -> Option<NumberEdit>
     ensures { IfSome result (λ edit. IsNumberEdit (chars text.now) edit) }
 {

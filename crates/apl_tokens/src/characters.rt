@@ -1,17 +1,17 @@
-//! The kinds of characters of a line.
+//! The classes of characters in a line.
 
 ghost use Rattle.std.specs.Prelude.{◌≡◌};
 ghost use Rattle.apl_tokens.specs.Characters.{is_blank, sign_of, is_letter, is_name_part, joins_number, spells_name};
 ghost use Rattle.std.specs.Str.{chars};
 
-/// Whether it stands between tokens and is none.
+/// Returns true for a blank, which separates tokens.
 pub(crate) fn is_blank(c: char) -> bool
     ensures { result ≡ is_blank c }
 {
     c == ' ' || c == '\t'
 }
 
-/// The first spelling of a sign, which is a token of its own; `None` for what is none.
+/// Returns the first spelling of a sign, which is a token of its own, or `None` for any other character.
 #[tactic(auto, unfolding(crate::specs::Characters::sign_of))]
 pub(crate) fn sign_of(c: char) -> Option<char>
     ensures { result ≡ sign_of c }
@@ -36,28 +36,28 @@ pub(crate) fn sign_of(c: char) -> Option<char>
     }
 }
 
-/// Whether a name may begin with it.
+/// Returns true if a name may begin with the character.
 pub(crate) fn is_letter(c: char) -> bool
     ensures { result ≡ is_letter c }
 {
     c.is_ascii_alphabetic() || c == '∆' || c == '⍙'
 }
 
-/// Whether a name may go on with it.
+/// Returns true if a name may continue with the character.
 pub(crate) fn is_name_part(c: char) -> bool
     ensures { result ≡ is_name_part c }
 {
     is_letter(c) || c.is_ascii_digit() || c == '_'
 }
 
-/// Whether it may not follow a number directly.
+/// Returns true if the character may not follow a number directly.
 pub(crate) fn joins_number(c: char) -> bool
     ensures { result ≡ joins_number c }
 {
     is_letter(c) || c == '_' || c == '¯'
 }
 
-/// Whether the whole text is a name, of any length.
+/// Returns true if the whole text is a name, of any length.
 pub(crate) fn spells_name(text: &str) -> bool
     ensures { result ≡ spells_name (chars text.now) }
 {

@@ -1,4 +1,4 @@
-//! Why a text has no tokens.
+//! The faults of a text that has no tokens.
 
 ghost use Rattle.std.specs.Prelude.{◌≡◌};
 ghost use Rattle.apl_tokens.specs.declared.fault.TokenFault.TheVariants.{NoMemory};
@@ -7,14 +7,14 @@ use crate::token::Span;
 use std::alloc::{AllocError, AllocFailed};
 use thiserror::Error;
 
-/// Why a text has no tokens: the first fault from the left, with the bytes where it is.
+/// The reason why a text has no tokens: the first fault from the left with its bytes, or want of memory.
 #[derive(Clone, Copy, Debug, PartialEq, Eq, Error)]
 pub enum TokenFault {
-    /// A character that begins no token; a high minus without a digit after it; a text that does not close; or a number,
-    /// directly followed by a letter, `_` or a high minus.
+    /// A character that begins no token, a high minus without a digit after it, a text that is not closed, or a number that a letter, `_` or a
+    /// high minus follows directly.
     #[error("no token at bytes {0}")]
     Syntax(Span),
-    /// A number that is out of range, or a name of more than 63 bytes.
+    /// A number out of range, or a name of more than 63 bytes.
     #[error("too large a token at bytes {0}")]
     Limit(Span),
     /// The allocator refused memory.

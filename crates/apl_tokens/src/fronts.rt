@@ -1,4 +1,4 @@
-//! What stands at the front of the bytes of a line: a name, a number, an arrow.
+//! Reads a name, a number or an arrow from the front of the bytes of a line.
 
 ghost use Rattle.std.specs.Prelude.{◌≡◌, ◌≤◌, true, [], ◌∷◌, ◌++◌, length, take, IfSome};
 ghost use Rattle.std.specs.Char.{is_ascii_digit};
@@ -12,14 +12,14 @@ ghost use Rattle.apl_tokens.specs.Reading.{ReadsBefore, Reads, EndsName, EndsNum
 use crate::name::Name;
 use crate::numbers::with_sign;
 
-/// The name at the front of a line, and the bytes after what ends it.
+/// The name at the front of a line, and the bytes after the byte that ends it.
 #[derive(Clone, Copy)]
 pub(crate) struct Front<'a> {
     pub(crate) name: Name,
     pub(crate) rest: &'a [u8],
 }
 
-/// How many letters and digits of ASCII and `_` stand at the front.
+/// Returns the number of ASCII letters, ASCII digits and `_` at the front.
 fn count_parts(text: &[u8]) -> usize
     ensures within { result ≤ length text.now }
     ensures parts { list_all is_name_part (take result text.now) ≡ true }
@@ -33,7 +33,7 @@ fn count_parts(text: &[u8]) -> usize
     text.len()
 }
 
-/// What the digits at the front spell, and how many there are, where that fits: that of no digits is 0.
+/// Returns the value of the digits at the front and their number, or `None` on overflow. No digits have the value 0.
 #[inline(always)]
 fn magnitude_front(text: &[u8]) -> Option<(u64, usize)>
     ensures within { IfSome result (λ front. front.1 ≤ length text.now) }
@@ -52,7 +52,7 @@ fn magnitude_front(text: &[u8]) -> Option<(u64, usize)>
     Some((magnitude, text.len()))
 }
 
-/// What comes after this byte, where it stands at the front.
+/// Returns the bytes after `byte`, if it is the first.
 fn after_byte(text: &[u8], byte: u8) -> Option<&[u8]>
     ensures { IfSome result (λ rest. text.now ≡ byte ∷ rest.now) }
 {
@@ -60,28 +60,28 @@ fn after_byte(text: &[u8], byte: u8) -> Option<&[u8]>
     if *first == byte { Some(rest) } else { None }
 }
 
-/// What comes after a blank, where it stands at the front.
+/// Returns the bytes after a blank, if one is at the front.
 pub(crate) fn after_blank(text: &[u8]) -> Option<&[u8]>
     ensures { IfSome result (λ rest. text.now ≡ space ∷ rest.now) }
 {
     after_byte(text, b' ')
 }
 
-/// What comes after a high minus, where it stands at the front.
+/// Returns the bytes after a high minus, if one is at the front.
 fn after_minus(text: &[u8]) -> Option<&[u8]>
     ensures { IfSome result (λ rest. text.now ≡ minus_bytes true ++ rest.now) }
 {
     after_byte(after_byte(text, 0xC2)?, 0xAF)
 }
 
-/// What comes after an arrow, where it stands at the front.
+/// Returns the bytes after an arrow, if one is at the front.
 pub(crate) fn after_arrow(text: &[u8]) -> Option<&[u8]>
     ensures { IfSome result (λ rest. Reads text.now rest.now (Sign left_arrow ∷ [])) }
 {
     after_byte(after_byte(after_byte(text, 0xE2)?, 0x86)?, 0x90)
 }
 
-/// The name at the front, in letters of ASCII, that this byte follows, and what comes after them.
+/// Returns the name at the front, in ASCII letters, and the bytes after it, if the byte `end` follows the name.
 pub(crate) fn name_front(text: &[u8], end: u8) -> Option<Front<'_>>
     ensures { IfSome result (λ front. ReadsBefore EndsName text.now (end ∷ front.rest.now) (Named front.name ∷ [])) }
 {
@@ -95,7 +95,7 @@ pub(crate) fn name_front(text: &[u8], end: u8) -> Option<Front<'_>>
     Some(Front { name, rest })
 }
 
-/// The number of the digits at the front, with the sign that stands before them, and what comes after it.
+/// Returns the number of the digits at the front, negative if `is_negative`, and the bytes after it.
 fn digits_front(text: &[u8], is_negative: bool) -> Option<(i64, &[u8])>
     ensures { IfSome result (λ front. ReadsBefore EndsNumber (minus_bytes is_negative ++ text.now) front.1.now (Number front.0 ∷ [])) }
 {
@@ -108,7 +108,7 @@ fn digits_front(text: &[u8], is_negative: bool) -> Option<(i64, &[u8])>
     Some((number, rest))
 }
 
-/// The number at the front, and what comes after it.
+/// Returns the number at the front and the bytes after it.
 pub(crate) fn number_front(text: &[u8]) -> Option<(i64, &[u8])>
     ensures { IfSome result (λ front. ReadsBefore EndsNumber text.now front.1.now (Number front.0 ∷ [])) }
 {

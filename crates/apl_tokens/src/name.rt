@@ -1,4 +1,4 @@
-//! Names.
+//! Names: short texts of fixed size, compared and hashed by words.
 
 ghost use Rattle.std.specs.Prelude.{◌≡◌, ℕ, ◌<◌, ◌≤◌, true, List, length, IfSome, IfNone};
 ghost use Rattle.std.specs.Int.{w64, to_le_bytes};
@@ -11,18 +11,18 @@ use crate::characters::spells_name;
 use std::hash::{Hash, Hasher};
 use std::marker::Model;
 
-/// The most bytes of a name.
+/// The greatest length of a name, in bytes.
 pub const LONGEST_NAME: usize = 63;
 
-/// The bytes of a word.
+/// The number of bytes in a word.
 const WORD: usize = 8;
 
-/// A name, an identifier of ISO 8485: its text, at most 63 bytes of UTF-8.
+/// A name, which is an identifier of ISO 8485: its text in UTF-8, at most 63 bytes.
 #[derive(Clone, Copy, Debug)]
 pub struct Name {
     bytes: [u8; LONGEST_NAME],
     len: u8,
-    /// No word at all: with it a name, and what holds one, lies where words lie and is moved by words.
+    /// An empty array that aligns a name, and each type that holds one, to words, so that it is copied by words.
     words: [u64; 0],
 }
 
@@ -43,8 +43,8 @@ impl Model for Name {
 }
 
 impl Name {
-    /// The name that the whole text is, where it is one: a letter `A` to `Z`, `a` to `z`, `∆` or `⍙`, and then letters,
-    /// digits and `_`, at most 63 bytes in all. Any other text is none.
+    /// Returns the name that the whole text is, or `None`. A name is a letter `A` to `Z`, `a` to `z`, `∆` or `⍙`, and then letters, digits and
+    /// `_`, at most 63 bytes in all.
     pub fn read(text: &str) -> Option<Name>
         ensures some { IfSome result (λ n. (spells_name (chars text.now) ≡ true) × (length text.now ≤ longest_name) × (n ≡ text.now)) }
         ensures none { IfNone result (spells_name (chars text.now) ≡ true → longest_name < length text.now) }
@@ -55,7 +55,7 @@ impl Name {
         Name::of_letters(text.as_bytes())
     }
 
-    /// The name of these bytes of UTF-8, unless they are too many.
+    /// Returns the name with these bytes of UTF-8, or `None` if they are too many.
     pub(crate) fn of_letters(letters: &[u8]) -> Option<Name>
         requires { is_utf8 letters.now ≡ true }
         ensures found { IfSome result (λ n. n ≡ letters.now) }
@@ -74,7 +74,7 @@ impl Name {
         })
     }
 
-    /// Its bytes in UTF-8.
+    /// Returns the bytes of the name, in UTF-8.
     pub fn bytes(&self) -> &[u8]
         ensures bytes { result.now ≡ self.now }
         ensures utf8 { is_utf8 self.now ≡ true }
@@ -83,7 +83,7 @@ impl Name {
         &self.bytes[..self.len as usize]
     }
 
-    /// How many words its bytes take.
+    /// Returns the number of words that the bytes take.
     fn words(&self) -> usize
         ensures count { result ≡ count_of_words self.now }
         ensures few { result ≤ most_words }
@@ -91,7 +91,7 @@ impl Name {
         (self.len as usize).div_ceil(WORD)
     }
 
-    /// Its word of this number, from 0 on, with the zeros behind its end.
+    /// Returns the word with this index, zeros after the end of the name included.
     fn word(&self, index: usize) -> u64
         requires { index < most_words }
         ensures { to_le_bytes w64 result ≡ word_at self.now index }
@@ -110,7 +110,7 @@ impl Name {
         ])
     }
 
-    /// Its text.
+    /// Returns the text of the name.
     pub fn text(&self) -> &str
         ensures { result.now ≡ self.now }
     {
@@ -118,7 +118,7 @@ impl Name {
     }
 }
 
-/// The number of these bytes, the first counting least.
+/// Converts bytes to a number, little end first.
 fn number_of(bytes: [u8; WORD]) -> u64
     ensures { to_le_bytes w64 result ≡ bytes }
 {
@@ -134,7 +134,7 @@ impl PartialEq for Name {
 
     ghost laws = { Prim.search (comparing, rules) };
 
-    /// By words: a byte at a time takes several times as long.
+    /// Compares words: comparing bytes takes several times as long.
     fn eq(&self, other: &Name) -> bool {
         if self.len != other.len {
             return false;
@@ -164,7 +164,7 @@ impl Hash for Name {
 
     ghost respects_eq = { Prim.search (hashing, rules) };
 
-    /// By words, as equality: equal names have the same, zeros and all.
+    /// Hashes words, so that equal names have the same hash: the zeros after the end are equal too.
     fn hash<H: Hasher>(&self, state: &mut H) {
         for index in 0..self.words() {
             state.write_u64(self.word(index));

@@ -3,7 +3,7 @@
 ghost use Rattle.std.specs.Prelude.{◌≡◌, true, false, MatchOption};
 ghost use Rattle.apl_tokens.specs.Characters.{decimal_from, signed, fits_number};
 
-/// The number with this sign and magnitude, where it is one of 64 bits.
+/// Returns the number with this sign and magnitude, or `None` if it does not fit in 64 bits.
 #[inline(always)]
 pub(crate) fn with_sign(is_negative: bool, magnitude: u64) -> Option<i64>
     ensures { MatchOption result (fits_number is_negative magnitude ≡ false) (λ n. (fits_number is_negative magnitude ≡ true) × (n ≡ signed is_negative magnitude)) }
@@ -15,8 +15,8 @@ pub(crate) fn with_sign(is_negative: bool, magnitude: u64) -> Option<i64>
     }
 }
 
-/// The number with this sign that these ASCII digits spell, where it is one of 64 bits: the least and the greatest of them are answered, and beyond
-/// them none. That of no digits is 0.
+/// Returns the number that these ASCII digits spell, negative if `is_negative`, or `None` if it does not fit in 64 bits. The least and the
+/// greatest number fit. No digits spell 0.
 #[tactic(auto, using(crate::proofs::Decimals::decimal_grows))]
 pub fn number_of_digits(is_negative: bool, digits: &[u8]) -> Option<i64>
     ensures { MatchOption result (fits_number is_negative (decimal_from 0 digits.now) ≡ false) (λ n. (fits_number is_negative (decimal_from 0 digits.now) ≡ true) × (n ≡ signed is_negative (decimal_from 0 digits.now))) }

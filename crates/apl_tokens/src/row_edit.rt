@@ -1,4 +1,4 @@
-//! A row of numbers, read from the bytes of a line: no list of tokens is made, and of one number no memory is asked for.
+//! Reads a row of numbers from the bytes of a line. Builds no list of tokens, and allocates nothing for one number.
 
 ghost use Rattle.std.specs.Prelude.{◌≡◌, ◌<◌, ◌≤◌, ◌+◌, [], ◌∷◌, ◌++◌, length, codes, count_by, vec_capacity, IfSome, ◌==◌};
 ghost use Rattle.std.specs.Str.{chars};
@@ -21,20 +21,20 @@ pub enum RowNumbers {
 /// A row of numbers: `)ROW NAME numbers`.
 #[derive(Debug, Drop)]
 pub struct NumberRow {
-    /// The name whose array gains it.
+    /// The name of the array that gains the row.
     pub name: Name,
-    /// The row.
+    /// The numbers of the row.
     pub numbers: RowNumbers,
 }
 
-/// What comes after `)ROW` and a blank, where they stand at the front.
+/// Returns the bytes after `)ROW` and a blank, if they are at the front.
 fn after_row(text: &[u8]) -> Option<&[u8]>
     ensures { IfSome result (λ rest. text.now ≡ codes ")ROW " ++ rest.now) }
 {
     text.strip_prefix(b")ROW ")
 }
 
-/// How many blanks there are.
+/// Counts the blanks.
 fn count_blanks(text: &[u8]) -> usize
     ensures { result ≡ count_by (λ byte. byte == 0x20) text.now }
 {
@@ -47,7 +47,7 @@ fn count_blanks(text: &[u8]) -> usize
     blanks
 }
 
-/// Puts so many numbers behind those before them, for which there is room: they are all that stands here, each behind a blank.
+/// Appends `count` numbers, each after a blank, within the capacity. Returns `None` unless they are the whole text.
 fn more_numbers(text: &[u8], count: usize, numbers: &mut Vec<i64>) -> Option<()>
     requires { length numbers.old.items + count ≤ vec_capacity numbers.old }
     ensures reads { IfSome result (λ done. GoesOn text.now numbers.old.items [] numbers.new.items) }
@@ -62,8 +62,8 @@ fn more_numbers(text: &[u8], count: usize, numbers: &mut Vec<i64>) -> Option<()>
     if rest.is_empty() { Some(()) } else { None }
 }
 
-/// The numbers of which the first was read before, and the others are all that stands here, each behind a blank: at most so many. There is room
-/// for the next power of two, as where the items of an array lie.
+/// Reads the remaining numbers, each after a blank, which are the whole text. Returns `first` and these, or `None` if there are more than `most`
+/// or memory runs out. The capacity is a power of two, as for the items of an array.
 fn several_numbers(alloc: Global, first: i64, text: &[u8], most: usize) -> Option<Vec<i64>>
     ensures reads { IfSome result (λ numbers. GoesOn text.now (first ∷ []) [] numbers.items) }
     ensures several { IfSome result (λ numbers. 1 < length numbers.items) }
@@ -80,7 +80,7 @@ fn several_numbers(alloc: Global, first: i64, text: &[u8], most: usize) -> Optio
     Some(numbers)
 }
 
-/// The numbers that are all that stands here, with one blank between them: at most so many.
+/// Reads a text that is numbers with one blank between them, at most `most`.
 fn row_numbers(alloc: Global, text: &[u8], most: usize) -> Option<RowNumbers>
     requires { 0 < most }
     ensures reads { IfSome result (λ numbers. ReadsBefore EndsNumber text.now [] (number_lexemes (row_numbers_of numbers))) }
@@ -95,8 +95,8 @@ fn row_numbers(alloc: Global, text: &[u8], most: usize) -> Option<RowNumbers>
     Some(RowNumbers::Several(numbers))
 }
 
-/// The row that a line is, where it is `)ROW NAME numbers`, of at most so many numbers: one blank at each place, a name in letters of ASCII, and nothing
-/// else. One number takes no memory. `None` says nothing: the line may be such a row, for which there may be no memory, or any other line, or none.
+/// Reads a line of the form `)ROW NAME numbers`: a name in ASCII letters, at most `most` numbers, and one blank between parts. Allocates nothing
+/// for one number. Returns `None` for every other line, for some rows, and if memory runs out.
 pub fn number_row(alloc: Global, text: &str, most: usize) -> Option<NumberRow>
     requires { 0 < most }
     ensures row { IfSome result (λ row. IsNumberRow (chars text.now) row) }

@@ -1,4 +1,4 @@
-//! The scanner: it reads the characters of a line from left to right, once.
+//! The scanner, which reads the characters of a line from left to right, once.
 
 ghost use Rattle.std.specs.Prelude.{◌+◌, ◌≤◌, ◌<◌, ◌^◌, ℕ, List, [], ◌∷◌, ◌++◌, Ok, length, IfOk};
 ghost use Rattle.std.specs.Char.{len_utf8};
@@ -15,29 +15,29 @@ use crate::numbers::number_of_digits;
 use crate::token::{Span, Spanned, Token};
 use std::alloc::Global;
 
-/// So many tokens have room from the start: most lines have no more.
+/// The initial capacity of a list of tokens, which is enough for most lines.
 const FEW_TOKENS: usize = 8;
 
-/// What is being read, with the byte at which it began. A number and a name are read no further than where they stand in the text.
+/// The state of the scanner, with the byte at which the current token begins. A number and a name stay in the text until they end.
 #[derive(Drop)]
 enum Scan {
-    /// Nothing: a token may begin.
+    /// No token is open.
     Between,
     /// A comment.
     Comment,
-    /// A high minus, which takes these bytes.
+    /// A high minus, with its span.
     Minus(Span),
-    /// A number: where it begins, whether it has a high minus, and where its digits begin.
+    /// A number: its start, true if it has a high minus, and the start of its digits.
     Digits(usize, bool, usize),
-    /// A name: where it begins.
+    /// A name: its start.
     Letters(usize),
-    /// A text: where it begins, and its characters so far.
+    /// A text literal: its start, and its characters so far.
     Quoted(usize, Vec<char>),
-    /// A text after a quote, which ends it or is doubled: where it begins, and its characters so far.
+    /// A text literal after a quote, which ends it or is doubled: its start, and its characters so far.
     Quote(usize, Vec<char>),
 }
 
-/// Puts a token after the others.
+/// Appends a token.
 #[inline(always)]
 fn put(out: &mut Vec<Spanned>, token: Token, span: Span) -> Result<(), TokenFault>
     ensures { Finds result out.new.items (Ok (all_spanned out.old.items ++ spanned (lexeme token) span.start span.end ∷ [])) }
@@ -46,7 +46,7 @@ fn put(out: &mut Vec<Spanned>, token: Token, span: Span) -> Result<(), TokenFaul
     Ok(())
 }
 
-/// Begins to read at a character that stands at byte `at`.
+/// Begins a token with the character at byte `at`.
 #[inline(always)]
 fn begun(
     alloc: Global,
@@ -83,7 +83,7 @@ fn begun(
     }
 }
 
-/// Ends what is being read, before byte `at`.
+/// Ends the open token before byte `at`.
 #[inline(always)]
 fn ended(text: &[u8], at: usize, scan: Scan, out: &mut Vec<Spanned>) -> Result<(), TokenFault>
     requires within { at ≤ length text.now }
@@ -113,7 +113,7 @@ fn ended(text: &[u8], at: usize, scan: Scan, out: &mut Vec<Spanned>) -> Result<(
     }
 }
 
-/// Ends what is being read, and begins to read at a character that stands at byte `at`.
+/// Ends the open token, and begins the next with the character at byte `at`.
 #[inline(always)]
 fn then_begun(
     alloc: Global,
@@ -134,7 +134,7 @@ fn then_begun(
     begun(alloc, text, at, c, out)
 }
 
-/// Reads a character of a text literal.
+/// Appends a character to a text literal.
 fn quoted(start: usize, mut chars: Vec<char>, c: char) -> Result<Scan, TokenFault>
     ensures turns { (text : List ℕ) → (at : ℕ) → Turns text at result [] (Goes [] (Quoted start (chars.items ++ c ∷ []))) }
     ensures reading { IfOk result (λ s. (text : List ℕ) → (at : ℕ) → IsReading text at s) }
@@ -143,7 +143,7 @@ fn quoted(start: usize, mut chars: Vec<char>, c: char) -> Result<Scan, TokenFaul
     Ok(Scan::Quoted(start, chars))
 }
 
-/// Reads a character that stands at byte `at`.
+/// Reads the character at byte `at`.
 #[inline(always)]
 fn turn(
     alloc: Global,
@@ -179,7 +179,7 @@ fn turn(
     }
 }
 
-/// Puts the tokens of a text where others were.
+/// Replaces the tokens in `out` by the tokens of the text.
 fn scanned(alloc: Global, text: &str, out: &mut Vec<Spanned>) -> Result<(), TokenFault>
     requires { length text.now < 2 ^ 64 }
     ensures { Finds result out.new.items (scan (chars text.now) 0 Between) }
@@ -195,13 +195,12 @@ fn scanned(alloc: Global, text: &str, out: &mut Vec<Spanned>) -> Result<(), Toke
     ended(bytes, at, reading, out)
 }
 
-/// The tokens of a line, the lexical units of ISO 8485; its comment, which `⍝` begins, and blanks between tokens are none.
-/// A sign is given in its first spelling, and a text literal by the characters between its quotes, a doubled quote once.
+/// Returns the tokens of a line, which are the lexical units of ISO 8485. A comment, which begins with `⍝`, and blanks between tokens are no
+/// tokens. A sign is in its first spelling; a text literal is the characters between its quotes, a doubled quote once.
 ///
-/// A line that has no tokens is answered its first fault from the left: `Syntax` for a character that begins no token, for
-/// a high minus without a digit after it, for a text that does not close, from its quote to the end, and for a number that
-/// a letter, `_` or a high minus follows directly; `Limit` for a number that is out of range and for a name of more than 63
-/// bytes.
+/// A line without tokens returns its first fault from the left. `Syntax`: a character begins no token; a high minus has no digit after it; a
+/// text literal is not closed, from its quote to the end; or a letter, `_` or a high minus follows a number directly. `Limit`: a number is out
+/// of range, or a name has more than 63 bytes.
 pub fn tokens(alloc: Global, text: &str) -> Result<Vec<Spanned>, TokenFault>
     ensures { AreTokensOf (chars text.now) result }
 {
@@ -212,8 +211,7 @@ pub fn tokens(alloc: Global, text: &str) -> Result<Vec<Spanned>, TokenFault>
     }
 }
 
-/// Puts the tokens of a line where those of another were, so that lines that are read one after the other need no memory of their own. Where
-/// there is a fault, what is then there is of no account.
+/// Replaces the tokens in `found` by the tokens of the line, and reuses their memory. After a fault the contents of `found` are unspecified.
 #[tactic(auto, using(crate::proofs::Sound::are_tokens))]
 pub fn tokens_into(alloc: Global, text: &str, found: &mut Vec<Spanned>) -> Result<(), TokenFault>
     ensures { AreTokensIn (chars text.now) result found.new }

@@ -7,12 +7,12 @@ use crate::name::Name;
 use std::fmt;
 use std::fmt::{Display, Formatter, Write};
 
-/// The bytes of the line that a token takes: from `start`, up to and without `end`.
+/// The bytes that a token takes in its line: from `start` up to `end`, without it.
 #[derive(Clone, Copy, Debug, PartialEq, Eq)]
 pub struct Span {
-    /// Where it begins.
+    /// The first byte.
     pub start: usize,
-    /// Where what follows it begins.
+    /// The byte after the last.
     pub end: usize,
 }
 
@@ -24,10 +24,10 @@ impl Display for Span {
     }
 }
 
-/// A token, a lexical unit of ISO 8485.
+/// A token, which is a lexical unit of ISO 8485.
 #[derive(Debug, Drop)]
 pub enum Token {
-    /// A number literal: digits, with a high minus before them where it is negative.
+    /// A number literal: digits, after a high minus if it is negative.
     Num(i64),
     /// A text literal: the characters between its quotes, a doubled quote once.
     Text(Vec<char>),
@@ -40,8 +40,8 @@ pub enum Token {
 /// A token with its span.
 #[derive(Debug, Drop)]
 pub struct Spanned {
-    /// What it says.
+    /// The token.
     pub token: Token,
-    /// The bytes that it takes.
+    /// The bytes that the token takes.
     pub span: Span,
 }

@@ -1,16 +1,16 @@
--- A name is the bytes of its text.
+-- A name is stored as its bytes and zeros.
 use Rattle.std.{specs.Prelude.{◌≡◌, ℕ, ◌-◌, ◌≤◌, true, List, [], ◌++◌, length, take, drop, replicate}, specs.Str.{is_utf8}, proofs.Common.{sym, ◌∙◌, ap, arith}, proofs.lemmas.List.{length-take-le, take-append-drop}}
 use Rattle.apl_tokens.{specs.Limits.{longest_name}, specs.declared.name.Name.TheInside.{Inside}}
 
--- a name as it is stored: its bytes, and then zeros
+-- a stored name: its bytes, and then zeros
 abbrev pub stored : List ℕ → Inside
 stored bytes = record { bytes = bytes ++ replicate (longest_name - length bytes) 0; len = length bytes; words = [] }
 
--- the room is full, holds UTF-8 up to the length, and zeros after it; of words there is none
+-- all bytes are present: UTF-8 up to the length, zeros after it; the array of words is empty
 abbrev pub IsStored : Inside → Type 0
 IsStored a = (a.len ≤ longest_name) × (length a.bytes ≡ longest_name) × (drop a.len a.bytes ≡ replicate (longest_name - a.len) 0) × (is_utf8 (take a.len a.bytes) ≡ true) × (a.words ≡ [])
 
--- a name that is stored again is the same
+-- to store a name again gives the same name
 pub stored_again : (a : Inside) → IsStored a → stored (take a.len a.bytes) ≡ a
 stored_again a h =
     let n : length (take a.len a.bytes) ≡ a.len = length-take-le a.len a.bytes (omega arith) in
