@@ -1,2 +1,2 @@
--- What public contracts mean.
+-- Used by public contracts.
 pub mod Axes

@@ -1,22 +1,22 @@
-//! Axes along which functions work.
+//! The axis along which a function works.
 
 ghost use Rattle.std.specs.Prelude.{◌≡◌, ◌<◌, IsTrue};
 ghost use Rattle.function_names.specs.Axes.{is_axis, axis_at};
 
-/// The axis that a function works along: the first or the last, or one that is written, counted from 1.
+/// The axis along which a function works: the first, the last, or a written one, counted from 1.
 #[derive(Clone, Copy, PartialEq, Eq, Debug)]
 pub enum Along {
     /// The first axis.
     First,
     /// The last axis.
     Last,
-    /// The axis of this number, counted from 1, whether there is one or not.
+    /// The axis with this number, counted from 1, which may not exist.
     Axis(i64),
 }
 
 impl Along {
-    /// There is such an axis among `rank` axes; where there is not, the function is AXIS ERROR. An array
-    /// without axes has a first and a last one for functions that leave it as it is.
+    /// Returns true if the axis exists among `rank` axes; otherwise the function is AXIS ERROR. A scalar has a first and a last axis, for
+    /// functions that leave it unchanged.
     pub fn is_axis(self, rank: u32) -> bool
         ensures { result ≡ is_axis rank self }
     {
@@ -27,7 +27,7 @@ impl Along {
         }
     }
 
-    /// The axis that is meant, counted from 0.
+    /// Returns the index of the axis, counted from 0.
     pub fn axis_at(self, rank: u32) -> usize
         requires { IsTrue (is_axis rank self) }
         ensures is { result ≡ axis_at rank self }

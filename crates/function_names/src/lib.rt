@@ -1,4 +1,4 @@
-//! The names of the scalar functions, and the axis along which a function works: what the grammar reads and the functions of arrays take.
+//! The names of the scalar functions, and the axis along which a function works. The grammar reads them, and the functions of arrays take them.
 #![tactic(auto)]
 
 mod along;
