@@ -1,4 +1,4 @@
--- What the reader of an edit reads is in the grammar, and what is in the grammar it reads.
+-- The reader of edits reads exactly the edits of the grammar.
 use Rattle.std.{proofs.Common.{◌≡◌, ℕ, Some, None, List, [], ◌∷◌, ◌++◌, refl, sym, ap, ◌∙◌, subst, append_assoc, Bool, true, false, cond}, proofs.lemmas.List.{append-nil}, proofs.lemmas.Bool.{eqb-true}, specs.Prelude.{ℤ, ◌==◌}}
 use Rattle.apl_tokens.specs.Lexemes.{Lexeme, Number, Characters, Named, Sign}
 use Rattle.apl_expr.{specs.Grammar.{IsNums, one, more}, specs.Lines.{IsCellPositions, last, further, IsLit, nums_lit, text_lit}, specs.Trees.{Literal, Numbers, Text}, specs.Edits.{Edit, Open, Position, Closed, Items, Quoted, Written, Write, edit_text, edit_end, after_position, after_bracket, edits}}
@@ -37,12 +37,12 @@ cell_positions_of : {ts us : List Lexeme} {ps : List ℤ} (n : ℤ) → IsRest t
 cell_positions_of n ends = last
 cell_positions_of n (goes_on p) = further p
 
--- what is left of a literal after these numbers
+-- the rest of a literal after these numbers
 data IsRestOf : List ℤ → List Lexeme → Literal → Type 0 where
   rest_of_nums : {n : ℤ} {ns ms : List ℤ} {ts : List Lexeme} → IsStrand ts ms [] → IsRestOf (n ∷ ns) ts (Numbers (n ∷ ns ++ ms))
   whole_lit : {ts : List Lexeme} {l : Literal} → IsLit ts l → IsRestOf [] ts l
 
--- what the machine's reading in a state says of the grammar
+-- the meaning in the grammar of reading in a state
 abbrev Explains : List Lexeme → Edit → List ℤ → Literal → Type 0
 Explains ts (Open before) ps l = (qs : List ℤ) × (us : List Lexeme) × IsCellPositions ts qs (Sign 0x5d ∷ Sign 0x2190 ∷ us) × IsLit us l × (before ++ qs ≡ ps)
 Explains ts (Position before) ps l = (qs : List ℤ) × (us : List Lexeme) × IsRest ts qs us × IsLit us l × (before ++ qs ≡ ps)

@@ -1,15 +1,15 @@
--- The words of changes, and what stands after each.
+-- The words of changes, and the lexemes after each.
 use Rattle.std.{proofs.Common.{◌≡◌, ℕ, Option, Some, None, List, [], ◌∷◌, refl, sym, subst, Bool, true, false, cond}, specs.Prelude.{◌||◌}, specs.Str.{bytes_eq}, proofs.lemmas.Slice.Eq.{bytes_eq-Decides}}
 use Rattle.apl_tokens.specs.Lexemes.{Lexeme, Named, Sign}
 use Rattle.apl_expr.{specs.Trees.{Tree, Literal}, specs.Grammar.{IsTreeOf}, specs.Lines.{Meaning, Data, Row, Erase, data_word, row_word, erase_word, row_change, name_change, IsLit}, proofs.Parsed.{one_tree_of}, proofs.CellEdits.{literal_read}}
 
--- what comes after the word of a change, and what the line asks for
+-- the lexemes after the word of a change, and the meaning of the line
 pub data ChangeAfter : List ℕ → List Lexeme → Meaning → Type 0 where
   data_line : {n : List ℕ} {ts : List Lexeme} {e : Tree} → IsTreeOf ts e → ChangeAfter data_word (Named n ∷ Sign 0x2190 ∷ ts) (Data n e)
   row_line : {n : List ℕ} {ts : List Lexeme} {l : Literal} → IsLit ts l → ChangeAfter row_word (Named n ∷ ts) (Row n l)
   erase_line : {n : List ℕ} → ChangeAfter erase_word (Named n ∷ []) (Erase n)
 
--- a word that is looked up is the one of its table
+-- a lookup finds only the word of its table
 pub looked_up : (w v : List ℕ) (x m : Meaning) → cond {A = Option Meaning} (bytes_eq w v) (Some x) None ≡ Some m → (w ≡ v) × (x ≡ m)
 looked_up w v x m h = tested (bytes_eq w v) refl h
   where
@@ -17,7 +17,7 @@ looked_up w v x m h = tested (bytes_eq w v) refl h
     tested true is h = ((bytes_eq-Decides w v).0 is, cc)
     tested false is h = let no : ⊥ = cc in absurd no
 
--- what comes after a word comes after the same one
+-- a claim about a word holds for an equal word
 pub follows_as : (P : List ℕ → Meaning → Type 0) {w v : List ℕ} {x m : Meaning} → (w ≡ v) × (x ≡ m) → P v x → P w m
 follows_as P {w = w} {x = x} found is = subst (λ (k : Meaning). P w k) found.1 (subst (λ (k : List ℕ). P k x) (sym found.0) is)
 
@@ -30,7 +30,7 @@ erase_follows {w = w} {n = n} {m = m} h = follows_as (λ v x. ChangeAfter v (Nam
 pub differ : (v w : List ℕ) → bytes_eq v w ≡ false → v ≡ w → ⊥
 differ v w is_not same = let is = (bytes_eq-Decides v w).1 same in cc
 
--- what comes after each word
+-- the lexemes after each word
 pub after_data : {w : List ℕ} {us : List Lexeme} {m : Meaning} → ChangeAfter w us m → w ≡ data_word → (n : List ℕ) × (ts : List Lexeme) × (e : Tree) × (us ≡ Named n ∷ Sign 0x2190 ∷ ts) × IsTreeOf ts e × (m ≡ Data n e)
 after_data (data_line {n = n} {ts = ts} {e = e} is) same = (n, ts, e, refl, is, refl)
 after_data {w = w} other same = absurd (differ w data_word refl same)
@@ -43,13 +43,13 @@ pub after_erase : {w : List ℕ} {us : List Lexeme} {m : Meaning} → ChangeAfte
 after_erase (erase_line {n = n}) same = (n, refl, refl)
 after_erase {w = w} other same = absurd (differ w erase_word refl same)
 
--- no change comes after another word
+-- no other word begins a change
 pub after_no_change : {w : List ℕ} {us : List Lexeme} {m : Meaning} → ChangeAfter w us m → (w ≡ data_word → ⊥) → (w ≡ row_word → ⊥) → (w ≡ erase_word → ⊥) → ⊥
 after_no_change (data_line is) no_data no_row no_erase = no_data refl
 after_no_change (row_line is) no_data no_row no_erase = no_row refl
 after_no_change erase_line no_data no_row no_erase = no_erase refl
 
--- whether a word is that of a change
+-- the word begins a change
 abbrev pub is_change_word : List ℕ → Bool
 is_change_word w = bytes_eq w data_word || bytes_eq w row_word || bytes_eq w erase_word
 
@@ -58,7 +58,7 @@ change_word (data_line is) = refl
 change_word (row_line is) = refl
 change_word erase_line = refl
 
--- no two changes come after a word
+-- a word with these lexemes has at most one change
 pub one_change_after : {w : List ℕ} {us : List Lexeme} {m n : Meaning} → ChangeAfter w us m → ChangeAfter w us n → m ≡ n
 one_change_after (data_line {n = k} {ts = ts} {e = e} is) other = let x = after_data other refl in same x.0 x.1 x.2 x.3 x.4 x.5
   where

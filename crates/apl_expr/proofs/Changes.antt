@@ -1,4 +1,4 @@
--- A change from its front and what comes after it.
+-- The change of a line, from its front and the rest.
 use Rattle.std.{proofs.Common.{◌≡◌, ℕ, false, ◌≤◌, Some, None, Result, Ok, Err, List, [], ◌∷◌, length, refl, sym, ap, ◌∙◌, subst, arith, inl, inr}, specs.Prelude.{ℤ}}
 use Rattle.{smallvec.specs.SmallVec.{SmallVec}, apl_tokens.{specs.Lexemes.{Lexeme, Named, Sign}, specs.declared.name.Name.{Name}}}
 use Rattle.apl_expr.{specs.Limits.{most_tokens, most_height, most_nodes}, specs.declared.expr.Expr.{Expr}, specs.declared.fault.ParseFault.{ParseFault}, specs.declared.fault.ParseFault.TheVariants.{Syntax, Limit, NoMemory}, specs.Trees.{Tree, Literal, tree_of, literal_of, height, nodes}}
@@ -8,7 +8,7 @@ use Rattle.apl_expr.{proofs.Fronts.{name_before_is, name_first_is, only_name_is,
 use Rattle.apl_expr.specs.declared.expr.Literal as code
 use Rattle.apl_expr.specs.declared.command.Change.TheVariants as changed
 
--- a change by what stands at its front
+-- a change by the lexemes at its front
 pub data Changed : List Lexeme → Meaning → Type 0 where
   formula : {n : List ℕ} {ts : List Lexeme} {e : Tree} → IsTreeOf ts e → Changed (Named n ∷ Sign 0x2190 ∷ ts) (Define n e)
   edit : {n : List ℕ} {ts us : List Lexeme} {ps : List ℤ} {l : Literal} → IsCellPositions ts ps (Sign 0x5d ∷ Sign 0x2190 ∷ us) → IsLit us l → Changed (Named n ∷ Sign 0x5b ∷ ts) (Cell n ps l)
@@ -52,7 +52,7 @@ word_of_change w us is = change_worded (by_front is) w us refl
 pub no_change_word : (w : List ℕ) (us : List Lexeme) → is_change_word w ≡ false → IsNoChange (Sign 0x29 ∷ Named w ∷ us)
 no_change_word w us other = λ m is. let word = change_word (word_of_change w us is) in cc
 
--- no list of tokens is two changes
+-- a list of tokens has at most one change
 pub one_change : {ts : List Lexeme} {m : Meaning} → IsChange ts m → (n : Meaning) → IsChange ts n → m ≡ n
 one_change is n other = same (by_front is) (by_front other)
   where
@@ -93,7 +93,7 @@ module _ (name : Name) (us : List Lexeme) where
   cell_err Limit given = absurd given
   cell_err NoMemory given = tt
 
--- the data, where the rest is a definition
+-- data, where the rest is a definition
 module _ (us : List Lexeme) (short : length us ≤ most_tokens) where
   pub data_none : name_before 0x2190 us ≡ None → IsChangeOf (Sign 0x29 ∷ Named data_word ∷ us) (Err Syntax)
   data_none none = λ m is. let x = after_data (word_of_change data_word us is) refl in no_name_before none x.0 x.1 x.3
@@ -134,7 +134,7 @@ module _ (us : List Lexeme) where
     row_err Limit given = absurd given
     row_err NoMemory given = tt
 
--- what is erased, and another word
+-- an erasure, and any other word
 module _ (us : List Lexeme) where
   pub erase_ok : (name : Name) → only_name us ≡ Some name → IsChangeOf (Sign 0x29 ∷ Named erase_word ∷ us) (Ok (changed.Erase name))
   erase_ok name is = (subst (λ (xs : List Lexeme). IsChange (Sign 0x29 ∷ Named erase_word ∷ xs) (Erase name)) (sym (only_name_is us name is)) (erase refl), λ no. no, refl)
@@ -145,7 +145,7 @@ module _ (us : List Lexeme) where
   pub no_word_of_change : (w : List ℕ) → (w ≡ data_word → ⊥) → (w ≡ row_word → ⊥) → (w ≡ erase_word → ⊥) → IsNoChange (Sign 0x29 ∷ Named w ∷ us)
   no_word_of_change w no_data no_row no_erase = λ m is. after_no_change (word_of_change w us is) no_data no_row no_erase
 
--- no change begins otherwise
+-- no change has another front
 pub no_front : (ts : List Lexeme) → name_before 0x2190 ts ≡ None → name_before 0x5b ts ≡ None → command_word ts ≡ None → IsNoChange ts
 no_front ts no_definition no_edit no_word = λ m is. by (by_front is) refl
   where
@@ -154,6 +154,6 @@ no_front ts no_definition no_edit no_word = λ m is. by (by_front is) refl
     by (edit {n = n} {ts = us} p is) h = no_name_before no_edit n us h
     by (worded {w = w} {ts = us} is) h = no_command_word no_word w us h
 
--- the exit of a `?`
+-- `?` returns the fault
 pub exits : {A : Type 0} (P : Result A ParseFault → Type 0) (result : Result A ParseFault) (f y : ParseFault) → result ≡ Err y → y ≡ f → P (Err f) → P result
 exits {A = A} P result f y is same given = subst (λ (r : Result A ParseFault). P r) (sym (is ∙ ap (λ (z : ParseFault). Err z) same)) given

@@ -1,4 +1,4 @@
--- One lexeme more of an edit.
+-- One more lexeme of an edit.
 use Rattle.std.{proofs.Common.{◌≡◌, ℕ, ◌+◌, ◌<◌, ◌≤◌, subst, Option, Some, None, Result, Err, List, [], ◌∷◌, length, drop, get_or, sym, ap, ◌∙◌, refl, drop-cons, add-one, arith, Bool, true, false}, specs.Prelude.{ℤ, ◌==◌}, proofs.Math.ListN.{drop_of_length-le}}
 use Rattle.{smallvec.specs.SmallVec.{SmallVec}, apl_tokens.{specs.declared.token.Spanned.{Spanned}, specs.Lexemes.{Lexeme, lexeme, lexemes}}}
 use Rattle.apl_expr.{specs.declared.fault.ParseFault.{ParseFault}, specs.declared.fault.ParseFault.TheVariants.{Syntax, Limit, NoMemory}, specs.Trees.{Literal, Numbers}, specs.Edits.{Edit, Items, Written, Write, edit_step, edit_end, edits, EditSteps, EditGives}}
@@ -17,18 +17,18 @@ pub kept : (ts : List Spanned) (i : ℕ) (x : Spanned) (s : Edit) (o : Option Ed
 kept ts i x s o w h is so_far stepped =
     ap (λ (p : Option Edit). edits (lexemes (drop (i + 1) ts)) p) (sym stepped ∙ ap (λ (y : Spanned). edit_step (lexeme y.token) s) is) ∙ sym (edits_next ts i x s h) ∙ so_far
 
--- a fault of a step is that of the whole
+-- a fault of a step is the fault of the whole
 pub failed : (e : ParseFault) (ts : List Spanned) (i : ℕ) (x : Spanned) (s : Edit) (w : Option Written) → i < length ts → x ≡ get_or ts i x → edits (lexemes (drop i ts)) (Some s) ≡ w → EditSteps (Err e) (edit_step (lexeme x.token) s) → EditGives (Err e) w
 failed Syntax ts i x s w h is so_far fault = sym (kept ts i x s None w h is so_far fault) ∙ edits_none (lexemes (drop (i + 1) ts))
 failed Limit ts i x s w h is so_far fault = fault
 failed NoMemory ts i x s w h is so_far fault = tt
 
--- the tokens are read
+-- all lexemes are read
 pub finished : (result : Result (SmallVec ℤ × code.Literal) ParseFault) (ts : List Spanned) (i : ℕ) (s : Edit) (w : Option Written) → length ts ≤ i → edits (lexemes (drop i ts)) (Some s) ≡ w → EditGives result (edit_end s) → EditGives result w
 unfolding edits
 finished result ts i s w h so_far given = subst (λ (o : Option Written). EditGives result o) (sym (ap (λ (xs : List Spanned). edits (lexemes xs) (Some s)) (drop_of_length-le ts h)) ∙ so_far) given
 
--- an edit ends after its numbers, of which there must be some
+-- no edit ends before its first number
 pub no_items : (ps ns : List ℤ) (s : Edit) → s ≡ Items ps ns → length ns ≡ 0 → edit_end s ≡ None
 no_items ps [] s is none = ap edit_end is
 no_items ps (n ∷ ns) s is none = absurd (omega arith)

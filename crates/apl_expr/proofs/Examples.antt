@@ -1,4 +1,4 @@
--- Worked examples of the grammar: what some lines ask for.
+-- Worked examples of the grammar: the meanings of some lines.
 use Rattle.{std.{proofs.Common.{ℕ, [], ◌∷◌, refl, arith}, specs.Prelude.{pos, negsuc, codes}}, apl_tokens.specs.Lexemes.{Number, Characters, Named, Sign}}
 use Rattle.apl_expr.{specs.Symbols.{scalar_monad_of, scalar_dyad_of, array_monad, array_dyad, folding_of, folding_along_of, monadic_along_of, dyadic_along_of}, specs.Trees.{Tree, Numbers, Text, Const, Name, Monad, Dyad, Index, Reduce, Scan, Outer, Inner, Filled, Empty, NoPositions}, specs.Machine.{run}}
 use Rattle.apl_expr.{specs.Grammar.{IsTreeOf, one, more}, specs.Lines.{IsLine, show, change, cell, define, row, erase, word, about, opened, numbered, nums_lit, text_lit, last, further, Meaning, Define, Cell, Row, Erase, Show, Names, Cost, Csv, Open, Step, Commit, Drop}}
@@ -17,7 +17,7 @@ minus a b = Dyad (dyadic.Scalar dyad.Minus) a b
 
 -- expressions, and their trees
 trees :
-    -- 10-5-2: a function takes all that stands at its right
+    -- 10-5-2: the right argument of a function is everything to its right
     IsTreeOf (Number (pos 10) ∷ Sign 0x2d ∷ Number (pos 5) ∷ Sign 0x2d ∷ Number (pos 2) ∷ []) (minus (number 10) (minus (number 5) (number 2))) ×
     -- (10-5)-2
     IsTreeOf (Sign 0x28 ∷ Number (pos 10) ∷ Sign 0x2d ∷ Number (pos 5) ∷ Sign 0x29 ∷ Sign 0x2d ∷ Number (pos 2) ∷ []) (minus (minus (number 10) (number 5)) (number 2)) ×
@@ -27,7 +27,7 @@ trees :
     IsTreeOf (Named (0x41 ∷ []) ∷ Sign 0x5b ∷ Sign 0x3b ∷ Number (pos 2) ∷ Sign 0x5d ∷ []) (Index (Name (0x41 ∷ [])) (Empty (Filled (number 2) NoPositions))) ×
     -- A[B[1]]
     IsTreeOf (Named (0x41 ∷ []) ∷ Sign 0x5b ∷ Named (0x42 ∷ []) ∷ Sign 0x5b ∷ Number (pos 1) ∷ Sign 0x5d ∷ Sign 0x5d ∷ []) (Index (Name (0x41 ∷ [])) (Filled (Index (Name (0x42 ∷ [])) (Filled (number 1) NoPositions)) NoPositions)) ×
-    -- A[1][2]: an index of what the first one gives
+    -- A[1][2]: an index of the first result
     IsTreeOf (Named (0x41 ∷ []) ∷ Sign 0x5b ∷ Number (pos 1) ∷ Sign 0x5d ∷ Sign 0x5b ∷ Number (pos 2) ∷ Sign 0x5d ∷ []) (Index (Index (Name (0x41 ∷ [])) (Filled (number 1) NoPositions)) (Filled (number 2) NoPositions)) ×
     -- A/[2]B: the bracket after a function is its axis
     IsTreeOf (Named (0x41 ∷ []) ∷ Sign 0x2f ∷ Sign 0x5b ∷ Number (pos 2) ∷ Sign 0x5d ∷ Named (0x42 ∷ []) ∷ []) (Dyad (dyadic.Replicate (along.Axis (pos 2))) (Name (0x41 ∷ [])) (Name (0x42 ∷ []))) ×
@@ -54,7 +54,7 @@ trees = (
   correct _ _ refl,
 )
 
--- texts that are no expressions
+-- texts that are not expressions
 no_trees :
     -- (1)2 is no expression
     ((e : Tree) → IsTreeOf (Sign 0x28 ∷ Number (pos 1) ∷ Sign 0x29 ∷ Number (pos 2) ∷ []) e → ⊥) ×
@@ -62,7 +62,7 @@ no_trees :
     ((e : Tree) → IsTreeOf (Number (pos 1) ∷ Number (pos 2) ∷ Sign 0x5b ∷ Number (pos 1) ∷ Sign 0x5d ∷ []) e → ⊥) ×
     -- A+/B is no expression: a reduction has no left argument
     ((e : Tree) → IsTreeOf (Named (0x41 ∷ []) ∷ Sign 0x2b ∷ Sign 0x2f ∷ Named (0x42 ∷ []) ∷ []) e → ⊥) ×
-    -- /B is no expression: the sign makes a reduction of a scalar function before it, and has no other role without a left argument
+    -- /B is no expression: `/` makes a reduction of a scalar function before it, and needs a left argument otherwise
     ((e : Tree) → IsTreeOf (Sign 0x2f ∷ Named (0x42 ∷ []) ∷ []) e → ⊥) ×
     -- A∘.~B is no expression: ~ is no scalar function of two arguments
     ((e : Tree) → IsTreeOf (Named (0x41 ∷ []) ∷ Sign 0x2218 ∷ Sign 0x2e ∷ Sign 0x7e ∷ Named (0x42 ∷ []) ∷ []) e → ⊥)
@@ -75,9 +75,9 @@ no_trees = (
   λ e is. run_none 0 (Sign 0x2e ∷ Sign 0x7e ∷ Named (0x42 ∷ []) ∷ []) e (complete is),
 )
 
--- lines, and what they ask for
+-- lines and their meanings
 lines :
-    -- D[1] asks for its value
+    -- D[1] shows its value
     IsLine (Named (0x44 ∷ []) ∷ Sign 0x5b ∷ Number (pos 1) ∷ Sign 0x5d ∷ []) (Show (Index (Name (0x44 ∷ [])) (Filled (number 1) NoPositions))) ×
     -- A←-B
     IsLine (Named (0x41 ∷ []) ∷ Sign 0x2190 ∷ Sign 0x2d ∷ Named (0x42 ∷ []) ∷ []) (Define (0x41 ∷ []) (Monad (monadic.Scalar monad.Negative) (Name (0x42 ∷ [])))) ×
@@ -123,9 +123,9 @@ lines = (
   change (define (correct _ _ refl)),
 )
 
--- texts that are no lines
+-- texts that are not lines
 no_lines :
-    -- )OPEN 2 )NAMES is no line: a change is opened, and nothing else
+    -- )OPEN 2 )NAMES is no line: only a change can be opened
     ((m : Meaning) → IsLine (Sign 0x29 ∷ Named (codes "OPEN") ∷ Number (pos 2) ∷ Sign 0x29 ∷ Named (codes "NAMES") ∷ []) m → ⊥) ×
     -- )OPEN 1 )STEP 2 is none
     ((m : Meaning) → IsLine (Sign 0x29 ∷ Named (codes "OPEN") ∷ Number (pos 1) ∷ Sign 0x29 ∷ Named (codes "STEP") ∷ Number (pos 2) ∷ []) m → ⊥) ×

@@ -1,4 +1,4 @@
--- A tree has no more nodes than tokens, and is no higher than it has nodes.
+-- A tree has at most as many nodes as tokens, and its height is at most the number of its nodes.
 use Rattle.std.{proofs.Common.{◌≡◌, ℕ, ◌+◌, ◌≤◌, List, [], ◌∷◌, length, Option, Some, None, refl, subst, arith}, specs.Prelude.{ℤ}}
 use Rattle.apl_tokens.specs.Lexemes.{Lexeme}
 use Rattle.apl_expr.{specs.declared.functions.Function1.{Function1}, specs.declared.functions.Function2.{Function2}, specs.Limits.{most_height, most_nodes}}

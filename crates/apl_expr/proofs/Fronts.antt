@@ -1,4 +1,4 @@
--- What the tokens are where a name, a word or a number stands at their front.
+-- The tokens of a line with a name, a word or a number at its front.
 use Rattle.std.{proofs.Common.{◌≡◌, ℕ, Option, Some, None, List, [], ◌∷◌, refl, ap, Bool, true, false, cond}, specs.Prelude.{ℤ, ◌==◌}, proofs.lemmas.Bool.{eqb-true, eq-eqb}}
 use Rattle.apl_tokens.specs.Lexemes.{Lexeme, Number, Characters, Named, Sign}
 use Rattle.apl_expr.specs.Fronts.{name_before, name_first, only_name, number_first, only_number, command_word}
@@ -71,7 +71,7 @@ only_number_is (Sign n ∷ ts) k h = cc
 only_number_is (Number n ∷ []) k h = cc
 only_number_is (Number n ∷ t ∷ ts) k h = cc
 
--- none stands there
+-- the tokens have no such front
 pub no_name_before : {c : ℕ} {ts : List Lexeme} → name_before c ts ≡ None → (n : List ℕ) (us : List Lexeme) → ts ≡ Named n ∷ Sign c ∷ us → ⊥
 no_name_before {c = c} none n us is =
     let found = ap (λ (b : Bool). cond {A = Option (List ℕ × List Lexeme)} b (Some (n, us)) None) (eq-eqb c c refl) in

@@ -1,4 +1,4 @@
--- What a function at the front of the tokens is in the grammar.
+-- Each function that is read at the front of the tokens is in the grammar.
 use Rattle.std.{proofs.Common.{◌≡◌, ℕ, ◌≤◌, Bool, true, false, cond, Option, Some, None, List, [], ◌∷◌, length, drop, refl, sym, ap, subst, arith}, specs.Prelude.{ℤ, ◌==◌, ◌&&◌, option_and_then}, proofs.lemmas.Bool.{eqb-true}, proofs.lemmas.List.{length-map}}
 use Rattle.apl_tokens.{specs.declared.token.Spanned.{Spanned}, specs.Lexemes.{Lexeme, Number, Characters, Named, Sign, lexeme, lexemes}}
 use Rattle.apl_expr.{specs.declared.functions.Function1.{Function1}, specs.declared.functions.Function2.{Function2}, specs.declared.functions.Function.{Function}, specs.Symbols.{monadic_along_of, folded_along_of, dyadic_along_of, outer_of, inner_of, stands_alone}}
@@ -69,7 +69,7 @@ fold_long : (c : ℕ) (ts : List Lexeme) (f : Function1) → fold_in c ts ≡ So
 fold_long c [] f h = let no : ⊥ = cc in absurd no
 fold_long c (t ∷ ts) f h = omega arith
 
--- what is made of an axis, where there is one
+-- a function of an axis, if there is an axis
 module _ {A : Type 0} (make : ℤ → Option A) (x : A) (ts : List Lexeme) where
   with_axis : (o : Option ℤ) → axis_in ts ≡ o → option_and_then make o ≡ Some x → (k : ℤ) × (axis_in ts ≡ Some k) × (make k ≡ Some x)
   with_axis (Some k) is h = (k, is, h)
@@ -103,7 +103,7 @@ along2_is c ts g h =
 
 -- ---- the whole
 
--- what a function is before its argument and between its arguments is in the grammar, and it has no more lexemes than there are
+-- the functions of one and of two arguments are in the grammar, and within the tokens
 pub record IsRead (c : ℕ) (ts : List Lexeme) (r : Function) : Type 0 where
   pub mono : (f : Function1) → r.alone ≡ Some f → IsMonadicFunction (Sign c ∷ ts) f (drop r.more ts)
   pub duo : (g : Function2) → r.between ≡ Some g → IsDyadicFunction (Sign c ∷ ts) g (drop r.more ts)

@@ -1,4 +1,4 @@
--- A function of the grammar in front of an expression is the one that is taken there.
+-- A function of the grammar before an expression is the function that is read there.
 use Rattle.std.{proofs.Common.{◌≡◌, ℕ, Bool, true, false, cond, Option, Some, None, List, [], ◌∷◌, drop, refl, sym, ap, ◌∙◌, subst, arith}, specs.Prelude.{ℤ, ◌==◌, ◌&&◌, ◌||◌, option_and_then}, proofs.lemmas.Bool.{eqb-true}}
 use Rattle.apl_tokens.specs.Lexemes.{Lexeme, Number, Characters, Named, Sign}
 use Rattle.apl_expr.{specs.declared.functions.Function1.{Function1}, specs.declared.functions.Function2.{Function2}, specs.Symbols.{monadic_of, monadic_along_of, folded_of, folded_along_of, dyadic_of, dyadic_along_of, outer_of, inner_of, stands_alone}, specs.Trees.{Tree}}
@@ -6,7 +6,7 @@ use Rattle.apl_expr.specs.Grammar.{IsNums, one, more, IsMonadicFunction, plain1,
 use Rattle.apl_expr.{specs.Functions.{function, axis_in, product_in, fold_in, fold_along_in, monadic_along_in, dyadic_along_in, along_or_plain, fold_or_less, fold_along_or_less, product_or_less, function_at}, specs.Machine.{ends_position}}
 use Rattle.apl_expr.proofs.Tables.{BeginsNone, IsNoFunction, IsFolding, left_bracket, right_bracket, semicolon, dot, no_function, folding, folding_along, jot_inner}
 
--- ---- what an expression begins with
+-- ---- the first lexeme of an expression
 
 pub data Begins : List Lexeme → Type 0 where
   a_number : {n : ℤ} {ts : List Lexeme} → Begins (Number n ∷ ts)
@@ -41,7 +41,7 @@ mutual
   ref_begins (parens d) = a_parenthesis
   ref_begins (index r l is) = ref_begins r
 
--- ---- what is not taken
+-- ---- the sign of a function
 
 pub not_equal : (c d : ℕ) → (c ≡ d → ⊥) → (c == d) ≡ false
 not_equal c d refutes = decide (c == d) refl
@@ -96,7 +96,7 @@ no_product_sign c d refutes (Number e ∷ ts) = refl
 no_product_sign c d refutes (Characters e ∷ ts) = refl
 no_product_sign c d refutes (Named e ∷ ts) = refl
 
--- ---- what is not taken in front of an expression
+-- ---- functions that do not match before an expression
 
 function_is : (c d : ℕ) → BeginsNone d → (BeginsNone c → ⊥) → c ≡ d → ⊥
 function_is c d none refutes same = refutes (subst BeginsNone (sym same) none)
@@ -138,9 +138,9 @@ no_fold_along c a_name = refl
 no_fold_along c (a_parenthesis {ts = ts}) = unfolded_along c 0x28 (λ f. f.no_parenthesis refl) (axis_in ts)
 no_fold_along c (a_function {c = d} {ts = ts} refutes) = unfolded_along c d (λ f. refutes f.begins_none) (axis_in ts)
 
--- ---- what is taken
+-- ---- functions that match
 
--- where there is no product
+-- no product matches
 module _ (c : ℕ) (ts : List Lexeme) (function_sign : IsNoFunction c → ⊥) (unmultiplied : product_in c ts ≡ None) where
   past_product : function_at c ts ≡ fold_along_or_less c (fold_along_in c ts) ts
   past_product =
@@ -183,7 +183,7 @@ inner_product c d g us is = jot (c == 0x2218) refl
 
 -- ---- the whole
 
--- in front of us, the function that is taken from ts is f
+-- before us, the function that is read from ts is f
 abbrev pub MonoTaken : List Lexeme → Function1 → List Lexeme → Type 0
 MonoTaken [] f us = ⊥
 MonoTaken (Number n ∷ ts) f us = ⊥

@@ -3,7 +3,7 @@ use Rattle.std.{proofs.Common.{◌≡◌, ◌∙◌, ℕ, ◌<◌, Some, List, [
 use Rattle.apl_tokens.{specs.Lexemes.{Lexeme, Number, Sign, lexeme, lexemes}, specs.declared.token.Spanned.{Spanned}}
 use Rattle.apl_expr.{specs.declared.functions.Function2.{Function2}, specs.Grammar.{IsNums, one, more, IsExpr, operand, duo, IsWrittenOperand, nums, plain2, IsTreeOf}, specs.Symbols.{dyadic_of}, specs.Trees.{Tree, Numbers, Const, between_arguments}}
 
--- numbers that stand side by side are an operand
+-- adjacent numbers are an operand
 pub numbers_read : (n : ℤ) (ns : List ℤ) → IsNums (map (λ z. Number z) (n ∷ ns)) (n ∷ ns) []
 numbers_read n [] = one
 numbers_read n (m ∷ ns) = more (numbers_read m ns)

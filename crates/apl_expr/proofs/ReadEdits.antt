@@ -1,4 +1,4 @@
--- The edit of a cell by a number and a row of numbers, read from the bytes of a line, are lines of the grammar.
+-- Edits of a cell by a number, and rows of numbers, that are read from bytes are lines of the grammar.
 use Rattle.std.{proofs.Common.{ℕ, ◌*◌, ◌<◌, ◌≤◌, List, [], ◌∷◌, ◌++◌, length, Ok, refl, sym, ap, subst, arith, true, ◌≡◌, ◌+◌, length-append, lit<}, specs.Prelude.{ℤ, Some}, proofs.lemmas.List.{length-map}}
 use Rattle.smallvec.specs.SmallVec.{SmallVec}
 use Rattle.apl_tokens.{specs.declared.name.Name.{Name}, specs.Lexemes.{Lexeme, Number, Sign}, specs.Signs.{right_bracket, left_arrow}, specs.NumberEdits.{position_lexemes, edit_lexemes, row_numbers_of, AreSeveral, row_lexemes, Says}, specs.declared.row_edit.RowNumbers.{RowNumbers}}

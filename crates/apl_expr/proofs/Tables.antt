@@ -1,5 +1,5 @@
--- What the laws use of the tables of symbols: the signs that belong to no function are in none of them, and no expression begins
--- with a sign that goes on with a function.
+-- Lemmas about the tables of symbols: no table has a sign that is part of no function, and no expression begins with a sign that continues a
+-- function.
 use Rattle.std.{proofs.Common.{◌≡◌, ℕ, Bool, true, false, cond, Option, Some, None, List, [], ◌∷◌, refl, sym, subst, arith}, specs.Prelude.{ℤ, ◌==◌, ◌||◌}, proofs.lemmas.Bool.{eqb-true}, proofs.lemmas.Option.{option_and_then_some}}
 use Rattle.apl_expr.specs.declared.functions.Function1.{Function1}
 use Rattle.apl_expr.specs.Symbols.{Meant, meant, foldings, foldings_along, scalar_monad_of, scalar_dyad_of, array_monad, array_dyad, monadic_of, monadic_along_of, folding_of, folding_along_of, folded_of, folded_along_of, dyadic_of, dyadic_along_of, inner_of, stands_alone}
@@ -11,7 +11,7 @@ pub record BeginsNone (c : ℕ) : Type 0 where
   pub folded : (d : ℕ) → folded_of c d ≡ None
   pub folded_along : (d : ℕ) (k : ℤ) → folded_along_of c d k ≡ None
 
--- nor one of two
+-- the sign begins no function of two arguments either
 pub record IsNoFunction (c : ℕ) : Type 0 where
   pub one : BeginsNone c
   pub plain : dyadic_of c ≡ None
@@ -96,7 +96,7 @@ backslash_bar : IsFolding 0x2340
 unfolding scalar_monad_of scalar_dyad_of array_monad monadic_along_of
 backslash_bar = record { begins_none = record { plain = refl; along = λ k. refl; folded = λ d. refl; folded_along = λ d k. refl }; no_parenthesis = λ same. omega arith; no_dot = λ same. omega arith; no_bracket = λ same. omega arith }
 
--- what a table says of a sign it says of one of its own
+-- a claim about the entries of a table holds for the entry that is found
 module _ {A : Type 0} (P : ℕ → Type 0) where
   abbrev Each : List (Meant A) → Type 0
   Each [] = Unit {0}

@@ -1,10 +1,10 @@
--- The words that stand after `)` in no change, and what stands after each.
+-- The words after `)` that begin no change, and the lexemes after each.
 use Rattle.std.{proofs.Common.{◌≡◌, ℕ, Option, Some, None, List, [], ◌∷◌, refl, sym, subst, Bool, true, false, cond, inl, inr, ◌⊎◌}, specs.Prelude.{ℤ}, specs.Str.{bytes_eq}, proofs.lemmas.Slice.Eq.{bytes_eq-Decides}}
 use Rattle.apl_tokens.specs.Lexemes.{Lexeme, Number, Named, Sign}
 use Rattle.apl_expr.{specs.Lines.{Meaning, Names, Cost, Csv, Open, Step, Commit, Drop, IsChange, names_word, cost_word, csv_word, open_word, step_word, commit_word, drop_word, word_query, name_query, opened_change, number_command}, specs.Changes.{IsNoChange}}
 use Rattle.apl_expr.{proofs.ChangeWords.{looked_up, follows_as, differ, is_change_word}, proofs.Changes.{one_change, no_change_word}}
 
--- what comes after a word, and what the line asks for
+-- the lexemes after a word, and the meaning of the line
 pub data After : List ℕ → List Lexeme → Meaning → Type 0 where
   names_line : After names_word [] Names
   cost_line : After cost_word [] Cost
@@ -14,7 +14,7 @@ pub data After : List ℕ → List Lexeme → Meaning → Type 0 where
   commit_line : {k : ℤ} → After commit_word (Number k ∷ []) (Commit k)
   drop_line : {k : ℤ} → After drop_word (Number k ∷ []) (Drop k)
 
--- a word that is looked up is the first of its table, or stands in what follows
+-- a lookup finds the first word of the table, or one of the others
 looked_through : (w v : List ℕ) (x m : Meaning) (others : Option Meaning) → cond {A = Option Meaning} (bytes_eq w v) (Some x) others ≡ Some m → ((w ≡ v) × (x ≡ m)) ⊎ (others ≡ Some m)
 looked_through w v x m others h = tested (bytes_eq w v) refl h
   where
@@ -46,7 +46,7 @@ number_follows {w = w} {k = k} {m = m} h = by_step (looked_through w step_word (
     by_step (inl found) = follows_as (λ v x. After v (Number k ∷ []) x) found step_line
     by_step (inr other) = by_commit (looked_through w commit_word (Commit k) m (cond (bytes_eq w drop_word) (Some (Drop k)) None) other)
 
--- what comes after each word
+-- the lexemes after each word
 pub after_names : {w : List ℕ} {us : List Lexeme} {m : Meaning} → After w us m → w ≡ names_word → (us ≡ []) × (m ≡ Names)
 after_names names_line same = (refl, refl)
 after_names {w = w} other same = absurd (differ w names_word refl same)
@@ -75,7 +75,7 @@ pub after_drop : {w : List ℕ} {us : List Lexeme} {m : Meaning} → After w us 
 after_drop (drop_line {k = k}) same = (k, refl, refl)
 after_drop {w = w} other same = absurd (differ w drop_word refl same)
 
--- nothing comes after another word
+-- no other word has a meaning
 pub after_other : {w : List ℕ} {us : List Lexeme} {m : Meaning} → After w us m → (w ≡ names_word → ⊥) → (w ≡ cost_word → ⊥) → (w ≡ csv_word → ⊥) → (w ≡ open_word → ⊥) → (w ≡ step_word → ⊥) → (w ≡ commit_word → ⊥) → (w ≡ drop_word → ⊥) → ⊥
 after_other names_line no_names no_cost no_csv no_open no_step no_commit no_drop = no_names refl
 after_other cost_line no_names no_cost no_csv no_open no_step no_commit no_drop = no_cost refl
@@ -85,7 +85,7 @@ after_other step_line no_names no_cost no_csv no_open no_step no_commit no_drop 
 after_other commit_line no_names no_cost no_csv no_open no_step no_commit no_drop = no_commit refl
 after_other drop_line no_names no_cost no_csv no_open no_step no_commit no_drop = no_drop refl
 
--- none of these is the word of a change
+-- none of these words begins a change
 other_word : {w : List ℕ} {us : List Lexeme} {m : Meaning} → After w us m → is_change_word w ≡ false
 other_word names_line = refl
 other_word cost_line = refl
@@ -98,7 +98,7 @@ other_word drop_line = refl
 pub no_change_after : {w : List ℕ} {us : List Lexeme} {m : Meaning} → After w us m → (vs : List Lexeme) → IsNoChange (Sign 0x29 ∷ Named w ∷ vs)
 no_change_after {w = w} after vs = no_change_word w vs (other_word after)
 
--- no two commands come after a word
+-- a word with these lexemes has at most one command
 pub one_after : {w : List ℕ} {us : List Lexeme} {m n : Meaning} → After w us m → After w us n → m ≡ n
 one_after names_line other = sym (after_names other refl).1
 one_after cost_line other = sym (after_cost other refl).1

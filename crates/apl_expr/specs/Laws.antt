@@ -1,2 +1,2 @@
--- Proofs that impls give with their types. No contract cites them.
+-- Proofs given with types. No contract cites them.
 pub mod Codes

@@ -1,4 +1,4 @@
--- How large a line and a tree may be.
+-- The limits of a line and of its tree.
 use Rattle.std.specs.Prelude.{ℕ}
 
 -- the most tokens of a line

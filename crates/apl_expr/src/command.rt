@@ -1,4 +1,4 @@
-//! Lines: what each asks for.
+//! The command of each line.
 
 ghost use Rattle.std.specs.Prelude.{◌≡◌, true, ◌+◌, ◌<◌, ◌≤◌, ◌∷◌, ℕ, List, length, None, Some, Ok, MatchOption};
 ghost use Rattle.std.specs.Str.{chars};
@@ -23,57 +23,57 @@ use apl_tokens::{
 };
 use std::alloc::Global;
 
-/// How many tokens stand before the numbers of a row: `)`, `ROW` and the name.
+/// The number of tokens before the numbers of a row: `)`, `ROW` and the name.
 const TOKENS_BEFORE_A_ROW: usize = 3;
 
-/// A change of the sheet that a line asks for.
+/// A change of the sheet.
 #[derive(Debug, Drop)]
 pub enum Change {
-    /// `NAME ← expr`: the name is defined by the formula.
+    /// `NAME ← expr`: defines the name by the formula.
     Define(Name, Expr),
-    /// `) DATA NAME ← expr`: the name is given the value that the expression has now.
+    /// `) DATA NAME ← expr`: sets the name to the current value of the expression.
     Data(Name, Expr),
-    /// `NAME [ positions ] ← literal`: the item at the positions becomes the literal's.
+    /// `NAME [ positions ] ← literal`: replaces the item at the positions by the literal's item.
     Cell(Name, CellPositions, Literal),
-    /// `) ROW NAME literal`: the name's array gains the literal's items at its end, as one place more along its first axis.
+    /// `) ROW NAME literal`: appends the literal's items to the name's array, as one more place of its first axis.
     Row(Name, Literal),
-    /// `) ERASE NAME`: the name is taken out.
+    /// `) ERASE NAME`: removes the name.
     Erase(Name),
 }
 
-/// What a line asks for.
+/// The command of a line.
 #[derive(Debug, Drop)]
 pub enum Command {
-    /// Nothing: a line without tokens.
+    /// A line without tokens.
     Nothing,
     /// A change of the sheet.
     Change(Change),
-    /// `expr`: its value is shown.
+    /// `expr`: shows the value of the expression.
     Show(Expr),
-    /// `) NAMES`: the names are listed.
+    /// `) NAMES`: lists the names.
     Names,
-    /// `) COST`: the cost of the last change that was accepted is shown.
+    /// `) COST`: shows the cost of the last accepted change.
     Cost,
-    /// `) CSV NAME`: the name's value is written as a table.
+    /// `) CSV NAME`: writes the name's value as a table.
     Csv(Name),
-    /// `) OPEN num change`: the change is begun in the slot of this number, and made later.
+    /// `) OPEN num change`: opens the change in the slot with this number, to be committed later.
     Open(i64, Box<Change>),
-    /// `) STEP num`: the change that was opened in the slot of this number is brought one step further.
+    /// `) STEP num`: advances the open change in the slot by one step.
     Step(i64),
-    /// `) COMMIT num`: the change that was opened in the slot of this number is made.
+    /// `) COMMIT num`: commits the open change in the slot.
     Commit(i64),
-    /// `) DROP num`: the change that was opened in the slot of this number is given up.
+    /// `) DROP num`: drops the open change in the slot.
     Drop(i64),
 }
 
-/// The name or the word that stands at the front of a line, and the tokens after what stands there.
+/// The name or the word at the front of a line, and the tokens after that part.
 #[derive(Clone, Copy)]
 struct Front<'a> {
     name: Name,
     rest: &'a [Spanned],
 }
 
-/// The name at the front that the sign follows, and what comes after them.
+/// Returns the name at the front, if the sign follows it, and the tokens after the sign.
 fn name_before(tokens: &[Spanned], sign: char) -> Option<Front<'_>>
     ensures { MatchOption result (name_before sign (lexemes tokens.now) ≡ None) (λ front. name_before sign (lexemes tokens.now) ≡ Some (front.name, lexemes front.rest.now)) }
 {
@@ -89,7 +89,7 @@ fn name_before(tokens: &[Spanned], sign: char) -> Option<Front<'_>>
     }
 }
 
-/// The name at the front, and what comes after it.
+/// Returns the name at the front, and the tokens after it.
 fn name_first(tokens: &[Spanned]) -> Option<Front<'_>>
     ensures { MatchOption result (name_first (lexemes tokens.now) ≡ None) (λ front. name_first (lexemes tokens.now) ≡ Some (front.name, lexemes front.rest.now)) }
 {
@@ -100,7 +100,7 @@ fn name_first(tokens: &[Spanned]) -> Option<Front<'_>>
     }
 }
 
-/// The name that is all of the tokens.
+/// Returns the name, if it is the only token.
 fn only_name(tokens: &[Spanned]) -> Option<Name>
     ensures { MatchOption result (only_name (lexemes tokens.now) ≡ None) (λ x. only_name (lexemes tokens.now) ≡ Some x) }
 {
@@ -113,7 +113,7 @@ fn only_name(tokens: &[Spanned]) -> Option<Name>
     }
 }
 
-/// The number at the front, and what comes after it.
+/// Returns the number at the front, and the tokens after it.
 fn number_first(tokens: &[Spanned]) -> Option<(i64, &[Spanned])>
     ensures { MatchOption result (number_first (lexemes tokens.now) ≡ None) (λ front. number_first (lexemes tokens.now) ≡ Some (front.0, lexemes front.1.now)) }
 {
@@ -124,7 +124,7 @@ fn number_first(tokens: &[Spanned]) -> Option<(i64, &[Spanned])>
     }
 }
 
-/// The number that is all of the tokens.
+/// Returns the number, if it is the only token.
 fn only_number(tokens: &[Spanned]) -> Option<i64>
     ensures { MatchOption result (only_number (lexemes tokens.now) ≡ None) (λ k. only_number (lexemes tokens.now) ≡ Some k) }
 {
@@ -137,7 +137,7 @@ fn only_number(tokens: &[Spanned]) -> Option<i64>
     }
 }
 
-/// The word at the front, after `)`, and what comes after it.
+/// Returns the word at the front, after `)`, and the tokens after it.
 fn command_word(tokens: &[Spanned]) -> Option<Front<'_>>
     ensures { MatchOption result (command_word (lexemes tokens.now) ≡ None) (λ front. command_word (lexemes tokens.now) ≡ Some (front.name, lexemes front.rest.now)) }
 {
@@ -148,7 +148,7 @@ fn command_word(tokens: &[Spanned]) -> Option<Front<'_>>
     }
 }
 
-/// The definition with what comes after `NAME ←`.
+/// Reads a definition after `NAME ←`.
 fn define(alloc: Global, name: Name, rest: &[Spanned]) -> Result<Change, ParseFault>
     requires { length rest.now ≤ most_tokens }
     ensures { IsChangeOf (Named name ∷ Sign left_arrow ∷ lexemes rest.now) result }
@@ -157,7 +157,7 @@ fn define(alloc: Global, name: Name, rest: &[Spanned]) -> Result<Change, ParseFa
     Ok(Change::Define(name, formula))
 }
 
-/// The edit of a cell with what comes after `NAME [`.
+/// Reads the edit of a cell after `NAME [`.
 fn cell(alloc: Global, name: Name, rest: &[Spanned]) -> Result<Change, ParseFault>
     ensures { IsChangeOf (Named name ∷ Sign left_bracket ∷ lexemes rest.now) result }
 {
@@ -165,7 +165,7 @@ fn cell(alloc: Global, name: Name, rest: &[Spanned]) -> Result<Change, ParseFaul
     Ok(Change::Cell(name, positions, literal))
 }
 
-/// The data with what comes after `) DATA`.
+/// Reads data after `) DATA`.
 fn data(alloc: Global, rest: &[Spanned]) -> Result<Change, ParseFault>
     requires { length rest.now ≤ most_tokens }
     ensures { IsChangeOf (Sign right_parenthesis ∷ Named data_word ∷ lexemes rest.now) result }
@@ -177,7 +177,7 @@ fn data(alloc: Global, rest: &[Spanned]) -> Result<Change, ParseFault>
     Ok(Change::Data(front.name, value))
 }
 
-/// The row with what comes after `) ROW`.
+/// Reads a row after `) ROW`.
 fn row(alloc: Global, rest: &[Spanned]) -> Result<Change, ParseFault>
     ensures { IsChangeOf (Sign right_parenthesis ∷ Named row_word ∷ lexemes rest.now) result }
 {
@@ -188,7 +188,7 @@ fn row(alloc: Global, rest: &[Spanned]) -> Result<Change, ParseFault>
     Ok(Change::Row(front.name, items))
 }
 
-/// What is erased, with what comes after `) ERASE`.
+/// Reads an erasure after `) ERASE`.
 fn erase(rest: &[Spanned]) -> Result<Change, ParseFault>
     ensures { IsChangeOf (Sign right_parenthesis ∷ Named erase_word ∷ lexemes rest.now) result }
 {
@@ -198,7 +198,7 @@ fn erase(rest: &[Spanned]) -> Result<Change, ParseFault>
     }
 }
 
-/// The change of this word, with what comes after it.
+/// Reads the change after `)` and this word.
 fn worded_change(alloc: Global, word: Name, rest: &[Spanned]) -> Result<Change, ParseFault>
     requires { length rest.now ≤ most_tokens }
     ensures { IsChangeOf (Sign right_parenthesis ∷ Named word ∷ lexemes rest.now) result }
@@ -211,7 +211,7 @@ fn worded_change(alloc: Global, word: Name, rest: &[Spanned]) -> Result<Change, 
     }
 }
 
-/// The change that the tokens are.
+/// Returns the change that the tokens are.
 #[inline(always)]
 fn change_of(alloc: Global, tokens: &[Spanned]) -> Result<Change, ParseFault>
     requires { length tokens.now ≤ most_tokens }
@@ -229,7 +229,7 @@ fn change_of(alloc: Global, tokens: &[Spanned]) -> Result<Change, ParseFault>
     Err(ParseFault::Syntax)
 }
 
-/// The list of names, with what comes after `) NAMES`.
+/// Reads the end of a line after `) NAMES`.
 fn names(rest: &[Spanned]) -> Result<Command, ParseFault>
     requires { 2 + length rest.now ≤ most_tokens }
     ensures { IsCommand (Sign right_parenthesis ∷ Named names_word ∷ lexemes rest.now) result }
@@ -241,7 +241,7 @@ fn names(rest: &[Spanned]) -> Result<Command, ParseFault>
     }
 }
 
-/// The cost, with what comes after `) COST`.
+/// Reads the end of a line after `) COST`.
 fn cost(rest: &[Spanned]) -> Result<Command, ParseFault>
     requires { 2 + length rest.now ≤ most_tokens }
     ensures { IsCommand (Sign right_parenthesis ∷ Named cost_word ∷ lexemes rest.now) result }
@@ -253,7 +253,7 @@ fn cost(rest: &[Spanned]) -> Result<Command, ParseFault>
     }
 }
 
-/// What is written as a table, with what comes after `) CSV`.
+/// Reads the name after `) CSV`.
 fn csv(rest: &[Spanned]) -> Result<Command, ParseFault>
     requires { 2 + length rest.now ≤ most_tokens }
     ensures { IsCommand (Sign right_parenthesis ∷ Named csv_word ∷ lexemes rest.now) result }
@@ -264,7 +264,7 @@ fn csv(rest: &[Spanned]) -> Result<Command, ParseFault>
     }
 }
 
-/// The change that is opened, and the number of its slot, with what comes after `) OPEN`.
+/// Reads the slot and the change after `) OPEN`.
 fn open(alloc: Global, rest: &[Spanned]) -> Result<Command, ParseFault>
     requires { 2 + length rest.now ≤ most_tokens }
     ensures { IsCommand (Sign right_parenthesis ∷ Named open_word ∷ lexemes rest.now) result }
@@ -277,7 +277,7 @@ fn open(alloc: Global, rest: &[Spanned]) -> Result<Command, ParseFault>
     Ok(Command::Open(slot, change))
 }
 
-/// The slot whose change goes on, with what comes after `) STEP`.
+/// Reads the slot after `) STEP`.
 fn step(rest: &[Spanned]) -> Result<Command, ParseFault>
     requires { 2 + length rest.now ≤ most_tokens }
     ensures { IsCommand (Sign right_parenthesis ∷ Named step_word ∷ lexemes rest.now) result }
@@ -288,7 +288,7 @@ fn step(rest: &[Spanned]) -> Result<Command, ParseFault>
     }
 }
 
-/// The slot whose change is made, with what comes after `) COMMIT`.
+/// Reads the slot after `) COMMIT`.
 fn commit(rest: &[Spanned]) -> Result<Command, ParseFault>
     requires { 2 + length rest.now ≤ most_tokens }
     ensures { IsCommand (Sign right_parenthesis ∷ Named commit_word ∷ lexemes rest.now) result }
@@ -299,7 +299,7 @@ fn commit(rest: &[Spanned]) -> Result<Command, ParseFault>
     }
 }
 
-/// The slot whose change is given up, with what comes after `) DROP`.
+/// Reads the slot after `) DROP`.
 fn give_up(rest: &[Spanned]) -> Result<Command, ParseFault>
     requires { 2 + length rest.now ≤ most_tokens }
     ensures { IsCommand (Sign right_parenthesis ∷ Named drop_word ∷ lexemes rest.now) result }
@@ -310,7 +310,7 @@ fn give_up(rest: &[Spanned]) -> Result<Command, ParseFault>
     }
 }
 
-/// Returns the command of this word, with what comes after it.
+/// Reads the command after `)` and this word.
 fn worded(alloc: Global, word: Name, rest: &[Spanned]) -> Result<Command, ParseFault>
     requires { 2 + length rest.now ≤ most_tokens }
     ensures { IsCommand (Sign right_parenthesis ∷ Named word ∷ lexemes rest.now) result }
@@ -327,7 +327,7 @@ fn worded(alloc: Global, word: Name, rest: &[Spanned]) -> Result<Command, ParseF
     }
 }
 
-/// Puts the command to show the expression.
+/// Stores the command to show the expression.
 fn show(alloc: Global, tokens: &[Spanned], command: &mut Command) -> Result<(), ParseFault>
     requires some { 0 < length tokens.now }
     requires short { length tokens.now ≤ most_tokens }
@@ -344,7 +344,7 @@ fn show(alloc: Global, tokens: &[Spanned], command: &mut Command) -> Result<(), 
     }
 }
 
-/// Puts the command of the word that stands at the front.
+/// Stores the command of the word at the front.
 fn worded_into(alloc: Global, front: Front<'_>, command: &mut Command) -> Result<(), ParseFault>
     requires { 2 + length front.rest.now ≤ most_tokens }
     ensures { IsCommand (Sign right_parenthesis ∷ Named front.entry.name ∷ lexemes front.entry.rest.now) (put_in result command.new) }
@@ -358,7 +358,7 @@ fn worded_into(alloc: Global, front: Front<'_>, command: &mut Command) -> Result
     }
 }
 
-/// Puts the definition with what comes after `NAME ←`.
+/// Stores the definition after `NAME ←`.
 fn define_into(alloc: Global, front: Front<'_>, command: &mut Command) -> Result<(), ParseFault>
     requires { length front.rest.now ≤ most_tokens }
     ensures { IsChangeIn (Named front.entry.name ∷ Sign left_arrow ∷ lexemes front.entry.rest.now) result command.new }
@@ -372,7 +372,7 @@ fn define_into(alloc: Global, front: Front<'_>, command: &mut Command) -> Result
     }
 }
 
-/// Puts a change that is no definition.
+/// Stores a change that is not a definition.
 fn other_into(alloc: Global, tokens: &[Spanned], command: &mut Command) -> Result<(), ParseFault>
     requires { length tokens.now ≤ most_tokens }
     ensures { IsChangeIn (lexemes tokens.now) result command.new }
@@ -386,7 +386,7 @@ fn other_into(alloc: Global, tokens: &[Spanned], command: &mut Command) -> Resul
     }
 }
 
-/// Puts the change that the tokens are.
+/// Stores the change that the tokens are.
 fn change_into(alloc: Global, tokens: &[Spanned], command: &mut Command) -> Result<(), ParseFault>
     requires { length tokens.now ≤ most_tokens }
     ensures { IsChangeIn (lexemes tokens.now) result command.new }
@@ -397,7 +397,7 @@ fn change_into(alloc: Global, tokens: &[Spanned], command: &mut Command) -> Resu
     }
 }
 
-/// Puts what a line of tokens asks for.
+/// Stores the command of a line of tokens.
 fn command_of(alloc: Global, tokens: &[Spanned], command: &mut Command) -> Result<(), ParseFault>
     ensures { IsCommand (lexemes tokens.now) (put_in result command.new) }
 {
@@ -419,7 +419,7 @@ fn command_of(alloc: Global, tokens: &[Spanned], command: &mut Command) -> Resul
     }
 }
 
-/// Puts what the tokens of a text ask for, which are put into the room.
+/// Stores the command of a text, whose tokens go into `room`.
 fn line_of_tokens(
     alloc: Global,
     text: &str,
@@ -441,7 +441,7 @@ fn line_of_tokens(
     }
 }
 
-/// The command of an edit that was read from the bytes of a text.
+/// Returns the command of an edit that was read from bytes.
 #[inline(always)]
 fn cell_of(edit: NumberEdit) -> Command
     ensures { (cs : List ℕ) → IsNumberEdit cs edit → IsAnswered cs (Ok result) }
@@ -449,7 +449,7 @@ fn cell_of(edit: NumberEdit) -> Command
     Command::Change(Change::Cell(edit.name, edit.positions, Literal::Num(edit.number)))
 }
 
-/// The literal of the numbers of a row.
+/// Returns the literal of the numbers of a row.
 #[inline(always)]
 fn literal_of_row(numbers: RowNumbers) -> Literal
     ensures numbers { literal_of result ≡ Numbers (row_numbers_of numbers) }
@@ -461,7 +461,7 @@ fn literal_of_row(numbers: RowNumbers) -> Literal
     }
 }
 
-/// The command of a row that was read from the bytes of a text.
+/// Returns the command of a row that was read from bytes.
 #[inline(always)]
 fn row_of(row: NumberRow) -> Command
     requires { 3 + length (row_numbers_of row.numbers) ≤ most_tokens }
@@ -470,7 +470,7 @@ fn row_of(row: NumberRow) -> Command
     Command::Change(Change::Row(row.name, literal_of_row(row.numbers)))
 }
 
-/// Puts what a line of text asks for that is no edit of a cell by a number, or was not read as one.
+/// Stores the command of a line, after `number_edit` has returned `None`.
 fn row_or_tokens(
     alloc: Global,
     text: &str,
@@ -488,15 +488,14 @@ fn row_or_tokens(
     }
 }
 
-/// What a line of text asks for.
+/// Returns the command of a line of text.
 ///
-/// The first token fault from the left comes before all else. Then more than 4,096 tokens are `Limit`, whatever they are;
-/// then tokens that are no line of the grammar are `Syntax`; then an expression whose tree is more than 256 high or has
-/// more than 512 nodes is `Limit`. `DATA`, `ROW`, `ERASE`, `NAMES`, `COST`, `CSV`, `OPEN`, `STEP`, `COMMIT` and `DROP` are
-/// words only after `)`, and ordinary names elsewhere.
+/// The first token fault from the left comes first, then `Limit` for more than 4,096 tokens, then `Syntax` for tokens that are not a line of the
+/// grammar, then `Limit` for a tree more than 256 high or of more than 512 nodes. `DATA`, `ROW`, `ERASE`, `NAMES`, `COST`, `CSV`, `OPEN`,
+/// `STEP`, `COMMIT` and `DROP` are words only after `)`, and ordinary names elsewhere.
 ///
-/// The most usual edit, of an item by a number and without blanks, is read from the bytes of the text, and takes no memory; so is a row of numbers,
-/// with one blank at each place, and it takes none but for several numbers, which lie in one list.
+/// Reads the edit of an item by a number, without blanks, from the bytes of the text, and allocates nothing for it. Reads a row of numbers, with
+/// one blank between parts, from the bytes too, and allocates only the list of several numbers.
 pub fn line(alloc: Global, text: &str) -> Result<Command, LineFault>
     ensures { IsAnswered (chars text.now) result }
 {
@@ -507,8 +506,8 @@ pub fn line(alloc: Global, text: &str) -> Result<Command, LineFault>
     }
 }
 
-/// Puts what a line of text asks for in a place, as `line` answers it; where there is a fault, what is then there is of no account. The room is for
-/// tokens, and what it holds is of no account, before and after: who reads line after line keeps it, and then tokens need no memory of their own.
+/// Stores the command of a line of text, as `line` returns it. After a fault the contents of `command` are unspecified. The tokens go into
+/// `room`, whose contents are unspecified before and after: a caller that keeps it for many lines saves their allocation.
 pub fn line_into(
     alloc: Global,
     text: &str,

@@ -1,4 +1,4 @@
-//! The edit of a cell: its positions and its literal, after `NAME [`; and a literal that stands alone.
+//! Reads the edit of a cell, its positions and its literal after `NAME [`, and a literal without positions.
 
 ghost use Rattle.std.specs.Prelude.{Some, []};
 ghost use Rattle.apl_tokens.specs.Lexemes.{lexeme, lexemes};
@@ -11,7 +11,7 @@ use apl_tokens::{CellPositions, Spanned, Token};
 use smallvec::SmallVec;
 use std::alloc::Global;
 
-/// What was read last, with the positions so far: `[` or `;`, a position, `]`, `←` and the numbers so far, or a text.
+/// The part read last, with the positions so far: `[` or `;`, a position, `]`, `←` and the numbers so far, or a text.
 #[derive(Drop)]
 enum Edit {
     Open(CellPositions),
@@ -21,7 +21,7 @@ enum Edit {
     Quoted(CellPositions, Vec<char>),
 }
 
-/// Reads a text.
+/// Reads a text, which is legal right after `←`.
 fn edit_text(alloc: Global, text: &[char], edit: Edit) -> Result<Edit, ParseFault>
     ensures { EditSteps result (edit_text text.now (edit_of edit)) }
 {
@@ -66,7 +66,7 @@ fn edit_step(alloc: Global, token: &Token, edit: Edit) -> Result<Edit, ParseFaul
     }
 }
 
-/// The positions and the literal where the tokens end.
+/// Returns the positions and the literal at the end of the tokens.
 fn edit_end(edit: Edit) -> Result<(CellPositions, Literal), ParseFault>
     ensures { EditGives result (edit_end (edit_of edit)) }
 {
@@ -82,7 +82,7 @@ fn edit_end(edit: Edit) -> Result<(CellPositions, Literal), ParseFault>
     }
 }
 
-/// The positions and the literal that the tokens are, after what was read before them.
+/// Reads the remaining tokens, and returns the positions and the literal.
 fn read_on(
     alloc: Global,
     before: Edit,
@@ -97,7 +97,7 @@ fn read_on(
     edit_end(edit)
 }
 
-/// Reads the positions and the literal of the edit that the tokens are.
+/// Reads the tokens after `NAME [`, and returns the positions and the literal.
 pub(crate) fn edited(
     alloc: Global,
     tokens: &[Spanned],
@@ -107,7 +107,7 @@ pub(crate) fn edited(
     read_on(alloc, Edit::Open(SmallVec::new(alloc)), tokens)
 }
 
-/// The literal that the tokens are.
+/// Returns the literal that the tokens are.
 pub(crate) fn whole_literal(alloc: Global, tokens: &[Spanned]) -> Result<Literal, ParseFault>
     ensures { LiteralGives result (edits (lexemes tokens.now) (Some (Items [] []))) }
 {

@@ -1,4 +1,4 @@
-//! Why there is no tree, and no command.
+//! The faults of an expression and of a line.
 
 ghost use Rattle.std.specs.Prelude.{◌≡◌};
 ghost use Rattle.apl_expr.specs.declared.fault.ParseFault.TheVariants.{NoMemory};
@@ -6,14 +6,13 @@ ghost use Rattle.apl_expr.specs.declared.fault.ParseFault.TheVariants.{NoMemory}
 use std::alloc::{AllocError, AllocFailed};
 use thiserror::Error;
 
-/// Why tokens have no tree.
+/// The reason why tokens have no tree.
 #[derive(Clone, Copy, Debug, PartialEq, Eq, Error)]
 pub enum ParseFault {
-    /// The tokens are no expression.
+    /// The tokens are not an expression.
     #[error("not an expression")]
     Syntax,
-    /// There are more than 4,096 tokens; or they are an expression, but its tree is more than 256 high or has more
-    /// than 512 nodes.
+    /// There are more than 4,096 tokens, or the tree of the expression is more than 256 high or has more than 512 nodes.
     #[error("too large an expression")]
     Limit,
     /// The allocator refused memory.
@@ -37,14 +36,14 @@ impl<T: Drop> From<AllocFailed<T>> for ParseFault {
     }
 }
 
-/// Why a line asks for nothing that there is.
+/// The reason why a line has no command.
 #[derive(Clone, Copy, Debug, PartialEq, Eq, Error)]
 pub enum LineFault {
-    /// The first token fault from the left is one of syntax; or the text has tokens, but they are no line of the grammar.
+    /// The first token fault from the left is `Syntax`, or the text has tokens, but they are not a line of the grammar.
     #[error("not a line of the language")]
     Syntax,
-    /// The first token fault from the left is one of a limit; or there are more than 4,096 tokens; or they are a line of
-    /// the grammar, but its tree is more than 256 high or has more than 512 nodes.
+    /// The first token fault from the left is `Limit`, or there are more than 4,096 tokens, or the line is of the grammar, but its tree is more
+    /// than 256 high or has more than 512 nodes.
     #[error("too large a line")]
     Limit,
     /// The allocator refused memory.

@@ -1,5 +1,5 @@
-//! Functions as they are written: a sign, a sign with an axis, a fold, a product. The longest that there is is taken, since no
-//! expression begins with a sign that goes on with a function.
+//! The written forms of functions: a sign, a sign with an axis, a fold, a product. The longest match is the function, since no expression begins
+//! with a sign that continues a function.
 
 ghost use Rattle.std.specs.Prelude.{◌≡◌, ◌≤◌, length};
 ghost use Rattle.apl_tokens.specs.Lexemes.{lexeme, lexemes};
@@ -35,18 +35,18 @@ pub enum Function2 {
     Inner(Scalar2, Scalar2),
 }
 
-/// A function as it is written: what it is alone and between two arguments, if it is a function there, and how long it is.
+/// A written function: its meaning with one argument and with two, and its length.
 #[derive(Clone, Copy)]
 pub(crate) struct Function {
-    /// What it is before its argument.
+    /// The function of one argument, if it is one.
     pub(crate) alone: Option<Function1>,
-    /// What it is between its arguments.
+    /// The function of two arguments, if it is one.
     pub(crate) between: Option<Function2>,
-    /// How many tokens it has after its first.
+    /// The number of its tokens after the first.
     pub(crate) more: usize,
 }
 
-/// The axis at the front: `[ num ]`.
+/// Returns the axis at the front, `[ num ]`.
 fn axis_in(tokens: &[Spanned]) -> Option<i64>
     ensures { result ≡ axis_in (lexemes tokens.now) }
 {
@@ -59,7 +59,7 @@ fn axis_in(tokens: &[Spanned]) -> Option<i64>
     }
 }
 
-/// The product that the sign begins: `∘ . f`, or `f . g`.
+/// Returns the product that begins with the sign, `∘ . f` or `f . g`.
 fn product_in(sign: char, tokens: &[Spanned]) -> Option<Function2>
     ensures { result ≡ product_in sign (lexemes tokens.now) }
 {
@@ -78,7 +78,7 @@ fn product_in(sign: char, tokens: &[Spanned]) -> Option<Function2>
     }
 }
 
-/// The fold that the sign begins.
+/// Returns the fold that begins with the sign.
 fn fold_in(sign: char, tokens: &[Spanned]) -> Option<Function1>
     ensures { result ≡ fold_in sign (lexemes tokens.now) }
 {
@@ -89,7 +89,7 @@ fn fold_in(sign: char, tokens: &[Spanned]) -> Option<Function1>
     }
 }
 
-/// The fold with an axis that the sign begins.
+/// Returns the fold with an axis that begins with the sign.
 fn fold_along_in(sign: char, tokens: &[Spanned]) -> Option<Function1>
     ensures { result ≡ fold_along_in sign (lexemes tokens.now) }
 {
@@ -103,7 +103,7 @@ fn fold_along_in(sign: char, tokens: &[Spanned]) -> Option<Function1>
     }
 }
 
-/// The function before its argument that the sign is with an axis after it.
+/// Returns the function of one argument with this sign and an axis after it.
 fn monadic_along_in(sign: char, tokens: &[Spanned]) -> Option<Function1>
     ensures { result ≡ monadic_along_in sign (lexemes tokens.now) }
 {
@@ -111,7 +111,7 @@ fn monadic_along_in(sign: char, tokens: &[Spanned]) -> Option<Function1>
     monadic_along_of(sign, axis)
 }
 
-/// The function between its arguments that the sign is with an axis after it.
+/// Returns the function of two arguments with this sign and an axis after it.
 fn dyadic_along_in(sign: char, tokens: &[Spanned]) -> Option<Function2>
     ensures { result ≡ dyadic_along_in sign (lexemes tokens.now) }
 {
@@ -119,7 +119,7 @@ fn dyadic_along_in(sign: char, tokens: &[Spanned]) -> Option<Function2>
     dyadic_along_of(sign, axis)
 }
 
-/// The function that the sign begins, with these tokens after it.
+/// Returns the function that begins with the sign.
 fn function_at(sign: char, tokens: &[Spanned]) -> Function
     ensures { result ≡ function_at sign (lexemes tokens.now) }
 {
@@ -154,7 +154,7 @@ fn function_at(sign: char, tokens: &[Spanned]) -> Function
     along_or_plain(sign, tokens)
 }
 
-/// The function that the sign is with an axis after it, else the one that it is alone.
+/// Returns the function of the sign with the axis after it if there is one, otherwise of the sign alone.
 fn along_or_plain(sign: char, tokens: &[Spanned]) -> Function
     ensures { result ≡ along_or_plain sign (monadic_along_in sign (lexemes tokens.now)) (dyadic_along_in sign (lexemes tokens.now)) }
 {
@@ -175,7 +175,7 @@ fn along_or_plain(sign: char, tokens: &[Spanned]) -> Function
     }
 }
 
-/// The function at the front of the tokens; a token that is no sign is none.
+/// Returns the function at the front. A token that is not a sign has none.
 pub(crate) fn function_from(token: &Token, tokens: &[Spanned]) -> Function
     ensures is { result ≡ function_from (lexeme token.now) (lexemes tokens.now) }
     ensures short { result.more ≤ length tokens.now }

@@ -1,4 +1,4 @@
-//! How large a tree may be.
+//! The limits of a line and of its tree.
 
 ghost use Rattle.std.specs.Prelude.{MatchOption, ◌≡◌, ◌+◌, ◌<◌, ◌≤◌, ◌↔◌, IsTrue, map, max};
 ghost use Rattle.apl_expr.specs.Trees.{tree_of, position_of, positions_of, height, height_in, nodes, nodes_in};
@@ -15,7 +15,7 @@ pub const MOST_HEIGHT: u32 = 256;
 pub const MOST_NODES: u32 = 512;
 
 impl Expr {
-    /// Whether the tree is at most `limit` high. It looks no deeper.
+    /// Returns true if the height of the tree is at most `limit`. Visits no node below that height.
     #[cycle(height)]
     #[tactic(auto, using(crate::proofs::Sizes::height_positive, crate::proofs::Rows::tree_index))]
     pub(crate) fn is_within_height(&self, limit: u32) -> bool
@@ -39,7 +39,7 @@ impl Expr {
         }
     }
 
-    /// How many nodes more than the tree has are allowed.
+    /// Returns `limit` minus the number of nodes, or `None` if the tree has more.
     #[cycle(nodes)]
     #[tactic(auto, using(crate::proofs::Sizes::nodes_positive, crate::proofs::Rows::tree_index))]
     fn nodes_left(&self, limit: u32) -> Option<u32>
@@ -62,7 +62,7 @@ impl Expr {
         }
     }
 
-    /// Whether the tree has at most `limit` nodes.
+    /// Returns true if the tree has at most `limit` nodes.
     pub(crate) fn is_within_nodes(&self, limit: u32) -> bool
         ensures { IsTrue result ↔ (nodes (tree_of self.now) ≤ limit) }
     {
@@ -71,7 +71,7 @@ impl Expr {
 }
 
 impl Sides {
-    /// Whether both trees are at most `limit` high.
+    /// Returns true if the height of both trees is at most `limit`.
     #[cycle(height)]
     fn are_within_height(&self, limit: u32) -> bool
         ensures { IsTrue result ↔ (max (height (tree_of self.now.left)) (height (tree_of self.now.right)) ≤ limit) }
@@ -79,7 +79,7 @@ impl Sides {
         self.left.is_within_height(limit) && self.right.is_within_height(limit)
     }
 
-    /// How many nodes more than both trees have are allowed.
+    /// Returns `limit` minus the number of nodes of both trees, or `None` if they have more.
     #[cycle(nodes)]
     fn nodes_left(&self, limit: u32) -> Option<u32>
         ensures { MatchOption result (limit < nodes (tree_of self.now.left) + nodes (tree_of self.now.right)) (λ left. left + (nodes (tree_of self.now.left) + nodes (tree_of self.now.right)) ≡ limit) }
@@ -89,7 +89,7 @@ impl Sides {
     }
 }
 
-/// Whether the trees at these positions are at most `limit` high.
+/// Returns true if the height of each tree at these positions is at most `limit`.
 #[cycle(height)]
 fn are_within_height(positions: &[Option<Expr>], limit: u32) -> bool
     ensures { IsTrue result ↔ (height_in (positions_of (map position_of positions.now)) ≤ limit) }
@@ -104,7 +104,7 @@ fn are_within_height(positions: &[Option<Expr>], limit: u32) -> bool
     true
 }
 
-/// How many nodes more than the trees at these positions have are allowed.
+/// Returns `limit` minus the number of nodes at these positions, or `None` if they have more.
 #[cycle(nodes)]
 fn nodes_left_in(positions: &[Option<Expr>], limit: u32) -> Option<u32>
     ensures { MatchOption result (limit < nodes_in (positions_of (map position_of positions.now))) (λ left. left + nodes_in (positions_of (map position_of positions.now)) ≡ limit) }

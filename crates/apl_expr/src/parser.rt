@@ -1,5 +1,5 @@
-//! The parser: it reads the tokens from left to right, once, a function at a time, and keeps what waits for its right argument or
-//! for a bracket that closes.
+//! The parser, which reads the tokens from left to right, once, one function at a time. A stack holds the functions and the brackets that wait
+//! for a value.
 
 ghost use Rattle.std.specs.Prelude.{◌≡◌, ◌≤◌, Some, List, [], ◌∷◌, ◌++◌, length, IfOk, IfSome, map, true};
 ghost use Rattle.apl_tokens.specs.Lexemes.{Lexeme, Number, lexeme, lexemes};
@@ -20,14 +20,14 @@ use apl_tokens::{Spanned, Token};
 use smallvec::SmallVec;
 use std::alloc::{AllocError, Global};
 
-/// An open bracket: a parenthesis, or that of an index.
+/// An open bracket: a parenthesis, or the bracket of an index.
 #[derive(Drop)]
 enum Bracket {
     Parenthesis,
     Index(OpenIndex),
 }
 
-/// What waits for a value at its right: a function, or an open bracket.
+/// An entry of the stack, which waits for a value on its right: a function, or an open bracket.
 #[derive(Drop)]
 enum Waiting {
     Argument1(Function1),
@@ -35,15 +35,15 @@ enum Waiting {
     Inside(Bracket),
 }
 
-/// A value that the functions took which waited for it, and the bracket that it then stands in, if there is one.
+/// A value after the functions that waited for it, and the bracket around it, if there is one.
 #[derive(Drop)]
 struct Settled {
     value: Plain,
     bracket: Option<Bracket>,
 }
 
-/// What was read last: a function, `(` or nothing; `[` or `;` of an index; a number, or several; an operand that no index may
-/// follow; or one that an index may follow.
+/// The part read last: a function, `(` or nothing; `[` or `;` of an index; a number, or several; an operand that no index may follow; or an
+/// operand that an index may follow.
 #[derive(Drop)]
 enum Reading {
     Nothing,
@@ -54,20 +54,20 @@ enum Reading {
     Reference(Plain),
 }
 
-/// So much waits without memory of its own: most expressions have no more.
+/// The inline capacity of the stack, which is enough for most expressions.
 const FEW_WAITING: usize = 2;
 
-/// All that waits, the last first to be given a value.
+/// The stack: its last entry takes the next value.
 type Waitings = SmallVec<Waiting, FEW_WAITING>;
 
 impl Default for Waiting {
-    /// An open parenthesis, in a place where nothing waits.
+    /// Returns an open parenthesis, for unused entries of the stack.
     fn default() -> Waiting {
         Waiting::Inside(Bracket::Parenthesis)
     }
 }
 
-/// Reads a token, or the function that it begins, where an expression is to begin.
+/// Reads a token, or the function that it begins, at the start of an expression.
 #[inline(always)]
 fn first(
     alloc: Global,
@@ -99,7 +99,7 @@ fn first(
     }
 }
 
-/// Gives a value to all that waits for it, up to the innermost open bracket, which is taken off.
+/// Pops the functions that wait for the value and the innermost open bracket, and applies the functions.
 #[inline(always)]
 fn settle(alloc: Global, value: Plain, waiting: &mut Waitings) -> Result<Settled, AllocError>
     ensures { IfOk result (λ s. Settles s waiting.new.items (settle (stack waiting.old.items) (tree_of value.expr))) }
@@ -125,7 +125,7 @@ fn settle(alloc: Global, value: Plain, waiting: &mut Waitings) -> Result<Settled
     })
 }
 
-/// Has the index wait for its next position, after `;`.
+/// Ends a position by `;`, so that the index waits for its next position.
 fn next_position(
     index: OpenIndex,
     position: Option<Expr>,
@@ -139,7 +139,7 @@ fn next_position(
     Ok(Reading::Position)
 }
 
-/// The index whose last position `]` ends.
+/// Returns the index, whose last position ends by `]`.
 #[tactic(auto, using(crate::proofs::Rows::plain_index))]
 fn index_closed(
     alloc: Global,
@@ -176,7 +176,7 @@ fn position_ended(
     }
 }
 
-/// Reads a sign that closes a bracket, or ends a position in it, after an operand.
+/// Reads a sign after an operand that closes a bracket or ends a position in it.
 fn closed(
     alloc: Global,
     sign: char,
@@ -195,7 +195,7 @@ fn closed(
     }
 }
 
-/// Ends a position that has no expression.
+/// Ends an empty position.
 fn skipped(alloc: Global, sign: char, waiting: &mut Waitings) -> Result<Reading, ParseFault>
     ensures { Steps result waiting.new.items (skipped sign (stack waiting.old.items)) }
 {
@@ -207,14 +207,14 @@ fn skipped(alloc: Global, sign: char, waiting: &mut Waitings) -> Result<Reading,
     }
 }
 
-/// Whether the sign ends a position of an index.
+/// Returns true if the sign ends a position of an index.
 fn ends_position(sign: char) -> bool
     ensures { result ≡ ends_position sign }
 {
     sign == ';' || sign == ']'
 }
 
-/// Reads a token, or the function that it begins, where a position of an index is to begin.
+/// Reads a token, or the function that it begins, at the start of a position of an index.
 #[inline(always)]
 fn first_of_position(
     alloc: Global,
@@ -277,7 +277,7 @@ fn after_reference(
     }
 }
 
-/// The numbers that stand side by side, of which two are read.
+/// Begins a vector literal, of which two numbers are read.
 fn strand(alloc: Global, first: i64, second: i64) -> Result<Reading, ParseFault>
     ensures { (ws : List Waiting) → Steps result ws (Some (state (stack ws) (Strand (first ∷ second ∷ [])))) }
 {
@@ -323,7 +323,7 @@ fn read_token(
     }
 }
 
-/// The tree where the tokens end.
+/// Returns the tree at the end of the tokens.
 fn finish(alloc: Global, reading: Reading, waiting: &mut Waitings) -> Result<Plain, ParseFault>
     ensures { Gives result (finish (stack waiting.old.items) (reading_of reading)) }
 {
@@ -340,7 +340,7 @@ fn finish(alloc: Global, reading: Reading, waiting: &mut Waitings) -> Result<Pla
     }
 }
 
-/// The tree of the tokens, of any size.
+/// Returns the tree of the tokens, of any size.
 fn tree(alloc: Global, tokens: &[Spanned]) -> Result<Plain, ParseFault>
     ensures { Gives result (run 0 (lexemes tokens.now) (Some (state [] Nothing))) }
 {
@@ -355,7 +355,7 @@ fn tree(alloc: Global, tokens: &[Spanned]) -> Result<Plain, ParseFault>
     finish(alloc, reading, &mut waiting)
 }
 
-/// An operand that is one token: a number or a name.
+/// Returns an operand of one token, a number or a name.
 #[inline(always)]
 fn leaf(token: &Token) -> Option<Plain>
     ensures { IfSome result (λ e. (ts : List Lexeme) → IsWrittenOperand (lexeme token.now ∷ ts) (tree_of e.expr) ts) }
@@ -367,7 +367,7 @@ fn leaf(token: &Token) -> Option<Plain>
     }
 }
 
-/// The numbers that these tokens are, if each of them is one.
+/// Returns the numbers if each token is one.
 fn numbers(alloc: Global, tokens: &[Spanned]) -> Result<Option<Vec<i64>>, AllocError>
     ensures { IfOk result (λ found. IfSome found (λ v. lexemes tokens.now ≡ map (λ z. Number z) v.items)) }
 {
@@ -381,7 +381,7 @@ fn numbers(alloc: Global, tokens: &[Spanned]) -> Result<Option<Vec<i64>>, AllocE
     Ok(Some(numbers))
 }
 
-/// An operand that is all of these tokens: a number or a name, or numbers that stand side by side. Any other is left to the machine.
+/// Returns the operand that all the tokens are: a number, a name, or adjacent numbers. Leaves any other operand to the general parser.
 #[inline(always)]
 fn operand(alloc: Global, tokens: &[Spanned]) -> Result<Option<Plain>, AllocError>
     ensures { IfOk result (λ found. IfSome found (λ e. IsWrittenOperand (lexemes tokens.now) (tree_of e.expr) [])) }
@@ -401,8 +401,8 @@ fn operand(alloc: Global, tokens: &[Spanned]) -> Result<Option<Plain>, AllocErro
     }
 }
 
-/// The tree of a function between a number or a name and an operand, where the tokens are that, and no more than a tree may be high: the most usual
-/// expression.
+/// Parses the most common expression: a function between a number or a name and an operand. Returns `None` for any other, and for more tokens
+/// than a tree may be high.
 #[inline(always)]
 fn pair(alloc: Global, tokens: &[Spanned]) -> Result<Option<Plain>, AllocError>
     ensures short { IfOk result (λ found. IfSome found (λ e. length tokens.now ≤ most_height)) }
@@ -432,7 +432,7 @@ fn pair(alloc: Global, tokens: &[Spanned]) -> Result<Option<Plain>, AllocError>
     Ok(Some(Plain::dyad(alloc, function, left, right)?))
 }
 
-/// The tree of the tokens, whatever they are, as `parse` answers it.
+/// Parses any expression, with the result that `parse` has.
 fn parse_any(alloc: Global, tokens: &[Spanned]) -> Result<Expr, ParseFault>
     ensures { IsParsed (lexemes tokens.now) result }
 {
@@ -454,8 +454,8 @@ fn parse_any(alloc: Global, tokens: &[Spanned]) -> Result<Expr, ParseFault>
     Ok(plain.expr)
 }
 
-/// Drops a tree that may be as high as a line has tokens: its functions one after the other, each with its left argument, so that this takes no more
-/// stack than a low tree does.
+/// Drops a tree of any height. A loop follows the right arguments, so that a long chain of functions takes no stack. Left arguments and indexes
+/// are dropped by recursion.
 fn drop_in_turn(tree: Expr) {
     let mut rest = tree;
     for _ in 0..MOST_TOKENS {
@@ -472,12 +472,11 @@ fn drop_in_turn(tree: Expr) {
     }
 }
 
-/// The tree of the tokens, the expression of ISO 8485 that they are.
+/// Returns the tree of the tokens, an expression of ISO 8485.
 ///
-/// More than 4,096 tokens are `Limit`, whatever they are; then tokens that are no expression are `Syntax`; then a tree
-/// that is more than 256 high or has more than 512 nodes is `Limit`. A leaf is 1 high, a list of numbers is one node, an
-/// index is one, and parentheses and an empty position are none. One number is `Literal::Num` and never `Literal::Nums`, and one
-/// character `Literal::Char` and never `Literal::Text`.
+/// Returns `Limit` for more than 4,096 tokens, then `Syntax` for tokens that are not an expression, then `Limit` for a tree more than 256 high
+/// or of more than 512 nodes. A leaf is 1 high; a list of numbers and an index are one node each; parentheses and an empty position are none.
+/// One number is `Literal::Num`, never `Literal::Nums`, and one character is `Literal::Char`, never `Literal::Text`.
 pub fn parse(alloc: Global, tokens: &[Spanned]) -> Result<Expr, ParseFault>
     ensures { IsParsed (lexemes tokens.now) result }
 {

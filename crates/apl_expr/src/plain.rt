@@ -1,4 +1,4 @@
-//! Literals as the parser makes them: one number is a scalar and never a vector, and so is one character.
+//! Literals as the parser makes them: one number is a scalar, never a vector, and so is one character.
 
 ghost use Rattle.std.specs.Prelude.{◌≡◌, [], ◌∷◌, ◌++◌, IfOk, true};
 ghost use Rattle.apl_expr.specs.Trees.{Numbers, Text, Const, Name as Named, before_argument, between_arguments, literal_of, tree_of, is_plain, is_plain_expr, is_plain_position, are_plain};
@@ -8,7 +8,7 @@ use crate::functions::{Function1, Function2};
 use apl_tokens::Name;
 use std::alloc::{AllocError, Global};
 
-/// The literal of these numbers: one number is a scalar.
+/// Returns the literal of these numbers: one number is a scalar.
 pub(crate) fn literal(numbers: Vec<i64>) -> Literal
     ensures numbers { literal_of result ≡ Numbers numbers.items }
     ensures plain { is_plain result ≡ true }
@@ -19,7 +19,7 @@ pub(crate) fn literal(numbers: Vec<i64>) -> Literal
     }
 }
 
-/// The literal of a text: one character is a scalar.
+/// Returns the literal of a text: one character is a scalar.
 pub(crate) fn text_literal(characters: Vec<char>) -> Literal
     ensures characters { literal_of result ≡ Text characters.items }
     ensures plain { is_plain result ≡ true }
@@ -30,7 +30,7 @@ pub(crate) fn text_literal(characters: Vec<char>) -> Literal
     }
 }
 
-/// An expression that holds one number as a scalar and never as a vector, and so one character.
+/// An expression in which each literal of one number or one character is a scalar.
 #[derive(Drop)]
 pub(crate) struct Plain {
     pub(crate) expr: Expr,
@@ -38,7 +38,7 @@ pub(crate) struct Plain {
 }
 
 impl Plain {
-    /// A literal.
+    /// Makes a literal.
     pub(crate) fn constant(literal: Literal) -> Plain
         requires { is_plain literal ≡ true }
         ensures { tree_of result.expr ≡ Const (literal_of literal) }
@@ -47,7 +47,7 @@ impl Plain {
         Plain { expr }
     }
 
-    /// A name.
+    /// Makes a name.
     pub(crate) fn name(name: Name) -> Plain
         ensures { tree_of result.expr ≡ Named name }
     {
@@ -55,7 +55,7 @@ impl Plain {
         Plain { expr }
     }
 
-    /// A function with its right argument.
+    /// Applies a function to its right argument.
     #[inline(always)]
     pub(crate) fn monad(
         alloc: Global,
@@ -74,7 +74,7 @@ impl Plain {
         Ok(Plain { expr })
     }
 
-    /// A function between its left argument and its right one.
+    /// Applies a function to its left and its right argument.
     #[inline(always)]
     pub(crate) fn dyad(
         alloc: Global,
@@ -95,7 +95,7 @@ impl Plain {
     }
 }
 
-/// An index whose bracket is open: its operand, and the positions before the one that is read.
+/// An index whose bracket is open: its operand, and the positions read so far.
 #[derive(Drop)]
 pub(crate) struct OpenIndex {
     pub(crate) operand: Expr,
@@ -105,7 +105,7 @@ pub(crate) struct OpenIndex {
 }
 
 impl OpenIndex {
-    /// The index with one position more.
+    /// Appends a position.
     #[tactic(auto, using(crate::proofs::Rows::plain_more))]
     pub(crate) fn with(self, position: Option<Expr>) -> Result<OpenIndex, AllocError>
         requires { is_plain_position position ≡ true }

@@ -1,4 +1,4 @@
-//! What each sign stands for, alone and with others. A later symbol is one line here.
+//! The function of each sign, alone and with other signs.
 
 ghost use Rattle.std.specs.Prelude.{◌≡◌};
 ghost use Rattle.apl_expr.specs.Symbols.{scalar_monad_of, scalar_dyad_of, array_monad, array_dyad, monadic_of, monadic_along_of, folding_of, folding_along_of, folded_of, folded_along_of, dyadic_of, dyadic_along_of, outer_of, inner_of, stands_alone};
@@ -7,7 +7,7 @@ use crate::expr::{Dyadic, Monadic};
 use crate::functions::{Function1, Function2};
 use function_names::{Along, Scalar1, Scalar2};
 
-/// The scalar function of one argument that the sign stands for.
+/// Returns the scalar function of one argument with this sign.
 #[tactic(auto, unfolding(crate::specs::Symbols::scalar_monad_of))]
 fn scalar_monad_of(sign: char) -> Option<Scalar1>
     ensures { result ≡ scalar_monad_of sign }
@@ -25,7 +25,7 @@ fn scalar_monad_of(sign: char) -> Option<Scalar1>
     }
 }
 
-/// The scalar function of two arguments that the sign stands for.
+/// Returns the scalar function of two arguments with this sign.
 #[tactic(auto, unfolding(crate::specs::Symbols::scalar_dyad_of))]
 fn scalar_dyad_of(sign: char) -> Option<Scalar2>
     ensures { result ≡ scalar_dyad_of sign }
@@ -53,7 +53,7 @@ fn scalar_dyad_of(sign: char) -> Option<Scalar2>
     }
 }
 
-/// The function of one argument that the sign stands for, if it is no scalar one.
+/// Returns the function of one argument with this sign that is not a scalar function.
 #[tactic(auto, unfolding(crate::specs::Symbols::array_monad))]
 fn array_monad(sign: char) -> Option<Monadic>
     ensures { result ≡ array_monad sign }
@@ -69,7 +69,7 @@ fn array_monad(sign: char) -> Option<Monadic>
     }
 }
 
-/// The function of two arguments that the sign stands for, if it is no scalar one.
+/// Returns the function of two arguments with this sign that is not a scalar function.
 #[tactic(auto, unfolding(crate::specs::Symbols::array_dyad))]
 fn array_dyad(sign: char) -> Option<Dyadic>
     ensures { result ≡ array_dyad sign }
@@ -93,7 +93,7 @@ fn array_dyad(sign: char) -> Option<Dyadic>
     }
 }
 
-/// The function of one argument that the sign stands for.
+/// Returns the function of one argument with this sign.
 pub(crate) fn monadic_of(sign: char) -> Option<Function1>
     ensures { result ≡ monadic_of sign }
 {
@@ -103,7 +103,7 @@ pub(crate) fn monadic_of(sign: char) -> Option<Function1>
     }
 }
 
-/// The function of two arguments that the sign stands for.
+/// Returns the function of two arguments with this sign.
 pub(crate) fn dyadic_of(sign: char) -> Option<Function2>
     ensures { result ≡ dyadic_of sign }
 {
@@ -113,7 +113,7 @@ pub(crate) fn dyadic_of(sign: char) -> Option<Function2>
     }
 }
 
-/// The function of one argument that the sign stands for with an axis after it.
+/// Returns the function of one argument with this sign and an axis after it.
 #[tactic(auto, unfolding(crate::specs::Symbols::monadic_along_of))]
 pub(crate) fn monadic_along_of(sign: char, axis: i64) -> Option<Function1>
     ensures { result ≡ monadic_along_of sign axis }
@@ -124,7 +124,7 @@ pub(crate) fn monadic_along_of(sign: char, axis: i64) -> Option<Function1>
     }
 }
 
-/// The function of two arguments that the sign stands for with an axis after it.
+/// Returns the function of two arguments with this sign and an axis after it.
 #[tactic(auto, unfolding(crate::specs::Symbols::dyadic_along_of))]
 pub(crate) fn dyadic_along_of(sign: char, axis: i64) -> Option<Function2>
     ensures { result ≡ dyadic_along_of sign axis }
@@ -137,7 +137,7 @@ pub(crate) fn dyadic_along_of(sign: char, axis: i64) -> Option<Function2>
     }
 }
 
-/// What the sign makes of a scalar function: its reduction or its scan.
+/// Returns the reduction or the scan by a scalar function.
 #[tactic(auto, unfolding(crate::specs::Symbols::folding_of))]
 fn folding_of(function: Scalar2, folding: char) -> Option<Function1>
     ensures { result ≡ folding_of function folding }
@@ -151,7 +151,7 @@ fn folding_of(function: Scalar2, folding: char) -> Option<Function1>
     }
 }
 
-/// What the sign makes of a scalar function along the axis that stands after it.
+/// Returns the reduction or the scan by a scalar function along a written axis.
 #[tactic(auto, unfolding(crate::specs::Symbols::folding_along_of))]
 fn folding_along_of(function: Scalar2, folding: char, axis: i64) -> Option<Function1>
     ensures { result ≡ folding_along_of function folding axis }
@@ -163,28 +163,28 @@ fn folding_along_of(function: Scalar2, folding: char, axis: i64) -> Option<Funct
     }
 }
 
-/// The reduction or scan by a scalar function that the two signs stand for.
+/// Returns the reduction or the scan with these two signs.
 pub(crate) fn folded_of(function: char, folding: char) -> Option<Function1>
     ensures { result ≡ folded_of function folding }
 {
     folding_of(scalar_dyad_of(function)?, folding)
 }
 
-/// The reduction or scan by a scalar function that the two signs stand for, along the axis that stands after them.
+/// Returns the reduction or the scan with these two signs, along a written axis.
 pub(crate) fn folded_along_of(function: char, folding: char, axis: i64) -> Option<Function1>
     ensures { result ≡ folded_along_of function folding axis }
 {
     folding_along_of(scalar_dyad_of(function)?, folding, axis)
 }
 
-/// The outer product by the scalar function after `∘.`.
+/// Returns the outer product by the scalar function after `∘.`.
 pub(crate) fn outer_of(function: char) -> Option<Function2>
     ensures { result ≡ outer_of function }
 {
     Some(Function2::Outer(scalar_dyad_of(function)?))
 }
 
-/// The inner product by the scalar functions before and after a dot.
+/// Returns the inner product by the scalar functions before and after a dot.
 pub(crate) fn inner_of(first: char, second: char) -> Option<Function2>
     ensures { result ≡ inner_of first second }
 {
@@ -192,7 +192,7 @@ pub(crate) fn inner_of(first: char, second: char) -> Option<Function2>
     Some(Function2::Inner(first, scalar_dyad_of(second)?))
 }
 
-/// Whether the sign belongs to no function.
+/// Returns true if the sign is part of no function.
 pub(crate) fn stands_alone(sign: char) -> bool
     ensures { result ≡ stands_alone sign }
 {

@@ -1,5 +1,5 @@
--- Trees as lists of numbers. A type that contracts see must be a set: two proofs that two of its values are equal are one. That
--- is so of a type whose values can be written as numbers, and read again. A tree is written as its words in postfix order.
+-- Trees as lists of numbers. A type that contracts see must be a set: any two proofs that two values are equal are themselves equal. A type is a
+-- set if its values can be encoded as numbers and decoded. A tree is encoded as its words in postfix order.
 use Rattle.std.{specs.Prelude.{◌≡◌, ℕ, zero, suc, ℤ, pos, List, [], ◌∷◌, ◌++◌, get_or, ◌⊎◌, refl}, proofs.Common.{sym, ◌∙◌, ap, inl, inr, append_assoc, append-nil}, specs.Coded.{Coded, code_by, coded×, coded⊎, coded_list, coded_ℕ, coded_ℤ}}
 use Rattle.apl_expr.{specs.Trees.{Tree, Const, Name, Monad, Dyad, Index, Reduce, Scan, Outer, Inner, before_argument, between_arguments, Positions, NoPositions, Empty, Filled, Numbers, Text}, specs.declared.functions.Function1.{Function1}, specs.declared.functions.Function2.{Function2}}
 use Rattle.function_names.{specs.declared.scalar.Scalar1.{Scalar1}, specs.declared.scalar.Scalar2.{Scalar2}, specs.declared.along.Along.{Along}, specs.declared.along.Along.TheVariants.{First, Last, Axis}}
@@ -10,13 +10,13 @@ use Rattle.apl_expr.specs.declared.expr.Dyadic.TheVariants as dyadic
 use Rattle.apl_expr.specs.declared.functions.Function1.TheVariants as function1
 use Rattle.apl_expr.specs.declared.functions.Function2.TheVariants as function2
 
--- the number of a scalar function is how many stand before it here
+-- the code of a scalar function is its index in this list
 abbrev monads : List Scalar1
 monads =
     one.Conjugate ∷ one.Negative ∷ one.Direction ∷ one.Reciprocal ∷
     one.Magnitude ∷ one.Ceiling ∷ one.Floor ∷ one.Not ∷ []
 
--- the number of a scalar function of one argument
+-- the code of a scalar function of one argument
 abbrev number_of_monad : Scalar1 → ℕ
 number_of_monad one.Conjugate = 0
 number_of_monad one.Negative = 1
@@ -27,7 +27,7 @@ number_of_monad one.Ceiling = 5
 number_of_monad one.Floor = 6
 number_of_monad one.Not = 7
 
--- the scalar function of a number
+-- the scalar function with this code
 abbrev monad_of_number : ℕ → Scalar1
 monad_of_number n = get_or monads n one.Not
 
@@ -41,7 +41,7 @@ monad_again one.Ceiling = refl
 monad_again one.Floor = refl
 monad_again one.Not = refl
 
--- all scalar functions of two arguments; each is read again
+-- all scalar functions of two arguments
 abbrev dyads : List Scalar2
 dyads =
     two.Plus ∷ two.Minus ∷ two.Times ∷ two.Divide ∷ two.Power ∷
@@ -49,7 +49,7 @@ dyads =
     two.Equal ∷ two.GreaterOrEqual ∷ two.Greater ∷ two.NotEqual ∷ two.And ∷
     two.Or ∷ two.Nand ∷ two.Nor ∷ []
 
--- the number of a scalar function of two arguments
+-- the code of a scalar function of two arguments
 abbrev number_of_dyad : Scalar2 → ℕ
 number_of_dyad two.Plus = 0
 number_of_dyad two.Minus = 1
@@ -70,7 +70,7 @@ number_of_dyad two.Or = 15
 number_of_dyad two.Nand = 16
 number_of_dyad two.Nor = 17
 
--- the scalar function of a number
+-- the scalar function with this code
 abbrev dyad_of_number : ℕ → Scalar2
 dyad_of_number n = get_or dyads n two.Nor
 
@@ -94,8 +94,7 @@ dyad_again two.Or = refl
 dyad_again two.Nand = refl
 dyad_again two.Nor = refl
 
--- a function has a number, a number of its scalar function or its own among those without, and two of its axis or of
--- its second scalar function
+-- the code of a function: the number of its kind, the number of its scalar function or its own, and two for its axis or its second function
 abbrev Code : Type 0
 Code = ℕ × (ℕ × (ℕ × ℤ))
 
@@ -103,13 +102,13 @@ Code = ℕ × (ℕ × (ℕ × ℤ))
 abbrev none : ℕ × ℤ
 none = (0, pos 0)
 
--- an axis as numbers
+-- the code of an axis
 abbrev code_of_along : Along → ℕ × ℤ
 code_of_along First = (0, pos 0)
 code_of_along Last = (1, pos 0)
 code_of_along (Axis k) = (2, k)
 
--- the axis of these numbers
+-- the axis with this code
 abbrev along_of_code : ℕ × ℤ → Along
 along_of_code (zero, k) = First
 along_of_code (suc zero, k) = Last
@@ -120,7 +119,7 @@ along_again First = refl
 along_again Last = refl
 along_again (Axis k) = refl
 
--- a function of one argument as numbers
+-- the code of a function of one argument
 abbrev code_of_one : Function1 → Code
 code_of_one (function1.Monad (monadic.Scalar f)) = (0, (number_of_monad f, none))
 code_of_one (function1.Monad (monadic.Reverse a)) = (1, (0, code_of_along a))
@@ -131,11 +130,11 @@ code_of_one (function1.Monad monadic.Transpose) = (4, (1, none))
 code_of_one (function1.Monad monadic.Shape) = (4, (2, none))
 code_of_one (function1.Monad monadic.Iota) = (4, (3, none))
 
--- the functions of one argument that have neither an axis nor a scalar function
+-- the functions of one argument with neither an axis nor a scalar function
 abbrev plain_monads : List Function1
 plain_monads = function1.Monad monadic.Ravel ∷ function1.Monad monadic.Transpose ∷ function1.Monad monadic.Shape ∷ function1.Monad monadic.Iota ∷ []
 
--- the function of one argument of these numbers
+-- the function of one argument with this code
 abbrev one_of_code : Code → Function1
 one_of_code (zero, c) = function1.Monad (monadic.Scalar (monad_of_number c.0))
 one_of_code (suc zero, c) = function1.Monad (monadic.Reverse (along_of_code c.1))
@@ -153,7 +152,7 @@ one_again (function1.Monad monadic.Transpose) = refl
 one_again (function1.Monad monadic.Shape) = refl
 one_again (function1.Monad monadic.Iota) = refl
 
--- a function of two arguments as numbers
+-- the code of a function of two arguments
 abbrev code_of_two : Function2 → Code
 code_of_two (function2.Dyad (dyadic.Scalar f)) = (0, (number_of_dyad f, none))
 code_of_two (function2.Dyad (dyadic.Catenate a)) = (1, (0, code_of_along a))
@@ -170,13 +169,13 @@ code_of_two (function2.Dyad dyadic.Member) = (6, (5, none))
 code_of_two (function2.Dyad dyadic.Encode) = (6, (6, none))
 code_of_two (function2.Dyad dyadic.Decode) = (6, (7, none))
 
--- the functions of two arguments that have neither an axis nor a scalar function
+-- the functions of two arguments with neither an axis nor a scalar function
 abbrev plain_dyads : List Function2
 plain_dyads =
     function2.Dyad dyadic.Reshape ∷ function2.Dyad dyadic.Take ∷ function2.Dyad dyadic.Drop ∷ function2.Dyad dyadic.Transpose ∷
     function2.Dyad dyadic.IndexOf ∷ function2.Dyad dyadic.Member ∷ function2.Dyad dyadic.Encode ∷ function2.Dyad dyadic.Decode ∷ []
 
--- the function of two arguments of these numbers
+-- the function of two arguments with this code
 abbrev two_of_code : Code → Function2
 two_of_code (zero, c) = function2.Dyad (dyadic.Scalar (dyad_of_number c.0))
 two_of_code (suc zero, c) = function2.Dyad (dyadic.Catenate (along_of_code c.1))
@@ -202,7 +201,7 @@ two_again (function2.Dyad dyadic.Member) = refl
 two_again (function2.Dyad dyadic.Encode) = refl
 two_again (function2.Dyad dyadic.Decode) = refl
 
--- one run of positions, and another after it
+-- positions followed by others
 abbrev followed_by : Positions → Positions → Positions
 followed_by NoPositions ps = ps
 followed_by (Empty qs) ps = Empty (followed_by qs ps)
@@ -218,8 +217,7 @@ followed_by_both NoPositions rs ps = refl
 followed_by_both (Empty qs) rs ps = ap (λ vs. Empty vs) (followed_by_both qs rs ps)
 followed_by_both (Filled e qs) rs ps = ap (λ vs. Filled e vs) (followed_by_both qs rs ps)
 
--- numbers, characters, a name, a function of one or of two arguments, or a step of an index: its begin, an empty
--- position, or one that is written
+-- numbers, characters, a name, a function of one or of two arguments, or a step of an index: its start, an empty position, or a written one
 abbrev Word : Type 0
 Word = List ℤ ⊎ (List ℕ ⊎ (List ℕ ⊎ (Code ⊎ (Code ⊎ ℕ))))
 
@@ -253,12 +251,12 @@ abbrev mutual
   words_in (Empty ps) = index_word 1 ∷ words_in ps
   words_in (Filled e ps) = words e ++ (index_word 2 ∷ words_in ps)
 
--- the last tree gets an index without positions
+-- the last tree becomes the operand of an index without positions
 abbrev begin_index : List Tree → List Tree
 begin_index [] = []
 begin_index (t ∷ stack) = Index t NoPositions ∷ stack
 
--- the index of the last tree gets these positions at its end
+-- the positions are appended to the index of the last tree
 abbrev add_positions : Positions → List Tree → List Tree
 add_positions ps (Index t qs ∷ stack) = Index t (followed_by qs ps) ∷ stack
 add_positions ps stack = stack
@@ -268,13 +266,13 @@ abbrev add_written : List Tree → List Tree
 add_written [] = []
 add_written (e ∷ stack) = add_positions (Filled e NoPositions) stack
 
--- what a step of an index does to the trees so far, the last first
+-- the effect of a step of an index on the trees so far, the last first
 abbrev index_step : ℕ → List Tree → List Tree
 index_step zero stack = begin_index stack
 index_step (suc zero) stack = add_positions (Empty NoPositions) stack
 index_step (suc (suc n)) stack = add_written stack
 
--- what a word does to the trees so far, the last first
+-- the effect of a word on the trees so far, the last first
 abbrev push : Word → List Tree → List Tree
 push (inl ns) stack = Const (Numbers ns) ∷ stack
 push (inr (inl cs)) stack = Const (Text cs) ∷ stack
@@ -286,7 +284,7 @@ push (inr (inr (inr (inr (inl f))))) (b ∷ []) = b ∷ []
 push (inr (inr (inr (inr (inl f))))) (b ∷ a ∷ stack) = between_arguments (two_of_code f) a b ∷ stack
 push (inr (inr (inr (inr (inr n))))) stack = index_step n stack
 
--- what the words do, one after the other
+-- the effect of the words, in order
 abbrev build : List Word → List Tree → List Tree
 build [] stack = stack
 build (w ∷ ws) stack = build ws (push w stack)
@@ -296,7 +294,7 @@ abbrev top : List Tree → Tree
 top [] = Name []
 top (t ∷ ts) = t
 
--- the words of a function and of its arguments, where those of each argument build it
+-- the words of a function and its arguments build it, if the words of each argument build that argument
 before_again : (f : Function1) (b : Tree) (ws : List Word) (stack : List Tree) → build (words b ++ (monad_word (code_of_one f) ∷ ws)) stack ≡ build (monad_word (code_of_one f) ∷ ws) (b ∷ stack)
     → build ((words b ++ monad_word (code_of_one f) ∷ []) ++ ws) stack ≡ build ws (before_argument f b ∷ stack)
 before_again f b ws stack given =
@@ -346,11 +344,11 @@ mutual
 pub same_again : (t : Tree) → top (build (words t) []) ≡ t
 same_again t = ap top (ap (λ ws. build ws []) (sym (append-nil (words t))) ∙ again t [] [])
 
--- the numbers of functions can be written as numbers
+-- the codes of functions are encoded as numbers
 abbrev coded_code : Coded Code
 coded_code = coded× coded_ℕ (coded× coded_ℕ (coded× coded_ℕ coded_ℤ))
 
--- so can trees
+-- trees are encoded as numbers
 abbrev pub coded_tree : Coded Tree
 coded_tree =
     code_by (List Word) (coded_list (coded⊎ (coded_list coded_ℤ) (coded⊎ (coded_list coded_ℕ) (coded⊎ (coded_list coded_ℕ) (coded⊎ coded_code (coded⊎ coded_code coded_ℕ))))))

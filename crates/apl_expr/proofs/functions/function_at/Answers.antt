@@ -2,7 +2,7 @@ use Rattle.{std.{proofs.Common.{◌≡◌, ◌∙◌, ℕ, false, Some, None, Li
 use Rattle.apl_expr.{specs.Symbols.{stands_alone}, specs.Functions.{function, product_in, product_or_less, fold_along_or_less, fold_or_less, function_at}}
 use Rattle.apl_expr.proofs.functions.function_at.Goals as goal
 
--- a sign that does not stand alone begins a product, a fold, or less
+-- a sign that is part of a function begins a product, a fold, or a plain function
 begins : (c : ℕ) (ts : List Lexeme) → stands_alone c ≡ false → function_at c ts ≡ product_or_less c (product_in c ts) ts
 begins c ts alone = ap (λ b. if b then function None None 0 else product_or_less c (product_in c ts) ts) alone
 
