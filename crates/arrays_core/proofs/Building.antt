@@ -1,4 +1,4 @@
--- Items that are put behind others.
+-- Items that are appended.
 use Rattle.std.{proofs.Common.{◌≡◌, ℕ, zero, suc, ◌+◌, ◌/◌, ◌%◌, ◌<◌, ◌≤◌, List, [], ◌∷◌, ◌++◌, length, map, get_or, take, drop, replicate, refl, ap, sym, ◌∙◌, arith, append_assoc, length-drop, Result, Ok, Err}, specs.List.{range_with_len}, specs.Prelude.{OnOk}}
 use Rattle.std.{proofs.lemmas.List.{get_or-take, get_or-drop, length-take, length-map, map-append}, proofs.lemmas.List.FromFn.{fill_by_all, map-range_with_len_more, take-map-range_with_len}, proofs.Math.Nat.{add-mul-mod_self_left, mod-eq_of_lt}, proofs.lemmas.Simd.{map-map}, proofs.Math.ListN.{get_or-map}}
 use Rattle.arrays_core.specs.Building.{listed}
@@ -10,7 +10,7 @@ listed_same_from x a (suc n) = ap (λ xs. x ∷ xs) (listed_same_from x (a + 1) 
 pub listed_same : {A : Type 0} (x : A) (n : ℕ) → replicate n x ≡ listed n (λ k. x)
 listed_same x n = listed_same_from x 0 n
 
--- one item more behind those that a function gives
+-- one more item of a function's values
 pub listed_more : {A : Type 0} (f : ℕ → A) (before now new : List A) (k : ℕ) (x : A) → now ≡ before ++ listed k f → new ≡ now ++ x ∷ [] → x ≡ f k
     → new ≡ before ++ listed (k + 1) f
 listed_more f before now new k x made pushed same =
@@ -23,7 +23,7 @@ run_listed xs first n m d h same =
     fill_by_all (λ k. get_or xs (first + k) d) (take m (drop first xs)) n d (simp (length-take, length-drop) (omega arith))
     (λ k below. get_or-take m (drop first xs) k d (omega arith) ∙ get_or-drop first xs k d)
 
--- what a function gives, item by item
+-- the values of a function, mapped
 pub map_listed : {A B : Type 0} (F : A → B) (f : ℕ → A) (n : ℕ) → map F (listed n f) ≡ listed n (λ k. F (f k))
 map_listed F f n = map-map F f (range_with_len 0 n)
 
@@ -34,7 +34,7 @@ picked_listed_from F xs place d a (suc n) =
     ap (λ ys. F (get_or xs (place a) d) ∷ ys) (picked_listed_from F xs place d (a + 1) n)
     ∙ ap (λ y. y ∷ map (λ k. get_or (map F xs) (place k) (F d)) (range_with_len (a + 1) n)) (sym (get_or-map F xs (place a) d))
 
--- items of one kind that a call put behind the others, as items of either kind
+-- a call on numbers or characters appends the same to items
 pub put_same : {A B T E : Type 0} (F : A → B) (r r' : Result T E) (now before : List A) (after was : List B) (n : ℕ) (x : A) (y : B)
     → OnOk r (now ≡ before ++ listed n (λ k. x)) → r' ≡ r → after ≡ map F now → was ≡ map F before → y ≡ F x
     → OnOk r' (after ≡ was ++ listed n (λ k. y))
@@ -51,7 +51,7 @@ put_picked F (Ok t) r' now before xs after was items n place d y put e f g i h =
     ∙ ap (λ zs. zs ++ listed n (λ k. get_or (map F xs) (place k) (F d))) (sym g))
 put_picked F (Err t) r' now before xs after was items n place d y put e f g i h = rw e tt
 
--- ---- items again and again
+-- ---- repeated items
 
 pub range_more : {A : Type 0} (f : ℕ → A) (a k n : ℕ) → map f (range_with_len a (k + n)) ≡ map f (range_with_len a k) ++ map f (range_with_len (a + k) n)
 range_more f a zero n =
@@ -74,7 +74,7 @@ range_shifted f a b (suc n) h =
 round_again : (n l k : ℕ) → l % n ≡ 0 → (l + k) % n ≡ (0 + k) % n
 round_again n l k e = ap (λ m. m % n) (omega arith) ∙ add-mul-mod_self_left k n (l / n) ∙ ap (λ m. m % n) (omega arith)
 
--- the first of them behind all, where these are whole rounds
+-- the first items repeated after whole rounds
 pub again_listed : {A : Type 0} (xs old : List A) (d : A) (n m l total : ℕ) → length xs ≡ l → total ≡ l + m → m ≤ l → l % n ≡ 0
     → xs ≡ listed l (λ k. get_or old (k % n) d) → xs ++ take m (drop 0 xs) ≡ listed total (λ k. get_or old (k % n) d)
 again_listed xs old d n m l total long whole few round made =

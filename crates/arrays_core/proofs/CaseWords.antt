@@ -3,11 +3,11 @@ use Rattle.std.{proofs.Common.{◌≡◌, ℕ, ℤ, pos, negsuc, List, [], ◌�
 use Rattle.arrays_core.{specs.declared.item.Item.TheVariants.{Num, Char}, specs.declared.item.ItemType.TheVariants.{Nums, Chars}, specs.declared.item.Kind.{Kind}, specs.Arrays.{ArrayValue}}
 
 infix 68 ◌⇒◌
--- what is computed, and what it is
+-- a computation and its expected value
 abbrev pub ◌⇒◌ : {A : Type 0} → A → A → A × A
 ◌⇒◌ computed wanted = (computed, wanted)
 
--- each case of a table computes to what is wanted: refl proves it
+-- each case of a table computes to its expected value, by refl
 abbrev pub AllSame : {A : Type 0} → List (A × A) → Type 0
 AllSame cases = map (λ c. c.0) cases ≡ map (λ c. c.1) cases
 

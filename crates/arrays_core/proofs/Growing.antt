@@ -3,12 +3,12 @@ use Rattle.std.{proofs.Common.{◌≡◌, ◌≤◌, ◌<◌, ◌+◌, ◌-◌, 
 use Rattle.std.proofs.lemmas.List.{append-nil, get_or_append_left, get_or-append-add, get_or-append_right, length-append}
 use Rattle.arrays_core.{specs.declared.item.Item.{Item}, specs.declared.item.ItemType.{ItemType}, specs.Arrays.{ArrayValue, IsArray}, specs.Items.{type_of}, specs.Shapes.{size, IsWithinLimits}, specs.Growth.{FitsGrowth, grown_by, one_longer}}
 
--- items of two types are none
+-- items that have two types are none
 pub none_left : (t u : ItemType) (xs : List Item) → All (λ x. type_of x ≡ t) xs → All (λ x. type_of x ≡ u) xs → (t ≡ u → ⊥) → xs ≡ []
 none_left t u [] h k apart = refl
 none_left t u (x ∷ xs) h k apart = absurd (apart (sym (h 0 x (omega arith)) ∙ k 0 x (omega arith)))
 
--- and nothing is put behind others by them
+-- to append no items changes nothing
 pub nothing_behind : (t u : ItemType) (made items xs : List Item) → items ≡ made → All (λ x. type_of x ≡ t) xs → All (λ x. type_of x ≡ u) xs → (t ≡ u → ⊥) → made ≡ items ++ xs
 nothing_behind t u made items xs is h k apart = sym is ∙ sym (append-nil items) ∙ ap (λ (l : List Item). items ++ l) (sym (none_left t u xs h k apart))
 
@@ -20,11 +20,11 @@ pub rank_longer : (shape : List ℕ) → length (one_longer shape) ≡ length sh
 rank_longer [] = refl
 rank_longer (n ∷ shape) = refl
 
--- as many items as places after they grew
+-- the grown array has as many items as places
 pub long_grown : (shape : List ℕ) (old more new : List Item) → 0 < length shape → length old ≡ size shape → length more ≡ size (drop 1 shape) → new ≡ old ++ more → length new ≡ size (one_longer shape)
 long_grown shape old more new some p q e = ap (λ (l : List Item). length l) e ∙ length-append old more ∙ (λ i. p i + q i) ∙ sym (size_longer shape some)
 
--- items behind others, of one type
+-- items of one type, appended to items of that type
 both_typed : (t : ItemType) (xs ys : List Item) → All (λ x. type_of x ≡ t) xs → All (λ x. type_of x ≡ t) ys → All (λ x. type_of x ≡ t) (xs ++ ys)
 both_typed t xs ys h k i d b = elim (cases_Bool (nat_lt i (length xs))) [
   | inl l ↦ ap type_of (get_or_append_left xs ys d i (ltb-true _ _ l)) ∙ h i d (ltb-true _ _ l)
@@ -33,7 +33,7 @@ both_typed t xs ys h k i d b = elim (cases_Bool (nat_lt i (length xs))) [
       ap type_of (get_or-append_right xs ys (length xs) i d refl past) ∙ k (i - length xs) d (omega (arith, length-append xs ys))
 ]
 
--- an array that grew is an array
+-- a grown array is an array
 pub grown_sound : (a : ArrayValue) (xs : List Item) → IsArray a → FitsGrowth a xs → IsArray (grown_by a xs)
 grown_sound a xs h fits = record {
   within = fits.within;
@@ -41,7 +41,7 @@ grown_sound a xs h fits = record {
   one_type = both_typed a.item_type a.items xs h.one_type fits.typed;
 }
 
--- an array with items behind it that is one too, and has an axis, grew by one place
+-- if an array with items appended is an array with an axis, it grew by one place
 pub fits_growth : (a n : ArrayValue) (xs : List Item) → IsArray a → IsArray n → grown_by a xs ≡ n → 0 < length n.shape → FitsGrowth a xs
 fits_growth a n xs h k e axis =
     let shape : n.shape ≡ one_longer a.shape = ap (λ (v : ArrayValue). v.shape) (sym e) in

@@ -1,4 +1,4 @@
--- The rows of a shape: what stands along its last axis.
+-- The rows of a shape, which lie along its last axis.
 use Rattle.std.{proofs.Common.{◌≡◌, ℕ, zero, suc, ◌+◌, ◌-◌, ◌*◌, ◌<◌, ◌≤◌, true, List, [], ◌∷◌, ◌++◌, length, get_or, take, map, refl, ap, sym, ◌∙◌, arith, append_assoc, Result, Ok}, specs.List.{range_with_len}, specs.Prelude.{OnOk}, proofs.lemmas.Result.{on_ok_weaker}, proofs.lemmas.Bool.{and_from, le-leb}}
 use Rattle.std.{proofs.lemmas.List.{take_more, map-append, append-nil, length-map, length_push, get_or_append_left, get_or_push}, proofs.lemmas.List.FromFn.{map-range_with_len_more}, proofs.lemmas.Simd.{map-map}}
 use Rattle.arrays_core.{specs.Items.{all_or_first_error}, specs.Shapes.{size, indices, is_index_of, places_before, IsWithinLimits}, specs.Building.{listed, with_row, IsRowOf}, proofs.Shapes.{as_long, head_of, places_below, factor_le}, proofs.Building.{range_more}}
@@ -33,7 +33,7 @@ row_of rows row n h few some =
 
 -- ---- index lists that differ in the last index
 
--- the index behind a row
+-- the index after a row
 pub record RowEnd (shape row : List ℕ) (i : ℕ) : Type 0 where
   pub long : length shape ≡ length row + 1
   pub low : 1 ≤ i
@@ -60,7 +60,7 @@ same_row (n ∷ shape) (k ∷ row) i j h low high =
     let head = head_of n k shape (row ++ i ∷ []) h in
     and_from _ _ (and_from _ _ (le-leb 1 k head.low) (le-leb k n head.high)) (same_row shape row i j head.rest low high)
 
--- their places stand side by side
+-- the places of a row are adjacent
 pub places_in_row : (shape row : List ℕ) (i j : ℕ) → is_index_of shape (row ++ i ∷ []) ≡ true → 1 ≤ j
     → places_before shape (row ++ j ∷ []) + i ≡ places_before shape (row ++ i ∷ []) + j
 places_in_row [] [] i j h low = cc
@@ -95,7 +95,7 @@ with_row_more {A = A} {E = E} items now function f k (suc n) m e each so_far =
     rw (same, map-range_with_len_more function 1 (k + n) (k + n + 1) (omega arith) ∙ ap (λ r. row ++ r ∷ []) (each n (omega arith)), ← append_assoc start row (Ok (f n) ∷ []))
     (ok_more (start ++ row) (now ++ listed n f) (f n) before ∙ ap (λ xs. Ok xs) (append_assoc now (listed n f) (f n ∷ []) ∙ ap (λ xs. now ++ xs) (sym more)))
 
--- a call that puts a run behind the items has put a row there, or the rest of one
+-- a call that appends a run of items has appended a row, or the rest of one
 pub row_put : {A T X E : Type 0} (r : Result T X) (items new : List A) (function : ℕ → Result A E) (f : ℕ → A) (count : ℕ)
     → ((j : ℕ) → j < count → function (0 + j + 1) ≡ Ok (f j)) → OnOk r (new ≡ items ++ listed count f) → OnOk r (with_row items function count ≡ Ok new)
 row_put r items new function f count each put =
@@ -106,7 +106,7 @@ pub row_put_more : {A T X E : Type 0} (r : Result T X) (items now new : List A) 
 row_put_more r items now new function f k n m whole each so_far put =
     on_ok_weaker r (λ e. with_row_more items now function f k n m whole each so_far ∙ ap (λ xs. Ok xs) (sym e)) put
 
--- a part of a row, and the part behind it
+-- a part of a row, and the next part
 pub with_row_then : {A E : Type 0} (items now new : List A) (function : ℕ → Result A E) (k n m : ℕ) → k + n ≡ m → with_row items function k ≡ Ok now
     → with_row now (λ i. function (k + i)) n ≡ Ok new → with_row items function m ≡ Ok new
 with_row_then {A = A} {E = E} items now new function k n m e so_far rest =
@@ -123,9 +123,9 @@ with_row_then {A = A} {E = E} items now new function k n m e so_far rest =
     range_shift f a b k (suc n) e =
         ap (λ xs. f b ∷ xs) (range_shift f (a + 1) (b + 1) k n (omega arith)) ∙ ap (λ j. f j ∷ map (λ i. f (k + i)) (range_with_len (a + 1) n)) e
 
--- ---- a row of a shape behind those before it
+-- ---- a row of a shape after the rows before it
 
--- the first index lists of a row stand behind those of the rows before it
+-- the first index lists of a row come after all of the rows before it
 row_taken : (rows row : List ℕ) (n : ℕ) → is_index_of rows row ≡ true → (j : ℕ) → j ≤ n
     → take (places_before rows row * n + j) (indices (rows ++ n ∷ []))
     ≡ take (places_before rows row * n) (indices (rows ++ n ∷ [])) ++ map (λ i. row ++ i ∷ []) (range_with_len 1 j)
@@ -148,7 +148,7 @@ row_taken rows row n inside (suc j) h =
     ∙ append_assoc (take b is) (map (λ i. row ++ i ∷ []) (range_with_len 1 j)) ((row ++ (j + 1) ∷ []) ∷ [])
     ∙ ap (λ xs. take b is ++ xs) (sym more)
 
--- a row more
+-- one more row
 pub row_collected : {A E : Type 0} (rows row : List ℕ) (n r : ℕ) (function : List ℕ → Result A E) (items now : List A)
     → is_index_of rows row ≡ true → places_before rows row ≡ r → with_row items (λ i. function (row ++ i ∷ [])) n ≡ Ok now
     → CollectedTo (rows ++ n ∷ []) function (r * n) items → CollectedTo (rows ++ n ∷ []) function ((r + 1) * n) now

@@ -7,36 +7,36 @@ abbrev pub one_longer : List ℕ → List ℕ
 one_longer [] = []
 one_longer (n ∷ shape) = (n + 1) ∷ shape
 
--- the array with the items of one more place of its first axis behind its own
+-- the array with one more place of its first axis, and the items of that place appended
 abbrev pub grown_by : ArrayValue → List Item → ArrayValue
 grown_by a xs = record { item_type = a.item_type; shape = one_longer a.shape; items = a.items ++ xs }
 
--- these are the items of one more place, of the array's type, and the limits leave room for it
+-- the items fill one more place and have the array's type, and the longer shape is within the limits
 pub record FitsGrowth (a : ArrayValue) (xs : List Item) : Type 0 where
   pub some_axis : 0 < length a.shape
   pub within : IsWithinLimits (one_longer a.shape)
   pub one_place : length xs ≡ size (drop 1 a.shape)
   pub typed : All (λ x. type_of x ≡ a.item_type) xs
 
--- so many items lie in a piece of memory that has room for the next power of two as many
+-- the capacity is enough for the next power of two of the number of items
 abbrev pub IsRoomy : (items capacity : ℕ) → Type 0
 IsRoomy items capacity = 0 < items → (p : ℕ) → IsNextPowerOfTwo items p → p ≤ capacity
 
--- where so many lie, there is room for more: the next power of two is the same
+-- `held` items have memory for `items`: both have the same next power of two
 pub record IsSameRoom (held items : ℕ) : Type 0 where
   pub some : 0 < held
   pub same : (p : ℕ) → IsNextPowerOfTwo items p → p / 2 < held
 
--- so many more items go where the held ones lie, or there is a piece of memory of this capacity for all of them
+-- the items fit in the memory of the held ones, or this capacity is enough for all of them
 abbrev pub HasRoom : (held items capacity : ℕ) → Type 0
 HasRoom held items capacity = IsSameRoom held items ⊎ IsRoomy items capacity
 
--- a piece of memory for items of a type, and for how many
+-- memory for items of a type, and its capacity
 pub record RoomValue : Type 0 where
   pub item_type : ItemType
   pub places : ℕ
 
--- room for the items of an array and so many more
+-- room for the items of an array and `more` others
 pub record IsRoomFor (r : RoomValue) (a : ArrayValue) (more : ℕ) : Type 0 where
   pub typed : r.item_type ≡ a.item_type
   pub room : HasRoom (length a.items) (length a.items + more) r.places

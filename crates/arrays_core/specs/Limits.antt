@@ -1,7 +1,7 @@
--- How large an array may be.
+-- The limits of an array.
 use Rattle.std.specs.Prelude.{ℕ}
 
--- the most axes of an array
+-- the greatest number of axes of an array
 abbrev pub most_axes : ℕ
 most_axes = 4
 
@@ -9,6 +9,6 @@ most_axes = 4
 abbrev pub longest_axis : ℕ
 longest_axis = 1048576
 
--- the most places of an array
+-- the greatest number of places of an array
 abbrev pub most_places : ℕ
 most_places = 1048576

@@ -1,4 +1,4 @@
-//! Arrays that are built from their first item on.
+//! Arrays that are built by appending items.
 
 ghost use Rattle.std.specs.Prelude.{◌≡◌, ◌≤◌, ◌<◌, ◌+◌, ◌-◌, ◌*◌, ◌%◌, ◌++◌, ◌∷◌, [], ℕ, pos, unsigned_abs, IfOk, OnOk, length, get_or};
 ghost use Rattle.arrays_core.specs.Building.{listed};
@@ -14,14 +14,14 @@ use std::alloc::{AllocError, Global};
 use std::marker::Model;
 use std::mem;
 
-/// Puts an item behind the others, so many times.
+/// Appends `count` copies of an item.
 fn extend_with<T: Copy + Drop>(items: &mut Vec<T>, item: T, count: u32) -> Result<(), AllocError>
     ensures { OnOk result (items.new.items ≡ items.old.items ++ listed count (λ k. item)) }
 {
     items.resize(items.len() + count as usize, item)
 }
 
-/// Puts a run of items behind the others.
+/// Appends a run of items.
 fn extend_run<T: Copy + Drop>(
     items: &mut Vec<T>,
     from: &[T],
@@ -34,8 +34,8 @@ fn extend_run<T: Copy + Drop>(
     items.extend_from_slice(&from[first..first + count])
 }
 
-/// Puts a run of items behind the others, the last of it first. Here and below the list is taken out while items are put behind
-/// it, so that none waits until it is written how long the list is.
+/// Appends a run of items in reverse order. Here and below the list is moved out of `items` during the loop, so that no push waits for the last
+/// write of the length.
 fn extend_back<T: Copy + Drop>(
     items: &mut Vec<T>,
     from: &[T],
@@ -55,7 +55,7 @@ fn extend_back<T: Copy + Drop>(
     Ok(())
 }
 
-/// Puts the items that stand `step` places apart behind the others.
+/// Appends items that are `step` places apart.
 fn extend_steps<T: Copy + Drop>(
     items: &mut Vec<T>,
     from: &[T],
@@ -75,7 +75,7 @@ fn extend_steps<T: Copy + Drop>(
     Ok(())
 }
 
-/// Puts the items at indices behind the others: index 1 stands after `before` items.
+/// Appends the items at these indices; index 1 is the place after `before` items.
 fn extend_at<T: Copy + Drop>(
     items: &mut Vec<T>,
     from: &[T],
@@ -95,7 +95,7 @@ fn extend_at<T: Copy + Drop>(
     Ok(())
 }
 
-/// Puts the items at places behind the others: place 0 stands behind `first` items.
+/// Appends the items at these places; place 0 is the place after `first` items.
 fn extend_places<T: Copy + Drop>(
     items: &mut Vec<T>,
     from: &[T],
@@ -114,7 +114,7 @@ fn extend_places<T: Copy + Drop>(
     Ok(())
 }
 
-/// Puts the items behind themselves, again and again, until there are so many.
+/// Appends copies of the items until there are `places` items.
 fn repeat_to<T: Copy + Drop>(items: &mut Vec<T>, places: usize) -> Result<(), AllocError>
     requires some { 0 < length items.old.items }
     requires more { length items.old.items ≤ places }
@@ -127,8 +127,7 @@ fn repeat_to<T: Copy + Drop>(items: &mut Vec<T>, places: usize) -> Result<(), Al
     Ok(())
 }
 
-/// The items of an array so far, of one type, in row-major order: they are put in their place once, one
-/// behind the other.
+/// The items of an array under construction, of one type, in row-major order. Each item is written once, in its final place.
 #[derive(Drop)]
 pub struct ArrayBuilder {
     list: ItemList,
@@ -145,7 +144,7 @@ impl Model for ArrayBuilder {
 }
 
 impl ArrayBuilder {
-    /// No items, with room for so many.
+    /// Returns a builder without items, with capacity for `places` items.
     pub fn with_capacity(
         alloc: Global,
         item_type: ItemType,
@@ -157,7 +156,7 @@ impl ArrayBuilder {
         Ok(ArrayBuilder { list })
     }
 
-    /// Puts an item behind the others, so many times.
+    /// Appends `count` copies of an item.
     pub fn extend_with(&mut self, item: Item, count: u32) -> Result<(), AllocError>
         requires { type_of item ≡ self.old.item_type }
         ensures items { OnOk result (self.new.items ≡ self.old.items ++ listed count (λ k. item)) }
@@ -175,8 +174,7 @@ impl ArrayBuilder {
         }
     }
 
-    /// Puts items of an array of the same type behind the others: those at the place `first` and after it.
-    /// Places are counted from 0.
+    /// Appends items of an array of the same type: the item at the place `first` and those after it. Places are counted from 0.
     pub fn extend_run(&mut self, array: &Array, first: u32, count: u32) -> Result<(), AllocError>
         requires typed { array.now.item_type ≡ self.old.item_type }
         requires inside { first + count ≤ length array.now.items }
@@ -195,8 +193,8 @@ impl ArrayBuilder {
         }
     }
 
-    /// Puts items of an array of the same type behind the others: that at the place `last` and those before
-    /// it, the last one first. Places are counted from 0.
+    /// Appends items of an array of the same type: the item at the place `last`, then those before it, in reverse order. Places are counted from
+    /// 0.
     pub fn extend_back(&mut self, array: &Array, last: u32, count: u32) -> Result<(), AllocError>
         requires typed { array.now.item_type ≡ self.old.item_type }
         requires low { count ≤ last + 1 }
@@ -216,8 +214,7 @@ impl ArrayBuilder {
         }
     }
 
-    /// Puts items of an array of the same type behind the others: those that stand `step` places apart, from
-    /// the place `first` on. Places are counted from 0.
+    /// Appends items of an array of the same type that are `step` places apart, from the place `first` on. Places are counted from 0.
     pub fn extend_steps(
         &mut self,
         array: &Array,
@@ -243,8 +240,7 @@ impl ArrayBuilder {
         }
     }
 
-    /// Puts items of an array of the same type behind the others: those at indices, each counted from 1, where index 1
-    /// stands after `before` places.
+    /// Appends items of an array of the same type, at indices counted from 1; index 1 is the place after `before` places.
     pub fn extend_at(
         &mut self,
         array: &Array,
@@ -269,8 +265,7 @@ impl ArrayBuilder {
         }
     }
 
-    /// Puts items of an array of the same type behind the others: those at places, each counted from 0, where place 0
-    /// stands behind `first` others.
+    /// Appends items of an array of the same type, at places counted from 0; place 0 is the place after `first` others.
     pub fn extend_places(
         &mut self,
         array: &Array,
@@ -294,7 +289,7 @@ impl ArrayBuilder {
         }
     }
 
-    /// Puts the items behind themselves, again and again, until there are so many.
+    /// Appends copies of the items until there are `places` items.
     pub fn repeat_to(&mut self, places: u32) -> Result<(), AllocError>
         requires some { 0 < length self.old.items }
         requires more { length self.old.items ≤ places }
@@ -307,7 +302,7 @@ impl ArrayBuilder {
         }
     }
 
-    /// One more item, of the type of the others.
+    /// Appends an item.
     pub fn push(&mut self, item: Item) -> Result<(), AllocError>
         requires { type_of item ≡ self.old.item_type }
         ensures items { OnOk result (self.new.items ≡ self.old.items ++ item ∷ []) }
@@ -316,8 +311,7 @@ impl ArrayBuilder {
         self.list.push(item)
     }
 
-    /// The array of a shape that has as many places as there are items. It takes memory only where there are more than
-    /// were announced.
+    /// Returns the array of a shape with as many places as there are items. Allocates only if there are more items than the capacity promised.
     pub fn into_array(self, shape: &Shape) -> Result<Array, AllocError>
         requires within { IsWithinLimits shape.now.items }
         requires one_item_a_place { length self.items ≡ size shape.now.items }

@@ -1,4 +1,4 @@
-//! Why there is no array.
+//! The errors that take the place of an array.
 
 ghost use Rattle.std.specs.Prelude.{◌≡◌, IfOk};
 ghost use Rattle.arrays_core.specs.declared.fault.ApplyFault.TheVariants.{Kind, NoMemory};
@@ -9,28 +9,28 @@ use crate::item::Kind;
 use apl_tokens::Name;
 use std::alloc::{AllocError, AllocFailed};
 
-/// An error in the place of an array, with the name in whose formula it arose.
+/// An error in place of an array, with its origin.
 #[derive(Clone, Copy, PartialEq, Eq, Debug)]
 pub struct Fault {
-    /// What is wrong.
+    /// The kind of the error.
     pub kind: Kind,
-    /// The name in whose formula it arose; none where it arose in the line itself.
+    /// The name whose formula caused the error, or `None` for the line itself.
     pub origin: Option<Name>,
 }
 
 impl From<Kind> for Fault {
     ghost from_gives = { λ kind e. e ≡ fault kind };
 
-    /// An error that has no origin yet.
+    /// Returns an error without an origin.
     fn from(kind: Kind) -> Fault {
         Fault { kind, origin: None }
     }
 }
 
-/// Why a function could not be applied.
+/// The reason why a function has no result.
 #[derive(Clone, Copy, PartialEq, Eq, Debug)]
 pub enum ApplyFault {
-    /// A check failed, or an item could not be worked out.
+    /// A check failed, or an item has an error.
     Kind(Kind),
     /// The allocator refused memory.
     NoMemory,
@@ -60,7 +60,7 @@ impl<T: Drop> From<AllocFailed<T>> for ApplyFault {
     }
 }
 
-/// The array that a function gave, or the error in its place, which has no origin yet; want of memory apart.
+/// Separates want of memory from the result of a function, an array or an error without an origin.
 #[inline(always)]
 pub fn outcome(applied: Result<Array, ApplyFault>) -> Result<Result<Array, Fault>, AllocError>
     ensures { IfOk result (IsOutcomeOf applied) }

@@ -1,4 +1,4 @@
-//! Items of one type that are put behind one another.
+//! Lists of items of one type.
 
 ghost use Rattle.std.specs.Prelude.{◌≡◌, ◌∷◌, ◌++◌, [], IfOk, OnOk, replicate};
 ghost use Rattle.arrays_core.specs.Items.{fill, type_of};
@@ -8,7 +8,7 @@ use crate::item::{Item, ItemType};
 use crate::room::repeated;
 use std::alloc::{AllocError, Global};
 
-/// A list of items: numbers take eight bytes an item, characters four.
+/// A list of items: numbers take eight bytes each, characters four.
 #[derive(Drop)]
 pub(crate) enum ItemList {
     Nums(Vec<i64>),
@@ -16,7 +16,7 @@ pub(crate) enum ItemList {
 }
 
 impl ItemList {
-    /// So many fill items.
+    /// Returns a list of fill items.
     pub(crate) fn filled(
         alloc: Global,
         item_type: ItemType,
@@ -31,7 +31,7 @@ impl ItemList {
         }
     }
 
-    /// No items, with room for so many.
+    /// Returns an empty list with this capacity.
     pub(crate) fn with_capacity(
         alloc: Global,
         item_type: ItemType,
@@ -47,7 +47,7 @@ impl ItemList {
         }
     }
 
-    /// One more item, of the type of the others.
+    /// Appends an item.
     pub(crate) fn push(&mut self, item: Item) -> Result<(), AllocError>
         requires { type_of item ≡ list_type self.old }
         ensures items { OnOk result (list_items self.new ≡ list_items self.old ++ item ∷ []) }

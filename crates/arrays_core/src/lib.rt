@@ -1,4 +1,4 @@
-//! Arrays of numbers or characters: a type, a shape and an item at each index list.
+//! Arrays of numbers or characters: a type, a shape, and an item at each index list.
 #![tactic(auto)]
 
 mod array;

@@ -1,4 +1,4 @@
-//! The items of an array as they lie.
+//! The items of an array in memory.
 
 ghost use Rattle.std.specs.Prelude.{◌≡◌, ◌≤◌, ◌<◌, ◌+◌, ◌^◌, ◌∷◌, ◌++◌, [], All, IfOk, map, vec_len, vec_capacity, length, take, drop, set, get_or};
 ghost use Rattle.arrays_core.specs.Limits.{most_places};
@@ -14,7 +14,7 @@ use crate::room::{Room, copied, room_of, roomy};
 use std::alloc::{AllocError, Global};
 use std::slice;
 
-/// The items in row-major order: one number lies in the value itself, more of them take eight bytes an item, and characters four.
+/// The items in row-major order: one number inline, several numbers of eight bytes each, or characters of four.
 #[derive(Drop)]
 pub(crate) enum Ravel {
     One(i64),
@@ -22,14 +22,14 @@ pub(crate) enum Ravel {
     Chars(Vec<char>),
 }
 
-/// The items, lent.
+/// The items, borrowed.
 #[derive(Clone, Copy)]
 pub(crate) enum Lent<'a> {
     Nums(&'a [i64]),
     Chars(&'a [char]),
 }
 
-/// The items at places, each told by how many come before it, or fill where there is no such place.
+/// Returns the items at these places, counted from 0, or fill for a place that does not exist.
 fn picked<T: Copy + Drop>(
     alloc: Global,
     items: &[T],
@@ -50,7 +50,7 @@ fn picked<T: Copy + Drop>(
     Ok(picked)
 }
 
-/// Puts items behind others, for which there is room. It takes no memory.
+/// Appends items within the capacity. Does not allocate.
 fn append<T: Copy>(items: &mut Vec<T>, more: &[T])
     requires { vec_len items.old + length more.now ≤ vec_capacity items.old }
     ensures items { items.new.items ≡ items.old.items ++ more.now }
@@ -63,7 +63,7 @@ fn append<T: Copy>(items: &mut Vec<T>, more: &[T])
 }
 
 impl Ravel {
-    /// One item. It takes no memory for a number.
+    /// Returns a ravel of one item. Does not allocate for a number.
     pub(crate) fn one(alloc: Global, item: Item) -> Result<Ravel, AllocError>
         ensures items { IfOk result (λ r. ravel_items r ≡ item ∷ []) }
         ensures typed { IfOk result (λ r. ravel_type r ≡ type_of item) }
@@ -74,7 +74,7 @@ impl Ravel {
         }
     }
 
-    /// The items of a list, where they lie.
+    /// Returns the items of a list, and keeps their memory.
     pub(crate) fn of_list(list: ItemList) -> Ravel
         ensures items { ravel_items result ≡ list_items list }
         ensures typed { ravel_type result ≡ list_type list }
@@ -86,7 +86,7 @@ impl Ravel {
         }
     }
 
-    /// Numbers that are lent.
+    /// Returns a copy of numbers.
     fn of_numbers(alloc: Global, numbers: &[i64]) -> Result<Ravel, AllocError>
         ensures items { IfOk result (λ r. ravel_items r ≡ map (λ z. Num z) numbers.now) }
         ensures typed { IfOk result (λ r. ravel_type r ≡ Nums) }
@@ -97,7 +97,7 @@ impl Ravel {
         }
     }
 
-    /// The items with the room of so many: one number in the value itself.
+    /// Returns the items with the capacity of `room_of`, or a single number inline.
     pub(crate) fn roomy(self) -> Result<Ravel, AllocError>
         ensures items { IfOk result (λ r. ravel_items r ≡ ravel_items self) }
         ensures typed { IfOk result (λ r. ravel_type r ≡ ravel_type self) }
@@ -115,7 +115,7 @@ impl Ravel {
         }
     }
 
-    /// The items, lent.
+    /// Borrows the items.
     pub(crate) fn lent(&self) -> Lent<'_>
         ensures items { lent_items result ≡ ravel_items self.now }
         ensures typed { lent_type result ≡ ravel_type self.now }
@@ -127,7 +127,7 @@ impl Ravel {
         }
     }
 
-    /// The type of the items.
+    /// Returns the type of the items.
     pub(crate) fn item_type(&self) -> ItemType
         ensures { result ≡ ravel_type self.now }
     {
@@ -137,7 +137,7 @@ impl Ravel {
         }
     }
 
-    /// The item behind so many.
+    /// Returns the item at a place, counted from 0.
     pub(crate) fn item(&self, place: usize) -> Item
         requires { place < length (ravel_items self.now) }
         ensures is { result ≡ get_or (ravel_items self.now) place (fill (ravel_type self.now)) }
@@ -150,7 +150,7 @@ impl Ravel {
         }
     }
 
-    /// The items of a run of places, behind so many.
+    /// Returns a copy of `places` items, after the first `skipped`.
     pub(crate) fn part(
         &self,
         alloc: Global,
@@ -168,7 +168,7 @@ impl Ravel {
         }
     }
 
-    /// The items at places, each told by how many come before it, or fill.
+    /// Returns the items at these places, counted from 0, or fill for a place that does not exist.
     pub(crate) fn picked(&self, alloc: Global, before: &[u32]) -> Result<Ravel, AllocError>
         ensures items { IfOk result (λ r. ravel_items r ≡ map (λ k. get_or (ravel_items self.now) k (fill (ravel_type self.now))) before.now) }
         ensures typed { IfOk result (λ r. ravel_type r ≡ ravel_type self.now) }
@@ -179,7 +179,7 @@ impl Ravel {
         }
     }
 
-    /// The items, and behind them those of another ravel of their type.
+    /// Returns the items followed by the items of another ravel of the same type.
     pub(crate) fn joined(&self, alloc: Global, other: &Ravel) -> Result<Ravel, AllocError>
         requires room { length (ravel_items self.now) + length (ravel_items other.now) ≤ most_places }
         requires typed { ravel_type self.now ≡ ravel_type other.now }
@@ -203,7 +203,7 @@ impl Ravel {
         }
     }
 
-    /// How many items there is room for.
+    /// Returns the capacity.
     pub(crate) fn capacity(&self) -> usize
         ensures { result ≡ ravel_capacity self.now }
     {
@@ -214,7 +214,7 @@ impl Ravel {
         }
     }
 
-    /// Puts items of its type behind its own, for which there is room. It takes no memory.
+    /// Appends items of the same type within the capacity. Does not allocate.
     pub(crate) fn append(&mut self, more: &Ravel)
         requires room { length (ravel_items self.old) + length (ravel_items more.now) ≤ ravel_capacity self.old }
         requires typed { All (λ x. type_of x ≡ ravel_type self.old) (ravel_items more.now) }
@@ -237,7 +237,7 @@ impl Ravel {
         }
     }
 
-    /// Moves the items into the room, unless there is room for so many where they lie. It takes no memory.
+    /// Moves the items into `room`, unless `places` items fit in place. Does not allocate.
     #[tactic(auto, using(crate::proofs::Sound::one_type))]
     pub(crate) fn move_into(&mut self, room: Room, places: usize)
         requires few { places ≤ 2 ^ 63 }
@@ -257,7 +257,7 @@ impl Ravel {
         }
     }
 
-    /// Puts one more item of its type behind its own, for which there is room. It takes no memory.
+    /// Appends an item of the same type within the capacity. Does not allocate.
     pub(crate) fn put(&mut self, item: Item)
         requires room { length (ravel_items self.old) < ravel_capacity self.old }
         requires typed { type_of item ≡ ravel_type self.old }
@@ -280,7 +280,7 @@ impl Ravel {
         }
     }
 
-    /// Puts an item of its type in the place behind so many.
+    /// Replaces the item at a place, counted from 0, by an item of the same type.
     pub(crate) fn write(&mut self, place: usize, item: Item)
         requires inside { place < length (ravel_items self.old) }
         requires typed { type_of item ≡ ravel_type self.old }

@@ -1,4 +1,4 @@
-//! The memory that the items of an array lie in, and the room for more behind them.
+//! The memory of the items of an array, and its capacity for more.
 
 ghost use Rattle.std.specs.Prelude.{◌≡◌, ◌+◌, ◌≤◌, ◌<◌, ◌^◌, ◌++◌, ◌↔◌, [], IfOk, IsOk, IsTrue, length, replicate, vec_len, vec_capacity};
 ghost use Rattle.std.specs.Int.{IsNextPowerOfTwo};
@@ -10,11 +10,10 @@ use std::alloc::{AllocError, Global};
 use std::marker::Model;
 use std::mem;
 
-/// No power of two that is greater fits.
+/// The greatest power of two in a `usize`.
 const GREATEST_POWER: usize = 1 << 63;
 
-/// For how many items so many have room where they lie: the next power of two, so that most arrays that grow stay
-/// there; nothing for none.
+/// Returns the capacity for this number of items: the next power of two, so that most arrays grow in place; 0 for no items.
 pub fn room_of(places: usize) -> usize
     ensures low { places ≤ result }
     ensures next { 0 < places → places ≤ 2 ^ 63 → IsNextPowerOfTwo places result }
@@ -27,7 +26,7 @@ pub fn room_of(places: usize) -> usize
     places.next_power_of_two()
 }
 
-/// Items with the room of so many: where they lie if there is room for the next power of two as many.
+/// Returns the items with at least the capacity of `room_of`. Allocates only if they have less.
 pub fn roomy<T: Drop>(items: Vec<T>) -> Result<Vec<T>, AllocError>
     ensures items { IfOk result (λ v. v.items ≡ items.items) }
     ensures roomy { IfOk result (λ v. IsRoomy (length v.items) (vec_capacity v)) }
@@ -40,7 +39,7 @@ pub fn roomy<T: Drop>(items: Vec<T>) -> Result<Vec<T>, AllocError>
     Ok(items)
 }
 
-/// Items with the room of so many, in a list of their own.
+/// Returns a copy of the items with the capacity of `room_of`.
 pub fn copied<T: Copy + Drop>(alloc: Global, items: &[T]) -> Result<Vec<T>, AllocError>
     ensures { IfOk result (λ v. v.items ≡ items.now) }
 {
@@ -49,7 +48,7 @@ pub fn copied<T: Copy + Drop>(alloc: Global, items: &[T]) -> Result<Vec<T>, Allo
     Ok(copy)
 }
 
-/// One item so many times, with the room of so many.
+/// Returns `places` copies of an item with the capacity of `room_of`.
 pub fn repeated<T: Copy + Drop>(alloc: Global, item: T, places: usize) -> Result<Vec<T>, AllocError>
     ensures { IfOk result (λ v. v.items ≡ replicate places item) }
 {
@@ -58,7 +57,7 @@ pub fn repeated<T: Copy + Drop>(alloc: Global, item: T, places: usize) -> Result
     Ok(items)
 }
 
-/// Where so many items lie there is room for so many as well: the next power of two is the same.
+/// Returns true if `places` items fit in the memory of `held` items: both have the same next power of two.
 pub fn is_same_room(held: usize, places: usize) -> bool
     requires { places ≤ 2 ^ 63 }
     ensures { IsTrue result ↔ IsSameRoom held places }
@@ -66,8 +65,8 @@ pub fn is_same_room(held: usize, places: usize) -> bool
     room_of(places) / 2 < held
 }
 
-/// An empty list, with room for so many items, of which so many are held elsewhere. Where those lie in a piece of memory that is as large, no
-/// room is made, and no memory asked for.
+/// Allocates an empty list with room for `places` items, of which `held` are stored elsewhere. Allocates nothing if all fit in the memory of
+/// those.
 pub fn room_between<T: Drop>(
     alloc: Global,
     held: usize,
@@ -85,7 +84,7 @@ pub fn room_between<T: Drop>(
     Vec::with_capacity(alloc, room_of(places))
 }
 
-/// Puts items behind others, for which there is room. It takes no memory.
+/// Appends items within the capacity. Does not allocate.
 fn move_behind<T: Drop>(items: &mut Vec<T>, mut more: Vec<T>)
     requires { vec_len items.old + vec_len more ≤ vec_capacity items.old }
     ensures items { items.new.items ≡ items.old.items ++ more.items }
@@ -97,8 +96,7 @@ fn move_behind<T: Drop>(items: &mut Vec<T>, mut more: Vec<T>)
     }
 }
 
-/// Puts items behind others: where these lie if there is room for the next power of two as many, else all go into the
-/// room that is handed in. It takes no memory.
+/// Appends items: in place if the capacity is enough, or else into `room`, to which the others are moved. Does not allocate.
 pub fn put_behind<T: Drop>(items: &mut Vec<T>, more: Vec<T>, room: Vec<T>)
     requires few { length items.old.items + length more.items ≤ 2 ^ 63 }
     requires held { IsRoomy (length items.old.items) (vec_capacity items.old) }
@@ -115,8 +113,8 @@ pub fn put_behind<T: Drop>(items: &mut Vec<T>, more: Vec<T>, room: Vec<T>)
     move_behind(items, more);
 }
 
-/// Memory for the items of an array and more behind them, of which `Array::grow` makes use; none where there is room
-/// for them where its items lie. Contracts see the type and how many items there is room for.
+/// Memory for the items of an array and more, which `Array::grow` uses; empty if the array has enough capacity. Contracts see the type and the
+/// capacity.
 #[derive(Drop)]
 pub struct Room {
     pub(crate) list: ItemList,
@@ -135,7 +133,7 @@ impl Model for Room {
 }
 
 impl Room {
-    /// No room. It takes no memory.
+    /// Returns no room. Does not allocate.
     pub fn none(alloc: Global, item_type: ItemType) -> Room
         ensures { result ≡ record { item_type = item_type; places = 0 } }
     {
@@ -146,8 +144,8 @@ impl Room {
         Room { list }
     }
 
-    /// Room for so many items of a type, of which an array holds so many: none where these lie in a piece of memory that is as large, and then
-    /// no memory is asked for; AllocError where the memory for it is refused.
+    /// Allocates room for `places` items of a type, of which an array holds `held`, or returns AllocError. Allocates nothing if all fit in the
+    /// memory of the array.
     pub fn between(
         alloc: Global,
         item_type: ItemType,

@@ -6,7 +6,7 @@ use Rattle.arrays_core.proofs.ravel.Ravel.part.Goals as goal
 part_of : {A B : Type 0} (f : A → B) (places skipped : ℕ) (xs : List A) → map f (take places (drop skipped xs)) ≡ take places (drop skipped (map f xs))
 part_of f places skipped xs = sym (take-map f places (drop skipped xs)) ∙ ap (λ ys. take places ys) (sym (drop-map f skipped xs))
 
--- a part of which the end is given
+-- a part with a given end
 made_of : {A B : Type 0} (f : A → B) (places skipped : ℕ) (made lent : List A) → made ≡ take (skipped + places - skipped) (drop skipped lent) → map f made ≡ take places (drop skipped (map f lent))
 made_of f places skipped made lent is = ap (λ ys. map f ys) (is ∙ ap (λ n. take n (drop skipped lent)) (omega arith)) ∙ part_of f places skipped lent
 
