@@ -1,4 +1,4 @@
--- What the getters of the matches answer, by rows.
+-- The results of the getters of matches, by rows.
 use Rattle.std.{proofs.Common.{◌≡◌, ◌↔◌, ◌∙◌, Bool, true, false, refl, sym, codes, IsTrue, Option, Some, None, is_some, option_map, List, ⊎_elim, true≢false}, specs.Prelude.{Box}, specs.Borrow.{Bor}, specs.Box.{box_value}}
 use Rattle.clap.{specs.Words.{Row, Text, subcommand_rows}, specs.declared.parser.matches.SubCommand.{SubCommand}, specs.declared.parser.matches.ArgMatches.TheViews.{out-SubCommand}}
 use Rattle.program_words.specs.Matched.{IsTruth}
@@ -16,7 +16,7 @@ pub sub_some : {Z : Type 0} (x : Option (Box SubCommand Z)) (name : Text) (rows 
 sub_some None name rows h k = cc
 sub_some (Some b) name rows h k = cc
 
--- a flag that reads as true, false or nothing is set where it reads as true
+-- a flag is set if and only if it is true
 pub flag_set : (b : Bool) (o : Option Text) → IsTruth o → (o ≡ None → b ≡ false) → (o ≡ Some (codes "true") → b ≡ true) → (o ≡ Some (codes "false") → b ≡ false)
     → IsTrue b ↔ (o ≡ Some (codes "true"))
 flag_set b o truth absent set unset =

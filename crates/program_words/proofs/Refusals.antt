@@ -1,4 +1,4 @@
--- Why words are refused.
+-- The reasons for refusals.
 use Rattle.std.proofs.Common.{◌≡◌, sym, subst, List, ⊎_elim, [], Option}
 use Rattle.clap.{specs.Words.{HasKind, IsAmong, Row, Text, fault_of, kind_of, subcommand_of}, specs.declared.error.Error.{Error}, specs.declared.error.kind.ErrorKind.{ErrorKind}, specs.declared.error.kind.ErrorKind.TheVariants.{OutOfMemory}}
 use Rattle.program_words.{specs.declared.reading.WordsFault.{WordsFault}, specs.declared.reading.WordsFault.TheVariants.{NoMemory, BadName, BadWords}, specs.Asked.{HasBadName, IsNotBadWords, IsRefusalOf}, specs.Matched.{IsForName, IsRefusalFor}, specs.Program.{aplsheet}}
@@ -16,7 +16,7 @@ refused_by_clap words e BadName kinds h = absurd h
 refused_by_clap words e (BadWords x) kinds h =
     ⊎_elim (λ m. absurd (h.1 m)) (λ among. subst (λ (k : ErrorKind). IsAmong k (fault_of aplsheet words)) (sym h.0) among) kinds
 
--- words that `clap` takes
+-- words that `clap` accepts
 pub refused_for_name : (words : List Text) (asked : Option (Text × List Row)) (f : WordsFault) → asked ≡ subcommand_of aplsheet words → fault_of aplsheet words ≡ [] → IsForName (HasBadName asked) f
     → IsRefusalOf words f
 unfolding IsRefusalOf

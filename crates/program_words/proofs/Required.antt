@@ -1,4 +1,4 @@
--- Where no step of a parse fails, what the subcommand that is entered requires has a value, and its flag is true or false.
+-- After a parse without a fault the required words of the subcommand have values, and its flag is true or false.
 use Rattle.std.{proofs.Common.{◌≡◌, ◌∙◌, ◌<◌, ◌&&◌, ◌||◌, inl, inr, ⊎_elim, not, Bool, true, false, refl, sym, ap, arith, codes, List, [], ◌∷◌, length, Option, Some, None, is_some, option_map, true≢false}, specs.Prelude.{option_and_then, slice_get}, specs.List.{find, list_all, list_any}, specs.Option.{option_map_or}}
 use Rattle.std.{specs.Str.{bytes_eq}, proofs.lemmas.Bool.{and_parts, both_ways, not-false, not-true, or_cases, or_parts}, proofs.lemmas.Slice.Eq.{bytes_eq-Decides}}
 use Rattle.clap.{specs.Facts.{explicit_source}, specs.Values.{read_as}, specs.Walk.{Row, Rule, Text, answers_to, finished, first_of, nothing_held, one_of, row_text, rows_after, settled, walk, walk_from}, specs.Simple.{App, Shape, argument_words, built, entered, label_of, names_of, rows_at, subcommand_of}}
@@ -38,7 +38,7 @@ required_given id (a ∷ rules) rows none wanted = go a.required (bytes_eq a.id 
     go true false is none wanted later = later (or_parts _ _ none).1 wanted
     go true true is none wanted later = ap (λ (x : Text). is_given x rows) (sym ((bytes_eq-Decides a.id id).0 is)) ∙ not-false _ (or_parts _ _ none).0
 
--- a level that passes and enters nothing lacks no argument
+-- a level without a fault that enters no subcommand lacks no argument
 none_lacks : (s : Shape) (rows : List Row) → check_fault s rows false ≡ [] → list_any (λ a. a.required && not (is_given a.id rows)) s.rules ≡ false
 none_lacks s rows e =
     go (s.arg_required_else_help && not (list_any (λ (r : Row). explicit_source r.source) rows)) s.subcommand_required s.subcommand_negates_reqs
@@ -79,7 +79,7 @@ flag_truth rows f = go (find (λ (r : Row). bytes_eq r.id flag) rows) refl
     go None is = inl refl
     go (Some r) is = first r.reading r.values ((found_fits flag rows r is f).truths ((bytes_eq-Decides flag flag).1 refl))
 
--- ---- the subcommand that is entered
+-- ---- the subcommand
 
 record Passes (s : Shape) (words : List Text) : Type 0 where
   pub fitting : Fitting (rows_after s.rules [] words)
@@ -97,7 +97,7 @@ level_passes s words fits none =
       none_lacks = none_lacks s (finished s.rules end) defaults.1;
     }
 
--- no row of `table` is without a value, and its words are required
+-- every row of `table` has a value, and its words are required
 abbrev is_whole : Shape → Bool
 is_whole s = not (is_table s.name) || (list_all is_fit s.rules && (requires_id (codes "NAME") s.rules && requires_id (codes "FILE") s.rules))
 
@@ -129,7 +129,7 @@ entered_whole a (Some p) whole none = go (find (λ (s : Shape). answers_to p.0 (
     go None found e = tt
     go (Some s) found e = λ is. shape_whole s p.1 (found_passes (λ (x : Shape). answers_to p.0 (label_of x)) is_whole a.subs s found whole) e is
 
--- where the words have no fault, those of `table` are whole
+-- words without a fault have all words of `table`
 pub words_whole : (words : List Text) → fault_of aplsheet words ≡ [] → IsWholeTable (subcommand_of aplsheet words)
 words_whole words none =
     let a = built aplsheet in

@@ -1,4 +1,4 @@
--- What holds of each row of a parse in which no step fails: it has a value, and one of the flag has no values but true and false.
+-- The rows of a parse without a fault: each has a value, and the value of the flag is true or false.
 use Rattle.std.{proofs.Common.{◌≡◌, ◌<◌, ◌&&◌, ◌||◌, not, ⊎_elim, Bool, cond, true, false, refl, sym, subst, arith, nat_lt, codes, List, [], ◌∷◌, ◌++◌, length, Some, true≢false}, specs.List.{find, list_all}, specs.Str.{bytes_eq}, proofs.lemmas.Bool.{ltb-true, and_parts, and_from, or_cases, not-true, both_ways, ne_eqb}}
 use Rattle.std.{proofs.lemmas.List.{length-append}, proofs.lemmas.Slice.Eq.{bytes_eq-Decides}}
 use Rattle.clap.{specs.Facts.{parser_of_value, unwrap_or_range}, specs.Values.{is_request, refused_kind}, specs.Walk.{Row, Rule, Text, action_of, at_row, default_rows, has_row, is_empty, more_values, most_values, reading_by, used, used_as, values_or_missing, with_default, with_values, without}}
@@ -22,7 +22,7 @@ abbrev pub Fitting : List Row → Type 0
 Fitting [] = Unit {0}
 Fitting (r ∷ rs) = Fits r.id r.values × Fitting rs
 
--- ---- which arguments make only such rows
+-- ---- the arguments that make only such rows
 
 abbrev pub is_counting : ArgAction → Bool
 is_counting action.Count = true
@@ -38,7 +38,7 @@ gives_value a = nat_lt 0 (length a.missing) || nat_lt 0 (unwrap_or_range a.range
 abbrev pub gives_truths : Rule → Bool
 gives_truths a = not (bytes_eq a.id flag) || takes_truths (parser_of_value a.parser)
 
--- the argument counts nothing, and shows a text or has a value at each use, if it is the flag only true or false
+-- the argument is not a counter, and each use has a value or shows a text; the flag has only true or false
 abbrev pub is_fit : Rule → Bool
 is_fit a = not (is_counting (action_of a)) && (gives_truths a && (is_request (action_of a) || gives_value a))
 
@@ -48,7 +48,7 @@ pub none_of_both : (a b : Kinds) → or_else a b ≡ [] → (a ≡ []) × (b ≡
 none_of_both [] b e = (refl, e)
 none_of_both (k ∷ ks) b e = cc
 
--- what holds of each element holds of the one that is found
+-- a claim about all elements holds for the one that is found
 pub found_passes : {X : Type 0} (p q : X → Bool) (xs : List X) (x : X) → find p xs ≡ Some x → list_all q xs ≡ true → q x ≡ true
 found_passes p q [] x found all = cc
 found_passes p q (y ∷ ys) x found all = go (p y) found (λ e. found_passes p q ys x e (and_parts _ _ all).1)
@@ -116,7 +116,7 @@ used_as-fitting action.HelpShort id how values rows counts fit h = h
 used_as-fitting action.HelpLong id how values rows counts fit h = h
 used_as-fitting action.Version id how values rows counts fit h = h
 
--- a use that passes has a value, or one that stands for it
+-- a use without a fault has a value, or a default for it
 has_value : (again : Bool) (a : Rule) (values : List Text) (rows : List Row) → gives_value a ≡ true → use_fault again a values rows ≡ [] → 0 < length (values_or_missing a values)
 has_value again a (v ∷ vs) rows gives none = omega arith
 has_value again a [] rows gives none = ⊎_elim (λ m. ltb-true 0 (length a.missing) m) (λ l. absurd (wanted l)) (or_cases _ _ gives)
@@ -156,7 +156,7 @@ values_truths i vp.Char values takes none = absurd (true≢false (sym takes))
 values_truths i (vp.Names names) values takes none = absurd (true≢false (sym takes))
 values_truths i (vp.Values all) values takes none = absurd (true≢false (sym takes))
 
--- values that pass fit, if there are any
+-- values without a fault fit, if there are any
 passed_fits : (a : Rule) (values : List Text) → gives_truths a ≡ true → values_fault a values ≡ [] → 0 < length values → Fits a.id values
 passed_fits a values gives none some = record {
   some = some;

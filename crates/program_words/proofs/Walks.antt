@@ -1,4 +1,4 @@
--- Each word of a parse in which no step fails leaves the rows fitting.
+-- After each word of a parse without a fault all rows fit.
 use Rattle.std.{proofs.Common.{◌≡◌, ◌&&◌, ℕ, Bool, cond, true, false, zero, suc, refl, List, [], ◌∷◌, length, drop, Option, Some, None, is_some}, specs.Prelude.{encode_utf8, slice_get}, specs.List.{find, fold, list_all}, specs.Option.{option_map_or}, specs.Str.{bytes_eq, chars}, proofs.lemmas.Bool.{and_parts}}
 use Rattle.clap.specs.Lexer.{long_of, short_of}
 use Rattle.clap.specs.Walk.{Held, Names, Outcome, done, waits, plain, refused, Rule, Step, next, trailing, subcommand, value, Text, Waiting, idle, option, positional, Walk, after_flag, after_step, arg_by_id, arg_by_index, arg_by_long, arg_by_short, attached_value, bundle, bundle_met, bundle_step, flag_met, is_pending, long_met, long_or_other, option_met, option_word, plain_word, reacted, settled, settled_rows, short_met, short_or_plain, subcommand_met, subcommand_or_other, takes_several, takes_values, to_positional, used_by_id, walked, walked_from, with_default, word_met}
@@ -7,7 +7,7 @@ use Rattle.clap.specs.Faults.{bundle_fault, bundle_step_fault, default_fault, de
 use Rattle.program_words.proofs.Rows.{Fitting, default-fitting, found_passes, is_fit, none_of_both, used-fitting}
 use Rattle.clap.specs.declared.error.kind.ErrorKind.TheVariants as kind
 
--- the argument that was found, if one was, makes only fitting rows
+-- the argument, if one is found, makes only fitting rows
 abbrev IsFit : Option Rule → Type 0
 IsFit None = Unit {0}
 IsFit (Some a) = is_fit a ≡ true

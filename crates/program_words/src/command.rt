@@ -1,4 +1,4 @@
-//! The command of the program, with the help that it shows.
+//! The command of the program, with its help.
 
 ghost use Rattle.std.specs.Prelude.{◌≡◌, codes, false, IfOk, IsOkAnd};
 ghost use Rattle.clap.specs.Words.{AddsSubcommand, app_of, new_app, new_rule, rule_of};
@@ -8,7 +8,7 @@ ghost use Rattle.program_words.specs.Program.{aplsheet, flag_rule, required_rule
 use clap::{Arg, ArgAction, Command};
 use std::alloc::{AllocError, Global};
 
-/// A word that has to be there.
+/// Makes a required word.
 fn required_word<'a>(alloc: Global, id: &'a str, help: &'a str) -> Arg<'a>
     ensures rule { rule_of result ≡ required_rule id.entry.now }
     ensures local { result.global ≡ false }
@@ -16,7 +16,7 @@ fn required_word<'a>(alloc: Global, id: &'a str, help: &'a str) -> Arg<'a>
     Arg::new(alloc, id).required(true).help(help)
 }
 
-/// The script, which may be left out.
+/// Makes the script, an optional word.
 fn script_word<'a>(alloc: Global) -> Arg<'a>
     ensures rule { rule_of result ≡ new_rule (codes "SCRIPT") }
     ensures local { result.global ≡ false }
@@ -24,7 +24,7 @@ fn script_word<'a>(alloc: Global) -> Arg<'a>
     Arg::new(alloc, "SCRIPT").help("A file of lines; without it they come from standard input")
 }
 
-/// The flag of a table whose first record is a header.
+/// Makes the flag for a table whose first record is a header.
 fn header_flag<'a>(alloc: Global) -> Arg<'a>
     ensures rule { rule_of result ≡ flag_rule (codes "header") }
     ensures local { result.global ≡ false }
@@ -35,7 +35,7 @@ fn header_flag<'a>(alloc: Global) -> Arg<'a>
         .help("The first record of FILE holds titles, not numbers")
 }
 
-/// A command with the texts of its help, without words or commands of its own.
+/// Makes a command with its help, without words or subcommands.
 fn described<'a>(alloc: Global, name: &'a str, about: &'a str, after_help: &'a str) -> Command<'a>
     ensures app { app_of result ≡ new_app name.entry.now }
     ensures local { (out-Command result).has_globals ≡ false }
@@ -67,7 +67,7 @@ fn table_command<'a>(alloc: Global) -> Result<Command<'a>, AllocError>
     described(alloc, "table", TABLE_ABOUT, TABLE_EXAMPLE).args(words)
 }
 
-/// A command with one more below it, where there was memory for both.
+/// Adds a subcommand, if memory sufficed for both.
 fn with_command<'a>(
     command: Result<Command<'a>, AllocError>,
     added: Result<Command<'a>, AllocError>,
@@ -77,7 +77,7 @@ fn with_command<'a>(
     command?.subcommand(added?)
 }
 
-/// The command of the program.
+/// Makes the command of the program.
 pub(crate) fn program<'a>(alloc: Global) -> Result<Command<'a>, AllocError>
     ensures { IfOk result (λ c. app_of c ≡ aplsheet) }
 {

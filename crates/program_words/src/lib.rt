@@ -1,4 +1,4 @@
-//! The words that the program is started with.
+//! The words of the command line.
 #![tactic(auto)]
 
 mod command;

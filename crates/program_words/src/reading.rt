@@ -1,4 +1,4 @@
-//! What the words ask for.
+//! Reads the words of the command line.
 
 ghost use Rattle.std.specs.Prelude.{◌≡◌, true, IfOk, IfErr, OnOk, [], Some, codes, option_map, string_bytes};
 ghost use Rattle.clap.specs.Words.{found_of, first_of, fault_of, kind_of, rows_of, subcommand_of, subcommand_rows_of, takes};
@@ -14,23 +14,23 @@ use clap::error::ErrorKind;
 use clap::{ArgMatches, Error};
 use std::alloc::{AllocError, Global};
 
-/// What the words ask for.
+/// The content of the words.
 #[derive(Debug, Drop)]
 pub struct Words {
-    /// A table that is read before the lines: its name, its file, and whether the first record of the file is a header.
+    /// A table to read before the lines: its name, its file, and true if the first record of the file is a header.
     pub table: Option<(Name, String, bool)>,
-    /// The file that has the lines; without it they are those of standard input.
+    /// The file of the lines, or `None` for standard input.
     pub script: Option<String>,
 }
 
-/// Why words are refused.
+/// The reason why words are refused.
 #[derive(Debug, Drop)]
 pub enum WordsFault {
     /// The allocator refused memory.
     NoMemory,
-    /// The name of the table is no name.
+    /// The name of the table is not a name.
     BadName,
-    /// The words are none of the command, or ask for help. The error has the text for the user.
+    /// The words do not fit the command, or ask for help. The error has the text for the user.
     BadWords(Error),
 }
 
@@ -42,8 +42,8 @@ impl From<AllocError> for WordsFault {
     }
 }
 
-/// Reads the words that the program is started with, its own name first. Words that have no fault by `clap`'s exact meaning are
-/// refused for want of memory, and where the table's name is no name; words that have one are never taken.
+/// Reads the words of the command line, the name of the program first. Words with a fault, by the exact meaning of `clap`, are always refused.
+/// Words without one are refused only if memory runs out or the name of the table is not a name.
 pub fn read_words(alloc: Global, words: &[&str]) -> Result<Words, WordsFault>
     ensures ok { IfOk result (Means (subcommand_of aplsheet (texts words.now))) }
     ensures faultless { OnOk result (fault_of aplsheet (texts words.now) ≡ []) }
@@ -57,7 +57,7 @@ pub fn read_words(alloc: Global, words: &[&str]) -> Result<Words, WordsFault>
     }
 }
 
-/// The refusal of words of which one is no UTF-8 text, so that it cannot be handed to `read_words`.
+/// Returns the refusal of words of which one is not UTF-8 text and so cannot be passed to `read_words`.
 pub fn not_text(alloc: Global) -> WordsFault
     ensures { IsNotText result }
 {
@@ -67,7 +67,7 @@ pub fn not_text(alloc: Global) -> WordsFault
     }
 }
 
-/// The error that tells of a word that is no text.
+/// Makes the error for a word that is not text.
 fn not_text_error(alloc: Global) -> Result<Error, AllocError>
     ensures { IfOk result (λ e. kind_of e ≡ ErrorKind.InvalidValue) }
 {
@@ -75,7 +75,7 @@ fn not_text_error(alloc: Global) -> Result<Error, AllocError>
     command.error(ErrorKind::InvalidValue, "a word is not UTF-8 text")
 }
 
-/// Why `clap` refused the words.
+/// Converts an error of `clap` to a refusal.
 fn refusal(error: Error) -> WordsFault
     ensures { IsRefusalFor (kind_of error) result }
 {
@@ -85,7 +85,7 @@ fn refusal(error: Error) -> WordsFault
     }
 }
 
-/// What the words that were matched ask for.
+/// Reads the words that `clap` has matched.
 fn words_of(alloc: Global, matches: &ArgMatches<'_>) -> Result<Words, WordsFault>
     requires { IsWholeTable (subcommand_rows_of matches.now) }
     ensures ok { IfOk result (Means (subcommand_rows_of matches.now)) }
@@ -111,7 +111,7 @@ fn words_of(alloc: Global, matches: &ArgMatches<'_>) -> Result<Words, WordsFault
     })
 }
 
-/// The script, where it is given.
+/// Copies the script, if it is given.
 fn script_of(alloc: Global, values: &ArgMatches<'_>) -> Result<Option<String>, AllocError>
     ensures { IfOk result (λ script. option_map string_bytes script ≡ first_of (codes "SCRIPT") (rows_of (found_of values.now))) }
 {
@@ -124,7 +124,7 @@ fn script_of(alloc: Global, values: &ArgMatches<'_>) -> Result<Option<String>, A
     }
 }
 
-/// The table that the values of `table` ask for.
+/// Reads the table from the values of `table`.
 fn table_of(alloc: Global, values: &ArgMatches<'_>) -> Result<(Name, String, bool), WordsFault>
     requires { HasTableWords (rows_of (found_of values.now)) }
     ensures ok { IfOk result (λ t. AsksForTable (rows_of (found_of values.now)) (t.0, string_bytes t.1, t.2)) }
@@ -138,7 +138,7 @@ fn table_of(alloc: Global, values: &ArgMatches<'_>) -> Result<(Name, String, boo
     Ok((name, file, header))
 }
 
-/// The value of a word that is there.
+/// Returns the value of a required word.
 fn required<'a>(values: &ArgMatches<'a>, id: &str) -> &'a str
     requires { has_word id.now (rows_of (found_of values.now)) ≡ true }
     ensures { first_of id.now (rows_of (found_of values.now)) ≡ Some result.now }
