@@ -1,8 +1,8 @@
--- A few digits spell less than a power of ten.
+-- A number of few digits is less than a power of ten.
 use Rattle.std.{proofs.Common.{◌≡◌, ℕ, ◌^◌, ◌<◌, ◌≤◌, nat_lt, Bool, true, false, List, length, Some, refl, arith}, specs.List.{prefix_len}, specs.Char.{is_ascii_digit}, proofs.Math.Nat.{pow-le-pow_right}, proofs.lemmas.Bool.Decides.{nat_tests}, proofs.lemmas.List.{drop_all, take_all}}
 use Rattle.{apl_tokens.specs.Characters.{decimal_from, fits_number, signed}, array_text.specs.Tables.{digits_number, unsigned_number}}
 
--- so many digits spell less than the power of ten
+-- i digits are a number below ten to the power n, for i at most n
 pub below_power : (m i n : ℕ) → m < 10 ^ i → i ≤ n → m < 10 ^ n
 below_power m i n below few = let most : 10 ^ i ≤ 10 ^ n = pow-le-pow_right {n = 10} (omega arith) few in omega (arith, most)
 
@@ -10,7 +10,7 @@ few_fit : (is_negative : Bool) (n : ℕ) → n < 10 ^ 18 → fits_number is_nega
 few_fit true n small = grind (arith, nat_tests)
 few_fit false n small = grind (arith, nat_tests)
 
--- a few bytes that are digits alone spell the number of these digits
+-- a few bytes that are digits alone are the number of these digits
 pub few_alone : (is_negative : Bool) (bytes : List ℕ) (n : ℕ) → 0 < length bytes → prefix_len is_ascii_digit bytes ≡ length bytes → n ≡ decimal_from 0 bytes → n < 10 ^ 18
     → unsigned_number is_negative bytes ≡ Some (signed is_negative n)
 unfolding unsigned_number digits_number

@@ -44,7 +44,7 @@ column_width-more columns zs column row =
     let width = λ (r : ℕ). number_width (matrix_number columns zs r column) in
     ap (fold max 0) (map-range_with_len_more width 0 row row (omega arith)) ∙ fold-append max 0 (map width (range_with_len 0 row)) (width row ∷ [])
 
--- as many digits as the power of ten that is not above the number, and one more
+-- a number of at least ten to the power k has more than k digits
 long_enough : (k n : ℕ) → n < 2 ^ 64 → 10 ^ k ≤ n → k < length (decimal n)
 long_enough k n small most = decimal_by_steps (λ m ds. (j : ℕ) → 10 ^ j ≤ m → j < length ds) one more n small k most
   where

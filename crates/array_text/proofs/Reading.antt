@@ -1,4 +1,4 @@
--- Records are left until the bytes are used up.
+-- Reading consumes all records.
 use Rattle.std.{proofs.Common.{◌≡◌, ◌==◌, ◌||◌, ◌⊎◌, inl, inr, is_some, ℕ, zero, suc, ◌<◌, Bool, true, false, cond, List, [], ◌∷◌, ◌++◌, length, Option, Some, None, refl, sym, ap, ◌∙◌, subst, arith}, proofs.lemmas.Bool.{false≢true}}
 use Rattle.csv.{specs.Machine.{Read, in_field, start_field, start_record, step, next_record, ends_at_end, is_end, fields_after, field_after}, specs.Reading.{ReadRecord, Reached, default_config, is_flexible, records_from, records_next, took_first}, specs.declared.reader.Reader.{Reader}}
 use Rattle.csv.{proofs.ReadFacts.{rows-end, rows-more}, specs.declared.parser.State.{State}, specs.declared.parser.Action.{Action}}
@@ -6,7 +6,7 @@ use Rattle.array_text.{specs.Tables.{Fields}, specs.Reading.{AreLeft, IsNext}}
 use Rattle.csv.specs.declared.parser.State.TheVariants as st
 use Rattle.csv.specs.declared.parser.Action.TheVariants as act
 
--- where a byte ends a record, the end of the bytes after it ends none
+-- if a byte ends a record, the end of the bytes after it ends none
 abbrev StopsBetween : State × Action → Type 0
 StopsBetween r = is_end r.1 ≡ true → ends_at_end r.0 ≡ false
 
@@ -46,7 +46,7 @@ step_stops st.AfterQuote c = copies (c == 34) st.InQuoted (in_field default_conf
 step_stops st.InComment c = skips (c == 10) st.StartRecord (st.InComment, act.Skip) (goes_on st.InComment act.Skip refl)
 step_stops st.AfterCr c = skips (c == 10) st.StartRecord (start_record default_config c) (start_record_stops c)
 
--- what is left after a record is less, and does not begin inside one
+-- the rest after a record is shorter, and does not begin within one
 abbrev Shrinks : State → List ℕ → Read → Type 0
 Shrinks s xs r = ((length r.2 < length xs) ⊎ ((xs ≡ []) × (r.2 ≡ []) × (ends_at_end s ≡ true))) × (ends_at_end r.1 ≡ false)
 
@@ -85,7 +85,7 @@ next_shrinks s f p (c ∷ rest) r h = at_byte (is_end (step default_config s c).
     at_byte true e h deeper = subst (Shrinks s (c ∷ rest)) (some_is _ _ h) (inl (omega arith), step_stops s c e)
     at_byte false e h deeper = after (deeper h)
 
--- a record that was read is the first of those that are left
+-- the record that is read is the first of those left
 pub next_left : (most : ℕ) (s : State) (xs : List ℕ) (r : Read) → next_record default_config s [] [] xs ≡ Some r → length xs < most → ends_at_end s ≡ false
     → (fewer : ℕ) × (length r.2 < fewer) × (ends_at_end r.1 ≡ false) × (records_from default_config most s xs ≡ r.0 ∷ records_from default_config fewer r.1 r.2)
 unfolding records_from
@@ -96,13 +96,13 @@ next_left (suc most) s xs r h small out = by (next_shrinks s [] [] xs r h)
     by (inl less, between) = (most, omega arith, between, rw h refl)
     by (inr (none, left, ends), between) = absurd (false≢true (sym out ∙ ends))
 
--- where no record was read none is left
+-- if no record is read, none is left
 pub none_left : (most : ℕ) (s : State) (xs : List ℕ) → next_record default_config s [] [] xs ≡ None → length xs < most → records_from default_config most s xs ≡ []
 unfolding records_from
 none_left zero s xs h small = absurd (omega arith)
 none_left (suc most) s xs h small = rw h refl
 
--- what a read of a record shows of those that were left
+-- the result of reading the next record, from the records left
 pub read_on : {R : Type 0} (known : R → Option (List ℕ)) (a b : Reader R) (found : Bool) (fields : Fields) (rest : List Fields)
     → took_first b ≡ true → is_flexible b ≡ is_flexible a → ReadRecord known a b found fields → AreLeft known a rest → IsNext (AreLeft known b) rest found fields
 unfolding Reached

@@ -1,4 +1,4 @@
--- Worked cases of tables, computed: what files read as, the first faults of files, and the files of tables.
+-- Worked examples of tables, by computation: the tables of files, the first faults of files, and the files of tables.
 use Rattle.std.{proofs.Common.{ℕ, ℤ, pos, negsuc, Bool, true, false, List, [], ◌∷◌, ◌++◌, Option, Some, None, refl}, specs.Prelude.{codes}, specs.Fmt.{digits}}
 use Rattle.csv.{specs.Machine.{next_record}, specs.Reading.{records_from, strip_bom}}
 use Rattle.arrays_core.{specs.Arrays.{ArrayValue}, proofs.CaseWords.{◌⇒◌, AllSame, ints}}
@@ -14,7 +14,7 @@ matrix rows columns zs = ints (rows ∷ columns ∷ []) zs
 abbrev minus_high : List ℕ
 minus_high = 0xc2 ∷ 0xaf ∷ []
 
--- the number that a field spells, if it spells one
+-- the number of a field, if it has one
 fields : AllSame (
     field_number (codes " \t+7 ") ⇒ Some (pos 7) ∷
     field_number (minus_high ++ codes "2") ⇒ Some (negsuc 1) ∷
@@ -31,7 +31,7 @@ fields = refl
 abbrev small_file : List ℕ
 small_file = codes "a,b\n1,-2\n\"3\"," ++ minus_high ++ codes "4\n"
 
--- the tables of files, some under a header, and a mark that is left out
+-- the tables of files, some with a header, and one with a byte order mark
 tables_read : AllSame (
     table_of true (records_of small_file) ⇒ matrix 2 2 (pos 1 ∷ negsuc 1 ∷ pos 3 ∷ negsuc 3 ∷ []) ∷
     table_of true (records_of (codes "a,b\n")) ⇒ matrix 0 2 [] ∷

@@ -1,4 +1,4 @@
--- Tables that are read record by record.
+-- Reading a table record by record.
 use Rattle.std.{proofs.Common.{◌≡◌, ℕ, zero, suc, ℤ, ◌+◌, ◌-◌, ◌*◌, ◌<◌, ◌≤◌, Bool, true, false, not, cond, eqb, List, [], ◌∷◌, ◌++◌, length, drop, get_or, map, Option, Some, None, is_some, refl, sym, ap, ◌∙◌, subst, arith, rules, append_assoc}, proofs.lemmas.Bool.{eqb-true, false_from_ne_true}}
 use Rattle.{std.{proofs.lemmas.Option.{none-some}, proofs.lemmas.List.{append-nil, drop_more, length-append, length-map}}, csv.specs.Records.{field_at}}
 use Rattle.arrays_core.{specs.Arrays.{ArrayValue}, specs.declared.item.Item.TheVariants.{Num}, specs.declared.item.ItemType.TheVariants.{Nums}}
@@ -46,7 +46,7 @@ number_found old new all fs i f z h e some is_new so_far =
 
 -- the records of a table
 
--- `count` records were read without a fault and gave these numbers, and these records are left
+-- `count` records are read without a fault, with these numbers, and these records are left
 pub record Stands (header : Bool) (all : List Fields) (columns count : ℕ) (numbers : List ℤ) (rest : List Fields) : Type 0 where
   pub first : columns ≡ columns_of all
   pub faults : first_fault header columns (count + 1) rest ≡ first_fault header columns 1 all
@@ -92,7 +92,7 @@ clean header columns number fields h = by (eqb (length fields) columns) refl h
     by true e g = record { long = eqb-true (length fields) columns e; within = at_fields _ _ g }
     by false e g = absurd (none-some (fault.Length number) (sym g))
 
--- how many numbers a record gives
+-- the number of numbers of a record
 as_many : (header : Bool) (columns count : ℕ) (fields : Fields) → length fields ≡ columns
     → rows_of header count * columns + length (numbers_of (fields_read header (count + 1) fields)) ≡ rows_of header (count + 1) * columns
 as_many false columns count fields e = let long = length-map fields (λ (f : Field). number_or_zero (field_number f)) in omega (arith, e, long)
@@ -134,7 +134,7 @@ fault_here header all columns count numbers fields later f s answers = by f answ
     by fault.Limit e = whole fault.Limit e
     by fault.NoMemory e = tt
 
--- where no record is left, none has a fault, and the numbers are all
+-- if no record is left, none has a fault, and these are all the numbers
 pub at_end : (header : Bool) (all : List Fields) (columns count : ℕ) (numbers : List ℤ) → Stands header all columns count numbers []
     → (first_fault header (columns_of all) 1 all ≡ None) × (numbers ≡ numbers_from header 1 all) × (count ≡ length all)
 at_end header all columns count numbers s = let counted = s.counted in (
@@ -143,14 +143,14 @@ at_end header all columns count numbers s = let counted = s.counted in (
   omega arith,
 )
 
--- all records that were read
+-- all records are read
 pub all_read : (header : Bool) (all : List Fields) (columns count : ℕ) (numbers : List ℤ) → Stands header all columns count numbers [] → 0 < count
     → (first_fault header (columns_of all) 1 all ≡ None) × AreRead header all numbers (rows_of header count) columns
 all_read header all columns count numbers s some =
     let e = at_end header all columns count numbers s in
     (e.0, record { all = e.1; high = ap (rows_of header) e.2; wide = s.first; within = s.within some; full = s.full })
 
--- more records than a table may have
+-- more records than a table may have are an error
 pub too_many : (header : Bool) (columns count : ℕ) → 1048578 ≤ count → is_matrix_within (rows_of header count) columns ≡ true → ⊥
 too_many true columns count h is = search rules
 too_many false columns count h is = search rules
@@ -160,7 +160,7 @@ pub none_read : (header : Bool) (all : List Fields) (numbers : List ℤ) → all
     → (first_fault header (columns_of all) 1 all ≡ None) × AreRead header all numbers 0 0
 none_read header all numbers e none = rw (e, none) (refl, record { all = refl; high = sym (no_rows header); wide = refl; within = refl; full = refl })
 
--- the table of the records that were read
+-- the table of the records
 pub table_is : (header : Bool) (all : List Fields) (rows columns : ℕ) (numbers : List ℤ) → AreRead header all numbers rows columns
     → record { item_type = Nums; shape = rows ∷ columns ∷ []; items = map (λ z. Num z) numbers } ≡ table_of header all
 unfolding table_of
@@ -174,7 +174,7 @@ pub first_record : (header : Bool) (all : List Fields) (columns : ℕ) (fields :
     → all ≡ fields ∷ later → columns ≡ length fields → numbers ≡ [] → Stands header all columns 0 numbers (fields ∷ later)
 first_record header all columns fields later numbers is_all is_long none = rw (is_all, is_long, none) (at_start header fields later)
 
--- a record that the reader gave
+-- the next record
 pub next_record_in : (header : Bool) (all : List Fields) (columns count : ℕ) (numbers : List ℤ) (rest : List Fields) (fields : Fields) (later : List Fields)
     → Stands header all columns count numbers rest → rest ≡ fields ∷ later → Stands header all columns count numbers (fields ∷ later)
 next_record_in header all columns count numbers rest fields later s e = subst (Stands header all columns count numbers) e s

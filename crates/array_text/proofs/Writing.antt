@@ -1,13 +1,13 @@
--- Texts that are made piece by piece.
+-- Texts that are written piece by piece.
 use Rattle.std.{proofs.Common.{◌≡◌, ℕ, zero, suc, ◌+◌, ◌-◌, ◌*◌, ◌<◌, false, cond, eqb, List, [], ◌∷◌, ◌++◌, length, get_or, take, refl, sym, ap, ◌∙◌, arith, add-one, append_assoc, Result, Ok, Err, OnOk, is_ok}, specs.Prelude.{encode_utf8, encode_utf8_all}, specs.List.{flat_map, range_with_len, join_by}}
 use Rattle.std.{proofs.lemmas.Bool.{false_from_ne_true, eqb-true, eq-eqb}, proofs.lemmas.Grind.{flat_map-append}, proofs.lemmas.List.{append-nil, length-take-le, take_more}, proofs.lemmas.List.FromFn.{length-range_with_len}}
 use Rattle.array_text.specs.Text.{gap, planes, part_of, line_end}
 
--- what is written goes on
+-- one more piece is appended
 pub grown : (new old start sofar more all : List ℕ) → new ≡ old ++ more → old ≡ start ++ sofar → all ≡ sofar ++ more → new ≡ start ++ all
 grown new old start sofar more all e f g = rw (e, f, g) (append_assoc start sofar more)
 
--- the same by two writes
+-- two more pieces are appended
 pub grown_twice : (new mid old start sofar first second all : List ℕ) → new ≡ mid ++ second → mid ≡ old ++ first → old ≡ start ++ sofar
     → all ≡ sofar ++ (first ++ second) → new ≡ start ++ all
 grown_twice new mid old start sofar first second all e f g h = grown new old start sofar (first ++ second) all (rw (e, f) (append_assoc old first second)) g h
@@ -17,12 +17,12 @@ pub pushed : {T E : Type 0} (r : Result T E) (new base more full : List ℕ) →
 pushed (Ok x) new base more full e f = e ∙ f
 pushed (Err d) new base more full e f = tt
 
--- the same behind all that a loop has written
+-- the last write after the pieces of a loop
 pub pushed_behind : {T E : Type 0} (r : Result T E) (new out start sofar all more : List ℕ) → new ≡ cond (is_ok r) (out ++ more) out → out ≡ start ++ sofar → sofar ≡ all
     → OnOk r (new ≡ start ++ (all ++ more))
 pushed_behind r new out start sofar all more e f g = pushed r new out more _ e (rw (f, g) (append_assoc start all more))
 
--- a loop that has come to its end
+-- the end of a loop
 pub all_done : (text : ℕ → List ℕ) (n m : ℕ) (out start : List ℕ) → out ≡ start ++ text n → n ≡ m → out ≡ start ++ text m
 all_done text n m out start e h = rw (← h) e
 
@@ -52,14 +52,14 @@ join_by-push f between (y ∷ ys) x =
     ∙ sym (append_assoc (f y) (flat_map (λ z. between ++ f z) ys) (between ++ f x))
     ∙ ap (λ (t : List ℕ). (f y ++ flat_map (λ z. between ++ f z) ys) ++ (t ++ f x)) (sym (gap_later between (length ys)))
 
--- one piece more of a list
+-- one more piece of a list
 pub join_by-more : {X : Type 0} (f : X → List ℕ) (between : List ℕ) (xs : List X) (k : ℕ) (d : X) → k < length xs
     → join_by f between (take (k + 1) xs) ≡ join_by f between (take k xs) ++ (gap between k ++ f (get_or xs k d))
 join_by-more f between xs k d h =
     ap (join_by f between) (take_more xs k d h) ∙ join_by-push f between (take k xs) (get_or xs k d)
     ∙ ap (λ (n : ℕ). join_by f between (take k xs) ++ (gap between n ++ f (get_or xs k d))) (length-take-le k xs (omega arith))
 
--- one piece more of a count
+-- one more piece of a count
 pub join_by-range_step : (f : ℕ → List ℕ) (between : List ℕ) (n : ℕ)
     → join_by f between (range_with_len 0 (n + 1)) ≡ join_by f between (range_with_len 0 n) ++ (gap between n ++ f n)
 join_by-range_step f between n =

@@ -36,7 +36,7 @@ one_type : (t : ItemType) → t ≡ Nums → t ≡ Chars → false ≡ true
 unfolding is_nums
 one_type t n c = ap is_nums (sym c ∙ n)
 
--- an array of characters without an item that is no number has no items
+-- if each item of an array of characters is a number, it has no items
 pub no_items : (t : ItemType) (items : List Item) → t ≡ Chars → All (λ item. type_of item ≡ t) items → All (λ item. type_of item ≡ Nums) items → length (map item_number items) ≡ 0
 no_items t [] chars typed numbers = refl
 no_items t (item ∷ items) chars typed numbers =

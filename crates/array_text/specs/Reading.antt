@@ -4,7 +4,7 @@ use Rattle.csv.{specs.Machine.{ends_at_end}, specs.Reading.{Ready, default_confi
 use Rattle.array_text.specs.Tables.{Fields, columns_of, is_matrix_within, numbers_from, rows_of}
 use Rattle.csv.specs.declared.reader.Trim.TheVariants as trim
 
--- a reader stands between two records, and these records are left
+-- the reader is between two records, and these records are left
 pub record AreLeft {R : Type 0} (known : R → Option (List ℕ)) (reader : Reader R) (rest : List Fields) : Type 0 where
   pub plain : reader_trim reader ≡ trim.None
   pub ready : Ready reader
@@ -17,12 +17,12 @@ pub record AreLeft {R : Type 0} (known : R → Option (List ℕ)) (reader : Read
   pub enough : length bytes < most
   pub are : rest ≡ records_from default_config most (reader_state reader) bytes
 
--- what the next read of a record shows: whether one was left, its fields, and the records that are left after it
+-- the result of reading the next record: true if one was left, its fields, and the records left after it
 pub record IsNext (Left : List Fields → Type 0) (rest : List Fields) (found : Bool) (fields : Fields) : Type 0 where
   pub none : found ≡ false → rest ≡ []
   pub some : found ≡ true → (later : List Fields) × (rest ≡ fields ∷ later) × Left later
 
--- what the read of all records gives: their numbers, which fill this many rows and columns
+-- the result of reading all records: their numbers, which fill this many rows and columns
 pub record AreRead (header : Bool) (records : List Fields) (numbers : List ℤ) (rows columns : ℕ) : Type 0 where
   pub all : numbers ≡ numbers_from header 1 records
   pub high : rows ≡ rows_of header (length records)

@@ -1,4 +1,4 @@
--- The bytes that arrays and errors print. Each printed line ends with LF.
+-- The printed bytes of arrays and errors. Each printed line ends with LF.
 use Rattle.std.{specs.Prelude.{ℕ, ℤ, pos, negsuc, ◌+◌, ◌-◌, ◌*◌, ◌==◌, max, List, [], ◌∷◌, ◌++◌, if◌then◌else◌, Option, Some, None, length, map, get_or, take, drop, replicate, codes, decimal, encode_utf8_all}, specs.List.{flat_map, range_with_len, fold, join_by}}
 use Rattle.arrays_core.{specs.Arrays.{ArrayValue}, specs.declared.item.Item.{Item}, specs.declared.item.Item.TheVariants.{Num, Char}, specs.declared.item.ItemType.{ItemType}, specs.declared.item.ItemType.TheVariants.{Nums, Chars}, specs.declared.item.Kind.{Kind}}
 use Rattle.arrays_core.{specs.declared.item.Kind.TheVariants.{Domain, Rank, Length, Index, Axis, Limit, Value}, specs.declared.fault.Fault.{Fault}}
@@ -11,7 +11,7 @@ between_numbers = 32 ∷ []
 abbrev pub line_end : List ℕ
 line_end = 10 ∷ []
 
--- the characters of a number: its digits, after a high minus sign (U+00AF) where it is negative
+-- the characters of a number: its digits, after a high minus sign (U+00AF) if it is negative
 unfoldable pub number_characters : ℤ → List ℕ
 number_characters (pos n) = decimal n
 number_characters (negsuc n) = 0xAF ∷ decimal (n + 1)
@@ -20,15 +20,15 @@ number_characters (negsuc n) = 0xAF ∷ decimal (n + 1)
 unfoldable pub number_text : ℤ → List ℕ
 number_text z = encode_utf8_all (number_characters z)
 
--- the width of a number: the count of its characters
+-- the width of a number: the number of its characters
 unfoldable pub number_width : ℤ → ℕ
 number_width z = length (number_characters z)
 
--- a number after the blanks that fill a column of a width
+-- a number right-justified in a column of this width
 unfoldable pub right_justified : (width : ℕ) → ℤ → List ℕ
 right_justified width z = replicate (width - number_width z) 32 ++ number_text z
 
--- what stands before an item, by how many come earlier: what is put between two items, but nothing before the first
+-- the text before an item that has `earlier` items before it: nothing for the first
 unfoldable pub gap : (between : List ℕ) → (earlier : ℕ) → List ℕ
 gap between earlier = if earlier == 0 then [] else between
 
@@ -48,7 +48,7 @@ matrix_number columns zs row column = get_or zs (row * columns + column) (pos 0)
 unfoldable pub column_width : (rows columns : ℕ) → List ℤ → (column : ℕ) → ℕ
 column_width rows columns zs column = fold max 0 (map (λ row. number_width (matrix_number columns zs row column)) (range_with_len 0 rows))
 
--- one of the parts, numbered from 0, of a list that is cut into parts of `size` items each
+-- a part, numbered from 0, of a list in parts of `size` items
 abbrev pub part_of : {X : Type 0} → (size part : ℕ) → List X → List X
 part_of size part xs = take size (drop (part * size) xs)
 
@@ -68,11 +68,11 @@ number_plane rows columns zs = flat_map (λ row. number_row (column_widths rows 
 unfoldable pub character_plane : (rows columns : ℕ) → List ℕ → List ℕ
 character_plane rows columns cs = flat_map (λ row. character_line (part_of columns row cs)) (range_with_len 0 rows)
 
--- `count` planes, each a matrix of its own, with one empty line between; nothing where there are no items
+-- `count` planes, each a matrix, with one empty line between; nothing for no items
 unfoldable pub planes : {X : Type 0} → (plane : List X → List ℕ) → (count size : ℕ) → List X → List ℕ
 planes plane count size xs = if length xs == 0 then [] else join_by (λ part. plane (part_of size part xs)) line_end (range_with_len 0 count)
 
--- the items of an array of a shape, given the text of a line and of a matrix. No array has more than four axes
+-- the items of an array of a shape, from the text of a line and of a matrix; an array has at most four axes
 unfoldable pub text_by_rank : {X : Type 0} → (line : List X → List ℕ) → (plane : ℕ → ℕ → List X → List ℕ) → (shape : List ℕ) → List X → List ℕ
 text_by_rank line plane [] xs = line xs
 text_by_rank line plane (n ∷ []) xs = line xs
@@ -89,12 +89,12 @@ numbers_text shape zs = text_by_rank number_line number_plane shape zs
 abbrev pub characters_text : (shape : List ℕ) → List ℕ → List ℕ
 characters_text shape cs = text_by_rank character_line character_plane shape cs
 
--- the number that an item is, 0 for a character
+-- the number of an item, 0 for a character
 abbrev pub item_number : Item → ℤ
 item_number (Num z) = z
 item_number (Char c) = pos 0
 
--- the character that an item is, a blank for a number
+-- the character of an item, a blank for a number
 abbrev pub item_character : Item → ℕ
 item_character (Num z) = 32
 item_character (Char c) = c
@@ -118,7 +118,7 @@ kind_text Axis = codes "AXIS"
 kind_text Limit = codes "LIMIT"
 kind_text Value = codes "VALUE"
 
--- the name in whose formula an error arose, if it arose in one
+-- the name whose formula caused an error, if there is one
 abbrev pub origin_text : Option (List ℕ) → List ℕ
 origin_text None = []
 origin_text (Some name) = codes " IN " ++ name

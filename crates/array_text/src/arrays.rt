@@ -7,12 +7,10 @@ use crate::planes::push_items;
 use arrays_core::Array;
 use std::alloc::{AllocError, Global};
 
-/// The printed text of an array. A scalar is its item; a vector of numbers its numbers with one blank
-/// between, a vector of characters its characters, and an empty vector an empty line. A matrix of
-/// numbers has each column right-justified to its widest number, with one blank between columns; one of
-/// characters has its rows joined. The planes of an array of more axes, which are its last two, are
-/// printed each as a matrix of its own with an empty line between; without items there is no text. A
-/// negative number begins with `¯`, and each line ends with LF.
+/// Returns the printed text of an array. A scalar is its item. A vector of numbers is its numbers with one blank between, a vector of characters
+/// its characters, and an empty vector an empty line. A matrix of numbers has each column right-justified to its widest number, with one blank
+/// between columns; a matrix of characters has its rows joined. An array of more axes prints its planes, which are its last two axes, as
+/// matrices with an empty line between; without items it has no text. A negative number begins with `¯`, and each line ends with LF.
 pub fn print(alloc: Global, array: &Array) -> Result<String, AllocError>
     ensures { IfOk result (λ text. string_bytes text ≡ array_text array.now) }
 {

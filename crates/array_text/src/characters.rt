@@ -5,7 +5,7 @@ ghost use Rattle.array_text.specs.Text.{character_line, character_plane};
 use crate::planes::Printed;
 use std::alloc::{AllocError, Global};
 
-/// Characters: a line of them is joined, and in a matrix each row.
+/// Characters: a line is joined, and so is each row of a matrix.
 impl Printed for char {
     ghost line = { character_line };
 

@@ -7,7 +7,7 @@ use apl_tokens::Name;
 use arrays_core::{Fault, Kind};
 use std::alloc::{AllocError, Global};
 
-/// The name of an error.
+/// Returns the name of an error.
 fn kind_name(kind: Kind) -> &'static str
     ensures { result.now ≡ kind_text kind }
 {
@@ -22,7 +22,7 @@ fn kind_name(kind: Kind) -> &'static str
     }
 }
 
-/// Adds the name in whose formula an error arose, if it arose in one.
+/// Appends the name whose formula caused the error, if there is one.
 fn push_origin(out: &mut String, origin: Option<Name>) -> Result<(), AllocError>
     ensures { OnOk result (string_bytes out.new ≡ string_bytes out.old ++ origin_text origin) }
 {
@@ -33,8 +33,7 @@ fn push_origin(out: &mut String, origin: Option<Name>) -> Result<(), AllocError>
     out.push_str(name.text())
 }
 
-/// The line of an error: its name and `ERROR`, and `IN` with the name in whose formula it arose, if it
-/// arose in one.
+/// Returns the line of an error: its name and `ERROR`, then `IN` and the name whose formula caused it, if there is one.
 pub fn print_fault(alloc: Global, fault: &Fault) -> Result<String, AllocError>
     ensures { IfOk result (λ text. string_bytes text ≡ fault_text fault.now) }
 {

@@ -1,4 +1,4 @@
-//! The number that a field of a table spells.
+//! The number of a field of a table.
 
 ghost use Rattle.std.specs.Prelude.{◌≡◌, ◌<◌, ◌≤◌, ◌^◌, length, IfSome};
 ghost use Rattle.std.specs.List.{list_all, prefix_len};
@@ -8,17 +8,17 @@ ghost use Rattle.array_text.specs.Tables.{sign_and_rest, digits_number, unsigned
 
 use apl_tokens::number_of_digits;
 
-/// So many digits spell a number in range, whatever they are.
+/// The greatest count of digits whose number is always in range.
 const FEW_DIGITS: usize = 18;
 
-/// Whether a byte is a blank: a space or a tab.
+/// Returns true if a byte is a blank: a space or a tab.
 fn is_blank(byte: u8) -> bool
     ensures { result ≡ is_blank byte }
 {
     byte == b' ' || byte == b'\t'
 }
 
-/// The count of blanks at the front.
+/// Counts the blanks at the front.
 fn blanks_at(bytes: &[u8]) -> usize
     ensures is { result ≡ prefix_len is_blank bytes.now }
     ensures within { result ≤ length bytes.now }
@@ -31,7 +31,7 @@ fn blanks_at(bytes: &[u8]) -> usize
     bytes.len()
 }
 
-/// The count of digits at the front.
+/// Counts the digits at the front.
 fn digits_at(bytes: &[u8]) -> usize
     ensures is { result ≡ prefix_len is_ascii_digit bytes.now }
     ensures within { result ≤ length bytes.now }
@@ -44,14 +44,14 @@ fn digits_at(bytes: &[u8]) -> usize
     bytes.len()
 }
 
-/// Whether all bytes are blanks.
+/// Returns true if all bytes are blanks.
 fn are_blanks(bytes: &[u8]) -> bool
     ensures { result ≡ list_all is_blank bytes.now }
 {
     bytes.iter().all(|byte| is_blank(*byte))
 }
 
-/// Whether a minus stands at the front, and the bytes after the sign, if there is one.
+/// Returns true for a minus at the front, and the bytes after the sign, if there is one.
 #[tactic(auto, unfolding(crate::specs::Tables::sign_and_rest))]
 fn without_sign(bytes: &[u8]) -> (bool, &[u8])
     ensures { (result.0, result.1.now) ≡ sign_and_rest bytes.now }
@@ -67,7 +67,7 @@ fn without_sign(bytes: &[u8]) -> (bool, &[u8])
     }
 }
 
-/// The number that these digits spell, if there are any and it is in range.
+/// Returns the number of these digits, if there are any and it is in range.
 #[tactic(auto, unfolding(crate::specs::Tables::digits_number))]
 fn digits_number(is_negative: bool, digits: &[u8]) -> Option<i64>
     ensures { result ≡ digits_number is_negative digits.now }
@@ -78,7 +78,7 @@ fn digits_number(is_negative: bool, digits: &[u8]) -> Option<i64>
     number_of_digits(is_negative, digits)
 }
 
-/// The number that bytes spell, where they are a few, and digits alone.
+/// Returns the number of at most 18 bytes that are digits alone.
 fn few_digits(bytes: &[u8]) -> Option<u64>
     ensures some { IfSome result (λ n. 0 < length bytes.now) }
     ensures digits { IfSome result (λ n. prefix_len is_ascii_digit bytes.now ≡ length bytes.now) }
@@ -98,8 +98,8 @@ fn few_digits(bytes: &[u8]) -> Option<u64>
     Some(magnitude)
 }
 
-/// The number that digits with blanks after them spell, if it is in range. A few digits with nothing after them, as most
-/// fields have, are gone over once.
+/// Returns the number of digits with blanks after them, if it is in range. Reads a few digits without blanks, the most common field, in one
+/// pass.
 #[tactic(auto, using(crate::proofs::Decimals::few_alone), unfolding(crate::specs::Tables::unsigned_number))]
 fn unsigned_number(is_negative: bool, bytes: &[u8]) -> Option<i64>
     ensures { result ≡ unsigned_number is_negative bytes.now }
@@ -115,7 +115,7 @@ fn unsigned_number(is_negative: bool, bytes: &[u8]) -> Option<i64>
     digits_number(is_negative, &bytes[..size])
 }
 
-/// The number that a field spells, if it spells one.
+/// Returns the number of a field, if it has one.
 #[tactic(auto, unfolding(crate::specs::Tables::field_number))]
 pub(crate) fn field_number(field: &[u8]) -> Option<i64>
     ensures { result ≡ field_number field.now }

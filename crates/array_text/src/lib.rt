@@ -1,4 +1,4 @@
-//! The printed text of arrays and of errors, and tables in files.
+//! The text of arrays and errors, and tables in files.
 #![tactic(auto)]
 
 mod arrays;

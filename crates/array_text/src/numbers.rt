@@ -8,7 +8,7 @@ use crate::spacing::{push_blank_between, push_blanks};
 use itoa::Buffer;
 use std::alloc::{AllocError, Global};
 
-/// Adds a number, a negative one after a high minus sign.
+/// Appends a number; a negative one has a high minus.
 fn push_number(out: &mut String, number: i64) -> Result<(), AllocError>
     ensures { OnOk result (string_bytes out.new ≡ string_bytes out.old ++ number_text number) }
 {
@@ -39,7 +39,7 @@ fn width_of(number: i64) -> usize
     if number < 0 { digits + 1 } else { digits }
 }
 
-/// The width of the widest number of a column.
+/// Returns the width of the widest number of a column.
 fn width_of_column(rows: usize, columns: usize, column: usize, numbers: &[i64]) -> usize
     requires shape { length numbers.now ≡ rows * columns }
     requires within { column < columns }
@@ -55,7 +55,7 @@ fn width_of_column(rows: usize, columns: usize, column: usize, numbers: &[i64]) 
     widest
 }
 
-/// The widths of the columns of a matrix.
+/// Returns the widths of the columns of a matrix.
 fn column_widths(
     alloc: Global,
     rows: usize,
@@ -72,7 +72,7 @@ fn column_widths(
     Ok(widths)
 }
 
-/// Adds a number, with as many blanks before it as fill its column.
+/// Appends a number, right-justified in its column.
 fn push_cell(out: &mut String, width: usize, number: i64) -> Result<(), AllocError>
     ensures { OnOk result (string_bytes out.new ≡ string_bytes out.old ++ right_justified width number) }
 {
@@ -80,7 +80,7 @@ fn push_cell(out: &mut String, width: usize, number: i64) -> Result<(), AllocErr
     push_number(out, number)
 }
 
-/// Adds a row of a matrix.
+/// Appends a row of a matrix.
 fn push_row(out: &mut String, widths: &[usize], row: &[i64]) -> Result<(), AllocError>
     requires { length widths.now ≡ length row.now }
     ensures { OnOk result (string_bytes out.new ≡ string_bytes out.old ++ number_row widths.now row.now) }

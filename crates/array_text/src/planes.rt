@@ -1,4 +1,4 @@
-//! The text of an array of any rank, from how a line and a matrix of its items are written.
+//! The text of an array of any rank, from the text of a line and of a matrix.
 
 ghost use Rattle.std.specs.Prelude.{◌≡◌, ◌*◌, ◌^◌, ◌<◌, ◌++◌, ℕ, List, length, OnOk, string_bytes};
 ghost use Rattle.arrays_core.specs.Shapes.{size, IsWithinLimits};
@@ -7,7 +7,7 @@ ghost use Rattle.array_text.specs.Text.{planes, text_by_rank};
 use crate::spacing::push_line_between;
 use std::alloc::{AllocError, Global};
 
-/// What arrays hold, and how it is printed.
+/// Items that can be printed.
 pub(crate) trait Printed {
     // The text of a line of items.
     ghost line: { List Self → List ℕ };
@@ -15,11 +15,11 @@ pub(crate) trait Printed {
     // The text of a matrix of items.
     ghost plane: { (rows columns : ℕ) → List Self → List ℕ };
 
-    /// Adds a line of items.
+    /// Appends a line of items.
     fn push_line(out: &mut String, items: &[Self]) -> Result<(), AllocError>
         ensures { OnOk result (string_bytes out.new ≡ string_bytes out.old ++ line items.now) };
 
-    /// Adds a matrix of items.
+    /// Appends a matrix of items.
     fn push_plane(
         alloc: Global,
         out: &mut String,
@@ -31,7 +31,7 @@ pub(crate) trait Printed {
         ensures { OnOk result (string_bytes out.new ≡ string_bytes out.old ++ plane rows columns items.now) };
 }
 
-/// Adds planes, with an empty line between.
+/// Appends planes, with an empty line between.
 fn push_planes<T: Printed>(
     alloc: Global,
     out: &mut String,
@@ -62,7 +62,7 @@ fn push_planes<T: Printed>(
     Ok(())
 }
 
-/// Adds the items of an array.
+/// Appends the items of an array.
 pub(crate) fn push_items<T: Printed>(
     alloc: Global,
     out: &mut String,

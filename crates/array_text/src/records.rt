@@ -1,4 +1,4 @@
-//! Reads the records of a file one after the other.
+//! Reads the records of a file, one by one.
 
 ghost use Rattle.std.specs.Prelude.{List, Some, IfOk};
 ghost use Rattle.csv.specs.Records.{fields_of};
@@ -9,7 +9,7 @@ use csv::{ByteRecord, ErrorKind, Reader, ReaderBuilder};
 use std::alloc::{AllocError, Global};
 use std::io::Read;
 
-/// A reader of the records of a file, which may differ in their counts of fields.
+/// Returns a reader of the records of a file, which may have different numbers of fields.
 pub(crate) fn reader_of(alloc: Global, bytes: &[u8]) -> Reader<&[u8]>
     ensures { AreLeft (λ s. Some s.now) result (records_of bytes.now) }
 {
@@ -19,8 +19,7 @@ pub(crate) fn reader_of(alloc: Global, bytes: &[u8]) -> Reader<&[u8]>
         .from_reader(alloc, bytes)
 }
 
-/// Reads the next record into `row`, and answers whether there was one. Of bytes in memory only want of
-/// memory is an error.
+/// Reads the next record into `row`, and returns true if there is one. Reading bytes in memory fails only if memory runs out.
 pub(crate) fn read_next<R: Read>(
     reader: &mut Reader<R>,
     row: &mut ByteRecord,

@@ -5,7 +5,7 @@ ghost use Rattle.array_text.specs.Text.{between_numbers, line_end, gap};
 
 use std::alloc::AllocError;
 
-/// Adds the blank before each number of a line but the first, by how many come earlier.
+/// Appends the blank before each number of a line but the first; `earlier` numbers come before it.
 #[tactic(auto, unfolding(crate::specs::Text::gap))]
 pub(crate) fn push_blank_between(out: &mut String, earlier: usize) -> Result<(), AllocError>
     ensures { OnOk result (string_bytes out.new ≡ string_bytes out.old ++ gap between_numbers earlier) }
@@ -16,7 +16,7 @@ pub(crate) fn push_blank_between(out: &mut String, earlier: usize) -> Result<(),
     out.push(' ')
 }
 
-/// Adds the empty line before each plane but the first, by how many come earlier.
+/// Appends the empty line before each plane but the first; `earlier` planes come before it.
 #[tactic(auto, unfolding(crate::specs::Text::gap))]
 pub(crate) fn push_line_between(out: &mut String, earlier: usize) -> Result<(), AllocError>
     ensures { OnOk result (string_bytes out.new ≡ string_bytes out.old ++ gap line_end earlier) }
@@ -27,7 +27,7 @@ pub(crate) fn push_line_between(out: &mut String, earlier: usize) -> Result<(), 
     out.push('\n')
 }
 
-/// Adds blanks.
+/// Appends blanks.
 pub(crate) fn push_blanks(out: &mut String, count: usize) -> Result<(), AllocError>
     ensures { OnOk result (string_bytes out.new ≡ string_bytes out.old ++ replicate count 32) }
 {

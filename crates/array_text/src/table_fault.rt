@@ -1,28 +1,28 @@
-//! Why a file is no table.
+//! The faults of a file that is not a table.
 
 ghost use Rattle.std.specs.Prelude.{◌≡◌};
 ghost use Rattle.array_text.specs.declared.table_fault.TableFault.TheVariants.{NoMemory};
 
 use std::alloc::{AllocError, AllocFailed};
 
-/// Why a file is no table. Records and the fields of each are numbered from 1, a header included.
+/// The reason why a file is not a table. Records and the fields of each are numbered from 1, a header included.
 #[derive(Clone, Copy, PartialEq, Eq, Debug)]
 pub enum TableFault {
-    /// A field of a record spells no number of 64 bits.
+    /// A field of a record is not a number of 64 bits.
     Field {
         /// The record.
         row: u64,
-        /// The field of it.
+        /// The field in the record.
         field: u64,
     },
-    /// A record has not as many fields as the first.
+    /// A record has more or fewer fields than the first.
     Length {
         /// The record.
         row: u64,
     },
     /// The table is larger than an array may be.
     Limit,
-    /// There is no memory for the table.
+    /// The allocator refused memory.
     NoMemory,
 }
 

@@ -14,20 +14,20 @@ use arrays_core::{Array, shape_of};
 use csv::{ByteRecord, Reader};
 use std::alloc::{AllocError, Global};
 
-/// The most rows of a table, the most columns, and the most places.
+/// The greatest number of rows, of columns, and of places of a table.
 const MOST_PLACES: u64 = arrays_core::MOST_PLACES as u64;
 
-/// The most records that are looked at: a header, the most rows, and one more.
+/// The greatest number of records that are read: a header, the most rows, and one more.
 const MOST_RECORDS: u64 = MOST_PLACES + 2;
 
-/// Whether a table of numbers may have `rows` rows and `columns` columns.
+/// Returns true if a table may have `rows` rows and `columns` columns.
 fn is_matrix_within(rows: u64, columns: usize) -> bool
     ensures { result ≡ is_matrix_within rows columns }
 {
     rows <= MOST_PLACES && columns as u64 <= MOST_PLACES && rows * columns as u64 <= MOST_PLACES
 }
 
-/// The count of rows of a table with `count` records: a header is no row.
+/// Returns the number of rows of a table with `count` records: a header is not a row.
 fn rows_of(header: bool, count: u64) -> u64
     ensures { result ≡ rows_of header count }
 {
@@ -38,7 +38,7 @@ fn rows_of(header: bool, count: u64) -> u64
     }
 }
 
-/// The matrix of these numbers.
+/// Returns the matrix of these numbers.
 fn matrix(alloc: Global, rows: u64, columns: usize, numbers: Vec<i64>) -> Result<Array, AllocError>
     requires within { is_matrix_within rows columns ≡ true }
     requires full { vec_len numbers ≡ rows * columns }
@@ -52,7 +52,7 @@ fn matrix(alloc: Global, rows: u64, columns: usize, numbers: Vec<i64>) -> Result
     Array::from_numbers(&shape, numbers)
 }
 
-/// Adds the numbers that the fields of a record spell.
+/// Appends the numbers of the fields of a record.
 fn push_fields(row: &ByteRecord, number: u64, numbers: &mut Vec<i64>) -> Result<(), TableFault>
     ensures { IsReadOf (bad_field_fault number (first_bad 1 (fields_of row.now)) None)
         (λ _. numbers.new.items ≡ numbers.old.items ++ numbers_of (fields_of row.now)) result }
@@ -72,7 +72,7 @@ fn push_fields(row: &ByteRecord, number: u64, numbers: &mut Vec<i64>) -> Result<
     Ok(())
 }
 
-/// Adds the numbers of a record, by its number from 1. A header has no numbers.
+/// Appends the numbers of a record, by its number from 1. A header has no numbers.
 #[tactic(auto, unfolding(crate::specs::Tables::record_fault))]
 fn push_record(
     row: &ByteRecord,
@@ -97,7 +97,7 @@ fn push_record(
     Ok(())
 }
 
-/// Adds the numbers of all records that are left, and answers how many rows and columns they are.
+/// Appends the numbers of all remaining records, and returns the number of rows and columns.
 fn push_records(
     reader: &mut Reader<&[u8]>,
     row: &mut ByteRecord,
@@ -123,11 +123,10 @@ fn push_records(
     unreachable!()
 }
 
-/// Reads a table: the records of `csv`, of which each has as many fields as the first, and in each field a
-/// number, which may have a sign before it and blanks around it. A first record that is a header gives
-/// only its count of fields. The first fault is the answer: for each record first its count of fields,
-/// then its fields from the left, then the limits of an array. The answer is a matrix of records by
-/// fields; a file without records has no rows and no columns.
+/// Reads a table: the records of `csv`, each with as many fields as the first, and a number in each field, which may have a sign before it and
+/// blanks around it. A first record that is a header only gives the number of fields. Returns a matrix of records by fields; a file without
+/// records has no rows and no columns. Returns the first fault: for each record first its number of fields, then its fields from the left, then
+/// the limits of an array.
 pub fn read_table(alloc: Global, bytes: &[u8], header: bool) -> Result<Array, TableFault>
     ensures { IsTableRead header (records_of bytes.now) result }
 {

@@ -11,7 +11,7 @@ use arrays_core::Array;
 use itoa::Buffer;
 use std::alloc::{AllocError, Global};
 
-/// Adds the comma before each field of a record but the first, by how many come earlier.
+/// Appends the comma before each field of a record but the first; `earlier` fields come before it.
 #[tactic(auto, unfolding(crate::specs::Text::gap))]
 fn push_comma_between(out: &mut String, earlier: usize) -> Result<(), AllocError>
     ensures { OnOk result (string_bytes out.new ≡ string_bytes out.old ++ gap between_fields earlier) }
@@ -22,7 +22,7 @@ fn push_comma_between(out: &mut String, earlier: usize) -> Result<(), AllocError
     out.push(',')
 }
 
-/// Adds a number as a field.
+/// Appends a number as a field.
 fn push_field(out: &mut String, number: i64) -> Result<(), AllocError>
     ensures { OnOk result (string_bytes out.new ≡ string_bytes out.old ++ signed_decimal number) }
 {
@@ -30,7 +30,7 @@ fn push_field(out: &mut String, number: i64) -> Result<(), AllocError>
     out.push_str(buffer.format(number))
 }
 
-/// Adds a record: the numbers with commas between.
+/// Appends a record: the numbers with commas between.
 fn push_record(out: &mut String, numbers: &[i64]) -> Result<(), AllocError>
     ensures { OnOk result (string_bytes out.new ≡ string_bytes out.old ++ record_text numbers.now) }
 {
@@ -41,7 +41,7 @@ fn push_record(out: &mut String, numbers: &[i64]) -> Result<(), AllocError>
     out.push('\n')
 }
 
-/// Adds the records of a matrix, one for each row.
+/// Appends the records of a matrix, one for each row.
 fn push_records(
     out: &mut String,
     rows: usize,
@@ -57,9 +57,8 @@ fn push_records(
     Ok(())
 }
 
-/// The file of a table: a scalar is one field, a vector one record, a matrix has one record a row. Fields
-/// are joined by commas, a negative number begins with `-`, and each record ends with LF. Without items
-/// there is no text.
+/// Returns the file of a table: a scalar is one field, a vector one record, and a matrix has one record for each row. Commas separate fields, a
+/// negative number begins with `-`, and each record ends with LF. An array without items has no text.
 pub fn write_table(alloc: Global, array: &Array) -> Result<String, AllocError>
     requires rank { length array.now.shape ≤ 2 }
     requires numbers { All (λ item. type_of item ≡ Nums) array.now.items }
