@@ -10,7 +10,7 @@ use thiserror::Error;
 /// The reason why a text has no tokens: the first fault from the left with its bytes, or want of memory.
 #[derive(Clone, Copy, Debug, PartialEq, Eq, Error)]
 pub enum TokenFault {
-    /// A character that begins no token, a high minus without a digit after it, a text that is not closed, or a number that a letter, `_` or a
+    /// A character that begins no token; a high minus without a digit after it; a text that is not closed; or a number that a letter, `_` or a
     /// high minus follows directly.
     #[error("no token at bytes {0}")]
     Syntax(Span),

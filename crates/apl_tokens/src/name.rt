@@ -43,8 +43,8 @@ impl Model for Name {
 }
 
 impl Name {
-    /// Returns the name that the whole text is, or `None`. A name is a letter `A` to `Z`, `a` to `z`, `∆` or `⍙`, and then letters, digits and
-    /// `_`, at most 63 bytes in all.
+    /// Returns the name that the whole text is, or `None`. A name begins with a letter, `A` to `Z`, `a` to `z`, `∆` or `⍙`. It continues with
+    /// letters, digits and `_`, and has at most 63 bytes.
     pub fn read(text: &str) -> Option<Name>
         ensures some { IfSome result (λ n. (spells_name (chars text.now) ≡ true) × (length text.now ≤ longest_name) × (n ≡ text.now)) }
         ensures none { IfNone result (spells_name (chars text.now) ≡ true → longest_name < length text.now) }

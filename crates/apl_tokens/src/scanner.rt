@@ -195,12 +195,12 @@ fn scanned(alloc: Global, text: &str, out: &mut Vec<Spanned>) -> Result<(), Toke
     ended(bytes, at, reading, out)
 }
 
-/// Returns the tokens of a line, which are the lexical units of ISO 8485. A comment, which begins with `⍝`, and blanks between tokens are no
-/// tokens. A sign is in its first spelling; a text literal is the characters between its quotes, a doubled quote once.
+/// Returns the tokens of a line, which are the lexical units of ISO 8485. Blanks between tokens and a comment, which begins with `⍝`, are not
+/// tokens. A sign is in its first spelling. A text literal is the characters between its quotes, a doubled quote once.
 ///
-/// A line without tokens returns its first fault from the left. `Syntax`: a character begins no token; a high minus has no digit after it; a
-/// text literal is not closed, from its quote to the end; or a letter, `_` or a high minus follows a number directly. `Limit`: a number is out
-/// of range, or a name has more than 63 bytes.
+/// Returns the first fault from the left if there is one. `Syntax`: a character begins no token; a high minus has no digit after it; a text
+/// literal is not closed, from its quote to the end; or a letter, `_` or a high minus follows a number directly. `Limit`: a number is out of
+/// range, or a name has more than 63 bytes.
 pub fn tokens(alloc: Global, text: &str) -> Result<Vec<Spanned>, TokenFault>
     ensures { AreTokensOf (chars text.now) result }
 {
