@@ -490,8 +490,8 @@ fn row_or_tokens(
 
 /// Returns the command of a line of text.
 ///
-/// The first token fault from the left comes first, then `Limit` for more than 4,096 tokens, then `Syntax` for tokens that are not a line of the
-/// grammar, then `Limit` for a tree more than 256 high or of more than 512 nodes. `DATA`, `ROW`, `ERASE`, `NAMES`, `COST`, `CSV`, `OPEN`,
+/// Returns the first token fault from the left; then `Limit` for more than 4,096 tokens; then `Syntax` for tokens that are not a line of the
+/// grammar; then `Limit` for a tree more than 256 high or of more than 512 nodes. `DATA`, `ROW`, `ERASE`, `NAMES`, `COST`, `CSV`, `OPEN`,
 /// `STEP`, `COMMIT` and `DROP` are words only after `)`, and ordinary names elsewhere.
 ///
 /// Reads the edit of an item by a number, without blanks, from the bytes of the text, and allocates nothing for it. Reads a row of numbers, with
@@ -507,7 +507,7 @@ pub fn line(alloc: Global, text: &str) -> Result<Command, LineFault>
 }
 
 /// Stores the command of a line of text, as `line` returns it. After a fault the contents of `command` are unspecified. The tokens go into
-/// `room`, whose contents are unspecified before and after: a caller that keeps it for many lines saves their allocation.
+/// `room`, whose contents are unspecified before and after. A caller that keeps `room` for many lines saves the allocation of tokens.
 pub fn line_into(
     alloc: Global,
     text: &str,

@@ -42,8 +42,8 @@ pub enum LineFault {
     /// The first token fault from the left is `Syntax`, or the text has tokens, but they are not a line of the grammar.
     #[error("not a line of the language")]
     Syntax,
-    /// The first token fault from the left is `Limit`, or there are more than 4,096 tokens, or the line is of the grammar, but its tree is more
-    /// than 256 high or has more than 512 nodes.
+    /// The first token fault from the left is `Limit`; or there are more than 4,096 tokens; or the tree of the line is more than 256 high or has
+    /// more than 512 nodes.
     #[error("too large a line")]
     Limit,
     /// The allocator refused memory.

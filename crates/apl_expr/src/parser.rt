@@ -474,7 +474,7 @@ fn drop_in_turn(tree: Expr) {
 
 /// Returns the tree of the tokens, an expression of ISO 8485.
 ///
-/// Returns `Limit` for more than 4,096 tokens, then `Syntax` for tokens that are not an expression, then `Limit` for a tree more than 256 high
+/// Returns `Limit` for more than 4,096 tokens; then `Syntax` for tokens that are not an expression; then `Limit` for a tree more than 256 high
 /// or of more than 512 nodes. A leaf is 1 high; a list of numbers and an index are one node each; parentheses and an empty position are none.
 /// One number is `Literal::Num`, never `Literal::Nums`, and one character is `Literal::Char`, never `Literal::Text`.
 pub fn parse(alloc: Global, tokens: &[Spanned]) -> Result<Expr, ParseFault>
