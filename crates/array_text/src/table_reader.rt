@@ -123,10 +123,10 @@ fn push_records(
     unreachable!()
 }
 
-/// Reads a table: the records of `csv`, each with as many fields as the first, and a number in each field, which may have a sign before it and
-/// blanks around it. A first record that is a header only gives the number of fields. Returns a matrix of records by fields; a file without
-/// records has no rows and no columns. Returns the first fault: for each record first its number of fields, then its fields from the left, then
-/// the limits of an array.
+/// Reads a table: the records of `csv`, each with as many fields as the first. Each field is a number, with or without a sign, and with or
+/// without blanks around it. A first record that is a header only gives the number of fields. Returns a matrix of records by fields; a file
+/// without records has no rows and no columns. Returns the first fault: for each record first its number of fields, then its fields from the
+/// left, then the limits of an array.
 pub fn read_table(alloc: Global, bytes: &[u8], header: bool) -> Result<Array, TableFault>
     ensures { IsTableRead header (records_of bytes.now) result }
 {
