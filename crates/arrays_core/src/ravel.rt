@@ -97,7 +97,7 @@ impl Ravel {
         }
     }
 
-    /// Returns the items with the capacity of `room_of`, or a single number inline.
+    /// Returns the items with at least the capacity of `room_of`, or a single number inline.
     pub(crate) fn roomy(self) -> Result<Ravel, AllocError>
         ensures items { IfOk result (λ r. ravel_items r ≡ ravel_items self) }
         ensures typed { IfOk result (λ r. ravel_type r ≡ ravel_type self) }
