@@ -139,7 +139,7 @@ fn next_position(
     Ok(Reading::Position)
 }
 
-/// Returns the index, whose last position ends by `]`.
+/// Returns the finished index, after `]`.
 #[tactic(auto, using(crate::proofs::Rows::plain_index))]
 fn index_closed(
     alloc: Global,
@@ -176,7 +176,7 @@ fn position_ended(
     }
 }
 
-/// Reads a sign after an operand that closes a bracket or ends a position in it.
+/// Reads a closing sign after an operand: it closes a bracket, or ends a position in it.
 fn closed(
     alloc: Global,
     sign: char,
