@@ -22,7 +22,7 @@ pub record FitsGrowth (a : ArrayValue) (xs : List Item) : Type 0 where
 abbrev pub IsRoomy : (items capacity : ℕ) → Type 0
 IsRoomy items capacity = 0 < items → (p : ℕ) → IsNextPowerOfTwo items p → p ≤ capacity
 
--- `held` items have memory for `items`: both have the same next power of two
+-- `items` fit in the memory of `held` items: their next power of two is not greater
 pub record IsSameRoom (held items : ℕ) : Type 0 where
   pub some : 0 < held
   pub same : (p : ℕ) → IsNextPowerOfTwo items p → p / 2 < held

@@ -57,7 +57,7 @@ pub fn repeated<T: Copy + Drop>(alloc: Global, item: T, places: usize) -> Result
     Ok(items)
 }
 
-/// Returns true if `places` items fit in the memory of `held` items: both have the same next power of two.
+/// Returns true if `places` items fit in the memory of `held` items: their next power of two is not greater.
 pub fn is_same_room(held: usize, places: usize) -> bool
     requires { places ≤ 2 ^ 63 }
     ensures { IsTrue result ↔ IsSameRoom held places }
