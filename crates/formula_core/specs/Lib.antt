@@ -1,4 +1,4 @@
--- What public contracts mean.
+-- The meaning of public contracts.
 pub mod Outcomes
 pub mod Meaning
 pub mod Constants
@@ -11,10 +11,10 @@ pub mod Sums
 pub mod Holdings
 pub mod Plans
 pub mod Joins
--- What proofs and bodies use.
+-- Used by proofs and bodies.
 pub mod Evaluated
 pub mod Counts
 pub mod Stages
 pub mod Progress
--- What the impl of a model gives as a proof.
+-- The proofs that an impl of a model gives.
 pub mod Laws

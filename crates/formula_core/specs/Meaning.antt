@@ -1,4 +1,4 @@
--- What an expression means, where the names show these arrays and errors.
+-- The meaning of an expression, given the result of each name.
 use Rattle.std.specs.Prelude.{ℕ, List, [], ◌∷◌, ◌++◌, Some, None, Result, Ok}
 use Rattle.apl_expr.{specs.Trees.{Tree, Const, Name, Monad, Dyad, Index, Reduce, Scan, Outer, Inner, Positions, NoPositions, Empty, Filled, Literal, Numbers, Text}, specs.declared.expr.Monadic.{Monadic}, specs.declared.expr.Dyadic.{Dyadic}, specs.declared.functions.Function1.{Function1}}
 use Rattle.apl_expr.specs.declared.functions.Function2.{Function2}
@@ -15,7 +15,7 @@ use Rattle.apl_expr.specs.declared.expr.Dyadic.TheVariants as dyadic
 use Rattle.apl_expr.specs.declared.functions.Function1.TheVariants as function1
 use Rattle.apl_expr.specs.declared.functions.Function2.TheVariants as function2
 
--- one number, or one character of a text, is a scalar, and several are a vector
+-- a single number or character is a scalar, several are a vector
 abbrev pub array_of : Literal → Result ArrayValue Kind
 array_of (Numbers []) = vector_of []
 array_of (Numbers (n ∷ [])) = Ok (scalar_of n)
@@ -24,7 +24,7 @@ array_of (Text []) = text_of []
 array_of (Text (c ∷ [])) = Ok (character_scalar_of c)
 array_of (Text (c ∷ d ∷ cs)) = text_of (c ∷ d ∷ cs)
 
--- a function of one array that is no operator's
+-- a primitive function of one array
 abbrev pub of_monadic : Monadic → ArrayValue → Result ArrayValue Kind
 of_monadic (monadic.Scalar f) b = monadic_on_array f b
 of_monadic monadic.Ravel b = ravel_whole b
@@ -39,7 +39,7 @@ of_right (function1.Monad f) b = of_monadic f b
 of_right (function1.Reduce f k) b = reduce_whole f k b
 of_right (function1.Scan f k) b = scan_whole f k b
 
--- a function of two arrays that is no operator's
+-- a primitive function of two arrays
 abbrev pub of_dyadic : Dyadic → (left right : ArrayValue) → Result ArrayValue Kind
 of_dyadic (dyadic.Scalar f) a b = dyadic_on_arrays f a b
 of_dyadic dyadic.Reshape a b = reshape_whole a b
@@ -63,24 +63,24 @@ of_both (function2.Inner f g) a b = inner_whole f g a b
 abbrev pub applied1 : Function1 → Outcome → Outcome
 applied1 f right = and_then right (λ b. given (of_right f b))
 
--- the right argument's error comes before the left's
+-- the right argument's error comes before the left one's
 abbrev pub applied2 : Function2 → (right left : Outcome) → Outcome
 applied2 f right left = and_then right (λ b. and_then left (λ a. given (of_both f a b)))
 
--- one more written position before those that follow; their error comes before its own
+-- a written position in front of others, whose error comes first
 abbrev pub in_front : Outcome → Result (List Position) Fault → Result (List Position) Fault
 in_front first others = and_then others (λ positions. and_then first (λ p. Ok (Some p ∷ positions)))
 
--- one more empty position before those that follow: it has no error, and theirs stands
+-- an empty position in front of others; their error stays
 abbrev pub empty_in_front : Result (List Position) Fault → Result (List Position) Fault
 empty_in_front others = and_then others (λ positions. Ok (None ∷ positions))
 
--- the positions' error comes before that of what is indexed
+-- the error of the positions comes before the error of the indexed operand
 abbrev pub indexed : Result (List Position) Fault → (operand : Outcome) → Outcome
 indexed others operand = and_then others (λ positions. and_then operand (λ a. given (index_whole a positions)))
 
 abbrev mutual
-  -- the value of an expression, where the names show these
+  -- the value of an expression with these results of its names
   pub eval : Tree → (List ℕ → Outcome) → Outcome
   eval (Const c) names = given (array_of c)
   eval (Name x) names = names x
@@ -92,14 +92,14 @@ abbrev mutual
   eval (Outer f a b) names = applied2 (function2.Outer f) (eval b names) (eval a names)
   eval (Inner f g a b) names = applied2 (function2.Inner f g) (eval b names) (eval a names)
 
-  -- the values of positions; the error of the last that has one
+  -- the values of positions, or the error of the last that has one
   pub eval_positions : Positions → (List ℕ → Outcome) → Result (List Position) Fault
   eval_positions NoPositions names = Ok []
   eval_positions (Empty ps) names = empty_in_front (eval_positions ps names)
   eval_positions (Filled e ps) names = in_front (eval e names) (eval_positions ps names)
 
 abbrev mutual
-  -- the names that stand in an expression, from the left
+  -- the names in an expression, from the left
   pub names_in : Tree → List (List ℕ)
   names_in (Const c) = []
   names_in (Name x) = x ∷ []

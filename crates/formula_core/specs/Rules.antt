@@ -17,7 +17,7 @@ use Rattle.apl_expr.specs.declared.expr.Dyadic.TheVariants as dyadic
 use Rattle.apl_expr.specs.declared.functions.Function1.TheVariants as function1
 use Rattle.apl_expr.specs.declared.functions.Function2.TheVariants as function2
 
--- of a function of one array that is no operator's
+-- of a primitive function of one array
 abbrev pub monadic_rule : Monadic → RuleModel
 monadic_rule (monadic.Scalar f) = each_monadic_rule f
 monadic_rule monadic.Ravel = ravel_rule
@@ -32,7 +32,7 @@ right_rule (function1.Monad f) = monadic_rule f
 right_rule (function1.Reduce f k) = reduce_rule f k
 right_rule (function1.Scan f k) = scan_rule f k
 
--- of a function of two arrays that is no operator's
+-- of a primitive function of two arrays
 abbrev pub dyadic_rule : Dyadic → RuleModel
 dyadic_rule (dyadic.Scalar f) = each_dyadic_rule f
 dyadic_rule dyadic.Reshape = reshape_rule
@@ -53,12 +53,12 @@ both_rule (function2.Dyad f) = dyadic_rule f
 both_rule (function2.Outer f) = outer_rule f
 both_rule (function2.Inner f g) = inner_rule f g
 
--- what is answered of what a change costs, with the change that was put in place
+-- a returned cost with the change that was stored, or want of memory
 abbrev pub with_change : Delta → Result ℕ AllocError → Result (Delta × ℕ) AllocError
 with_change change (Ok cost) = Ok (change, cost)
 with_change change (Err refused) = Err refused
 
--- what the refresh of an operation answers by its rule, its change and what it costs, and how far the meter rises by it
+-- the change of an operation by its rule, its cost, and the rise of the meter
 pub record IsRefreshed (rule : RuleModel) (args : List Argument) (held : Outcome) (before after : ℕ) (r : Result (Delta × ℕ) AllocError) : Type 0 where
   pub delta : IfOk r (λ s. s.0 ≡ node_delta rule args held)
   pub cost : IfOk r (λ s. s.1 ≡ node_cost rule args held)

@@ -1,4 +1,4 @@
-//! What the functions of an expression do to arrays: their change, where all that they take is anew.
+//! Applies a function to arrays: asks for its change with every argument marked new.
 
 ghost use Rattle.std.specs.Prelude.{◌≡◌, IfOk, true};
 ghost use Rattle.arrays_core.specs.Outcomes.{given};
@@ -14,7 +14,7 @@ use change_core::Meter;
 use index_region::{Delta, Seen};
 use std::alloc::{AllocError, Global};
 
-/// What a function gives of its one argument, or its error, which has no origin yet.
+/// Applies a function of one argument. Returns the array or the error without an origin.
 pub(crate) fn of_right(
     alloc: Global,
     function: Function1,
@@ -33,7 +33,7 @@ pub(crate) fn of_right(
     Ok(brought(change))
 }
 
-/// What a function gives of its two arguments, or its error.
+/// Applies a function of two arguments. Returns the array or the error without an origin.
 pub(crate) fn of_both(
     alloc: Global,
     function: Function2,
@@ -53,7 +53,7 @@ pub(crate) fn of_both(
     Ok(brought(change))
 }
 
-/// The array that a change of the whole brings, or the error.
+/// Returns the array or the error of a change of the whole.
 fn brought(change: Delta) -> Result<Array, Fault>
     requires { is_whole change ≡ true }
     ensures { change ≡ Whole result }

@@ -1,4 +1,4 @@
-//! A literal with what it gives.
+//! A literal with its array.
 
 ghost use Rattle.std.specs.Prelude.{◌≡◌, Ok, Err, IfOk};
 ghost use Rattle.apl_expr.specs.Trees.{literal_of};
@@ -15,8 +15,7 @@ use index_region::{Delta, Seen};
 use std::alloc::{AllocError, Global};
 use std::marker::Model;
 
-/// A literal of a formula, as the array that it gives; one that gives none, as it is longer than arrays are, stands beside its error, in a box: no
-/// other literal keeps room for it.
+/// A literal as its array. One that is longer than arrays may be is stored with its error in a box, so that other literals keep no room for it.
 #[derive(Drop)]
 pub(crate) struct Constant {
     gives: Result<Array, Box<(Literal, Fault)>>,
@@ -39,7 +38,7 @@ impl Model for Constant {
 }
 
 impl Constant {
-    /// The literal, with what it gives, which is made here.
+    /// Makes the array of a literal, or its error.
     pub(crate) fn of(alloc: Global, literal: &Literal) -> Result<Constant, AllocError>
         ensures { IfOk result (λ constant. constant ≡ literal_of literal.now) }
     {
@@ -52,7 +51,7 @@ impl Constant {
         }
     }
 
-    /// What it gives, with this change.
+    /// Returns the literal's array or error as an input with this change.
     pub(crate) fn input<'a>(&'a self, change: &'a Delta) -> Input<'a>
         requires { IsAllOrNothing change.now }
         ensures { IsInput (given (array_of self.now)) change.now result }
@@ -67,7 +66,7 @@ impl Constant {
     }
 }
 
-/// Another literal that says the same.
+/// Copies a literal.
 fn copy_of(alloc: Global, literal: &Literal) -> Result<Literal, AllocError>
     ensures { IfOk result (λ copy. literal_of copy ≡ literal_of literal.now) }
 {

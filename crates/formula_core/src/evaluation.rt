@@ -36,31 +36,31 @@ use scalar_fns::{apply_to_left, apply_to_right};
 use selection_fns::Index;
 use std::alloc::{AllocError, Global};
 
-/// Something that knows what each name shows.
+/// Gives the result of each name.
 pub trait Shows {
     ghost use Rattle.std.specs.Prelude.{◌≡◌, ℕ, List};
     ghost use Rattle.arrays_core.specs.Outcomes.{Outcome};
     ghost use Rattle.formula_core.specs.Outcomes.{read};
 
-    // What each name shows.
+    // The result of each name.
     ghost shows: { Self → List ℕ → Outcome };
 
-    /// What a name shows: its array, or the error in its place.
+    /// Returns the array of a name, or its error.
     fn result_of(&self, name: Name) -> Result<&Array, Fault>
         ensures { read result ≡ shows self.now name };
 }
 
-/// An argument: an array that a name lends, or one that was made on the way.
+/// The value of an argument: a borrowed or an owned array.
 #[derive(Drop)]
 pub(crate) enum Evaluated<'a> {
-    /// An array that a name shows.
+    /// The borrowed array of a name.
     Lent(&'a Array),
-    /// An array that a literal or a function gave.
+    /// The owned array of a literal or a function.
     Made(Array),
 }
 
 impl<'a> Evaluated<'a> {
-    /// The array that it stands for.
+    /// Borrows the array.
     fn array(&self) -> &Array
         ensures { result.now ≡ array_in self.now }
     {
@@ -70,7 +70,7 @@ impl<'a> Evaluated<'a> {
         }
     }
 
-    /// The array itself; one that is lent is copied.
+    /// Returns the array; copies a borrowed one.
     fn into_array(self) -> Result<Array, AllocError>
         ensures { IfOk result (λ array. array ≡ array_in self.entry) }
     {
@@ -81,8 +81,8 @@ impl<'a> Evaluated<'a> {
     }
 }
 
-/// The value of an expression, where the names show these arrays and errors. The right argument of a function is
-/// evaluated first, then the left, and the first error that is met is the result; an error of a function has no origin yet.
+/// Evaluates an expression with these results of its names. Evaluates a right argument before the left one; the first error found is the result. An
+/// error of a function has no origin.
 pub fn evaluate<S: Shows>(
     alloc: Global,
     tree: &Expr,
@@ -93,8 +93,8 @@ pub fn evaluate<S: Shows>(
     evaluate_counted(alloc, tree, names, &mut Meter::new())
 }
 
-/// The value of an expression, as `evaluate` answers it. The meter counts the items that each function gives, and none for a literal or a name: as many as working out
-/// a new formula of the expression costs where the value is an array, and at most as many where it is an error.
+/// Evaluates an expression, as `evaluate` does. The meter counts the items that each function returns; literals and names add none. The count is
+/// the cost of a new formula of the expression if the value is an array, at most that if it is an error.
 pub fn evaluate_counted<S: Shows>(
     alloc: Global,
     tree: &Expr,
@@ -107,7 +107,7 @@ pub fn evaluate_counted<S: Shows>(
 {
     match argument(alloc, tree, names, meter)? {
         Ok(operand) => {
-            // The count says that it is a number of 64 bits.
+            // This call states that the count fits in 64 bits.
             let _counted = meter.ticks();
             Ok(Ok(operand.into_array()?))
         }
@@ -115,7 +115,7 @@ pub fn evaluate_counted<S: Shows>(
     }
 }
 
-/// The value of an expression as an argument, and its cost. A name's array is lent, and not copied.
+/// Evaluates an expression as an argument and counts its items. Borrows the array of a name.
 #[cycle(value)]
 fn argument<'a, S: Shows>(
     alloc: Global,
@@ -162,8 +162,7 @@ fn argument<'a, S: Shows>(
     }
 }
 
-/// The value of a function before its argument, and its cost. It stands alone, and so does that of a function between two, so that what each holds lies
-/// on the stack where it is called and nowhere else.
+/// Evaluates a function of one argument and counts its items. Not inlined, like `between`: so its locals take stack only while it runs.
 #[cycle(value)]
 #[inline(never)]
 fn before<'a, S: Shows>(
@@ -181,7 +180,7 @@ fn before<'a, S: Shows>(
     Ok(counted(given, meter))
 }
 
-/// The value of a function between its arguments, and its cost. A number that is written beside a scalar function is no array of its own.
+/// Evaluates a function of two arguments and counts its items. Makes no array of a single number beside a scalar function.
 #[cycle(value)]
 #[inline(never)]
 fn between<'a, S: Shows>(
@@ -212,7 +211,7 @@ fn between<'a, S: Shows>(
     Ok(counted(given, meter))
 }
 
-/// The scalar function of one argument that it is, if it is one.
+/// Returns the scalar function of one argument, if the function is one.
 #[inline(always)]
 pub(crate) fn scalar_before(function: Function1) -> Option<Scalar1>
     ensures { IfSome result (λ scalar. function ≡ Monad (EachScalar scalar)) }
@@ -223,7 +222,7 @@ pub(crate) fn scalar_before(function: Function1) -> Option<Scalar1>
     }
 }
 
-/// The scalar function of two arguments that it is, if it is one.
+/// Returns the scalar function of two arguments, if the function is one.
 #[inline(always)]
 pub(crate) fn scalar_between(function: Function2) -> Option<Scalar2>
     ensures { IfSome result (λ scalar. function ≡ Dyad (Scalar scalar)) }
@@ -234,7 +233,7 @@ pub(crate) fn scalar_between(function: Function2) -> Option<Scalar2>
     }
 }
 
-/// The number that an expression is, where one number is all of it.
+/// Returns the number, if the expression is a single number.
 #[inline(always)]
 fn number_of(tree: &Expr) -> Option<i64>
     ensures { IfSome result (λ z. tree_of tree.now ≡ Const (Numbers (z ∷ []))) }
@@ -245,7 +244,7 @@ fn number_of(tree: &Expr) -> Option<i64>
     }
 }
 
-/// The values of the positions of an index, from the last to the first, and their cost; the first error that is met is the result.
+/// Evaluates the positions of an index from the last to the first and counts their items. The first error found is the result.
 #[cycle(value)]
 fn position_operands<'a, S: Shows>(
     alloc: Global,
@@ -270,7 +269,7 @@ fn position_operands<'a, S: Shows>(
     Ok(Ok(operands))
 }
 
-/// What a function gave, whose items are counted; an error has none.
+/// Counts the items of a function's result; an error adds none.
 fn counted<'a>(
     given: Result<Evaluated<'a>, Fault>,
     meter: &mut Meter,
@@ -284,7 +283,7 @@ fn counted<'a>(
     given
 }
 
-/// A function of its right argument, or the argument's error.
+/// Applies a function to its argument, or returns the argument's error.
 fn apply_monad<'a>(
     alloc: Global,
     function: Function1,
@@ -301,7 +300,7 @@ fn apply_monad<'a>(
     }
 }
 
-/// A function of its two arguments, or the right argument's error, or the left's.
+/// Applies a function to its two arguments, or returns the right argument's error, or the left one's.
 fn apply_dyad<'a>(
     alloc: Global,
     function: Function2,
@@ -322,7 +321,7 @@ fn apply_dyad<'a>(
     }
 }
 
-/// A scalar function of its left argument and a number, or the argument's error.
+/// Applies a scalar function to its left argument and a number, or returns the argument's error.
 fn apply_to_number<'a>(
     alloc: Global,
     function: Scalar2,
@@ -337,7 +336,7 @@ fn apply_to_number<'a>(
     }
 }
 
-/// A scalar function of a number and its right argument, or the argument's error.
+/// Applies a scalar function to a number and its right argument, or returns the argument's error.
 fn apply_number_to<'a>(
     alloc: Global,
     function: Scalar2,
@@ -352,7 +351,7 @@ fn apply_number_to<'a>(
     }
 }
 
-/// The items of the operand at the indices of the positions, or the positions' error, or the operand's.
+/// Indexes the operand by the positions, or returns the positions' error, or the operand's.
 fn apply_index<'a>(
     alloc: Global,
     operand: Result<Evaluated<'a>, Fault>,
@@ -369,7 +368,7 @@ fn apply_index<'a>(
     }
 }
 
-/// The items of an array at the indices of the positions.
+/// Indexes an array by the positions.
 #[tactic(auto, using(crate::proofs::Indexing::written_again, crate::proofs::Indexing::written_counted))]
 fn of_positions(
     alloc: Global,
@@ -386,7 +385,7 @@ fn of_positions(
     index.apply(alloc, args.as_slice())
 }
 
-/// The array, and those of the positions that are written.
+/// Collects the array and the written positions.
 fn arguments_of<'a>(
     alloc: Global,
     array: &'a Array,
@@ -404,7 +403,7 @@ fn arguments_of<'a>(
     Ok(args)
 }
 
-/// What a function gave, as an argument of the next one. Its error has no origin yet.
+/// Converts the result of a function to an argument. Its error has no origin.
 fn made<'a>(applied: Result<Array, ApplyFault>) -> Result<Result<Evaluated<'a>, Fault>, AllocError>
     ensures { (wanted : Result ArrayValue AKind) → IsAnswerTo wanted applied → IfOk result (λ operand. outcome_of operand ≡ given wanted) }
 {
@@ -412,7 +411,7 @@ fn made<'a>(applied: Result<Array, ApplyFault>) -> Result<Result<Evaluated<'a>, 
     Ok(as_evaluated(outcome))
 }
 
-/// An array that was made, as an argument, or the error in its place.
+/// Wraps an owned array as an argument, or returns the error.
 fn as_evaluated<'a>(outcome: Result<Array, Fault>) -> Result<Evaluated<'a>, Fault>
     ensures { outcome_of result ≡ outcome }
 {
@@ -422,7 +421,7 @@ fn as_evaluated<'a>(outcome: Result<Array, Fault>) -> Result<Evaluated<'a>, Faul
     }
 }
 
-/// The errors that these names show, that of an absent name where one shows an array.
+/// Returns the error of each of these names; VALUE ERROR for a name with an array.
 pub(crate) fn errors_shown<S: Shows>(
     alloc: Global,
     names: &S,
@@ -437,7 +436,7 @@ pub(crate) fn errors_shown<S: Shows>(
     Ok(errors)
 }
 
-/// The error that a name shows.
+/// Returns the error of a name; VALUE ERROR if it has an array.
 fn error_shown<S: Shows>(names: &S, name: Name) -> Fault
     ensures { result ≡ error_in (S.shows names.now name) }
 {
@@ -447,7 +446,7 @@ fn error_shown<S: Shows>(names: &S, name: Name) -> Fault
     }
 }
 
-/// What each of these names shows, of which nothing changed. The errors that they show are lent.
+/// Returns an unchanged input for each of these names. Borrows their errors.
 pub(crate) fn inputs_at_rest<'a, S: Shows>(
     alloc: Global,
     names: &'a S,
@@ -467,7 +466,7 @@ pub(crate) fn inputs_at_rest<'a, S: Shows>(
     Ok(inputs)
 }
 
-/// What a name shows, of which nothing changed.
+/// Returns the unchanged input of a name.
 fn input_at_rest<'a, S: Shows>(
     names: &'a S,
     name: Name,

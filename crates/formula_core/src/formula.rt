@@ -1,4 +1,4 @@
-//! A formula: an expression as a table of nodes, with the result that each node was last given.
+//! A formula: an expression as a table of nodes, with the last result of each node.
 
 ghost use Rattle.std.specs.Prelude.{◌≡◌, ◌+◌, ◌≤◌, ◌<◌, ℕ, List, true, false, [], length, get_or, min, IfOk, IfSome, IsNone, OnOk, OnErr, MatchBool};
 ghost use Rattle.std.specs.List.{Contains, count_by};
@@ -34,17 +34,16 @@ use std::alloc::{AllocError, Global};
 use std::cell::Cell;
 use std::marker::Model;
 
-/// An expression as a table of nodes, each after those whose results it takes, with the result that each node was last
-/// given, and for each total, as `+/` and `+⌿` are, the sums of its argument's lines. A name inside the expression is no node: what it
-/// shows is lent, and not kept.
+/// An expression as a table of nodes, with the last result of each. A node follows the nodes whose results it takes. A total, such as `+/` or `+⌿`,
+/// also keeps the sums of its argument's lines. A name inside the expression has no node: its array is borrowed and not stored.
 #[derive(Drop)]
 pub struct Formula {
     alloc: Global,
-    /// In a box, since an entry of data has the room of one with a formula.
+    /// Boxed: an entry of data takes as much memory as an entry with a formula.
     names: Box<Vec<Name>>,
     nodes: Vec<Kept>,
     is_new: bool,
-    /// Room for the changes of the next plan, kept from the last edit.
+    /// Memory for the changes of the next plan, reused from the last edit.
     room: Cell<Vec<NodeChange>>,
 }
 
@@ -65,20 +64,20 @@ impl Model for Formula {
 }
 
 impl Formula {
-    /// The formula of an expression. Each of its results is VALUE ERROR until it takes a plan.
+    /// Makes the formula of an expression. Its results are VALUE ERROR until it adopts a plan.
     pub fn build(alloc: Global, tree: Expr) -> Result<Formula, AllocError>
         ensures { IfOk result (λ formula. formula ≡ new_formula (tree_of tree)) }
     {
         Formula::of(alloc, &tree)
     }
 
-    /// The formula of an expression that is lent. Each of its results is VALUE ERROR until it takes a plan.
+    /// Makes the formula of a borrowed expression. Its results are VALUE ERROR until it adopts a plan.
     pub fn of(alloc: Global, tree: &Expr) -> Result<Formula, AllocError>
         ensures { IfOk result (λ formula. formula ≡ new_formula (tree_of tree.now)) }
     {
         let room = room_for(tree);
         let mut names = Vec::with_capacity(alloc, room.names)?;
-        // A literal or a name that is the whole expression has a node.
+        // A literal or name that is the whole expression has a node.
         let mut nodes = Vec::with_capacity(alloc, room.nodes.max(1))?;
         lower_whole(alloc, &mut names, &mut nodes, tree)?;
         Ok(Formula {
@@ -90,28 +89,28 @@ impl Formula {
         })
     }
 
-    /// The names that stand in its expression, from the left, each as often as it stands there.
+    /// Returns the names of the expression from the left, one for each occurrence.
     pub fn references(&self) -> &[Name]
         ensures { result.now ≡ names_in self.now.tree }
     {
         self.names.as_slice()
     }
 
-    /// How many functions its expression applies; the greatest number of 32 bits where there are more.
+    /// Returns the number of functions in the expression, at most `u32::MAX`. Visits every node.
     pub fn operations(&self) -> u32
         ensures { result ≡ min (operations self.now.tree) 4294967295 }
     {
         u32::try_from(self.all_operations()).unwrap_or(u32::MAX)
     }
 
-    /// How many there are, however many.
+    /// Returns the number of functions in the expression. Visits every node.
     pub fn all_operations(&self) -> usize
         ensures { result ≡ operations self.now.tree }
     {
         count_operations(self.nodes.as_slice())
     }
 
-    /// The result that its expression was last given; VALUE ERROR where it has none yet.
+    /// Returns the last result of the expression; VALUE ERROR if there is none yet.
     pub fn result(&self) -> Result<&Array, Fault>
         ensures { read result ≡ root_result self.now.nodes }
     {
@@ -121,7 +120,7 @@ impl Formula {
         }
     }
 
-    /// The result that its expression was last given, with its error lent.
+    /// Returns the last result of the expression; its error is borrowed.
     pub fn lent(&self) -> Result<&Array, LentFault<'_>>
         ensures { read result ≡ root_result self.now.nodes }
     {
@@ -131,19 +130,18 @@ impl Formula {
         }
     }
 
-    /// The result that its expression was last given, as its last node holds it.
+    /// Returns the result of the last node.
     fn held(&self) -> &Result<Array, Fault>
         ensures { result.now ≡ root_result self.now.nodes }
     {
         &self.nodes[self.nodes.len() - 1].result
     }
 
-    /// What the formula changes to where its names show what the inputs say, an input for each of `references`. The
-    /// formula still shows what it did: it takes the plan by `adopt`. Where it holds results, each input tells the change
-    /// from what the name showed when they were worked out. The meter counts the items that are computed: as many as the plan costs
-    /// where no item fails, and at most as many where one does. Where nothing changed of the names none is computed, but by a new formula. The meter
-    /// counts each join of two parts of a line, too, at most `tree_joins`: a fold whose lines keep trees joins, for each new number, at most as many as
-    /// the length of a line less one has binary digits; a line that is folded anew joins one less than it has numbers.
+    /// Plans the changes of all nodes for these inputs, one for each of `references`. The formula itself does not change; `adopt` applies the plan.
+    /// If the formula holds results, each input gives the change of its name since they were computed. The meter counts the computed items: the
+    /// cost of the plan if no item fails, at most that otherwise. If no name changed, only a new formula computes items. The meter also counts
+    /// joins of two parts of a line, at most `tree_joins`. With trees, a new number takes at most as many joins as its line's length less one has
+    /// binary digits. A line that is folded whole takes one join less than it has numbers.
     #[inline(always)]
     pub fn plan(&self, inputs: &[Input], meter: &mut Meter) -> Result<Plan, AllocError>
         requires { (c : NamesChange) × IsTold self.now c inputs.now }
@@ -160,20 +158,19 @@ impl Formula {
         while !self.is_whole(&plan) {
             self.advance(&mut plan, inputs, meter)?;
         }
-        // The count says that it is a number of 64 bits.
+        // This call states that the count fits in 64 bits.
         let _counted = meter.ticks();
         Ok(plan)
     }
 
-    /// A plan has come to its end: each node has its change.
+    /// Returns whether each node has its change.
     pub fn is_whole(&self, plan: &Plan) -> bool
         ensures { MatchBool result (length plan.now.changes ≡ length self.now.nodes) (length plan.now.changes ≡ length self.now.nodes → ⊥) }
     {
         plan.changes.len() == self.nodes.len()
     }
 
-    /// The plan of which no function is done yet: it has the change of a literal or name that is the whole expression. The inputs
-    /// are as for `plan`.
+    /// Starts a plan without any function: it has only the change of a literal or name that is the whole expression. The inputs are as for `plan`.
     #[inline(always)]
     pub fn start(&self, inputs: &[Input]) -> Result<Plan, AllocError>
         requires { (c : NamesChange) × IsTold self.now c inputs.now }
@@ -192,8 +189,7 @@ impl Formula {
         Ok(plan)
     }
 
-    /// One function more of a plan of this formula as it is, of which fewer were done than there are; the inputs tell the same change each time. Where
-    /// memory is refused, the plan and the meter are as they were.
+    /// Adds one function to an unfinished plan of this formula. Each call takes the same inputs. If memory is refused, the plan and the meter stay.
     #[inline(always)]
     pub fn advance(
         &self,
@@ -226,7 +222,7 @@ impl Formula {
         Ok(())
     }
 
-    /// Puts what changes of the node that comes next behind what changes of those before it, and tells what it costs.
+    /// Appends the change of the next node. Returns its cost.
     #[inline(always)]
     fn push_next(
         &self,
@@ -247,7 +243,8 @@ impl Formula {
         Ok(1)
     }
 
-    /// Puts what changes of the node that comes next, as its rule says it, behind what changes of those before it. It stands alone, since a change takes room that need not be cleared where one place is all that changes.
+    /// Appends the change of the next node by its rule. Returns its cost. Not inlined: its locals need stack that an edit of one place need not
+    /// clear.
     #[inline(never)]
     fn push_by_rule(
         &self,
@@ -276,7 +273,7 @@ impl Formula {
         Ok(items)
     }
 
-    /// The one place that changes of the node that comes next after those that have these changes, where that is known at once.
+    /// Returns the one changed place of the next node if `Stage::next_place` knows it; `None` in a new formula.
     #[inline(always)]
     fn next_place(
         &self,
@@ -307,8 +304,8 @@ impl Formula {
         stage.next_place(meter)
     }
 
-    /// Takes the results of a plan that was made of it as it is. No memory is asked for: patches are written where the
-    /// results lie. The memory of the plan of an edit is kept for the next; that of a new formula is not, which may never be edited again.
+    /// Applies a plan of this formula. Allocates nothing: patches are written in place. Keeps the memory of an edit's plan for the next plan; frees
+    /// of a new formula's plan: such a formula may never be edited again.
     pub fn adopt(&mut self, plan: Plan)
         requires { IsPlanOf self.old plan }
         ensures { self.new ≡ record { tree = self.old.tree; is_new = false; nodes = adopted plan.changes self.old.nodes } }
@@ -321,8 +318,8 @@ impl Formula {
         self.is_new = false;
     }
 
-    /// Works out the result of each node anew, where the names show what `names` says of them: an array, or the error in its place. The
-    /// result of the formula is then the value of its expression. Where memory is refused, the formula is as it was.
+    /// Computes the result of every node from the results of the names. The formula's result is then the value of its expression. If memory is refused,
+    /// the formula stays.
     pub fn evaluate<S: Shows>(&mut self, names: &S) -> Result<(), AllocError>
         ensures tree { self.new.tree ≡ self.old.tree }
         ensures held { OnOk result (IsHeld self.new (S.shows names.now)) }
@@ -343,7 +340,7 @@ impl Formula {
         }
     }
 
-    /// The plan of a formula that counts as new, where the names show what `names` says of them.
+    /// Plans a formula that is marked new, from the results of the names.
     fn plan_anew<S: Shows>(&self, names: &S) -> Result<Plan, AllocError>
         requires { self.now.is_new ≡ true }
         ensures of { IfOk result (IsPlanOf self.now) }
@@ -357,7 +354,7 @@ impl Formula {
         self.plan(inputs.as_slice(), &mut Meter::new())
     }
 
-    /// Has a plan work out every node, or only what changes. The results stay.
+    /// Marks the formula new, so that a plan computes every node, or not new. The results stay.
     fn count_as_new(&mut self, is_new: bool)
         ensures { self.new ≡ record { tree = self.old.tree; is_new = is_new; nodes = self.old.nodes } }
     {
@@ -365,7 +362,7 @@ impl Formula {
     }
 }
 
-/// The names and the nodes of an expression, whose own node stands last.
+/// Appends the names and the nodes of an expression; its own node comes last.
 fn lower_whole(
     alloc: Global,
     names: &mut Vec<Name>,
@@ -385,7 +382,7 @@ fn lower_whole(
     Ok(())
 }
 
-/// What changes of each literal of a formula: nothing, and where it is new all.
+/// Returns the change of every literal: the whole in a new formula, otherwise nothing.
 #[inline(always)]
 fn of_literals(is_new: bool) -> Delta
     ensures { IsLiteralChange is_new result }
@@ -396,7 +393,7 @@ fn of_literals(is_new: bool) -> Delta
     Delta::Same
 }
 
-/// An empty list with room for so many changes: in the memory that was kept, where it is enough.
+/// Returns an empty list with capacity for `count` changes; reuses the kept memory if it suffices.
 fn room_for_changes(
     alloc: Global,
     room: &Cell<Vec<NodeChange>>,
@@ -410,7 +407,7 @@ fn room_for_changes(
     Ok(changes)
 }
 
-/// How many of the nodes apply a function.
+/// Counts the nodes that apply a function.
 #[tactic(auto, using(crate::proofs::Rooted::counted_yes, crate::proofs::Rooted::counted_no))]
 fn count_operations(nodes: &[Kept]) -> usize
     ensures { result ≡ count_by (λ k. applies k.node) nodes.now }

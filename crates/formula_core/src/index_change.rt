@@ -1,4 +1,4 @@
-//! The change of an index, from what its arguments give.
+//! The change of an index, from its inputs.
 
 ghost use Rattle.std.specs.Prelude.{◌≡◌, ◌≤◌, ◌∷◌, IfOk, is_some, suc, length, map, take};
 ghost use Rattle.std.specs.List.{list_all};
@@ -18,8 +18,8 @@ use change_core::Meter;
 use index_region::{Delta, Seen};
 use std::alloc::{AllocError, Global};
 
-/// The change of an index, put in place of another one, and what it costs: the array and the positions that are written; beside an error it is that error, that of the
-/// last position first and the array's last.
+/// Replaces `change` with the change of an index; returns its cost. An error among the inputs is the result: the last position comes first,
+/// the array last.
 pub(crate) fn change_of_index(
     alloc: Global,
     array: &Input,
@@ -49,7 +49,7 @@ pub(crate) fn change_of_index(
     }
 }
 
-/// The change of an index whose arguments are arrays. Up to four positions take no memory.
+/// Computes the change of an index of arrays. Up to four positions allocate nothing for the arguments.
 fn change_of_arrays(
     alloc: Global,
     indexed: &(Seen, &Delta),
@@ -72,7 +72,7 @@ fn change_of_arrays(
     change_by_arguments(alloc, args.as_slice(), positions, held, change, meter)
 }
 
-/// The change of an index, by its arguments.
+/// Computes the change of an index from its array arguments.
 fn change_by_arguments(
     alloc: Global,
     args: &[(Seen, &Delta)],
@@ -92,7 +92,7 @@ fn change_by_arguments(
     operation.of_positions(written.as_slice(), change, meter)
 }
 
-/// The error of the last position that has one.
+/// Returns the error of the last position that has one.
 fn last_fault(positions: &[Option<Input>]) -> Option<Fault>
     ensures { result ≡ last_error (written_inputs positions.now) }
 {
@@ -105,7 +105,7 @@ fn last_fault(positions: &[Option<Input>]) -> Option<Fault>
     last
 }
 
-/// Nothing changed of the array and of each written position.
+/// Returns whether neither the array nor a position changed.
 fn all_stay(array: &Input, positions: &[Option<Input>]) -> bool
     ensures { result ≡ list_all stays (array.now ∷ written_inputs positions.now) }
 {
@@ -116,7 +116,7 @@ fn all_stay(array: &Input, positions: &[Option<Input>]) -> bool
         })
 }
 
-/// The array and the positions that are arrays, each with what changed of it.
+/// Collects the array and the positions that are arrays, each with its change.
 fn arguments_of<'a>(
     alloc: Global,
     indexed: &'a (Seen<'a>, &'a Delta),
@@ -134,8 +134,7 @@ fn arguments_of<'a>(
     Ok(args)
 }
 
-/// The array and at most four positions that are arrays, each with what changed of it, and how many these are; behind them
-/// the array stands again.
+/// Collects the array and at most four positions that are arrays, each with its change, and counts them. The array fills the unused entries.
 fn few_arguments<'a>(
     indexed: &'a (Seen<'a>, &'a Delta),
     positions: &'a [Option<Input>],

@@ -1,4 +1,4 @@
-//! What the names and the nodes give, with what changed of it.
+//! Inputs: the value of a name, a literal or a node, with its change.
 
 ghost use Rattle.std.specs.Prelude.{◌≡◌, true, IfOk};
 ghost use Rattle.arrays_core.specs.Arrays.{IsArray};
@@ -13,22 +13,22 @@ use arrays_core::{Array, Fault};
 use index_region::{Delta, Seen};
 use std::alloc::AllocError;
 
-/// What a name shows, with what changed of it.
+/// The value of a name, a literal or a node, with its change.
 #[derive(Drop)]
 pub enum Input<'a> {
-    /// An array, and what changed of it.
+    /// An array and its change.
     Good(Seen<'a>, &'a Delta),
-    /// An error in its place.
+    /// An error.
     Bad {
         /// The error.
         fault: LentFault<'a>,
-        /// There was something else before.
+        /// The value changed.
         changed: bool,
     },
 }
 
 impl Default for Input<'_> {
-    /// What an absent name shows, as it did before.
+    /// The input of an absent name that was absent already.
     fn default() -> Self {
         Input::Bad {
             fault: LentFault::unknown(),
@@ -38,7 +38,7 @@ impl Default for Input<'_> {
 }
 
 impl<'a> Input<'a> {
-    /// The input, for as long as this one is lent.
+    /// Borrows the input again.
     pub(crate) fn again(&self) -> Input<'_>
         ensures { result ≡ self.now }
     {
@@ -51,7 +51,7 @@ impl<'a> Input<'a> {
         }
     }
 
-    /// Nothing changed of it.
+    /// Returns whether nothing changed.
     pub(crate) fn stays(&self) -> bool
         ensures { result ≡ stays self.now }
     {
@@ -61,7 +61,7 @@ impl<'a> Input<'a> {
         }
     }
 
-    /// The input with its value as it is now, all of which counts as new: `anew` is any change of the whole.
+    /// Marks the value new: its change becomes `anew`, any change of the whole.
     pub(crate) fn made_anew(self, anew: &'a Delta) -> Input<'a>
         requires { is_whole anew.now ≡ true }
         ensures shown { shown result ≡ shown self.entry }
@@ -77,7 +77,7 @@ impl<'a> Input<'a> {
         }
     }
 
-    /// An array of its own with the same items, or the error.
+    /// Copies the array, or returns the error.
     pub(crate) fn copy(&self) -> Result<Result<Array, Fault>, AllocError>
         ensures { IfOk result (λ copy. copy ≡ shown self.now) }
     {
@@ -87,7 +87,7 @@ impl<'a> Input<'a> {
         }
     }
 
-    /// What a node gives now that held a result, with the change of that.
+    /// Returns the value of a node after a change of its result, with that change.
     pub(crate) fn of_node(held: &'a Result<Array, Fault>, change: &'a Delta) -> Input<'a>
         requires { FitsIn change.now held.now }
         ensures is { IsInput (applied change.now held.now) change.now result }
@@ -100,7 +100,7 @@ impl<'a> Input<'a> {
         }
     }
 
-    /// What gave this before gives now, with the change of that.
+    /// Returns the value after a change of `held`, with that change.
     pub fn of(held: Result<&'a Array, LentFault<'a>>, change: &'a Delta) -> Input<'a>
         requires { FitsIn change.now (read held) }
         ensures is { IsInput (applied change.now (read held.entry)) change.now result }
@@ -117,8 +117,7 @@ impl<'a> Input<'a> {
         input
     }
 
-    /// What gave this before gives now, with the change of that, as `of` answers it; its contract does not say that what is
-    /// patched or grew was an array.
+    /// Does the work of `of`. Its contract does not state that a patched or grown value is an array.
     fn with_change(held: Result<&'a Array, LentFault<'a>>, change: &'a Delta) -> Input<'a>
         requires { FitsIn change.now (read held) }
         ensures { IsInput (applied change.now (read held.entry)) change.now result }
@@ -140,7 +139,7 @@ impl<'a> Input<'a> {
     }
 }
 
-/// What was held and what the change makes of it are arrays, where they are no errors: each array says so itself.
+/// Proves that the result is an array, before and after the change, unless it is an error.
 pub(crate) fn outcomes_are_arrays(held: &Result<Array, Fault>, change: &Delta)
     requires { FitsIn change.now held.now }
     ensures held { IfOk held.now IsArray }
@@ -160,7 +159,7 @@ pub(crate) fn outcomes_are_arrays(held: &Result<Array, Fault>, change: &Delta)
     }
 }
 
-/// What was held is an array, where it is no error: it says so itself.
+/// Proves that the result is an array, unless it is an error.
 pub(crate) fn outcome_is_array(held: &Result<Array, Fault>)
     ensures { IfOk held.now IsArray }
 {

@@ -1,4 +1,4 @@
-//! A node with what it keeps, and what changes of that.
+//! A node with its stored results, and the changes of these.
 
 ghost use Rattle.std.specs.Prelude.{◌≡◌, ◌++◌, ◌∷◌, [], true, length, None, Err, OnOk, OnErr};
 ghost use Rattle.arrays_core.specs.declared.item.Kind.TheVariants.{Value};
@@ -18,28 +18,28 @@ use index_region::{Delta, Patch};
 use std::alloc::AllocError;
 use sum_rules::LineSums;
 
-/// A node of a formula with what it keeps.
+/// A node of a formula with its stored results.
 #[derive(Drop)]
 pub(crate) struct Kept {
-    /// What it applies.
+    /// The function and its operands.
     pub(crate) node: Node,
-    /// The result that it was last given.
+    /// The last result.
     pub(crate) result: Result<Array, Fault>,
-    /// The sums of the lines of its argument, where it is the total of an array.
+    /// The sums of the argument's lines, if the node is a total of an array.
     pub(crate) sums: Option<LineSums>,
 }
 
-/// What changes of a node.
+/// The change of a node.
 #[derive(Drop)]
 pub(crate) struct NodeChange {
-    /// Of its result.
+    /// The change of its result.
     pub(crate) delta: Delta,
-    /// Of the sums that it keeps.
+    /// The change of its sums.
     pub(crate) sums: SumsDelta,
 }
 
 impl Kept {
-    /// A node that was not worked out yet.
+    /// Makes a node without a result: VALUE ERROR and no sums.
     pub(crate) fn new(node: Node) -> Kept
         ensures { result ≡ record { node = node; result = Err (fault Value); sums = None } }
     {
@@ -50,7 +50,7 @@ impl Kept {
         }
     }
 
-    /// Takes a change that can be lent. No memory is asked for.
+    /// Applies a borrowed change in place. Allocates nothing.
     fn adopt_lent(&mut self, change: &NodeChange)
         requires fit { IsFit change.now (holding self.old) }
         requires lent { can_be_lent change.now ≡ true }
@@ -63,7 +63,7 @@ impl Kept {
         }
     }
 
-    /// Takes its change. No memory is asked for.
+    /// Applies a change. Allocates nothing.
     #[inline(always)]
     fn adopt(&mut self, change: NodeChange)
         requires { IsFit change (holding self.old) }
@@ -75,7 +75,7 @@ impl Kept {
 }
 
 impl NodeChange {
-    /// No change: of neither.
+    /// Makes the change of a node whose result and sums stay.
     pub(crate) fn none() -> NodeChange
         ensures { result ≡ no_change }
     {
@@ -85,7 +85,7 @@ impl NodeChange {
         }
     }
 
-    /// The change of a node that keeps no sums, or whose sums stay.
+    /// Makes the change of a node without sums, or whose sums stay.
     #[inline(always)]
     fn of(delta: Delta) -> NodeChange
         ensures { result ≡ record { delta = delta; sums = Stays } }
@@ -96,7 +96,7 @@ impl NodeChange {
         }
     }
 
-    /// It leaves nothing with the node that takes it: nothing changes, or items of the result that the node holds.
+    /// Returns whether the change can be applied while it is borrowed: nothing changes, or only items of the result.
     fn can_be_lent(&self) -> bool
         ensures { result ≡ can_be_lent self.now }
     {
@@ -107,8 +107,7 @@ impl NodeChange {
     }
 }
 
-/// Puts the change of a node of which one place is all that changes, or that has the error there, behind those of others. A change is large, and so
-/// each kind of it is made where it is put.
+/// Appends the change of one place, or its error. A change is large, so each variant is built where it is stored.
 #[inline(always)]
 pub(crate) fn push_place(changes: &mut Vec<NodeChange>, place: OnePlace) -> Result<(), AllocError>
     requires { box_size place.region ≡ 1 }
@@ -122,8 +121,7 @@ pub(crate) fn push_place(changes: &mut Vec<NodeChange>, place: OnePlace) -> Resu
     Ok(())
 }
 
-/// The result of a node takes its change. No memory is asked for: a patch writes its items where they lie, and a tail brings the room that its
-/// items may need.
+/// Applies a change to a result. Allocates nothing: a patch writes its items in place, and a tail brings the memory that its items may need.
 fn adopt_change(held: &mut Result<Array, Fault>, change: Delta)
     requires { FitsIn change held.old }
     ensures { held.new ≡ applied change held.old }
@@ -144,7 +142,7 @@ fn adopt_change(held: &mut Result<Array, Fault>, change: Delta)
     }
 }
 
-/// Each node takes its change out of the list. What can be lent is not moved.
+/// Applies its change to each node and empties the list. A change that can be borrowed is not moved.
 pub(crate) fn adopt_all(nodes: &mut Vec<Kept>, changes: &mut Vec<NodeChange>)
     requires each { length changes.old.items ≡ length nodes.old.items }
     requires fit { AllChangesFit changes.old.items (holdings_of nodes.old.items) }

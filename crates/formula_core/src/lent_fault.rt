@@ -1,4 +1,4 @@
-//! An error that is lent.
+//! A borrowed error.
 
 ghost use Rattle.std.specs.Prelude.{◌≡◌};
 ghost use Rattle.arrays_core.specs.declared.item.Kind.TheVariants.{Value};
@@ -9,19 +9,19 @@ use apl_tokens::Name;
 use arrays_core::{Fault, Kind};
 use std::marker::Model;
 
-/// The error of what was not worked out, or is absent: VALUE ERROR.
+/// Returns VALUE ERROR, the error of an absent name or of a node without a result.
 pub fn unknown() -> Fault
     ensures { result ≡ fault Value }
 {
     Kind::Value.into()
 }
 
-/// An error that is lent, with the name in whose formula it arose, if it is to get that for its origin: an error is large, and this is not.
+/// A borrowed error with a possible origin, the name of the formula where it arose. It is smaller than an error.
 #[derive(Drop)]
 pub struct LentFault<'a> {
-    /// The error as it is held; where there is none, that of what was not worked out, or is absent.
+    /// The stored error; `None` means VALUE ERROR.
     held: Option<&'a Fault>,
-    /// Its origin, where it has none.
+    /// The origin, used if the stored error has none.
     arisen: Option<&'a Name>,
 }
 
@@ -35,7 +35,7 @@ impl<'a> Model for LentFault<'a> {
 }
 
 impl<'a> LentFault<'a> {
-    /// The error of what was not worked out, or is absent.
+    /// Returns VALUE ERROR, the error of an absent name or of a node without a result.
     pub fn unknown() -> LentFault<'a>
         ensures { result ≡ fault Value }
     {
@@ -45,7 +45,7 @@ impl<'a> LentFault<'a> {
         }
     }
 
-    /// The error as it is held.
+    /// Borrows a stored error.
     pub fn of(held: &'a Fault) -> LentFault<'a>
         ensures { result ≡ held.now }
     {
@@ -55,7 +55,7 @@ impl<'a> LentFault<'a> {
         }
     }
 
-    /// The error, lent once more.
+    /// Borrows the error again.
     pub(crate) fn again<'b>(&'b self) -> LentFault<'b>
         ensures { result ≡ self.now }
     {
@@ -65,7 +65,7 @@ impl<'a> LentFault<'a> {
         }
     }
 
-    /// The error where it arose in the formula of a name: that is its origin, unless it has one.
+    /// Gives the error this name as its origin, unless it has one.
     pub fn arisen_in(self, name: &'a Name) -> LentFault<'a>
         ensures { result ≡ arisen_in name.now self.entry }
     {
@@ -78,7 +78,7 @@ impl<'a> LentFault<'a> {
         }
     }
 
-    /// The error itself.
+    /// Returns an owned copy of the error.
     pub fn fault(&self) -> Fault
         ensures { result ≡ self.now }
     {

@@ -1,4 +1,4 @@
-//! Formulas: what an expression means, and an expression with the result that it was last given at every node.
+//! Formulas: the value of an expression, and an expression with the last result of each node.
 #![tactic(auto)]
 
 mod application;

@@ -8,7 +8,7 @@ use apl_expr::Literal;
 use arrays_core::{ApplyFault, Array, copied};
 use std::alloc::Global;
 
-/// The array of a literal: one number, or one character of a text, is a scalar, and several are a vector. More than 1,048,576 are LIMIT ERROR.
+/// Makes the array of a literal: a scalar of one number or character, a vector of several. More than 1,048,576 items are LIMIT ERROR.
 pub fn array_of(alloc: Global, literal: &Literal) -> Result<Array, ApplyFault>
     ensures { IsAnswerTo (array_of (literal_of literal.now)) result }
 {
@@ -20,7 +20,7 @@ pub fn array_of(alloc: Global, literal: &Literal) -> Result<Array, ApplyFault>
     }
 }
 
-/// The array of numbers: one is a scalar, else they are a vector.
+/// Makes the array of a list of numbers: a scalar of one, otherwise a vector.
 fn array_of_numbers(alloc: Global, numbers: &[i64]) -> Result<Array, ApplyFault>
     ensures { IsAnswerTo (array_of (Numbers numbers.now)) result }
 {
@@ -30,7 +30,7 @@ fn array_of_numbers(alloc: Global, numbers: &[i64]) -> Result<Array, ApplyFault>
     Array::vector(alloc, copied(alloc, numbers)?)
 }
 
-/// The array of a text: one character is a scalar, else they are a vector.
+/// Makes the array of a text: a scalar of one character, otherwise a vector.
 fn array_of_text(alloc: Global, characters: &[char]) -> Result<Array, ApplyFault>
     ensures { IsAnswerTo (array_of (Text characters.now)) result }
 {

@@ -1,4 +1,4 @@
-//! The change of an operation, from what its arguments give. Beside an error among these it is that error.
+//! The change of an operation, from its inputs. An error among the inputs is the result.
 
 ghost use Rattle.std.specs.Prelude.{◌≡◌, [], ◌∷◌, Some, None, Ok, Err, IfSome, IsNone, if◌then◌else◌};
 ghost use Rattle.index_region.specs.Boxes.{box_size};
@@ -27,7 +27,7 @@ use scalar_fns::{EachDyadic, EachMonadic};
 use std::alloc::{AllocError, Global};
 use sum_rules::{LineSums, fold_totals_with_cost, read_totals_with_cost, refresh_totals_with_cost};
 
-/// The change of a function of its right argument, put in place of another one, and what it costs; beside an error it is that error.
+/// Replaces `change` with the change of a function of one argument; returns its cost. An error of the argument is the result.
 fn change_of_right(
     alloc: Global,
     function: Function1,
@@ -57,8 +57,8 @@ fn change_of_right(
     }
 }
 
-/// The change of a function of one argument, and what it costs. Of a total whose argument has sums of its lines kept, or made anew, it
-/// is found by these. Only totals join sums.
+/// Replaces `change` with the change of a function of one argument; returns its cost. A total uses the kept or rebuilt sums of its argument's
+/// lines. Only totals join.
 pub(crate) fn change_of_monad(
     alloc: Global,
     function: Function1,
@@ -84,8 +84,8 @@ pub(crate) fn change_of_monad(
     }
 }
 
-/// The change of a total along an axis, and what it costs: of another array it is read from the new sums of its lines where these are made,
-/// else it is found by those that are kept, and where there are none the lines are folded; beside an error it is that error.
+/// Replaces `change` with the change of a total along an axis; returns its cost. For a replaced array it reads the new sums, if there are any.
+/// Otherwise it uses the kept sums, or folds the lines if there are none. An error of the argument is the result.
 fn change_of_total(
     alloc: Global,
     fold: Reduce,
@@ -128,7 +128,8 @@ fn change_of_total(
     }
 }
 
-/// The change of a function of its two arguments, and what it costs; beside an error it is that error, the right argument's first.
+/// Replaces `change` with the change of a function of two arguments; returns its cost. An error of an argument is the result, the right one's
+/// first.
 pub(crate) fn change_of_both(
     alloc: Global,
     function: Function2,
@@ -165,7 +166,7 @@ pub(crate) fn change_of_both(
     }
 }
 
-/// The one place that changes of a scalar function of its argument, where that is known at once; where it is not, nothing is done.
+/// Returns the one changed place of a scalar function of one argument, if no search is needed. Otherwise returns `None` and leaves the meter.
 #[inline(always)]
 pub(crate) fn place_of_each(
     alloc: Global,
@@ -195,7 +196,7 @@ pub(crate) fn place_of_each(
     }
 }
 
-/// The one place that changes of a scalar function of its two arguments, where that is known at once; where it is not, nothing is done.
+/// Returns the one changed place of a scalar function of two arguments, if no search is needed. Otherwise returns `None` and leaves the meter.
 #[inline(always)]
 pub(crate) fn place_of_pairs(
     alloc: Global,
@@ -227,7 +228,7 @@ pub(crate) fn place_of_pairs(
     }
 }
 
-/// The change of an operation beside an error of an argument: that error, unless nothing changed.
+/// Returns the change of an operation with an error among its inputs: that error, or nothing if no input changed.
 pub(crate) fn beside_error(fault: Fault, stay: bool) -> Delta
     ensures { result ≡ (if stay then Same else WholeDelta (Err fault)) }
 {

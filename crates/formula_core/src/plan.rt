@@ -1,4 +1,4 @@
-//! What a formula's next results are.
+//! The plan of a formula.
 
 ghost use Rattle.std.specs.Prelude.{◌≡◌, ◌<◌, length};
 ghost use Rattle.formula_core.specs.Plans.{root_change};
@@ -8,8 +8,8 @@ use change_core::Count;
 use index_region::Delta;
 use std::marker::Model;
 
-/// What changes of the nodes of a formula, from the first on, worked out while what they hold stands, and what that costs. The plan is
-/// whole once each node has its change.
+/// The changes of the nodes of a formula from the first on, and their cost. The stored results stay meanwhile. The plan is whole once each node has
+/// its change.
 #[derive(Drop)]
 pub struct Plan {
     pub(crate) changes: Vec<NodeChange>,
@@ -25,7 +25,7 @@ impl Model for Plan {
 }
 
 impl Plan {
-    /// What changes of the formula's result, once the plan is whole: of the last node's.
+    /// Returns the change of the formula's result: the change of the last node of a whole plan.
     pub fn delta(&self) -> &Delta
         requires { 0 < length self.now.changes }
         ensures { result.now ≡ root_change self.now.changes }
@@ -33,8 +33,7 @@ impl Plan {
         &self.changes[self.changes.len() - 1].delta
     }
 
-    /// How many items of results change at most: for each node that has its change the places of the box that changes, or of the
-    /// whole result; the greatest number of 64 bits where there are more.
+    /// Returns the greatest number of items that may change, at most `u64::MAX`. A node adds the size of its changed box, or of its whole result.
     pub fn cost(&self) -> u64
         ensures { result ≡ self.now.cost }
     {

@@ -6,16 +6,16 @@ use crate::input::Input;
 use smallvec::SmallVec;
 use std::alloc::{AllocError, Global};
 
-/// How many positions take no memory. More have no value: no array has more axes.
+/// The number of positions that need no allocation. An index with more has no value: no array has more axes.
 pub(crate) const FEW_POSITIONS: usize = 4;
 
-/// What the written positions of an index give, and none for each that is empty.
+/// The inputs of the positions of an index; `None` for an empty position.
 pub(crate) type Positions<'a> = SmallVec<Option<Input<'a>>, FEW_POSITIONS>;
 
-/// Which positions of an index are written.
+/// For each position of an index, whether it is written.
 type Written = SmallVec<bool, FEW_POSITIONS>;
 
-/// Which positions are written.
+/// Returns for each position whether it is written.
 pub(crate) fn written_of<T>(alloc: Global, positions: &[Option<T>]) -> Result<Written, AllocError>
     ensures { IfOk result (λ written. written.items ≡ map is_some positions.now) }
 {

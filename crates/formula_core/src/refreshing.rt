@@ -1,4 +1,4 @@
-//! The change of an operation, from the changes of its arguments.
+//! The change of an operation, from the changes of its array arguments.
 
 ghost use Rattle.std.specs.Prelude.{◌≡◌, suc, length, Ok, IfSome, IsNone};
 ghost use Rattle.index_region.specs.Boxes.{box_size};
@@ -23,19 +23,19 @@ use structural_fns::{
     Catenate, DropPlaces, DyadicTranspose, Ravel, Reshape, Reverse, Rotate, Take, Transpose,
 };
 
-/// The arguments of an operation as they are now, each with what changed of it, and what the operation gave before.
+/// The arguments of an operation, each with its change, and the last result.
 #[derive(Drop)]
 pub(crate) struct Operation<'a> {
-    /// What new items are made with.
+    /// The allocator of new items.
     pub(crate) alloc: Global,
     /// The arguments.
     pub(crate) args: &'a [(Seen<'a>, &'a Delta)],
-    /// What it gave before.
+    /// The last result.
     pub(crate) held: &'a Result<Array, Fault>,
 }
 
 impl<'a> Operation<'a> {
-    /// Its change, put in place of another one, where it follows this rule; and what it costs.
+    /// Replaces `change` with the operation's change by this rule; returns its cost.
     #[inline(always)]
     fn by<R: Rule>(
         &self,
@@ -52,7 +52,7 @@ impl<'a> Operation<'a> {
         refresh_with_cost(self.alloc, rule, self.args, self.held, change, meter)
     }
 
-    /// The one place that changes of it by this rule, where that is known at once. Where it is not, nothing is done.
+    /// Returns the one changed place by this rule, if no search is needed. Otherwise returns `None` and leaves the meter.
     #[inline(always)]
     pub(crate) fn place_by<R: Rule>(&self, rule: &R, meter: &mut Meter) -> Option<OnePlace>
         requires count { length self.now.args.now ≡ length (R.model rule.now).selectors }
@@ -66,7 +66,7 @@ impl<'a> Operation<'a> {
         refreshed_place(rule, self.args, self.held, meter)
     }
 
-    /// The change of a function of one argument, put in place of another one, and what it costs.
+    /// Replaces `change` with the change of a function of one argument; returns its cost.
     pub(crate) fn of_right(
         &self,
         function: Function1,
@@ -88,7 +88,7 @@ impl<'a> Operation<'a> {
         }
     }
 
-    /// The change of a function of one argument that is no operator's, put in place of another one, and what it costs.
+    /// Replaces `change` with the change of a primitive function of one argument; returns its cost.
     #[inline(always)]
     fn of_monadic(
         &self,
@@ -112,7 +112,7 @@ impl<'a> Operation<'a> {
         }
     }
 
-    /// The change of a function of two arguments, the left one first, put in place of another one, and what it costs.
+    /// Replaces `change` with the change of a function of two arguments, the left one first; returns its cost.
     pub(crate) fn of_both(
         &self,
         function: Function2,
@@ -132,7 +132,7 @@ impl<'a> Operation<'a> {
         }
     }
 
-    /// The change of a function of two arguments that is no operator's, put in place of another one, and what it costs.
+    /// Replaces `change` with the change of a primitive function of two arguments; returns its cost.
     #[inline(always)]
     fn of_dyadic(
         &self,
@@ -162,7 +162,7 @@ impl<'a> Operation<'a> {
         }
     }
 
-    /// The change of an index, put in place of another one, and what it costs: the array, and then the positions that are written.
+    /// Replaces `change` with the change of an index; returns its cost. The arguments are the array and the written positions.
     pub(crate) fn of_positions(
         &self,
         written: &[bool],

@@ -1,4 +1,4 @@
-//! What the next change of a formula is worked out from.
+//! The data from which the next change of a formula is computed.
 
 ghost use Rattle.std.specs.Prelude.{◌≡◌, ◌≤◌, ◌<◌, ℕ, List, false, length, map, get_or, None, Ok, IfOk, OnOk, IfSome, IsNone};
 ghost use Rattle.std.specs.Option.{option_map};
@@ -37,22 +37,21 @@ use smallvec::SmallVec;
 use std::alloc::{AllocError, Global};
 use sum_rules::LineSums;
 
-/// What the names of a formula show with what changed of it, what its nodes hold, and the changes of those that come
-/// first: what the change of the next node is worked out from.
+/// The data for the change of the next node: the inputs of the names, the stored results of all nodes, and the changes of the earlier nodes.
 #[derive(Drop)]
 pub(crate) struct Stage<'a> {
     pub(crate) alloc: Global,
-    /// The formula was not worked out yet.
+    /// The formula is new: its nodes have no results yet.
     pub(crate) is_new: bool,
     pub(crate) inputs: &'a [Input<'a>],
     pub(crate) nodes: &'a [Kept],
     pub(crate) changes: &'a [NodeChange],
-    /// What changes of each literal: nothing, but in a new formula all of it, since there all that a node takes counts as new.
+    /// The change of every literal: the whole in a new formula, otherwise nothing.
     pub(crate) of_literals: &'a Delta,
 }
 
 impl<'a> Stage<'a> {
-    /// An argument of the next node; in a new formula it counts as new.
+    /// Returns the input for an operand of the next node. In a new formula it is marked new.
     #[inline(always)]
     fn argument(&self, argument: &'a Operand) -> Input<'a>
         requires within { IsOperand (length self.now.inputs.now) (length self.now.changes.now) argument.now }
@@ -68,7 +67,7 @@ impl<'a> Stage<'a> {
         input
     }
 
-    /// What an argument gives as it stands.
+    /// Returns the input for an operand without that mark.
     #[inline(always)]
     fn taken(&self, argument: &'a Operand) -> Input<'a>
         requires within { IsOperand (length self.now.inputs.now) (length self.now.changes.now) argument.now }
@@ -86,7 +85,7 @@ impl<'a> Stage<'a> {
         }
     }
 
-    /// The positions of an index that are written. Up to four positions take no memory.
+    /// Returns the inputs of the positions of an index. Up to four positions allocate nothing.
     fn positions(&self, arguments: &'a [Option<Operand>]) -> Result<Positions<'a>, AllocError>
         requires within { AreOperands (length self.now.inputs.now) (length self.now.changes.now) arguments.now }
         requires staged { StagedBy self.now }
@@ -105,8 +104,8 @@ impl<'a> Stage<'a> {
         Ok(positions)
     }
 
-    /// The one place that changes of a node that held this, where the node applies a scalar function and that is known at once. Where it is not, nothing is
-    /// done.
+    /// Returns the one place that changes in a node with the result `held`, if the node applies a scalar function and no search is needed.
+    /// Otherwise returns `None` and leaves the meter.
     #[inline(always)]
     fn place_of(
         &self,
@@ -147,8 +146,8 @@ impl<'a> Stage<'a> {
         }
     }
 
-    /// The one place that changes of the next node of a formula that holds results, where that is known at once: a scalar function of two arguments asks for
-    /// no more than the item there. Where it is not known, nothing is done.
+    /// Returns the one place that changes in the next node, if the node applies a scalar function and no search is needed. The formula is
+    /// not new. Otherwise returns `None` and leaves the meter.
     #[inline(always)]
     pub(crate) fn next_place(&self, meter: &mut Meter) -> Option<OnePlace>
         requires old { self.now.is_new ≡ false }
@@ -166,7 +165,7 @@ impl<'a> Stage<'a> {
         self.place_of(&next.node, &next.result, meter)
     }
 
-    /// What changes of the next node, put in place of another change, and what it costs.
+    /// Replaces `change` with the change of the next node; returns its cost.
     #[inline(never)]
     pub(crate) fn next(&self, change: &mut NodeChange, meter: &mut Meter) -> Result<u32, AllocError>
         requires below { length self.now.changes.now < length self.now.nodes.now }
@@ -186,8 +185,8 @@ impl<'a> Stage<'a> {
         Ok(items)
     }
 
-    /// The change of the result of the next node, which held this and keeps these sums, put in place of another one, and what it costs. What changes of the sums is
-    /// made before, so that the items of an argument that is another array are gone over once.
+    /// Replaces `change` with the change of the node's result; returns its cost. `held` and `kept` are its result and sums. `made` is the change of
+    /// the sums, computed first: so a replaced argument is read once.
     fn change_of(
         &self,
         node: &'a Node,
@@ -230,8 +229,7 @@ impl<'a> Stage<'a> {
         }
     }
 
-    /// The change of an index of what these arguments give, as `change_of` tells it. It stands alone, since its positions take room that the other
-    /// nodes need not clear.
+    /// Replaces `change` with the change of an index, as `change_of` does. Not inlined: its positions need stack that other nodes need not clear.
     #[inline(never)]
     fn change_of_indexed(
         &self,
@@ -255,7 +253,7 @@ impl<'a> Stage<'a> {
         change_of_index(self.alloc, &array, &positions, held, change, meter)
     }
 
-    /// What changes of the sums that a node keeps: of which there are some if it is a total.
+    /// Returns the change of the sums of a node; only a total has any.
     fn sums_of(&self, node: &'a Node, kept: &Option<LineSums>) -> Result<SumsDelta, AllocError>
         requires node { IsNode (length self.now.inputs.now) (length self.now.changes.now) node.now }
         requires staged { StagedBy self.now }
@@ -270,8 +268,8 @@ impl<'a> Stage<'a> {
         }
     }
 
-    /// The change of a literal that is the whole expression, put in place of another one: it stays, and in a new formula it is new. It costs nothing. It
-    /// stands alone, as the next call does, since it takes room that the other nodes need not clear.
+    /// Replaces `change` with that of a literal that is the whole expression: the whole in a new formula, otherwise nothing. Costs 0. Not inlined,
+    /// like the next call: its locals need stack that other nodes need not clear.
     #[inline(never)]
     fn change_of_literal(&self, constant: &Constant, change: &mut Delta) -> Result<u32, AllocError>
         requires { IsLiteralChange self.now.is_new self.now.of_literals.now }
@@ -286,7 +284,7 @@ impl<'a> Stage<'a> {
         Ok(0)
     }
 
-    /// The change of a name that is the whole expression, put in place of another one. It costs nothing.
+    /// Replaces `change` with the change of a name that is the whole expression. Costs 0.
     #[inline(never)]
     fn change_of_name(&self, place: usize, change: &mut Delta) -> Result<u32, AllocError>
         requires { place < length self.now.inputs.now }
@@ -299,7 +297,7 @@ impl<'a> Stage<'a> {
         Ok(0)
     }
 
-    /// What changes of a name that is the whole expression: what changed of the name, and in a new formula it is new.
+    /// Returns the change of a name that is the whole expression: the whole in a new formula, otherwise a copy of the name's change.
     fn delta_of_name(&self, input: &Input) -> Result<Delta, AllocError>
         ensures { IfOk result (λ d. (c : NamesChange) → (x : List ℕ) → IsInput (c.new x) (c.delta x) input.now → IsNameChanged c x → d ≡ node_change self.now.is_new c (Name x)) }
     {
@@ -316,7 +314,7 @@ impl<'a> Stage<'a> {
     }
 }
 
-/// What the name at this place of the references shows.
+/// Returns the input of the name at this index of the references.
 #[inline(always)]
 fn told<'a>(inputs: &'a [Input<'a>], place: usize) -> Input<'a>
     requires { place < length inputs.now }

@@ -16,23 +16,23 @@ use operator_fns::Reduce;
 use std::alloc::{AllocError, Global};
 use sum_rules::{JoinedPatch, JoinedTrees, LineSums, NewLines, keeps_sums};
 
-/// A patch of more than one place in so many makes the sums anew: taking its items one by one would be slower.
+/// A patch of more than one place in 16 rebuilds the sums: to take its items one by one is slower.
 const PLACES_TO_ONE_NEW: usize = 16;
 
-/// What changes of the sums that a node keeps.
+/// The change of the sums of a node.
 #[derive(Drop)]
 pub(crate) enum SumsDelta {
-    /// Nothing.
+    /// No change.
     Same,
-    /// New items for a box of the array whose lines are folded, with what was joined for them.
+    /// New items for a box of the array whose lines are folded, with the joins made for them.
     Patch(Box<JoinedPatch>),
-    /// What the lines get where the array grew.
+    /// New numbers at the end of the lines, or new lines, of an array that grew.
     Grown(Box<NewLines>),
     /// Other sums, or none.
     Whole(Option<LineSums>),
 }
 
-/// The fold that a function is whose parts are kept as trees, if it is one, as `+/` and `⌈⌿` are.
+/// Returns the fold of a function whose lines keep trees, such as `+/` or `⌈⌿`.
 pub(crate) fn total_of(function: Function1) -> Option<Reduce>
     ensures { result ≡ fold_of_total function }
 {
@@ -44,8 +44,8 @@ pub(crate) fn total_of(function: Function1) -> Option<Reduce>
     }
 }
 
-/// What changes of the sums of the lines of an argument along an axis, where these were kept: a small patch is kept for them, what
-/// the lines get where the array grew goes behind them, and else they are made anew.
+/// Returns the change of the sums of an argument's lines. A small patch updates the kept sums, a tail appends to them. Anything else that changes
+/// the array rebuilds them; an error drops them.
 pub(crate) fn sums_delta(
     alloc: Global,
     fold: Reduce,
@@ -66,15 +66,15 @@ pub(crate) fn sums_delta(
     }
 }
 
-/// The sums of the lines of an array, made anew if lines like these have any.
+/// Computes the sums of an array's lines; none if `LineSums::of` keeps none for it.
 fn made_anew(alloc: Global, fold: Reduce, array: &Seen) -> Result<SumsDelta, AllocError>
     ensures { IfOk result (λ s. (d : Delta) → (kept : Option SummedValue) → IsSumsDelta fold (Ok array.now) d kept s) }
 {
     Ok(SumsDelta::Whole(LineSums::of(alloc, fold, array)?))
 }
 
-/// What changes of the sums where the array is patched: a patch that is small beside the array is kept for the trees. Where it is
-/// larger, or no sums were kept, they are made anew.
+/// Returns the change of the sums for a patch of the array. A patch of at most one place in 16, and one more, updates the kept sums. A larger patch
+/// rebuilds them, and so does a patch of an array without sums.
 fn patch_delta(
     alloc: Global,
     fold: Reduce,
@@ -94,8 +94,7 @@ fn patch_delta(
     made_anew(alloc, fold, array)
 }
 
-/// What changes of the sums where the array grew: what its lines along the axis get goes behind what is kept. Where no sums were kept,
-/// they are made anew.
+/// Returns the change of the sums for an array that grew: appends the tail to the kept sums. Without any it builds them.
 #[tactic(auto, using(crate::proofs::Summed::lines_taken))]
 fn grown_delta(
     alloc: Global,
@@ -115,7 +114,7 @@ fn grown_delta(
     made_anew(alloc, fold, array)
 }
 
-/// Returns the trees of sums that are kept, with what was joined for their change.
+/// Returns the kept trees of sums, with the joins made for their change.
 pub(crate) fn trees_with<'a>(sums: &'a LineSums, made: &'a SumsDelta) -> JoinedTrees<'a>
     requires { IsJoinedFrom (Some sums.now) made.now }
     ensures function { result.function ≡ sums.now.function }
@@ -127,7 +126,7 @@ pub(crate) fn trees_with<'a>(sums: &'a LineSums, made: &'a SumsDelta) -> JoinedT
     }
 }
 
-/// The sums that a node keeps take their change. No memory is asked for.
+/// Applies a change to the sums of a node. Allocates nothing.
 pub(crate) fn take_sums_delta(kept: &mut Option<LineSums>, change: SumsDelta)
     requires { FitsInSums change kept.old }
     ensures { kept.new ≡ resummed change kept.old }

@@ -1,4 +1,4 @@
-//! The nodes of an expression, each after those whose results it takes.
+//! The nodes of an expression; each follows the nodes whose results it takes.
 
 ghost use Rattle.std.specs.Prelude.{◌≡◌, ◌++◌, [], ◌∷◌, ℕ, List, length, map, option_map, IfOk, OnOk};
 ghost use Rattle.apl_expr.specs.Trees.{Const as ConstTree, Name as NameTree, tree_of, literal_of, position_of, before_argument, between_arguments};
@@ -16,42 +16,41 @@ use apl_tokens::Name;
 use operator_fns::Reduce;
 use std::alloc::{AllocError, Global};
 
-/// What a node takes as an argument: what a literal gives, what a name shows, by its place among the references, or the result of a node
-/// before it.
+/// An argument of a node: a literal, a name by its index among the references, or the result of an earlier node.
 #[derive(Drop)]
 pub(crate) enum Operand {
-    /// This literal.
+    /// A literal.
     Literal(Box<Constant>),
-    /// The name at this place of the references.
+    /// The index of a name among the references.
     Name(usize),
-    /// The node at this place of the table.
+    /// The index of a node of the table.
     Node(usize),
 }
 
-/// A node: an operation, or a literal or a name where that is the whole expression. Inside an expression these are no nodes.
+/// A node: an operation, or the literal or name that is the whole expression. Inside an expression literals and names have no node.
 #[derive(Drop)]
 pub(crate) enum Node {
     /// A literal.
     Constant(Box<Constant>),
-    /// The name at this place of the references.
+    /// The index of a name among the references.
     Name(usize),
-    /// A function before its argument.
+    /// A function and its argument.
     Monad(Function1, Operand),
-    /// A function between its arguments, the left one and the right one.
+    /// A function, its left argument and its right argument.
     Dyad(Function2, Operand, Operand),
-    /// An array and the positions of its index, each of which may be empty.
+    /// An array and the positions of its index; a position may be empty.
     Index(Operand, Vec<Option<Operand>>),
 }
 
 impl Node {
-    /// It applies a function to arguments.
+    /// Returns whether the node applies a function.
     pub(crate) fn applies(&self) -> bool
         ensures { result ≡ applies self.now }
     {
         !matches!(self, Node::Constant(_) | Node::Name(_))
     }
 
-    /// The argument whose lines it folds, where it keeps trees of these, behind the fold.
+    /// Returns the fold and its argument if the node is a fold whose lines keep trees.
     pub(crate) fn totalled(&self) -> Option<(Reduce, &Operand)>
         ensures { option_map (λ p. (p.0, p.1.now)) result ≡ totalled self.now }
     {
@@ -62,7 +61,7 @@ impl Node {
     }
 }
 
-/// Adds the names and the nodes of an expression behind these, and tells what stands for it as an argument.
+/// Appends the names and the nodes of an expression. Returns the operand that stands for it.
 #[cycle(lower)]
 pub(crate) fn lower(
     alloc: Global,
@@ -104,7 +103,7 @@ pub(crate) fn lower(
     }
 }
 
-/// What stands for a literal as an argument. It has no node and no name.
+/// Returns the operand of a literal; it has no node and no name.
 #[inline(always)]
 fn lower_literal(alloc: Global, literal: &Literal) -> Result<Operand, AllocError>
     ensures { (names : List (List ℕ)) → (nodes : List NodeOf) → IfOk result (λ operand. IsLowered names names nodes nodes (ConstTree (literal_of literal.now)) operand) }
@@ -113,7 +112,7 @@ fn lower_literal(alloc: Global, literal: &Literal) -> Result<Operand, AllocError
     Ok(Operand::Literal(Box::new(alloc, constant)?))
 }
 
-/// Adds the names and the nodes of a function before its argument behind these, and tells what stands for it as an argument.
+/// Appends the names and the nodes of a function of one argument. Returns the operand that stands for it.
 #[cycle(lower)]
 #[inline(always)]
 fn lower_before(
@@ -130,7 +129,7 @@ fn lower_before(
     push(nodes, Node::Monad(function, right))
 }
 
-/// Adds the names and the nodes of a function between its arguments behind these, and tells what stands for it as an argument.
+/// Appends the names and the nodes of a function of two arguments. Returns the operand that stands for it.
 #[cycle(lower)]
 fn lower_between(
     alloc: Global,
@@ -147,8 +146,7 @@ fn lower_between(
     push(nodes, Node::Dyad(function, left, right))
 }
 
-/// Adds the names and the nodes of the positions of an index behind these, from the left, and tells what stands for each
-/// position that is written.
+/// Appends the names and the nodes of the positions of an index, from the left. Returns an operand for each position that is not empty.
 #[cycle(lower)]
 fn lower_positions(
     alloc: Global,
@@ -170,17 +168,17 @@ fn lower_positions(
     Ok(operands)
 }
 
-/// How many names an expression takes and how many nodes: so many have room, and no more.
+/// The number of names and of nodes of an expression; `Formula::of` allocates exactly this capacity.
 #[derive(Clone, Copy)]
 pub(crate) struct Room {
-    /// The names that stand in it.
+    /// The occurrences of names.
     pub(crate) names: usize,
-    /// Its functions.
+    /// The functions.
     pub(crate) nodes: usize,
 }
 
 impl Room {
-    /// Room for what both take.
+    /// Adds two rooms; saturates.
     fn and(self, other: Room) -> Room {
         Room {
             names: self.names.saturating_add(other.names),
@@ -189,13 +187,13 @@ impl Room {
     }
 }
 
-/// What a name takes.
+/// The room of a name.
 const ONE_NAME: Room = Room { names: 1, nodes: 0 };
 
-/// What a function takes, beside its arguments.
+/// The room of a function without its arguments.
 const ONE_NODE: Room = Room { names: 0, nodes: 1 };
 
-/// What an expression takes.
+/// Returns the room of an expression.
 #[cycle(room)]
 pub(crate) fn room_for(tree: &Expr) -> Room {
     match tree {
@@ -213,13 +211,13 @@ pub(crate) fn room_for(tree: &Expr) -> Room {
     }
 }
 
-/// What the arguments of a function take.
+/// Returns the room of the two arguments of a function.
 #[cycle(room)]
 fn room_beside(sides: &Sides) -> Room {
     room_for(&sides.left).and(room_for(&sides.right))
 }
 
-/// What the positions of an index take.
+/// Returns the room of the positions of an index.
 #[cycle(room)]
 fn room_within(positions: &[Option<Expr>]) -> Room {
     let mut room = Room { names: 0, nodes: 0 };
@@ -231,7 +229,7 @@ fn room_within(positions: &[Option<Expr>]) -> Room {
     room
 }
 
-/// Adds a name, and tells what stands for it as an argument.
+/// Appends a name. Returns its operand.
 #[inline(always)]
 fn push_name(names: &mut Vec<Name>, name: Name) -> Result<Operand, AllocError>
     ensures { (nodes : List NodeOf) → IfOk result (λ operand. IsLowered names.old.items names.new.items nodes nodes (NameTree name) operand) }
@@ -241,7 +239,7 @@ fn push_name(names: &mut Vec<Name>, name: Name) -> Result<Operand, AllocError>
     Ok(Operand::Name(place))
 }
 
-/// Adds a node, and tells what stands for it as an argument.
+/// Appends a node. Returns its operand.
 fn push(nodes: &mut Vec<Kept>, node: Node) -> Result<Operand, AllocError>
     ensures nodes { OnOk result (nodes_of nodes.new.items ≡ nodes_of nodes.old.items ++ node ∷ []) }
     ensures place { IfOk result (λ operand. operand ≡ NodeAt (length (nodes_of nodes.old.items))) }
