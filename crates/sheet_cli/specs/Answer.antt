@@ -1,4 +1,4 @@
--- What one line is answered.
+-- The answer to one line.
 use Rattle.std.{specs.Prelude.{◌≡◌, ◌≢◌, ℕ, ℤ, ◌<◌, ◌≤◌, nat_lt, Bool, true, false, List, [], ◌++◌, length, map, codes, decimal, Option, Some, None, Result, Ok, Err, if◌then◌else◌}, specs.List.{flat_map}, specs.Option.{option_map}, specs.Map.{keys_of}, specs.Str.{IsUtf8, chars}}
 use Rattle.apl_expr.{specs.declared.fault.LineFault.TheVariants.{Syntax, Limit}, specs.Lines.{Meaning, Nothing, Define, Data, Cell, Row, Erase, Show, Names, Cost, Csv, Open, Step, Commit, Drop}, specs.Answers.{IsAnswered, IsReadAs}}
 use Rattle.arrays_core.{specs.Arrays.{ArrayValue}, specs.declared.fault.Fault.{Fault}, specs.declared.item.Item.{Item}, specs.declared.item.ItemType.{ItemType}, specs.declared.item.ItemType.TheVariants.{Nums, Chars}}
@@ -12,28 +12,27 @@ use Rattle.sheet_recalc.specs.Changes as change
 use Rattle.sheet_recalc.specs.declared.refusal.Refusal.TheVariants as why
 use Rattle.sheet_desk.specs.Desk as desk
 
--- a change that is open: whether another change was made since, and how many steps are left
+-- an open change: whether another change was made since, and the number of steps left
 pub record OpenChange : Type 0 where
   pub change : SheetChange
   pub is_stale : Bool
   pub left : ℕ
 
--- what a run keeps from line to line: names with what they are bound to, the cost of the last change that was accepted, and slots for changes
--- that are open
+-- the state of a run between lines: the bindings of the names, the cost of the last accepted change, and the slots for open changes
 pub record State : Type 0 where
   pub names : sheet.Names
   pub cost : ℕ
   pub slots : List (Option OpenChange)
 
--- what a run keeps of a change that is open; no answer tells how many items were computed for it
+-- the state of an open change; no answer depends on the number of items computed for it
 abbrev pub open_change : SlotValue → OpenChange
 open_change s = record { change = s.change; is_stale = s.is_stale; left = s.left }
 
--- what a run keeps in a desk
+-- the state of a run in a desk
 abbrev pub state_of : DeskValue → State
 state_of d = record { names = d.names; cost = d.cost; slots = map (option_map open_change) d.slots }
 
--- another change was made
+-- the open change after another change was made
 abbrev pub as_stale : OpenChange → OpenChange
 as_stale o = record { change = o.change; is_stale = true; left = o.left }
 
@@ -55,55 +54,55 @@ refusal_text why.NoSlot = codes "NO SLOT\n"
 refusal_text why.SlotInUse = codes "SLOT IN USE\n"
 refusal_text (why.Fault f) = fault_text f
 
--- what a shown value prints, or its error
+-- the text of a value or of its error
 abbrev pub shown_text : Result ArrayValue Fault → List ℕ
 shown_text (Ok a) = array_text a
 shown_text (Err f) = fault_text f
 
--- names, each on a line of its own
+-- the names, each on its own line
 abbrev pub names_text : List (List ℕ) → List ℕ
 names_text names = flat_map (λ name. name ++ line_end) names
 
--- whether items of this type are characters: there are some, and the type is that
+-- there are items, and they are characters
 abbrev pub are_characters : ItemType → List Item → Bool
 are_characters Nums items = false
 are_characters Chars items = nat_lt 0 (length items)
 
--- a cost, in decimal digits
+-- a count in decimal digits, on its own line
 abbrev pub cost_text : ℕ → List ℕ
 cost_text cost = decimal cost ++ line_end
 
--- an array as a table; or why it is none: it has more than two axes, or items that are characters
+-- an array as a table; refused if it has more than two axes, or items that are characters
 abbrev pub array_table : ArrayValue → List ℕ
 array_table a =
     if nat_lt 2 (length a.shape) then refusal_text why.Rank
     else if are_characters a.item_type a.items then refusal_text why.Domain
     else table_text a.shape (map item_number a.items)
 
--- what a name that is bound shows, as a table; an error prints as it is shown
+-- a bound name's array as a table, or the text of its error; NOT FOUND if the name is not bound
 abbrev pub shown_table : Option Binding → Result ArrayValue Fault → List ℕ
 shown_table None shown = refusal_text why.NotFound
 shown_table (Some b) (Ok a) = array_table a
 shown_table (Some b) (Err f) = fault_text f
 
--- what a refusal prints, for want of memory aside
+-- the text of this refusal, which is not want of memory
 abbrev pub IsRefusalText : Refusal → List ℕ → Type 0
 IsRefusalText cause text = (text ≡ refusal_text cause) × (cause ≢ why.NoMemory)
 
--- an edit is accepted, prints nothing, its cost is kept and all changes that are open are stale; or it is refused, not for want of memory,
--- prints why and changes nothing
+-- an edit is accepted: it prints nothing, its cost is stored, and every open change becomes stale. Or it is refused for a reason other than memory:
+-- it prints that and changes nothing
 pub data IsChangeAnswered : State → SheetChange → List ℕ → State → Type 0 where
   accepted : {old new : State} {edit : SheetChange} → Accepts old.names edit new.names → HasCost old.names edit new.names new.cost → new.slots ≡ map (option_map as_stale) old.slots → IsChangeAnswered old edit [] new
   refused : {old : State} {edit : SheetChange} (cause : Refusal) → Refuses old.names edit cause → cause ≢ why.NoMemory → IsChangeAnswered old edit (refusal_text cause) old
 
--- what a desk answers to a line about a slot, as it is printed: nothing where the thing is done, how many steps are left, or why it is refused
+-- the text of a desk's answer: empty if the event is done, the number of steps left, or the refusal
 abbrev pub IsPrintedFor : desk.Answer → List ℕ → Type 0
 IsPrintedFor desk.Done text = text ≡ []
 IsPrintedFor (desk.Left n) text = text ≡ cost_text n
 IsPrintedFor (desk.Shown outcome) text = ⊥
 IsPrintedFor (desk.Refused cause) text = IsRefusalText cause text
 
--- an event is answered this text by a desk that keeps the old state, and keeps the new one then, whatever was computed for its open changes
+-- some desk with the old state answers the event with this text and has the new state afterwards
 pub record IsAsked (old : State) (event : desk.Event) (text : List ℕ) (new : State) : Type 0 where
   pub before : DeskValue
   pub after : DeskValue
@@ -113,7 +112,7 @@ pub record IsAsked (old : State) (event : desk.Event) (text : List ℕ) (new : S
   pub after_is : state_of after ≡ new
   pub text_is : IsPrintedFor answer text
 
--- the change that is meant, if it is one
+-- the change that a request asks for, if it does
 abbrev pub change_meant : Meaning → Option SheetChange
 change_meant (Define n t) = Some (change.Define n t)
 change_meant (Data n t) = Some (change.Store n t)
@@ -122,12 +121,12 @@ change_meant (Row n l) = Some (change.AddRow n l)
 change_meant (Erase n) = Some (change.Erase n)
 change_meant m = None
 
--- this change is opened in the slot of a number
+-- this change is opened in the slot of this number
 abbrev pub IsOpening : State → ℤ → Option SheetChange → List ℕ → State → Type 0
 IsOpening old k None text new = ⊥
 IsOpening old k (Some edit) text new = IsAsked old (desk.Open k edit) text new
 
--- what a line means is carried out
+-- the request is executed with this text and this new state
 abbrev pub IsCarriedOut : State → Meaning → List ℕ → State → Type 0
 IsCarriedOut old Nothing text new = (text ≡ []) × (new ≡ old)
 IsCarriedOut old (Define n t) text new = IsChangeAnswered old (change.Define n t) text new
@@ -144,7 +143,7 @@ IsCarriedOut old (Step k) text new = IsAsked old (desk.Step k) text new
 IsCarriedOut old (Commit k) text new = IsAsked old (desk.Commit k) text new
 IsCarriedOut old (Drop k) text new = IsAsked old (desk.Drop k) text new
 
--- the answer to characters: they are no line, or too large a one, or what they mean is carried out
+-- the answer to characters: a syntax error, a limit error, or the answer to their request
 pub data IsTextAnswer : State → List ℕ → List ℕ → State → Type 0 where
   no_line : {old : State} {cs : List ℕ} → IsAnswered cs (Err Syntax) → IsTextAnswer old cs (codes "SYNTAX ERROR\n") old
   too_large : {old : State} {cs : List ℕ} → IsAnswered cs (Err Limit) → IsTextAnswer old cs (codes "LIMIT ERROR\n") old

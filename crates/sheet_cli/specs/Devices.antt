@@ -1,7 +1,7 @@
--- What contracts see of a device.
+-- The value of a device in contracts.
 use Rattle.std.specs.Prelude.{Bool}
 
--- the reader or writer itself, whether a call has failed, and whether all that was put is passed on
+-- the reader or writer, whether a call has failed, and whether all bytes are flushed
 pub record DeviceValue (T : Type 0) : Type 0 where
   pub stream : T
   pub has_failed : Bool

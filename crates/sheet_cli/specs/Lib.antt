@@ -1,4 +1,4 @@
--- What public contracts mean.
+-- The meaning of public contracts.
 pub mod Lines
 pub mod Answer
 pub mod Answers
@@ -7,7 +7,7 @@ pub mod Devices
 pub mod Endings
 pub mod Hosts
 pub mod Programs
--- What proofs and bodies use.
+-- Used by proofs and bodies.
 pub mod Refusals
 pub mod Printed
 pub mod Progress

@@ -1,4 +1,4 @@
--- What the program does with its words, its files and its devices.
+-- The effect of the program on its devices, given its arguments and files.
 use Rattle.std.{specs.Prelude.{◌≡◌, ℕ, Bool, true, List, [], ◌∷◌, replicate, Option, Some, None, Ok, Err, IfSome, ◌⊎◌, string_bytes}, specs.Io.KnownBytes.{Appends}, specs.declared.alloc.Global.{Global}, specs.declared.string.String.{String}}
 use Rattle.clap.specs.Words.{Text, fault_of, subcommand_of, takes}
 use Rattle.arrays_core.specs.Arrays.{ArrayValue}
@@ -10,61 +10,61 @@ use Rattle.sheet_cli.{specs.Answer.{State}, specs.Endings.{OfWords, ending_of, s
 use Rattle.sheet_cli.{specs.declared.ending.Ending.TheVariants.{Done, Run, Table, CannotRead, NoMemory}, specs.declared.run_loop.Tally.{Tally}}
 use Rattle.sheet_cli.specs.declared.run_loop.RunFault.TheVariants as run
 
--- the words have no fault, and mean this
+-- the arguments have no fault and mean this
 pub record AsksFor (host : HostValue) (asked : Words) : Type 0 where
   pub words : List Text
   pub given : HasWords host words
   pub faultless : fault_of aplsheet words ≡ []
   pub means : Means (subcommand_of aplsheet words) asked
 
--- why the words are refused: for want of memory; because one is no text; or for what is wrong with them
+-- the arguments are refused: for want of memory, because one is not text, or for a fault
 pub data RefusesWords (host : HostValue) : Ending → Type 0 where
   no_memory : RefusesWords host NoMemory
   no_text : (fault : WordsFault) → HasNoText host → IsNotText fault → RefusesWords host (ending_of fault)
   refused : {ending : Ending} (words : List Text) → HasWords host words → OfWords (IsRefusalOf words) ending →
       (takes aplsheet words ≡ true → OfWords IsNotBadWords ending) → RefusesWords host ending
 
--- the file of a path can be read, and is the table of this array
+-- the file of this path can be read, and it is the table with this array
 abbrev pub GivesTable : HostValue → Text → Bool → ArrayValue → Type 0
 GivesTable host path header a = (bytes : List ℕ) × ReadsFile host path bytes × IsTableRead header (records_of bytes) (Ok a)
 
--- why it gives no table: it cannot be read; it has this fault; or for want of memory
+-- the file gives no table: it cannot be read, it has this fault, or memory is refused
 abbrev pub GivesNoTable : HostValue → Text → Bool → Ending → Type 0
 GivesNoTable host path header CannotRead = FailsToRead host path
 GivesNoTable host path header (Table fault) = (bytes : List ℕ) × ReadsFile host path bytes × IsTableRead header (records_of bytes) (Err fault)
 GivesNoTable host path header NoMemory = Unit {0}
 GivesNoTable host path header ending = ⊥
 
--- a table that the words ask for: its name, its file, and whether the first record of that is a header
+-- a requested table: its name, its file, and whether the first record is a header
 abbrev pub AskedTable : Type 0
 AskedTable = Text × String Global × Bool
 
--- the names that the lines begin with: none, or that of the table alone, with its array
+-- the names before the first line: none, or only the requested table
 abbrev pub BeginsWith : HostValue → Option AskedTable → Names → Type 0
 BeginsWith host None names = names ≡ []
 BeginsWith host (Some t) names = (a : ArrayValue) × GivesTable host (string_bytes t.1) t.2 a × (names ≡ (t.0, Data a) ∷ [])
 
--- why the lines do not begin: the table that is asked for cannot be had
+-- the lines do not begin: the requested table cannot be had
 abbrev pub FailsToBegin : HostValue → Option AskedTable → Ending → Type 0
 FailsToBegin host None ending = ⊥
 FailsToBegin host (Some t) ending = GivesNoTable host (string_bytes t.1) t.2 ending
 
--- the state that lines begin with, where these are the names
+-- the state before the first line, with these names
 abbrev pub first_state : Names → State
 first_state names = record { names = names; cost = 0; slots = replicate slot_count None }
 
--- what contracts see of the sources of a type: the bytes that one has left to give, where they are known, and whether a call has failed
+-- the views of a source type in contracts: the bytes left, if known, and whether a call has failed
 pub record Sources (R : Type 0) : Type 0 where
   pub remaining : R → Option (List ℕ)
   pub has_failed : R → Bool
 
--- and of sinks: the bytes that one has taken, whether a call has failed, and whether all is passed on
+-- the views of a sink type: the bytes accepted, if known, whether a call has failed, and whether all is flushed
 pub record Sinks (W : Type 0) : Type 0 where
   pub written : W → Option (List ℕ)
   pub has_failed : W → Bool
   pub is_flushed : W → Bool
 
--- how the lines of a source ended, of which the answers went to a sink
+-- the lines of a source are answered to a sink with this result
 abbrev pub LinesComeTo : {R W : Type 0} → Sources R → Sinks W → R → R → W → W → State → Ending → Type 0
 LinesComeTo r w source₁ source₂ sink₁ sink₂ old Done = (new : State) × (tally : Tally)
     × Completes (r.remaining source₁) (r.remaining source₂) (w.written sink₁) (w.written sink₂) old new tally × (w.is_flushed sink₂ ≡ true)
@@ -75,8 +75,8 @@ LinesComeTo r w source₁ source₂ sink₁ sink₂ old (Run run.Write) = (new :
 LinesComeTo r w source₁ source₂ sink₁ sink₂ old (Run run.Memory) = (source₂ ≡ source₁) × (sink₂ ≡ sink₁)
 LinesComeTo r w source₁ source₂ sink₁ sink₂ old ending = ⊥
 
--- what the program is started in: its words and files, and its input and output before and after; with what contracts see of a source such as
--- the input, of a file that is open, and of a sink such as the output
+-- the setting of the program: its arguments and files, its input and output before and after, and the views of the input, of a script and of the
+-- output
 pub record Setting (R S W : Type 0) : Type 0 where
   pub host : HostValue
   pub inputs : Sources R
@@ -87,12 +87,12 @@ pub record Setting (R S W : Type 0) : Type 0 where
   pub output₁ : W
   pub output₂ : W
 
--- nothing is read of the input, and nothing written
+-- nothing is read or written
 abbrev pub IsIdle : {R S W : Type 0} → Setting R S W → Type 0
 IsIdle s = (s.input₂ ≡ s.input₁) × (s.output₂ ≡ s.output₁)
 
--- what all comes to that the words ask for: lines are answered, of the script where there is one and else of the input. Of several faults,
--- one of the words is the ending, else one of the table, else one of the script
+-- the result of the program: it answers the lines of the script, or of the input if there is none. The first fault counts: of the arguments, then
+-- of the table, then of the script
 pub data ComesTo {R S W : Type 0} (s : Setting R S W) : Ending → Type 0 where
   bad_words : {ending : Ending} → RefusesWords s.host ending → IsIdle s → ComesTo s ending
   no_table : {ending : Ending} (asked : Words) → AsksFor s.host asked → FailsToBegin s.host asked.table ending → IsIdle s → ComesTo s ending
@@ -104,11 +104,11 @@ pub data ComesTo {R S W : Type 0} (s : Setting R S W) : Ending → Type 0 where
   of_input : {ending : Ending} (asked : Words) (names : Names) → AsksFor s.host asked → BeginsWith s.host asked.table names → asked.script ≡ None →
       LinesComeTo s.inputs s.outputs s.input₁ s.input₂ s.output₁ s.output₂ (first_state names) ending → ComesTo s ending
 
--- what is told of an ending was taken, or a call has failed
+-- the message of the result is written, or a call has failed
 abbrev pub IsEndingTold : Option (List ℕ) → Option (List ℕ) → Bool → Ending → Type 0
 IsEndingTold told₁ told₂ has_failed ending = IfSome (told_of ending) (λ text. Appends told₁ told₂ text ⊎ (has_failed ≡ true))
 
--- the whole program: it comes to an ending, tells it, and its exit status is that of the ending
+-- the whole program: it has a result, reports it, and returns its exit status
 pub record Performs {R S W : Type 0} (s : Setting R S W) (told₁ told₂ : Option (List ℕ)) (has_failed : Bool) (status : ℕ) : Type 0 where
   pub ending : Ending
   pub comes_to : ComesTo s ending

@@ -5,14 +5,14 @@ use Rattle.sheet_recalc.specs.declared.refusal.Refusal.{Refusal}
 use Rattle.sheet_desk.specs.Desk.{DeskValue, held_in, open_refusal, step_refusal, HasStepsLeft}
 use Rattle.sheet_recalc.specs.declared.refusal.Refusal.TheVariants as why
 
--- whether the text is always there: it is but for the error of an expression, which may name where it arose; for want of memory there is none
+-- the text is constant: not the error of an expression, which may name its origin, nor want of memory, which has none
 abbrev pub is_always_there : Refusal → Bool
 is_always_there why.NoMemory = false
 is_always_there (why.Fault f) = false
 is_always_there cause = true
 
--- a command is never refused memory in this desk: no command at all, the cost, a commit, a drop, an opening that the slots refuse, and a step that
--- the slots refuse or whose change has no step left
+-- the command is never refused memory on this desk: an empty line, the cost, a commit, a drop, an opening that the slots refuse, and a step that
+-- the slots refuse or that has no step left
 abbrev pub TakesNoMemory : DeskValue → Meaning → Type 0
 TakesNoMemory d Nothing = Unit {0}
 TakesNoMemory d Cost = Unit {0}

@@ -1,8 +1,8 @@
--- What a run read, wrote and did. The bytes of a source and a sink are those they have left and have taken, where known.
+-- The bytes that a run reads and writes, and its effect. A source has bytes left and a sink has accepted bytes, where known.
 use Rattle.std.{specs.Prelude.{◌≡◌, ℕ, ◌-◌, ◌^◌, Bool, true, List, length, Option, ◌⊎◌}, specs.Io.KnownBytes.{Appends, Consumes, IsAtEnd}}
 use Rattle.sheet_cli.{specs.Lines.{lines_of, whole_lines_of}, specs.Answer.{State}, specs.Answers.{IsWrittenInPart, Answered, IsOnlyAnswer}, specs.declared.run_loop.Tally.{Tally}}
 
--- the whole input was read, and its lines answered
+-- the whole input is read, and its lines are answered
 pub record Completes (source₁ source₂ sink₁ sink₂ : Option (List ℕ)) (old new : State) (tally : Tally) : Type 0 where
   pub input : List ℕ
   pub text : List ℕ
@@ -13,7 +13,7 @@ pub record Completes (source₁ source₂ sink₁ sink₂ : Option (List ℕ)) (
   pub counted : tally.lines ≡ length (lines_of input)
   pub only : tally.refused_for_memory ≡ 0 → IsOnlyAnswer old (lines_of input) text new
 
--- the input broke off, or as many bytes were read as can be counted, and the lines that were whole are answered
+-- the input broke off, or its bytes can no longer be counted; the lines that ended are answered
 pub record BreaksOff (source₁ source₂ sink₁ sink₂ : Option (List ℕ)) (source_failed : Bool) (old new : State) : Type 0 where
   pub input : List ℕ
   pub text : List ℕ
@@ -23,8 +23,8 @@ pub record BreaksOff (source₁ source₂ sink₁ sink₂ : Option (List ℕ)) (
   pub refused : ℕ
   pub answered : Answered old (whole_lines_of input) refused text new
 
--- the sink failed: the answers to some of the lines that were whole are carried out, and written but for a last part; a last line
--- without LF is among them only where the end of the input was read
+-- the sink failed: some of the lines that ended are executed, and a front part of the last answer is written. A last line without LF counts only if
+-- the end of the input was read
 pub record IsCut (source₁ source₂ sink₁ sink₂ : Option (List ℕ)) (sink_failed : Bool) (old new : State) : Type 0 where
   pub input : List ℕ
   pub written : List ℕ

@@ -21,11 +21,11 @@ use sheet_recalc::Sheet;
 use std::alloc::{AllocError, Global};
 use std::mem;
 
-/// The most bytes of a line, without the LF or CR LF that ends it.
+/// The greatest length of a line in bytes, without its LF or CR LF.
 pub const LONGEST_LINE: usize = 4096;
 
-/// Answers a line of bytes, its CR included. The text is made whole; where memory is refused nothing changes. The room is for the tokens of
-/// the line, and what it holds is of no account.
+/// Answers a line of bytes; its CR may be there. Builds the whole text first. If memory is refused, nothing changes. `room` is reused for the
+/// line's tokens; its contents do not matter.
 pub(crate) fn answer(
     alloc: Global,
     desk: &mut Desk,
@@ -64,7 +64,7 @@ fn answer_text(
     }
 }
 
-/// Carries out a command. A change and an expression are borrowed where they were read; any other command is moved out of there.
+/// Executes a command. Borrows a change or an expression from it; moves any other command out.
 #[inline(always)]
 fn carry_out_lent(
     alloc: Global,
@@ -82,7 +82,7 @@ fn carry_out_lent(
     }
 }
 
-/// Carries out a command that is moved out of where it was read.
+/// Moves a command out and executes it.
 fn carry_out_taken(
     alloc: Global,
     desk: &mut Desk,
@@ -95,7 +95,7 @@ fn carry_out_taken(
     carry_out(alloc, desk, mem::replace(command, Command::Nothing))
 }
 
-/// What is printed of an expression's value.
+/// Returns the text of an expression's value or error.
 fn shown(alloc: Global, sheet: &Sheet, expr: &Expr) -> Result<Printed, AllocError>
     ensures { IfOk result (λ text. printed_bytes text ≡ shown_text (eval (tree_of expr.now) (val sheet.now.names))) }
 {
@@ -105,7 +105,7 @@ fn shown(alloc: Global, sheet: &Sheet, expr: &Expr) -> Result<Printed, AllocErro
     }
 }
 
-/// Carries out a command. `TakesNoMemory` lists the commands that are never refused memory.
+/// Executes a command. `TakesNoMemory` lists the commands that are never refused memory.
 fn carry_out(alloc: Global, desk: &mut Desk, command: Command) -> Result<Printed, AllocError>
     ensures ok { IfOk result (λ text. IsCarriedOut (state_of desk.old) (meaning command) (printed_bytes text) (state_of desk.new)) }
     ensures no_memory { TakesNoMemory desk.old (meaning command) → IsOk result }
@@ -128,7 +128,7 @@ fn carry_out(alloc: Global, desk: &mut Desk, command: Command) -> Result<Printed
     }
 }
 
-/// The line without one CR at its end.
+/// Returns the line without one CR at its end.
 #[tactic(auto, unfolding(crate::specs::Lines::strip_cr))]
 fn strip_cr(line: &[u8]) -> &[u8]
     ensures { result.now ≡ strip_cr line.now }

@@ -1,14 +1,14 @@
-//! A count as it is printed.
+//! The text of a count.
 ghost use Rattle.std.specs.Prelude.{◌≡◌, ◌≤◌, List, ℕ, ◌++◌, decimal, drop};
 ghost use Rattle.array_text.specs.Text.{line_end};
 
 use itoa::write_digits;
 use std::marker::Model;
 
-/// The most digits of a count.
+/// The greatest number of digits of a count.
 const MOST_DIGITS: usize = 20;
 
-/// A count in decimal digits, on a line of its own. It takes no memory.
+/// A count in decimal digits on its own line. Allocates nothing.
 #[derive(Drop)]
 pub struct CountLine {
     bytes: [u8; MOST_DIGITS + 1],
@@ -24,7 +24,7 @@ impl Model for CountLine {
 }
 
 impl CountLine {
-    /// The line of a count.
+    /// Writes the line of a count.
     pub fn new(count: u64) -> CountLine
         ensures { result ≡ decimal count ++ line_end }
     {
@@ -33,7 +33,7 @@ impl CountLine {
         CountLine { bytes, start }
     }
 
-    /// Its bytes.
+    /// Returns the bytes of the line.
     pub fn as_bytes(&self) -> &[u8]
         ensures { result.now ≡ self.now }
     {

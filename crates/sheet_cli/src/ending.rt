@@ -1,4 +1,4 @@
-//! How the program ends.
+//! The result of the program.
 
 ghost use Rattle.std.specs.Prelude.{◌≡◌, true, IfOk, IfErr, OnOk, []};
 ghost use Rattle.clap.specs.Words.{fault_of, subcommand_of, takes};
@@ -16,22 +16,22 @@ use program_words::{Words, WordsFault, read_words};
 use std::alloc::Global;
 use std::fmt;
 
-/// How the program ends.
+/// The result of the program.
 #[derive(Debug, Drop)]
 pub enum Ending {
-    /// All that the words ask for is done.
+    /// Everything that the arguments ask for is done.
     Done,
-    /// The run broke off.
+    /// The run stopped early.
     Run(RunFault),
-    /// The file of the table is no table.
+    /// The table file is not a table.
     Table(TableFault),
-    /// The file of the table cannot be read, or the script cannot be opened.
+    /// The table file cannot be read, or the script cannot be opened.
     CannotRead,
     /// The allocator refused memory outside the run and the table.
     NoMemory,
-    /// The name of the table is no name.
+    /// The table's name is not a name.
     BadName,
-    /// The words are none of the program's, or ask for help. The error has the text for the user.
+    /// The arguments are not the program's, or ask for help. The error has the text for the user.
     BadWords(Error),
 }
 
@@ -97,7 +97,7 @@ impl fmt::Display for Ending {
     }
 }
 
-/// The exit status of the program: 0 where all is done, 2 where the words or the name are refused, and else 1.
+/// Returns the exit status: 0 if all is done, 2 if the arguments or the name are refused, otherwise 1.
 pub fn status(ending: &Ending) -> u8
     ensures { result ≡ status_of ending.now }
 {
@@ -108,9 +108,8 @@ pub fn status(ending: &Ending) -> u8
     }
 }
 
-/// What the words that the program is started with ask for, its own name first; or the ending that they come to. Words that have no
-/// fault by `clap`'s exact meaning are refused for want of memory, and where the table's name is no name; words that have one are
-/// never taken.
+/// Reads the program's arguments; its own name comes first. Arguments without a fault by `clap`'s exact meaning fail only for want of memory or for
+/// a bad table name. Arguments with a fault always fail.
 pub fn words(alloc: Global, words: &[&str]) -> Result<Words, Ending>
     ensures ok { IfOk result (Means (subcommand_of aplsheet (texts words.now))) }
     ensures faultless { OnOk result (fault_of aplsheet (texts words.now) ≡ []) }

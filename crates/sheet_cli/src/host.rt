@@ -1,4 +1,4 @@
-//! What the program is started in: its words, its files, and where it tells of a fault.
+//! The environment of the program: its arguments, its files, and the place for error messages.
 
 ghost use Rattle.std.specs.Prelude.{◌≡◌, ◌||◌, ℕ, Bool, List, Option, IfOk, IfSome, IsErrOf, OnErr, OnOk, is_err, map, string_bytes};
 ghost use Rattle.std.specs.Io.KnownBytes.{Appends};
@@ -10,21 +10,21 @@ use std::alloc::AllocError;
 use std::fmt::Display;
 use std::io::{self, ErrorKind};
 
-/// Why no words are handed over.
+/// The reason why the arguments cannot be read.
 #[derive(Clone, Copy, Debug, PartialEq, Eq)]
 pub enum NoWords {
     /// The allocator refused memory.
     NoMemory,
-    /// A word is no UTF-8 text.
+    /// An argument is not UTF-8 text.
     NotText,
 }
 
-/// Why a file is not read.
+/// The reason why a file cannot be read.
 #[derive(Clone, Copy, Debug, PartialEq, Eq)]
 pub enum NotRead {
     /// The allocator refused memory.
     NoMemory,
-    /// The file cannot be opened, or not be read to its end.
+    /// The file cannot be opened, or cannot be read to its end.
     CannotRead,
 }
 
@@ -74,39 +74,39 @@ impl From<io::Error> for NotRead {
     }
 }
 
-/// What the program is started in.
+/// The environment of the program.
 pub trait Host {
-    /// A file that is open.
+    /// An open file.
     type File: Source + Drop;
 
-    // Its words and its files, each where it is known.
+    // The arguments and the files, where they are known.
     ghost value: { Self → HostValue };
 
-    /// The words that the program is started with, its own name first.
+    /// Returns the program's arguments, its own name first.
     fn words(&self) -> Result<Vec<String>, NoWords>
         ensures ok { IfOk result (λ all. HasWords (value self.now) (map string_bytes all.items)) }
         ensures not_text { IsErrOf result NoWords.NotText → HasNoText (value self.now) };
 
-    /// The bytes of the file of a path, all of them.
+    /// Reads a whole file.
     fn read(&self, path: &str) -> Result<Vec<u8>, NotRead>
         ensures ok { IfOk result (λ bytes. ReadsFile (value self.now) path.now bytes.items) }
         ensures not_read { IsErrOf result NotRead.CannotRead → FailsToRead (value self.now) path.now };
 
-    /// Opens the file of a path.
+    /// Opens a file.
     fn open(&self, path: &str) -> Result<Self::File, Failed>
         ensures ok { IfOk result (λ file. Opens (value self.now) path.now (Self.File.remaining file)) }
         ensures err { OnErr result (FailsToOpen (value self.now) path.now) };
 }
 
-/// Takes the text that tells how the program ended.
+/// Accepts the text that reports the result of the program.
 pub trait Teller {
-    // The bytes that it has taken, where they are known.
+    // The bytes accepted so far, if they are known.
     ghost told: { Self → Option (List ℕ) };
 
-    // A call has answered Failed.
+    // A call has returned `Failed`.
     ghost has_failed: { Self → Bool };
 
-    /// Takes the text of a value, or fails and may have taken a part of it.
+    /// Writes the text of a value. A failed call may have written a part of it.
     fn tell<D: Display + Drop>(&mut self, value: D) -> Result<(), Failed>
         ensures ok { OnOk result (IfSome (D.output value) (Appends (told self.old) (told self.new))) }
         ensures fault { has_failed self.new ≡ (has_failed self.old || is_err result) };

@@ -1,4 +1,4 @@
-//! The run of the program: lines of bytes in, answers out.
+//! The run of the program: it reads lines of bytes and writes their answers.
 #![tactic(auto)]
 
 mod answer;

@@ -1,4 +1,4 @@
-//! The line that has not ended yet.
+//! The current line, which has not ended yet.
 ghost use Rattle.std.specs.Prelude.{◌≡◌, ◌≤◌, List, ℕ, [], ◌++◌, take, IfOk, vec_len, vec_capacity};
 ghost use Rattle.sheet_cli.specs.Progress.{most_kept};
 
@@ -6,10 +6,10 @@ use crate::answer::LONGEST_LINE;
 use std::alloc::{AllocError, Global};
 use std::marker::Model;
 
-/// As many bytes as tell what a line is answered: a longest line, a CR, a byte too many and a byte order mark.
+/// The number of bytes that decide the answer to a line: a longest line, a CR, one byte too many, and a byte order mark.
 pub const KEPT: usize = LONGEST_LINE + 5;
 
-/// The bytes of a line so far, of which the first `KEPT` are kept.
+/// The first `KEPT` bytes of the current line.
 #[derive(Drop)]
 pub struct OpenLine {
     bytes: Vec<u8>,
@@ -24,7 +24,7 @@ impl Model for OpenLine {
 }
 
 impl OpenLine {
-    /// Takes the memory of every line.
+    /// Allocates the memory for all lines.
     pub fn new(alloc: Global) -> Result<OpenLine, AllocError>
         ensures { IfOk result (λ p. p ≡ []) }
     {
@@ -33,14 +33,14 @@ impl OpenLine {
         })
     }
 
-    /// The bytes that are kept.
+    /// Returns the kept bytes.
     pub fn as_slice(&self) -> &[u8]
         ensures { result.now ≡ self.now }
     {
         self.bytes.as_slice()
     }
 
-    /// Keeps as many more bytes as there is room for.
+    /// Appends as many bytes as there is room for.
     pub fn append(&mut self, bytes: &[u8])
         ensures { self.new ≡ take most_kept (self.old ++ bytes.now) }
     {
@@ -48,7 +48,7 @@ impl OpenLine {
         let _ = self.bytes.extend_from_slice(&bytes[..room]);
     }
 
-    /// Lets go of the bytes, for the next line. The memory stays.
+    /// Clears the bytes for the next line; keeps the memory.
     pub fn clear(&mut self)
         ensures { self.new ≡ [] }
     {

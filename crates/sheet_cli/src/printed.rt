@@ -1,23 +1,23 @@
-//! What a line prints.
+//! The text that a line prints.
 
 ghost use Rattle.std.specs.Prelude.{◌≡◌};
 ghost use Rattle.sheet_cli.specs.Printed.{printed_bytes};
 
 use crate::count_line::CountLine;
 
-/// What a line prints. Only a text that is made for it takes memory.
+/// The text that a line prints. Only `Made` owns memory.
 #[derive(Drop)]
 pub(crate) enum Printed {
-    /// A text that is always there.
+    /// A constant text.
     Fixed(&'static str),
     /// A count.
     Count(CountLine),
-    /// A text that was made.
+    /// An allocated text.
     Made(String),
 }
 
 impl Printed {
-    /// Its bytes.
+    /// Returns the bytes of the text.
     pub(crate) fn as_bytes(&self) -> &[u8]
         ensures { result.now ≡ printed_bytes self.now }
     {

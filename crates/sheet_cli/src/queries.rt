@@ -1,4 +1,4 @@
-//! What a sheet is asked, and what it prints for it.
+//! The queries of a sheet, and the texts that they print.
 
 ghost use Rattle.std.specs.Prelude.{◌≡◌, IfOk, string_bytes};
 ghost use Rattle.std.specs.Map.{keys_of};
@@ -18,7 +18,7 @@ use arrays_core::Array;
 use sheet_recalc::{Refusal, Sheet};
 use std::alloc::{AllocError, Global};
 
-/// The most axes of a table.
+/// The greatest number of axes of a table.
 const MOST_TABLE_AXES: usize = 2;
 
 /// Returns the text of an expression's value or error. A name's array is borrowed from the sheet, not copied.
@@ -38,7 +38,7 @@ pub(crate) fn show(alloc: Global, sheet: &Sheet, expr: &Expr) -> Result<String, 
     }
 }
 
-/// The names in their order, each on a line of its own.
+/// Returns the names in their order, one for each line.
 pub(crate) fn list_names(alloc: Global, sheet: &Sheet) -> Result<String, AllocError>
     ensures { IfOk result (λ text. string_bytes text ≡ names_text (keys_of sheet.now.names)) }
 {
@@ -50,7 +50,7 @@ pub(crate) fn list_names(alloc: Global, sheet: &Sheet) -> Result<String, AllocEr
     Ok(text)
 }
 
-/// What a name shows as a table, or why it is none.
+/// Returns a name's array as a table, or the text of the error or of the refusal.
 pub(crate) fn shown_table(alloc: Global, sheet: &Sheet, name: Name) -> Result<Printed, AllocError>
     ensures { IfOk result (λ text. printed_bytes text ≡ shown_table (binding sheet.now.names name) (val sheet.now.names name)) }
 {
@@ -61,7 +61,7 @@ pub(crate) fn shown_table(alloc: Global, sheet: &Sheet, name: Name) -> Result<Pr
     }
 }
 
-/// An array as a table, or why it is none.
+/// Returns an array as a table, or the text of the refusal.
 fn array_table(alloc: Global, array: &Array) -> Result<Printed, AllocError>
     ensures { IfOk result (λ text. printed_bytes text ≡ array_table array.now) }
 {
@@ -74,7 +74,7 @@ fn array_table(alloc: Global, array: &Array) -> Result<Printed, AllocError>
     Ok(Printed::Made(write_table(alloc, array)?))
 }
 
-/// Whether the items are characters: there are some, and the type is that.
+/// Returns whether the array has items, and they are characters.
 fn are_characters(array: &Array) -> bool
     ensures { result ≡ are_characters array.now.item_type array.now.items }
 {

@@ -1,4 +1,4 @@
-//! What an edit prints, and what a line about a slot.
+//! The texts of results of edits and of slot commands.
 
 ghost use Rattle.std.specs.Prelude.{◌≡◌, true, IfOk, IsOk, IfErr};
 ghost use Rattle.sheet_desk.specs.Asked.{count_answer, done_answer};
@@ -12,7 +12,7 @@ use array_text::print_fault;
 use sheet_recalc::Refusal;
 use std::alloc::{AllocError, Global};
 
-/// The text of what is done, or of the refusal in its place. Only that of an error of an expression needs memory.
+/// Returns no text for success, otherwise the text of the refusal. Only the error of an expression needs memory.
 pub(crate) fn outcome_text(
     alloc: Global,
     outcome: Result<(), Refusal>,
@@ -27,7 +27,7 @@ pub(crate) fn outcome_text(
     }
 }
 
-/// The text of a count of steps, or of the refusal in its place.
+/// Returns the text of a step count or of the refusal.
 pub(crate) fn count_text(
     alloc: Global,
     outcome: Result<u32, Refusal>,
@@ -42,7 +42,7 @@ pub(crate) fn count_text(
     }
 }
 
-/// The line that a refusal prints. For want of memory there is none.
+/// Returns the line that a refusal prints; want of memory has none and is an error.
 pub(crate) fn refusal_text(alloc: Global, refusal: &Refusal) -> Result<Printed, AllocError>
     ensures text { IfOk result (λ text. IsRefusalText refusal.now (printed_bytes text)) }
     ensures always { is_always_there refusal.now ≡ true → IsOk result }

@@ -13,27 +13,27 @@ use apl_tokens::Spanned;
 use sheet_desk::Desk;
 use std::alloc::{AllocError, Global};
 
-/// What a run counted.
+/// The counts of a run.
 #[derive(Clone, Copy, Debug, PartialEq, Eq)]
 pub struct Tally {
-    /// The lines that were answered.
+    /// The answered lines.
     pub lines: u64,
-    /// Those of them that were answered `NO MEMORY`.
+    /// The lines that were answered `NO MEMORY`.
     pub refused_for_memory: u64,
 }
 
-/// Why a run ended early.
+/// The reason why a run stopped early.
 #[derive(Clone, Copy, Debug, PartialEq, Eq)]
 pub enum RunFault {
-    /// The source failed, or gave more bytes than can be counted.
+    /// The source failed, or the number of bytes would exceed 64 bits.
     Read,
     /// The sink failed.
     Write,
-    /// The buffer for lines was refused. Nothing was read or written.
+    /// The line buffer was refused. Nothing was read or written.
     Memory,
 }
 
-/// Puts all bytes, or as many as go.
+/// Writes all bytes; a failed call has written a front part.
 fn put_all<W: Sink>(sink: &mut W, bytes: &[u8]) -> Result<(), Failed>
     ensures ok { OnOk result (Appends (W.written sink.old) (W.written sink.new) bytes.now) }
     ensures err { OnErr result ((part : List ℕ) × (unwritten : List ℕ) × (bytes.now ≡ part ++ unwritten)
@@ -48,7 +48,7 @@ fn put_all<W: Sink>(sink: &mut W, bytes: &[u8]) -> Result<(), Failed>
     Ok(())
 }
 
-/// The bytes without a byte order mark at their start.
+/// Returns the bytes without a byte order mark at their start.
 #[tactic(auto, unfolding(crate::specs::Lines::strip_bom))]
 fn strip_bom(bytes: &[u8]) -> &[u8]
     ensures { result.now ≡ strip_bom bytes.now }
@@ -59,7 +59,7 @@ fn strip_bom(bytes: &[u8]) -> &[u8]
     }
 }
 
-/// Answers one line, and counts it. The room is for its tokens.
+/// Answers one line and counts it. `room` is reused for its tokens.
 fn answer_line<W: Sink>(
     alloc: Global,
     desk: &mut Desk,
@@ -88,17 +88,17 @@ fn answer_line<W: Sink>(
     }
 }
 
-/// How far a run is.
+/// The progress of a run.
 #[derive(Drop)]
 struct Progress {
     open_line: OpenLine,
     tally: Tally,
-    /// Room for the tokens of a line, kept from line to line.
+    /// Memory for the tokens of a line, reused for each line.
     room: Vec<Spanned>,
 }
 
 impl Progress {
-    /// That of a run which has read nothing yet.
+    /// Returns the progress of a run that has read nothing.
     fn new(alloc: Global) -> Result<Progress, AllocError>
         ensures { IfOk result (λ p. (p.open_line ≡ []) × (p.tally ≡ record { lines = 0; refused_for_memory = 0 })) }
     {
@@ -113,21 +113,21 @@ impl Progress {
     }
 }
 
-/// What is kept of a line, without a byte order mark where it is the first.
+/// Returns a line without the byte order mark, if it is the first line.
 fn stripped(kept: &[u8], lines: u64) -> &[u8]
     ensures { result.now ≡ line_after lines kept.now }
 {
     if lines == 0 { strip_bom(kept) } else { kept }
 }
 
-/// What is kept of the line that has not ended, without a byte order mark where it is the first.
+/// Returns the current line without the byte order mark, if it is the first line.
 fn line_of(open_line: &OpenLine, lines: u64) -> &[u8]
     ensures { result.now ≡ line_after lines open_line.now }
 {
     stripped(open_line.as_slice(), lines)
 }
 
-/// What is kept of a line that has these bytes.
+/// Returns the first `KEPT` bytes.
 fn kept_of(bytes: &[u8]) -> &[u8]
     ensures { result.now ≡ take most_kept bytes.now }
 {
@@ -137,7 +137,7 @@ fn kept_of(bytes: &[u8]) -> &[u8]
     &bytes[..KEPT]
 }
 
-/// How many bytes stand before the first LF.
+/// Returns the number of bytes before the first LF.
 fn find_line_feed(bytes: &[u8]) -> Option<usize>
     ensures { MatchOption result (ended_lines bytes.now ≡ [])
         (λ i. (i < length bytes.now) × (ended_lines (take i bytes.now) ≡ []) × (slice_index bytes.now i ≡ 10)) }
@@ -152,7 +152,7 @@ fn find_line_feed(bytes: &[u8]) -> Option<usize>
     None
 }
 
-/// Answers the line that an LF ends.
+/// Answers the current line, which an LF ends.
 fn end_line<W: Sink>(
     alloc: Global,
     desk: &mut Desk,
@@ -182,7 +182,7 @@ fn end_line<W: Sink>(
     Ok(())
 }
 
-/// Answers the line of these bytes, which an LF ends, where nothing of it was kept before: it is read where it lies.
+/// Answers a line that ends within these bytes and began in them: reads it in place, without a copy.
 fn answer_lying<W: Sink>(
     alloc: Global,
     desk: &mut Desk,
@@ -213,7 +213,7 @@ fn answer_lying<W: Sink>(
     )
 }
 
-/// Takes the next bytes of the input up to an LF and with it, or all, and says how many it took.
+/// Consumes bytes up to the first LF, or all if there is none. Returns their number.
 fn take_piece<W: Sink>(
     alloc: Global,
     desk: &mut Desk,
@@ -245,7 +245,7 @@ fn take_piece<W: Sink>(
     Ok(end + 1)
 }
 
-/// Takes the next bytes of the input, and answers the lines that they end.
+/// Consumes all bytes and answers the lines that end in them.
 fn take_bytes<W: Sink>(
     alloc: Global,
     desk: &mut Desk,
@@ -271,7 +271,7 @@ fn take_bytes<W: Sink>(
     Ok(())
 }
 
-/// Answers a last line without LF.
+/// Answers a last line without LF, if it has a byte.
 fn answer_last<W: Sink>(
     alloc: Global,
     desk: &mut Desk,
@@ -300,7 +300,7 @@ fn answer_last<W: Sink>(
     )
 }
 
-/// Answers a last line without LF, and flushes.
+/// Answers a last line without LF, if it has a byte, and flushes.
 fn finish<W: Sink>(
     alloc: Global,
     desk: &mut Desk,
@@ -320,11 +320,11 @@ fn finish<W: Sink>(
     sink.flush()
 }
 
-/// The most bytes that one pull asks for.
+/// The greatest number of bytes that one `pull` asks for.
 const CHUNK: usize = 4096;
 
-/// Reads lines from the source to its end, writes the answers to the sink, each before the next bytes are asked for, and
-/// flushes it at the end.
+/// Answers the lines of the source up to its end, and then flushes the sink. The answers to a chunk's lines are written before the next bytes are
+/// read.
 pub fn run<R: Source, W: Sink>(
     alloc: Global,
     desk: &mut Desk,

@@ -1,4 +1,4 @@
-//! The whole program: words, a table, a script, lines, and how it ends.
+//! The whole program: arguments, a table, a script, lines, and the result.
 
 ghost use Rattle.std.specs.Prelude.{◌≡◌, IfOk, IfErr, map, string_bytes};
 ghost use Rattle.clap.specs.Walk.{texts};
@@ -18,7 +18,7 @@ use sheet_desk::Desk;
 use sheet_recalc::Sheet;
 use std::alloc::Global;
 
-/// The words, lent.
+/// Borrows the arguments.
 fn lent<'a>(alloc: Global, all: &'a [String]) -> Result<Vec<&'a str>, Ending>
     ensures ok { IfOk result (λ words. texts words.items ≡ map string_bytes all.now) }
     ensures err { IfErr result (λ ending. ending ≡ NoMemory) }
@@ -32,7 +32,7 @@ fn lent<'a>(alloc: Global, all: &'a [String]) -> Result<Vec<&'a str>, Ending>
     Ok(words)
 }
 
-/// What the words ask for that a host hands over.
+/// Reads the arguments of the host.
 fn asked_for<H: Host>(alloc: Global, host: &H) -> Result<Words, Ending>
     ensures ok { IfOk result (AsksFor (H.value host.now)) }
     ensures err { IfErr result (RefusesWords (H.value host.now)) }
@@ -46,7 +46,7 @@ fn asked_for<H: Host>(alloc: Global, host: &H) -> Result<Words, Ending>
     words(alloc, lent.as_slice())
 }
 
-/// The array of the table that a file has.
+/// Reads the table of a file.
 fn table_of<H: Host>(alloc: Global, host: &H, path: &str, header: bool) -> Result<Array, Ending>
     ensures ok { IfOk result (GivesTable (H.value host.now) path.now header) }
     ensures err { IfErr result (GivesNoTable (H.value host.now) path.now header) }
@@ -56,7 +56,7 @@ fn table_of<H: Host>(alloc: Global, host: &H, path: &str, header: bool) -> Resul
     Ok(array)
 }
 
-/// The sheet that the lines begin with: no names, or the table alone that the words ask for.
+/// Makes the first sheet: empty, or with the one table that the arguments ask for.
 fn first_sheet<H: Host>(alloc: Global, host: &H, asked: &Words) -> Result<Sheet, Ending>
     ensures ok { IfOk result (λ sheet. BeginsWith (H.value host.now) asked.now.table sheet.names) }
     ensures cost { IfOk result (λ sheet. sheet.cost ≡ 0) }
@@ -67,14 +67,14 @@ fn first_sheet<H: Host>(alloc: Global, host: &H, asked: &Words) -> Result<Sheet,
         return Ok(sheet);
     };
     let array = table_of(alloc, host, path.as_str(), *header)?;
-    // A sheet without names has room for one.
+    // An empty sheet has room for one name.
     if sheet.put_array(*name, array).is_err() {
         return Err(Ending::NoMemory);
     }
     Ok(sheet)
 }
 
-/// Answers the lines of a source, beginning with a sheet that no change has cost anything.
+/// Answers the lines of a source, from a sheet with cost 0.
 fn answer_lines<R: Source, W: Sink>(
     alloc: Global,
     sheet: Sheet,
@@ -91,7 +91,7 @@ fn answer_lines<R: Source, W: Sink>(
     Ok(())
 }
 
-/// Does what the words ask for.
+/// Does everything that the arguments ask for.
 fn perform<H: Host, R: Source, W: Sink>(
     alloc: Global,
     host: &H,
@@ -120,7 +120,7 @@ fn perform<H: Host, R: Source, W: Sink>(
     }
 }
 
-/// The whole program: does what the words of the host ask for, tells why where it ended early, and answers the exit status.
+/// Runs the whole program: does everything that the arguments ask for, reports an early end, and returns the exit status.
 pub fn program<H: Host, R: Source, W: Sink, T: Teller>(
     alloc: Global,
     host: &H,
