@@ -1,7 +1,7 @@
--- What public contracts mean.
+-- The meaning of public contracts.
 pub mod Slots
 pub mod Desk
 pub mod Asked
 pub mod Histories
--- What proofs and bodies use.
+-- Used by proofs and bodies.
 pub mod Held

@@ -18,11 +18,11 @@ use std::alloc::AllocError;
 use std::collections::VecDeque;
 use std::marker::Model;
 
-/// How many changes can be open at once.
+/// The number of slots, and so of changes that can be open at once.
 pub const SLOTS: usize = 8;
 
-/// A sheet, and up to eight changes that are open beside it, each in a slot. A change that is open is worked out by steps, and then made in one
-/// piece and without memory. What is shown is of the sheet alone.
+/// A sheet with eight slots, each for one open change. An open change is computed step by step, and then made at once and without allocation. Open
+/// changes do not affect the sheet.
 #[derive(Drop)]
 pub struct Desk {
     sheet: Sheet,
@@ -48,7 +48,7 @@ impl Model for Desk {
 }
 
 impl Desk {
-    /// The desk of a sheet, with no change open.
+    /// Makes the desk of a sheet; all slots are empty.
     pub fn new(sheet: Sheet) -> Desk
         ensures names { result.names ≡ sheet.names }
         ensures cost { result.cost ≡ sheet.cost }
@@ -61,7 +61,7 @@ impl Desk {
         }
     }
 
-    /// The sheet, of which what is open is no part. A desk always has `SLOTS` slots.
+    /// Returns the sheet without the open changes. A desk always has `SLOTS` slots.
     pub fn sheet(&self) -> &Sheet
         ensures names { result.now.names ≡ self.now.names }
         ensures cost { result.now.cost ≡ self.now.cost }
@@ -72,15 +72,14 @@ impl Desk {
         &self.sheet
     }
 
-    /// What an expression gives, where the names show what they show in the sheet.
+    /// Evaluates an expression on the sheet.
     pub fn show(&self, tree: &Expr) -> Result<Result<Array, Fault>, AllocError>
         ensures { IfOk result (λ outcome. outcome ≡ eval (tree_of tree.now) (val self.now.names)) }
     {
         self.sheet.show(tree)
     }
 
-    /// Opens a change in an empty slot, and tells how many steps it is. All that the change can be refused for, but for want of memory, it is
-    /// refused for here.
+    /// Opens a change in an empty slot and returns the number of its steps. Later calls refuse it only for memory, as stale, or as not ready.
     pub fn open(&mut self, number: i64, change: Change) -> Result<u32, Refusal>
         ensures { IsEvent self.old (Open number (change_of change)) (count_answer result) self.new }
     {
@@ -100,7 +99,7 @@ impl Desk {
         Ok(left)
     }
 
-    /// Does one step of the change in a slot, and tells how many are left; where none was, nothing is done.
+    /// Does one step of the change in a slot and returns the number left; with none left it does nothing.
     pub fn step(&mut self, number: i64) -> Result<u32, Refusal>
         ensures { IsEvent self.old (Step number) (count_answer result) self.new }
     {
@@ -119,8 +118,7 @@ impl Desk {
         Ok(self.sheet.advance(&mut slot.pending)?)
     }
 
-    /// Makes the change in a slot, of which no step is left, and empties the slot. All other changes that are open are stale then. No memory is
-    /// asked for.
+    /// Makes the change in a slot, which has no step left, and empties the slot. All other open changes become stale. Allocates nothing.
     pub fn commit(&mut self, number: i64) -> Result<(), Refusal>
         ensures { IsEvent self.old (Commit number) (done_answer result) self.new }
     {
@@ -130,7 +128,7 @@ impl Desk {
         Ok(())
     }
 
-    /// Gives up the change in a slot, and empties the slot. No memory is asked for.
+    /// Drops the change in a slot and empties the slot. Allocates nothing.
     pub fn drop_slot(&mut self, number: i64) -> Result<(), Refusal>
         ensures { IsEvent self.old (Drop number) (done_answer result) self.new }
     {
@@ -144,14 +142,14 @@ impl Desk {
         Ok(())
     }
 
-    /// Makes a change at once. All changes that are open are stale then.
+    /// Makes a change at once. All open changes become stale.
     pub fn plain(&mut self, change: Change) -> Result<(), Refusal>
         ensures { IsEvent self.old (Plain (change_of change)) (done_answer result) self.new }
     {
         self.plain_lent(&change)
     }
 
-    /// Makes a change that is lent at once. All changes that are open are stale then.
+    /// Makes a borrowed change at once. All open changes become stale.
     #[inline(always)]
     pub fn plain_lent(&mut self, change: &Change) -> Result<(), Refusal>
         ensures { IsEvent self.old (Plain (change_of change.now)) (done_answer result) self.new }
@@ -161,7 +159,7 @@ impl Desk {
         Ok(())
     }
 
-    /// Does what is asked, and tells the answer.
+    /// Handles an event and returns the answer.
     pub fn apply(&mut self, event: Event) -> Answer
         ensures { IsEvent self.old (event_of event) (answer_of result) self.new }
     {
@@ -175,7 +173,7 @@ impl Desk {
         }
     }
 
-    /// Does all that is asked, in its order, and tells the answer to each. Where the answers themselves cannot be held, nothing is done.
+    /// Handles events in order and returns their answers. If memory for the answers is refused, it does nothing.
     pub fn apply_all(&mut self, mut events: VecDeque<Event>) -> Result<Vec<Answer>, AllocError>
         ensures run { IfOk result (λ answers. AreEvents self.old (map event_of events.items) (map answer_of answers.items) self.new) }
         ensures err { OnErr result (self.new ≡ self.old) }

@@ -1,4 +1,4 @@
-//! What is asked of a desk, and what it answers.
+//! The events of a desk and its answers.
 
 ghost use Rattle.std.specs.Prelude.{◌≡◌};
 ghost use Rattle.sheet_desk.specs.Asked.{answer_of, count_answer, done_answer, show_answer};
@@ -8,7 +8,7 @@ use arrays_core::{Array, Fault};
 use sheet_recalc::Refusal;
 use std::alloc::AllocError;
 
-/// What is asked of a desk. A slot is named by its number.
+/// An event of a desk. It names a slot by its number.
 #[derive(Debug, Drop)]
 pub enum Event {
     /// Open a change in a slot.
@@ -17,29 +17,29 @@ pub enum Event {
     Step(i64),
     /// Make the change in a slot.
     Commit(i64),
-    /// Give up the change in a slot.
+    /// Drop the change in a slot.
     Drop(i64),
     /// Make a change at once.
     Plain(Change),
-    /// Show what an expression gives.
+    /// Evaluate an expression.
     Show(Expr),
 }
 
-/// What a desk answers.
+/// The answer to an event.
 #[derive(Drop)]
 pub enum Answer {
-    /// It is done.
+    /// The event is done.
     Done,
-    /// So many steps are left.
+    /// The number of steps left.
     Left(u32),
-    /// This is what the expression gives.
+    /// The value of the expression.
     Shown(Result<Array, Fault>),
-    /// It is refused, and all is as it was.
+    /// The event is refused; the desk stays.
     Refused(Refusal),
 }
 
 impl Answer {
-    /// The answer of a call that tells how many steps are left.
+    /// Converts the result of a call that returns the number of steps left.
     pub(crate) fn counted(outcome: Result<u32, Refusal>) -> Answer
         ensures { answer_of result ≡ count_answer outcome }
     {
@@ -49,7 +49,7 @@ impl Answer {
         }
     }
 
-    /// The answer of a call that does a thing.
+    /// Converts the result of a call that returns nothing.
     pub(crate) fn done(outcome: Result<(), Refusal>) -> Answer
         ensures { answer_of result ≡ done_answer outcome }
     {
@@ -59,7 +59,7 @@ impl Answer {
         }
     }
 
-    /// The answer of a call that shows what an expression gives.
+    /// Converts the result of a call that evaluates an expression.
     pub(crate) fn shown(outcome: Result<Result<Array, Fault>, AllocError>) -> Answer
         ensures { answer_of result ≡ show_answer outcome }
     {

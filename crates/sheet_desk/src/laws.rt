@@ -1,28 +1,28 @@
-//! What follows from the definitions alone.
+//! Consequences of the definitions alone.
 ghost use Rattle.sheet_desk.specs.Histories.{EachEventHasOneAnswer, NamesAreOfChangesCommitted, OpenedIsAsPlain, ShowsAreOfChangesCommitted, StaleWhereChanged};
 
-/// After any events the names are those that the changes make of them which were committed, plain ones and commits, in their order.
+/// After any events the names are the result of the accepted changes, plain or committed, in their order.
 pub fn names_are_of_changes_committed()
     ensures { NamesAreOfChangesCommitted }
 {}
 
-/// What is shown is what evaluating from scratch gives under the names that these changes make: it is of no concern what is open.
+/// An expression's shown value is its value under the names that these changes make. Open changes do not matter.
 pub fn shows_are_of_changes_committed()
     ensures { ShowsAreOfChangesCommitted }
 {}
 
-/// A change that was opened, and neither made nor given up since, is stale exactly where another was made since.
+/// An open change is stale if and only if another change was made after it was opened.
 pub fn stale_where_changed()
     ensures { StaleWhereChanged }
 {}
 
-/// Where memory is not wanting, an event has one answer, but for which cycle is named, and leads to one desk, but for how many items were computed.
+/// Unless memory is refused, an event has one answer, except for the choice of a cycle, and leads to one desk, except for the count of items.
 pub fn each_event_has_one_answer()
     ensures { EachEventHasOneAnswer }
 {}
 
-/// A change that is opened and committed, with no other change made between, makes the names and the cost of the plain change. The ticks are the same
-/// too, unless an item of a formula fails.
+/// A change that is opened and committed without another change between makes the names and the cost of the plain change. It makes the same ticks,
+/// unless an item of a formula fails.
 pub fn opened_is_as_plain()
     ensures { OpenedIsAsPlain }
 {}

@@ -1,4 +1,4 @@
-//! The desk: a sheet, and changes that are worked out beside it, step by step.
+//! The desk: a sheet, and open changes that are computed step by step.
 #![tactic(auto)]
 
 mod desk;

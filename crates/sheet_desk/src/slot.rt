@@ -10,16 +10,16 @@ ghost use Rattle.sheet_desk.specs.Held.{slot_values_of, marked};
 use apl_expr::Change;
 use sheet_recalc::{Pending, Refusal};
 
-/// A change that is open.
+/// An open change.
 #[derive(Drop)]
 pub(crate) struct Slot {
     pub(crate) change: Change,
     pub(crate) pending: Pending,
-    /// Another change was made since it was opened.
+    /// Another change was made after this one was opened.
     pub(crate) is_stale: bool,
 }
 
-/// The place of the slot of a number: they are numbered from 1.
+/// Returns the index of the slot with this number; numbers begin at 1.
 pub(crate) fn place_in(slots: &[Option<Slot>], number: i64) -> Option<usize>
     ensures { MatchOption result (slot_in slots.now number ≡ None) (λ place. (place < length slots.now) × (number ≡ pos (place + 1))) }
 {
@@ -31,7 +31,7 @@ pub(crate) fn place_in(slots: &[Option<Slot>], number: i64) -> Option<usize>
     }
 }
 
-/// Marks all changes that are open as stale.
+/// Marks every open change as stale.
 pub(crate) fn mark_stale(slots: &mut [Option<Slot>])
     ensures { slots.new ≡ map (option_map marked) slots.old }
 {
@@ -42,8 +42,7 @@ pub(crate) fn mark_stale(slots: &mut [Option<Slot>])
     }
 }
 
-/// Takes the change out of a slot, where it can be made, or says why it cannot: there is no such slot or it is empty, the change is stale, or
-/// steps are left.
+/// Takes the change out of a slot for a commit. Fails if there is no such slot, it is empty, its change is stale, or steps are left.
 pub(crate) fn take_ready(slots: &mut [Option<Slot>], number: i64) -> Result<Slot, Refusal>
     ensures ok { IfOk result (λ slot. slot_in slots.old number ≡ Some (Some slot)) }
     ensures fresh { IfOk result (λ slot. slot.is_stale ≡ false) }
