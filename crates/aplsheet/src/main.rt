@@ -1,4 +1,4 @@
-//! The program: lines of a file or of standard input, answers on standard output.
+//! The program: reads lines from a file or from standard input, and writes their answers to standard output.
 #![tactic(auto)]
 
 ghost use Rattle.std.specs.Prelude.{None};
@@ -11,10 +11,10 @@ use std::io;
 use std::io::Read;
 use std::process::ExitCode;
 
-/// The largest piece that glibc looks at when it is given back: 32 MB, less two pages for what it notes beside it.
+/// The greatest freed size to which glibc adapts its mmap threshold: 32 MiB less two pages for its header.
 const LARGEST_PIECE: usize = 33_546_240;
 
-/// The machine that the program is started on. What its words and files are nobody knows ahead.
+/// The host machine. Its arguments and files are unknown to the contracts.
 #[derive(Drop)]
 struct Machine {
     rt: HostRuntime,
@@ -29,7 +29,7 @@ impl Host for Machine {
         Ok(std::env::args(&self.rt)?.collect(self.rt.alloc())?)
     }
 
-    // No more room is taken than the file has bytes.
+    // The buffer has the file's size and one byte more, so that it never grows.
     fn read(&self, path: &str) -> Result<Vec<u8>, NotRead> {
         let mut file = File::open(&self.rt, path)?;
         let size = usize::try_from(file.metadata()?.len()).unwrap_or(usize::MAX);
@@ -66,14 +66,14 @@ impl Teller for StandardError {
     }
 }
 
-/// Asks for the largest piece and gives it back untouched. From then on glibc keeps what arrays give back, up to twice as much, where it would
-/// hand large pieces to the system, which clears each page of them for the next array: for a selection by a mask that took longer than the
-/// selection. If the piece is refused, memory goes to and fro as before.
+/// Allocates a large piece and frees it untouched. This raises glibc's mmap threshold: glibc then keeps the freed memory of arrays, up to twice
+/// that size. Otherwise it returns large pieces to the system, which clears each page for the next array. That takes longer than a selection by a
+/// mask. If the piece is refused, nothing changes.
 fn keep_what_arrays_give_back(alloc: Global) {
     let _piece: Result<Vec<u8>, AllocError> = Vec::with_capacity(alloc, LARGEST_PIECE);
 }
 
-/// Hands the words, the files and the streams of the machine to the program, and its status back.
+/// Runs the program with the arguments, the files and the streams of the machine, and returns its status.
 fn main(rt: HostRuntime) -> ExitCode {
     keep_what_arrays_give_back(rt.alloc());
     let mut input = Device::new(rt.reader());

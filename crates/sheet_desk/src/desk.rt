@@ -79,7 +79,7 @@ impl Desk {
         self.sheet.show(tree)
     }
 
-    /// Opens a change in an empty slot and returns the number of its steps. Later calls refuse it only for memory, as stale, or as not ready.
+    /// Opens a change in an empty slot and returns the number of its steps. Every refusal by the sheet, except want of memory, comes here.
     pub fn open(&mut self, number: i64, change: Change) -> Result<u32, Refusal>
         ensures { IsEvent self.old (Open number (change_of change)) (count_answer result) self.new }
     {
