@@ -5,7 +5,7 @@ use Rattle.arrays_core.{specs.Arrays.{ArrayValue}, specs.Items.{type_of}, specs.
 use Rattle.sheet_recalc.{specs.Names.{Binding, Data, Formula}, specs.declared.refusal.Refusal.{Refusal}, specs.declared.refusal.Refusal.TheVariants.{NotFound, NotData, Rank, Index, Length, Domain, NoMemory}}
 use Rattle.index_region.specs.Arguments.{is_same_type}
 
--- a number as an index, where 0 is one that no axis has
+-- a number as an index; a negative one becomes 0, which lies on no axis
 abbrev pub index_of_number : ℤ → ℕ
 index_of_number (pos n) = n
 index_of_number (negsuc n) = 0
@@ -14,7 +14,7 @@ index_of_number (negsuc n) = 0
 abbrev pub index_of_numbers : List ℤ → List ℕ
 index_of_numbers positions = map index_of_number positions
 
--- an index lies on an axis of this length
+-- the index lies on an axis of this length
 abbrev pub lies_on_axis : ℕ → ℕ → Bool
 lies_on_axis axis index = nat_le 1 index && nat_le index axis
 
@@ -33,7 +33,8 @@ item_put a index [] = Err Length
 item_put a index (item ∷ []) = if is_same_type (type_of item) a.item_type then Ok (with_item a index item) else Err Domain
 item_put a index (item ∷ other ∷ items) = Err Length
 
--- the data with the literal in one cell, or why not: the positions are as many as the axes, then each lies on its axis
+-- the data with the literal in one cell, or the reason for a refusal: first the number of positions, then each position on its axis, then the
+-- literal
 abbrev pub cell_put : Option Binding → List ℤ → Literal → Result ArrayValue Refusal
 cell_put None positions literal = Err NotFound
 cell_put (Some (Formula t)) positions literal = Err NotData
@@ -42,13 +43,13 @@ cell_put (Some (Data a)) positions literal =
     then (if is_index_of a.shape (index_of_numbers positions) then item_put a (index_of_numbers positions) (literal_items literal) else Err Index)
     else Err Rank
 
--- a call answers what was asked for, or want of memory
+-- a call returns the wanted result, or want of memory
 abbrev pub IsDataAnswer : Result ArrayValue Refusal → Result ArrayValue Refusal → Type 0
 IsDataAnswer wanted (Ok a) = wanted ≡ Ok a
 IsDataAnswer wanted (Err NoMemory) = Unit {0}
 IsDataAnswer wanted (Err cause) = wanted ≡ Err cause
 
--- the only item of a list that has one item, and none of any other
+-- the only item of a list with one item; none for any other list
 abbrev pub IsOnlyItem : List Item → Option Item → Type 0
 IsOnlyItem items (Some item) = items ≡ item ∷ []
 IsOnlyItem items None = (item : Item) → items ≡ item ∷ [] → ⊥

@@ -1,4 +1,4 @@
--- The entries of a sheet, as the list of its names and as what they show.
+-- The entries of a sheet as names with bindings, and their results.
 use Rattle.std.{specs.Prelude.{◌≡◌, ℕ, List, Some, false, Ok, map}, specs.Str.{bytes_eq}, specs.Map.{lookup}}
 use Rattle.arrays_core.{specs.Arrays.{ArrayValue}, specs.Growth.{grown_by}, specs.Outcomes.{Outcome}}
 use Rattle.index_region.{specs.Patches.{PatchValue, FitsPatch, patched}, specs.Tails.{TailValue, FitsTail}}
@@ -6,45 +6,45 @@ use Rattle.formula_core.{specs.Formulas.{root_result}, specs.Holdings.{adopted},
 use Rattle.sheet_recalc.{specs.Meaning.{with_origin}, specs.Names.{Names, Binding, Data, Formula}, specs.declared.entry.Entry.{Entry}}
 use Rattle.sheet_recalc.specs.declared.entry.Entry.TheVariants as entry
 
--- what an entry is bound to
+-- the binding of an entry
 abbrev pub binding_of : Entry → Binding
 binding_of (entry.Data a) = Data a
 binding_of (entry.Formula f) = Formula f.tree
 
--- what an entry shows under a name: an error that arose in its formula has its origin there
+-- the result of an entry: an error that arose in its formula gets this name as its origin
 abbrev pub entry_outcome : List ℕ → Entry → Outcome
 entry_outcome name (entry.Data a) = Ok a
 entry_outcome name (entry.Formula f) = with_origin name (root_result f.nodes)
 
--- an entry that took a plan, if it is a formula
+-- the entry after it adopted a plan, if it is a formula
 abbrev pub adopting : Entry → PlanValue → Entry
 adopting (entry.Data a) plan = entry.Data a
 adopting (entry.Formula f) plan = entry.Formula (record { tree = f.tree; is_new = false; nodes = adopted plan.changes f.nodes })
 
--- the patch lies in an entry, if that is data
+-- the patch fits the entry, if that is data
 abbrev pub FitsEntry : Entry → PatchValue → Type 0
 FitsEntry (entry.Data a) patch = FitsPatch a patch
 FitsEntry (entry.Formula f) patch = Unit {0}
 
--- an entry into which a patch was written, if it is data
+-- the entry with the patch written into it, if it is data
 abbrev pub patched_entry : Entry → PatchValue → Entry
 patched_entry (entry.Data a) patch = entry.Data (patched a patch)
 patched_entry (entry.Formula f) patch = entry.Formula f
 
--- the tail fits an entry, if that is data
+-- the tail fits the entry, if that is data
 abbrev pub FitsBehind : Entry → TailValue → Type 0
 FitsBehind (entry.Data a) tail = FitsTail a tail
 FitsBehind (entry.Formula f) tail = Unit {0}
 
--- an entry behind which a tail was put, if it is data
+-- the entry with the tail appended, if it is data
 abbrev pub grown_entry : Entry → TailValue → Entry
 grown_entry (entry.Data a) tail = entry.Data (grown_by a tail.items)
 grown_entry (entry.Formula f) tail = entry.Formula f
 
--- a name is bound to this data
+-- the name is bound to this data
 abbrev pub HasData : List (List ℕ × Entry) → List ℕ → ArrayValue → Type 0
 HasData entries name a = lookup (bytes_eq name) entries ≡ Some (entry.Data a)
 
--- the names of a sheet, in their order, each with what it is bound to
+-- the names of a sheet in their order, with their bindings
 abbrev pub names_of : List (List ℕ × Entry) → Names
 names_of entries = map (λ e. (e.0, binding_of e.1)) entries

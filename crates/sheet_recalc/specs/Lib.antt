@@ -1,4 +1,4 @@
--- What public contracts mean.
+-- The meaning of public contracts.
 pub mod Names
 pub mod Meaning
 pub mod Cells
@@ -7,7 +7,7 @@ pub mod Changes
 pub mod History
 pub mod Costs
 pub mod Locality
--- What proofs and bodies use.
+-- Used by proofs and bodies.
 pub mod Entries
 pub mod ProposedSheet
 pub mod NameOrder
@@ -15,5 +15,5 @@ pub mod Live
 pub mod Planning
 pub mod Tables
 pub mod Pending
--- Proofs that impls give with their types: what contracts see of them is a set.
+-- Proofs that impls give with their types: the contracts' view of a type is a set.
 pub mod Laws

@@ -1,4 +1,4 @@
--- A change that is worked out, and not made yet.
+-- A pending change: computed, but not made yet.
 use Rattle.std.{specs.Prelude.{◌≡◌, ◌≤◌, ◌<◌, ◌+◌, ℕ, List, [], length, true, false, not, Option, Some, None, Box, if◌then◌else◌}, specs.Str.{bytes_eq}, specs.Map.{keys_of}}
 use Rattle.indexmap.specs.IndexMap.{spare}
 use Rattle.dep_order.{specs.Room.{FindRoom, AreListsFor}, specs.Users.{HasRoomFor}}
@@ -10,42 +10,42 @@ use Rattle.sheet_recalc.{specs.Planning.{IsProposalAt, IsProposed, IsPlanning, A
 use Rattle.sheet_recalc.specs.declared.proposal.Proposal.{Proposal}
 use Rattle.sheet_recalc.specs.declared.proposal.Proposal.TheVariants as proposed
 
--- a change in outline, by how the names lie
+-- the outline of a change of a sheet with these tables
 abbrev pub outline_at : Tables → List ℕ → Proposal → Outline
 outline_at t name proposal = record { entries = t.entries.entries; name = name; proposal = proposal }
 
--- the change that is pending, in outline
+-- the outline of the pending change
 abbrev pub outline_for : Tables → Pending → Outline
 outline_for t p = outline_at t p.name p.proposal
 
--- the names once it is made
+-- the names after the change is made
 abbrev pub names_after : Tables → Pending → Names
 names_after t p = proposed_names (outline_for t p)
 
--- the room that the tables lack for one more entry, in whose formula these names stand
+-- the memory that the tables lack for one more entry with these references
 pub record Brings (t : Tables) (references : List (List ℕ)) (g : Growth) : Type 0 where
   pub entries : FindRoom 1 (length t.entries.entries) (spare t.entries) g.entries
   pub users : FindRoom (length g.lists.entries) (length t.users.entries) (spare t.users) g.users
   pub lists : AreListsFor bytes_eq t.users.entries references g.lists.entries
 
--- nothing lacks: there is room for one more entry, and for one more user of each of these names
+-- the tables have room for one more entry, and for one more user of each of these names
 pub record NothingLacks (t : Tables) (references : List (List ℕ)) : Type 0 where
   pub entries : 0 < spare t.entries
   pub users : HasRoomFor bytes_eq t.users.entries references
 
--- what lacks is there, in a box; there is none where nothing lacks
+-- the missing memory is allocated, or nothing lacks
 abbrev pub IsBrought : {A : Type 0} → Tables → List (List ℕ) → Option (Box Growth A) → Type 0
 IsBrought t references None = NothingLacks t references
 IsBrought t references (Some b) = Brings t references b.value
 
--- there is room for what a proposal puts under its name: a formula, or a whole array
+-- there is room for the proposal: a formula or a whole array needs an entry
 abbrev pub HasPlace : {A : Type 0} → Tables → Option (Box Growth A) → Proposal → Type 0
 HasPlace t g (proposed.Formula f) = IsBrought t (names_in f.tree) g
 HasPlace t g (proposed.Data (Whole r)) = IsBrought t [] g
 HasPlace t g (proposed.Data delta) = Unit {0}
 HasPlace t g proposed.Removed = Unit {0}
 
--- all is worked out that a name is to be bound to: what that reaches, with the plans, and the room
+-- everything is computed for the name's next binding: the reached names, their plans, and the room
 pub record IsReadyToMake {A : Type 0} (t : Tables) (name : List ℕ) (proposal : Proposal) (found : List (List ℕ × Option PlanValue)) (growth : Option (Box Growth A)) : Type 0 where
   pub planned : AreRightOnceTaken t.entries.entries name (own_entry (outline_at t name proposal)) (proposed_names (outline_at t name proposal)) (plan_in found)
   pub kept : HasOrder (proposed_names (outline_at t name proposal))
@@ -53,8 +53,8 @@ pub record IsReadyToMake {A : Type 0} (t : Tables) (name : List ℕ) (proposal :
   pub proposal_at : IsProposalAt t.entries.entries name proposal
   pub place : HasPlace t growth proposal
 
--- it is being worked out, and this was spent before: where it was cut off, what came after the last function is not done, and what that has
--- computed is not told yet
+-- the change is in progress; `base` was computed before it. If it was cut off, its last function is applied ahead of its step, and that function's
+-- items are not counted yet
 pub record IsBegunOn (t : Tables) (p : Pending) (base : ℕ) : Type 0 where
   pub proposed : IsProposed (outline_for t p)
   pub kept : HasOrder (names_after t p)
@@ -66,7 +66,7 @@ pub record IsBegunOn (t : Tables) (p : Pending) (base : ℕ) : Type 0 where
   pub rises : p.ticks ≤ p.meter.ticks
   pub small : p.ticks < 18446744073709551616
 
--- it is laid out, and this was spent before: what it reaches is found, and no plan begun
+-- the change is laid out; `base` was computed before it. The reached names are found, and no plan is begun
 pub record IsLaidOut (t : Tables) (p : Pending) (base : ℕ) : Type 0 where
   pub proposed : IsProposed (outline_for t p)
   pub kept : HasOrder (names_after t p)
@@ -79,16 +79,16 @@ pub record IsLaidOut (t : Tables) (p : Pending) (base : ℕ) : Type 0 where
   pub told : p.ticks ≡ p.meter.ticks
   pub small : p.ticks < 18446744073709551616
 
--- the change is between two steps: no function is applied ahead of its step, and the ticks are all that the meter counted
+-- the change is between two steps: no function is applied ahead, and the ticks are the meter's
 pub record IsBetweenSteps (p : Pending) : Type 0 where
   pub whole : p.is_cut ≡ false
   pub counted : p.ticks ≡ p.meter.ticks
 
--- how many steps are left
+-- the number of steps left
 abbrev pub steps_left : Pending → ℕ
 steps_left p = p.plans.left + (if p.is_cut then 1 else 0)
 
--- the change is the one that is asked for on the sheet as it is, and this is how far it is
+-- the pending change is the requested one on the current sheet, and has this progress
 pub record IsOfChange (s : SheetValue) (change : SheetChange) (p : Pending) (stands : ℕ → Type 0) : Type 0 where
   pub base : ℕ
   pub begun : stands base
@@ -97,15 +97,15 @@ pub record IsOfChange (s : SheetValue) (change : SheetChange) (p : Pending) (sta
   pub name_is : p.name ≡ changed_name change
   pub makes : proposed_change (outline_for s.tables p) ≡ asked_change s.names change (names_after s.tables p)
 
--- the change is being worked out on the sheet as it is
+-- the requested change is in progress on the current sheet
 abbrev pub IsPendingOn : SheetValue → SheetChange → Pending → Type 0
 IsPendingOn s change p = IsOfChange s change p (IsBegunOn s.tables p)
 
--- it is laid out there
+-- the requested change is laid out on the current sheet
 abbrev pub IsLaidOutOn : SheetValue → SheetChange → Pending → Type 0
 IsLaidOutOn s change p = IsOfChange s change p (IsLaidOut s.tables p)
 
--- what a name is to be bound to is laid out, where finding that has cost so much
+-- the next binding of a name is laid out, after this number of computed items
 pub record IsProposedOn (s : SheetValue) (name : List ℕ) (proposal : Proposal) (spent : ℕ) (p : Pending) : Type 0 where
   pub names_are : names_of s.tables.entries.entries ≡ s.names
   pub name_is : p.name ≡ name
@@ -114,6 +114,6 @@ pub record IsProposedOn (s : SheetValue) (name : List ℕ) (proposal : Proposal)
   pub even : p.ticks ≡ spent
   pub room : HasRoomForName s.names name
 
--- whatever is laid out for a name by this proposal is this change
+-- whatever is laid out for the name by this proposal is this change
 abbrev pub LaysOut : SheetValue → List ℕ → Proposal → ℕ → SheetChange → Type 0
 LaysOut s name proposal spent change = (p : Pending) → IsProposedOn s name proposal spent p → IsLaidOutOn s change p

@@ -1,4 +1,4 @@
--- How the plans of a change are made.
+-- The plans of a change, and their progress.
 use Rattle.std.{specs.Prelude.{◌≡◌, ◌≢◌, ◌⊎◌, ◌+◌, ◌≤◌, ◌<◌, ℕ, List, [], ◌∷◌, ◌++◌, Bool, true, false, Option, Some, None, Ok, IfOk, take, length, IsSome, if◌then◌else◌}, specs.Str.{bytes_eq}, specs.Map.{keys_of}, specs.List.{Contains, IsDistinct, sum_by}, specs.Option.{option_map_or}}
 use Rattle.arrays_core.specs.Arrays.{ArrayValue, IsArray}
 use Rattle.apl_expr.specs.Trees.{Tree}
@@ -13,7 +13,7 @@ use Rattle.formula_core.specs.Plans as formula_plan
 use Rattle.sheet_recalc.specs.declared.entry.Entry.TheVariants as entry
 use Rattle.sheet_recalc.specs.declared.proposal.Proposal.TheVariants as proposed
 
--- a formula was not worked out yet; data is an array, or a patch that lies in the data of the name, or a tail that fits it
+-- a proposed formula is new; proposed data is an array, a patch that lies in the data, or a tail that fits it
 abbrev pub IsProposalAt : List (List ℕ × Entry) → List ℕ → Proposal → Type 0
 IsProposalAt entries name (proposed.Formula f) = f.is_new ≡ true
 IsProposalAt entries name (proposed.Data (Whole (Ok a))) = Unit {0}
@@ -22,8 +22,8 @@ IsProposalAt entries name (proposed.Data (Grown t)) = (a : ArrayValue) × HasDat
 IsProposalAt entries name (proposed.Data delta) = ⊥
 IsProposalAt entries name proposed.Removed = Unit {0}
 
--- the entries are right as they are, what the name shows is sound if no data is put under it (where some is, this is asked when it is needed), the
--- names show after the change what one step gives, and so do their changes
+-- the entries are current; unless data is proposed, the name's result is sound. Results and changes of all names after the change follow from those
+-- of the others
 pub record IsProposed (o : Outline) : Type 0 where
   pub current : IsCurrent o.entries
   pub sound : is_data o.proposal ≡ false → IfOk (val (names_of o.entries) o.name) IsArray
@@ -32,23 +32,23 @@ pub record IsProposed (o : Outline) : Type 0 where
   pub deltas : (q : List ℕ) → (proposed_change o).delta q
       ≡ (if bytes_eq q o.name then proposed_delta o.name (proposed_names o) o.proposal else delta_by q (binding (proposed_names o) q) (proposed_change o))
 
--- the name shows what it did
+-- the name's result stays
 pub record IsUntouched (o : Outline) (q : List ℕ) : Type 0 where
   pub shows : val (proposed_names o) q ≡ val (names_of o.entries) q
   pub same : (proposed_change o).delta q ≡ Same
 
--- the plan is one of the name's formula, as the change makes it
+-- the plan belongs to the name's formula and follows the change
 pub record IsPlanAt (o : Outline) (q : List ℕ) (p : formula_plan.PlanValue) : Type 0 where
   pub formula : FormulaValue
   pub held : entry_of o q ≡ Some (entry.Formula formula)
   pub of : formula_plan.IsPlanOf formula p
   pub planned : formula_plan.IsPlanned formula (proposed_change o) p
 
--- each plan is one of its name's formula, as the change makes it
+-- each plan belongs to its name's formula and follows the change
 abbrev pub ArePlans : Outline → (List ℕ → Option formula_plan.PlanValue) → Type 0
 ArePlans o plans = (q : List ℕ) (p : formula_plan.PlanValue) → plans q ≡ Some p → IsPlanAt o q p
 
--- what a name is bound to stays right as it is: it is no formula, or one of another name in which nothing is touched
+-- the entry stays right without a plan: it is data, or the formula of another name that contains no changed name
 pub record NeedsNoPlan (o : Outline) (q : List ℕ) : Type 0 where
   pub others : q ≢ o.name → IsUntouched o q
   pub reads : (t : Tree) → binding (proposed_names o) q ≡ Some (Formula t) → (q ≢ o.name) × ((x : List ℕ) → Contains (names_in t) x → IsUntouched o x)
@@ -57,21 +57,21 @@ pub record NeedsNoPlan (o : Outline) (q : List ℕ) : Type 0 where
 abbrev pub HasItsPlan : Outline → (List ℕ → Option formula_plan.PlanValue) → List ℕ → Type 0
 HasItsPlan o plans q = IsSome (plans q) ⊎ NeedsNoPlan o q
 
--- a change and the plans so far
+-- a change with the plans made so far
 pub record IsAhead (a : Ahead) : Type 0 where
   pub proposed : IsProposed (outline_of a.proposed.now)
   pub plans : ArePlans (outline_of a.proposed.now) (plan_in a.found.now.entries)
   pub unchanged : a.unchanged.now ≡ Same
 
--- what the change costs at a name
+-- the cost of the change at a name
 abbrev pub name_cost : List ℕ → formula.NamesChange → Names → List ℕ → ℕ
 name_cost name c names q = option_map_or (λ b. binding_cost name c (q, b)) (binding names q) 0
 
--- and at all of these
+-- the cost of the change at all of these names
 abbrev pub names_cost : Outline → List (List ℕ) → ℕ
 names_cost o found = sum_by (name_cost o.name (proposed_change o) (proposed_names o)) found
 
--- the plans of what is not left are made
+-- every name that is not left has its plan or needs none
 pub record IsUnderWay (o : Outline) (left : List (List ℕ)) (made : (List ℕ → Option formula_plan.PlanValue)) : Type 0 where
   pub once : IsDistinct bytes_eq left
   pub closed : Follows (λ a b. Refers (proposed_names o) b a) (λ x. ⊥) left
@@ -82,16 +82,15 @@ pub record IsUnderWay (o : Outline) (left : List (List ℕ)) (made : (List ℕ �
 abbrev pub waiting_names : Plans → List (List ℕ)
 waiting_names w = take w.waiting (keys_of w.found.entries)
 
--- how many functions what a name is bound to after the change applies
+-- the number of functions in a name's binding after the change
 abbrev pub functions_at : Outline → List ℕ → ℕ
 functions_at o q = functions_in (proposed_names o) q
 
--- what the nodes so far of a plan of a formula cost
+-- the cost of the nodes of a partial plan
 abbrev pub spent_by : FormulaValue → formula.NamesChange → formula_plan.PlanValue → ℕ
 spent_by f c p = sum_by (formula_plan.node_cost_at f.is_new c) (take (length p.changes) (subtrees f.tree))
 
--- a plan of the formula of the last of these names is on its way: so many of its functions are applied, and its nodes so far cost so much; where
--- it rests, one is left
+-- a partial plan of the last name's formula, with the number of its functions done and the cost of its nodes; at rest, a node is left
 pub record IsComingTo (o : Outline) (names : List (List ℕ)) (rests : Bool) (p : formula_plan.PlanValue) (done begun : ℕ) : Type 0 where
   pub before : List (List ℕ)
   pub name : List ℕ
@@ -103,17 +102,16 @@ pub record IsComingTo (o : Outline) (names : List (List ℕ)) (rests : Bool) (p 
   pub begun_is : begun ≡ spent_by formula (proposed_change o) p
   pub left : rests ≡ true → length p.changes < length formula.nodes
 
--- or none is; where that rests, no name waits
+-- such a plan, or none; at rest without a plan, no name waits
 abbrev pub IsComing : Outline → List (List ℕ) → Bool → Option formula_plan.PlanValue → (done begun : ℕ) → Type 0
 IsComing o names rests None done begun = (done ≡ 0) × (begun ≡ 0) × (rests ≡ true → names ≡ [])
 IsComing o names rests (Some p) done begun = IsComingTo o names rests p done begun
 
--- no item fails of those that the formulas compute
+-- no item fails that the formulas compute
 abbrev pub NoneFails : Outline → Type 0
 NoneFails o = NoItemFails o.name (proposed_change o) (proposed_names o)
 
--- of these names, all but so many from the first on have their plans, which cost this; at most so many items were computed, and this was spent
--- before them
+-- all names but the first `waiting` have their plans at this cost; the ticks are at most the cost, counted from `base`
 pub record ArePlanned (o : Outline) (base waiting : ℕ) (found : List (List ℕ × Option formula_plan.PlanValue)) (cost ticks : ℕ) : Type 0 where
   pub few : waiting ≤ length found
   pub way : IsUnderWay o (take waiting (keys_of found)) (plan_in found)
@@ -122,28 +120,27 @@ pub record ArePlanned (o : Outline) (base waiting : ℕ) (found : List (List ℕ
   pub cost_is : cost ≡ ticked base spent
   pub ticks_are : ticks ≤ base + spent
 
--- of the names that a change reaches, those that wait no more have their plans, which cost this with what was spent before
+-- the reached names that no longer wait have their plans, at this cost in total
 abbrev pub AreMade : Outline → ℕ → Plans → ℕ → Type 0
 AreMade o base w ticks = ArePlanned o base w.waiting w.found.entries w.cost ticks
 
--- they are made a formula at a time; so many items were computed, which are all that they cost unless one fails
+-- plans are made one formula at a time; the ticks are the whole cost unless an item fails
 pub record IsPlanning (o : Outline) (base : ℕ) (w : Plans) (ticks : ℕ) : Type 0 where
   pub made : AreMade o base w ticks
   pub whole : NoneFails o → ticks ≡ w.cost
 
--- what a plan that is on its way has cost, if one is
+-- the cost of a partial plan, if there is one
 abbrev pub coming_cost : Option formula_plan.PlanValue → ℕ
 coming_cost None = 0
 coming_cost (Some p) = p.cost
 
--- no plan is begun yet, and no function counted
+-- no plan is begun, and no function counted
 pub record AllWait (w : Plans) : Type 0 where
   pub waits : w.waiting ≡ length w.found.entries
   pub uncounted : w.left ≡ 0
   pub none : w.current ≡ None
 
--- the plans of a change are on their way, and so many items were computed; this was spent before them. Where they rest, a function is to be
--- applied next, or none is left
+-- the plans of a change are in progress with these ticks. At rest, the next step applies a function, or none is left
 pub record IsOnTheWay (o : Outline) (base : ℕ) (w : Plans) (rests : Bool) (ticks : ℕ) : Type 0 where
   pub told : ℕ
   pub made : AreMade o base w told
@@ -154,7 +151,7 @@ pub record IsOnTheWay (o : Outline) (base : ℕ) (w : Plans) (rests : Bool) (tic
   pub ticks_are : ticks ≤ told + begun
   pub whole : NoneFails o → ticks ≡ ticked w.cost (coming_cost w.current)
 
--- the sheet can be so: the names have an order then, no name reaches itself, and there is room
+-- the sheet after the change is allowed: its names have an order, none reaches itself, and there is room
 pub record CanBe (o : Outline) : Type 0 where
   pub kept : HasOrder (proposed_names o)
   pub sheet : IsSheet (proposed_names o)

@@ -1,4 +1,4 @@
--- How the names of a sheet lie: their entries, and who refers to whom, each with room for more. No answer tells of it.
+-- The tables of a sheet: its entries and their users, with spare room. No answer depends on them.
 use Rattle.std.{specs.Prelude.{ℕ, List, Vec}, proofs.Common.{BuildHasherDefault, FoldHasher, Global}}
 use Rattle.indexmap.specs.IndexMap.{IndexMap}
 use Rattle.sheet_recalc.specs.declared.entry.Entry.{Entry}

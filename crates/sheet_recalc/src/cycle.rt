@@ -1,4 +1,4 @@
-//! The cycle that a definition would close.
+//! The cycle that a refused definition would close.
 
 ghost use Rattle.std.specs.Prelude.{◌≡◌, ◌<◌, IfOk};
 ghost use Rattle.std.specs.Str.{bytes_eq};
@@ -14,8 +14,8 @@ use apl_tokens::Name;
 use dep_order::first_found;
 use std::alloc::{AllocError, Global};
 
-/// The cycle that a name would close by a reference to one that reaches it: the name, then that one, and from each on the
-/// first of its own references that reaches the name.
+/// Returns the cycle that the name would close by a reference to a name that reaches it. The name comes first, then the reference. Each next entry
+/// is the first reference of its predecessor that reaches the name.
 pub(crate) fn cycle_through(
     alloc: Global,
     proposed: &ProposedSheet<'_>,
@@ -37,7 +37,7 @@ pub(crate) fn cycle_through(
     Ok(cycle)
 }
 
-/// The first of a name's references that reaches the name that is bound anew.
+/// Returns the first reference of a name that reaches the rebound name.
 fn step_from(proposed: &ProposedSheet<'_>, found: &Found, from: Name) -> Name
     requires reaching { IsReaching (proposed_names (outline_of proposed.now)) proposed.now.name (keys_of found.now.entries) }
     requires hit { Contains (keys_of found.now.entries) from }

@@ -1,4 +1,4 @@
-//! What a name is bound to.
+//! The entry of a name.
 
 ghost use Rattle.std.specs.Prelude.{◌≡◌};
 ghost use Rattle.formula_core.specs.Outcomes.{read};
@@ -14,14 +14,14 @@ use index_region::{Patch, Tail};
 /// Data, or a formula with its results.
 #[derive(Drop)]
 pub enum Entry {
-    /// The name is bound to an array, which it shows.
+    /// The array of the name.
     Data(Array),
-    /// The name is bound to a formula, and shows its result.
+    /// The formula of the name.
     Formula(Formula),
 }
 
 impl Entry {
-    /// The names that stand in it.
+    /// Returns the names in the formula; none for data.
     pub(crate) fn references(&self) -> &[Name]
         ensures { result.now ≡ referred (binding_of self.now) }
     {
@@ -31,7 +31,7 @@ impl Entry {
         }
     }
 
-    /// What it shows under a name: its data, or its formula's result, where an error that arose there gets this origin.
+    /// Returns the data or the formula's result. An error that arose in the formula gets this name as its origin.
     pub(crate) fn result(&self, name: Name) -> Result<&Array, Fault>
         ensures { read result ≡ entry_outcome name self.now }
     {
@@ -44,7 +44,7 @@ impl Entry {
         }
     }
 
-    /// What it shows under a name, with its error lent.
+    /// Returns the data or the formula's result, as `result` does; its error is borrowed.
     pub(crate) fn lent<'a>(&'a self, name: &'a Name) -> Result<&'a Array, LentFault<'a>>
         ensures { read result ≡ entry_outcome name.now self.now }
     {
@@ -57,7 +57,7 @@ impl Entry {
         }
     }
 
-    /// Gives a formula the results of a plan that was made of it.
+    /// Applies a plan to a formula.
     pub(crate) fn adopt(&mut self, plan: Plan)
         requires { CanAdopt self.old plan }
         ensures { self.new ≡ adopting self.old plan }
@@ -68,7 +68,7 @@ impl Entry {
         }
     }
 
-    /// Writes the new items of a patch into data, where it lies. A formula stays.
+    /// Writes a patch into data in place. A formula stays.
     pub(crate) fn write(&mut self, patch: &Patch)
         requires { FitsEntry self.old patch.now }
         ensures { self.new ≡ patched_entry self.old patch.now }
@@ -79,7 +79,7 @@ impl Entry {
         }
     }
 
-    /// Puts the items of a tail behind those of data, where these lie. A formula stays.
+    /// Appends a tail to data in place. A formula stays.
     pub(crate) fn grow(&mut self, tail: Tail)
         requires { FitsBehind self.old tail }
         ensures { self.new ≡ grown_entry self.old tail }

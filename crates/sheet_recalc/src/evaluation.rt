@@ -1,4 +1,4 @@
-//! What names show.
+//! The results of names.
 
 ghost use Rattle.std.specs.Prelude.{◌≡◌, IfOk};
 ghost use Rattle.arrays_core.specs.Arrays.{IsArray};
@@ -14,10 +14,10 @@ use formula_core::{Input, LentFault, unknown};
 use indexmap::IndexMap;
 use smallvec::SmallVec;
 
-/// What the names of a formula show: up to four lie where they are.
+/// The inputs of a formula: up to four are stored inline.
 pub(crate) type Inputs<'a> = SmallVec<Input<'a>, 4>;
 
-/// What a name shows; VALUE ERROR where it is absent.
+/// Returns the result of a name; VALUE ERROR if it is absent.
 #[inline(always)]
 pub(crate) fn shown(entries: &IndexMap<Name, Entry>, name: Name) -> Result<&Array, Fault>
     requires { IsCurrent entries.now.entries }
@@ -29,7 +29,7 @@ pub(crate) fn shown(entries: &IndexMap<Name, Entry>, name: Name) -> Result<&Arra
     }
 }
 
-/// What a name shows, with its error lent; VALUE ERROR where it is absent.
+/// Returns the result of a name; its error is borrowed. Returns VALUE ERROR if the name is absent.
 #[inline(always)]
 pub(crate) fn lent<'a>(
     entries: &'a IndexMap<Name, Entry>,
@@ -44,7 +44,7 @@ pub(crate) fn lent<'a>(
     }
 }
 
-/// What a name shows is an array, if it is no error: the array says so itself.
+/// Proves that the result is an array, unless it is an error.
 pub(crate) fn shown_is_array(shown: &Result<&Array, Fault>)
     ensures { IfOk (read shown.now) IsArray }
 {

@@ -1,4 +1,4 @@
-//! Room that a change needs beyond what the sheet has, brought along by the change.
+//! Memory for one more entry, which a change allocates in advance.
 
 ghost use Rattle.std.specs.Prelude.{IfOk};
 ghost use Rattle.sheet_recalc.specs.Pending.{IsBrought, HasPlace};
@@ -11,7 +11,7 @@ use index_region::Delta;
 use indexmap::IndexMap;
 use std::alloc::{AllocError, Global};
 
-/// What a sheet lacks for one more entry: larger tables where its own are full, and lists of users.
+/// The missing memory for one more entry: larger tables if the sheet's are full, and lists of users.
 #[derive(Drop)]
 pub(crate) struct Growth {
     pub(crate) entries: Option<IndexMap<Name, Entry>>,
@@ -19,8 +19,8 @@ pub(crate) struct Growth {
     pub(crate) lists: Users<Name>,
 }
 
-/// What the sheet lacks for what a proposal puts under its name; nothing where that takes no room. Nothing is copied. It lies in a box of its
-/// own, so that a change is small.
+/// Allocates the memory that the sheet lacks for a proposal; `None` if it lacks none. Copies no entries. The result is boxed, so that a change is
+/// small.
 pub(crate) fn growth_for(
     alloc: Global,
     entries: &IndexMap<Name, Entry>,
@@ -38,7 +38,7 @@ pub(crate) fn growth_for(
     }
 }
 
-/// What lacks for one more entry, in whose formula these names stand. Most often nothing does, and no memory is asked for.
+/// Allocates the memory that lacks for one more entry with these references. Usually nothing lacks, and nothing is allocated.
 fn growth_with(
     alloc: Global,
     entries: &IndexMap<Name, Entry>,
@@ -53,7 +53,7 @@ fn growth_with(
     all_that_lacks(alloc, entries, users, references)
 }
 
-/// What lacks for one more entry, where something does.
+/// Allocates all missing memory for one more entry.
 fn all_that_lacks(
     alloc: Global,
     entries: &IndexMap<Name, Entry>,

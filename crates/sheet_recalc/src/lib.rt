@@ -1,4 +1,4 @@
-//! The sheet: names bound to data or to formulas, where each formula's result is always current.
+//! The sheet: names bound to data or formulas. The result of each formula is always current.
 #![tactic(auto)]
 
 mod ahead;

@@ -1,4 +1,4 @@
-//! What a name is to be bound to.
+//! The next binding of a name.
 
 ghost use Rattle.std.specs.Prelude.{◌≡◌};
 ghost use Rattle.sheet_recalc.specs.ProposedSheet.{is_data, is_edit, proposed_references};
@@ -7,33 +7,33 @@ use apl_tokens::Name;
 use formula_core::Formula;
 use index_region::Delta;
 
-/// What a name is to be bound to.
+/// The next binding of a name.
 #[derive(Drop)]
 pub(crate) enum Proposal {
-    /// A formula that was not worked out yet.
+    /// A new formula.
     Formula(Formula),
-    /// Data, by what changes of what the name shows: an array in its place, or a patch of the data there.
+    /// Data, as the change of the name's result: a new array, a patch or a tail.
     Data(Delta),
-    /// Nothing: the name is removed.
+    /// The name is removed.
     Removed,
 }
 
 impl Proposal {
-    /// It is data that is put under the name.
+    /// Returns whether the name will be bound to data.
     pub(crate) fn is_data(&self) -> bool
         ensures { result ≡ is_data self.now }
     {
         matches!(self, Proposal::Data(_))
     }
 
-    /// It writes items into data or puts a row behind it: who refers to whom stays then.
+    /// Returns whether data gets new items in place or one more row; then no references change.
     pub(crate) fn is_edit(&self) -> bool
         ensures { result ≡ is_edit self.now }
     {
         matches!(self, Proposal::Data(Delta::Patch(_) | Delta::Grown(_)))
     }
 
-    /// The names that stand in it.
+    /// Returns the names in the formula; none otherwise.
     pub(crate) fn references(&self) -> &[Name]
         ensures { result.now ≡ proposed_references self.now }
     {

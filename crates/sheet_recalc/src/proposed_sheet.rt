@@ -1,4 +1,4 @@
-//! A sheet as it would be after a change, without a copy of it.
+//! A sheet after a change, without a copy of it.
 
 ghost use Rattle.std.specs.Prelude.{◌≡◌, MatchOption, Some};
 ghost use Rattle.formula_core.specs.Formulas.{FormulaValue};
@@ -12,18 +12,17 @@ use apl_tokens::Name;
 use formula_core::Formula;
 use indexmap::IndexMap;
 
-/// The names of a sheet with one of them bound anew, or removed. A name that is bound anew stays where it is, a new one
-/// goes last; the names after one that is removed move up.
+/// The names of a sheet with one rebound or removed. A rebound name keeps its index, a new one comes last. The names after a removed one move up.
 #[derive(Drop)]
 pub(crate) struct ProposedSheet<'a> {
     pub(crate) entries: &'a IndexMap<Name, Entry>,
     pub(crate) name: Name,
-    /// What the name is bound to then.
+    /// The next binding of the name.
     pub(crate) proposal: &'a Proposal,
 }
 
 impl<'a> ProposedSheet<'a> {
-    /// The names that stand in the formula that a name is bound to.
+    /// Returns the names in the formula of a name; none for data or an absent name.
     pub(crate) fn references_of(&self, name: Name) -> &'a [Name]
         ensures { result.now ≡ referred_by (proposed_names (outline_of self.now)) name }
     {
@@ -36,8 +35,8 @@ impl<'a> ProposedSheet<'a> {
         }
     }
 
-    /// The formula that a name is bound to, with the place at which the name stands in the sheet. It is looked for at a place that is told, and else by the
-    /// name; where that is bound anew, the answer is the place at which a new name will stand.
+    /// Returns the formula of a name with the name's index in the sheet. Tries the index `hint` first, then looks up the name. For the rebound name
+    /// the index is the one that a new name gets.
     #[inline(always)]
     pub(crate) fn placed_formula(&self, name: &Name, hint: usize) -> Option<(&'a Formula, usize)>
         ensures { MatchOption result ((f : FormulaValue) → entry_of (outline_of self.now) name.now ≡ Some (FormulaEntry f) → ⊥) (λ p. entry_of (outline_of self.now) name.now ≡ Some (FormulaEntry p.0.now)) }
@@ -59,7 +58,7 @@ impl<'a> ProposedSheet<'a> {
         }
     }
 
-    /// The formula that a name is bound to.
+    /// Returns the formula of a name.
     #[inline(always)]
     pub(crate) fn formula_of(&self, name: Name) -> Option<&'a Formula>
         ensures { MatchOption result ((f : FormulaValue) → entry_of (outline_of self.now) name ≡ Some (FormulaEntry f) → ⊥) (λ f. entry_of (outline_of self.now) name ≡ Some (FormulaEntry f.now)) }

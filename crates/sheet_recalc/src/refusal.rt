@@ -1,4 +1,4 @@
-//! Why a change was refused.
+//! The reasons for refusals.
 
 ghost use Rattle.std.specs.Prelude.{◌≡◌};
 ghost use Rattle.sheet_recalc.specs.declared.refusal.Refusal.TheVariants.{NoMemory};
@@ -7,34 +7,34 @@ use apl_tokens::Name;
 use arrays_core::Fault;
 use std::alloc::{AllocError, AllocFailed};
 
-/// Why a change, or what is asked of one that is begun in a slot, was refused. All is then as it was. A sheet gives none of the last four.
+/// The reason why a change or a slot command is refused. The sheet or desk then stays. A sheet never returns the last four.
 #[derive(Debug, Drop)]
 pub enum Refusal {
-    /// The name would reach itself: a cycle of names, the defined one first, each referring to the next, the last to the first.
+    /// The name would reach itself. The cycle of names begins with the defined one: each refers to the next, the last to the first.
     Cycle(Vec<Name>),
     /// The name is absent.
     NotFound,
     /// The name is bound to a formula.
     NotData,
-    /// The positions are not as many as the axes, or the data is neither a vector nor a table and has no rows.
+    /// The number of positions differs from the number of axes, or the data has no rows: it is neither a vector nor a matrix.
     Rank,
-    /// The literal has not one item, or not as many as a row of the data.
+    /// The literal has not exactly one item, or not as many as a row of the data.
     Length,
-    /// A position is below 1 or above its axis.
+    /// A position is less than 1 or greater than its axis.
     Index,
-    /// The literal's items are of the other type.
+    /// The literal's items have the other type.
     Domain,
-    /// The data would go beyond the limits of arrays.
+    /// The data would exceed the limits of arrays.
     Limit,
-    /// The name is new, and as many names are present as a sheet has at most.
+    /// The name is new, and the sheet has its greatest number of names.
     SheetFull,
-    /// The expression gave an error.
+    /// The value of the expression is an error.
     Fault(Fault),
-    /// A growth was refused.
+    /// The allocator refused memory.
     NoMemory,
-    /// Another change was made since the one of the slot was begun.
+    /// Another change was made after the slot's change was opened.
     Stale,
-    /// Steps of the slot's change are left.
+    /// The slot's change has steps left.
     NotReady,
     /// There is no slot of this number, or it is empty.
     NoSlot,

@@ -14,7 +14,7 @@ abbrev binding_from : ArrayValue ⊎ Tree → Binding
 binding_from (inl a) = Data a
 binding_from (inr t) = Formula t
 
--- the two undo each other
+-- the two are inverse
 pub binding_again : (b : Binding) → binding_from (sides b) ≡ b
 binding_again (Data a) = refl
 binding_again (Formula t) = refl
