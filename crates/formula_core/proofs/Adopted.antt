@@ -1,10 +1,10 @@
--- A list takes its changes one after another, from the last to the first.
+-- A list applies its changes one after another, from the last to the first.
 use Rattle.std.{proofs.Common.{◌≡◌, ◌≢◌, ℕ, ◌<◌, ◌≤◌, List, [], ◌∷◌, ◌++◌, None, Err, length, set, get_or, refl, sym, ap, ◌∙◌, subst, arith}, proofs.lemmas.List.{length-append, length-set, get_or-set_other, get_or_append_left, get_or_default}, proofs.Math.Seq.{get_or-append_seam}}
 use Rattle.arrays_core.{specs.declared.item.Kind.TheVariants.{Value}, specs.Outcomes.{fault}}
 use Rattle.formula_core.{specs.declared.kept.Kept.{Kept}, specs.declared.kept.NodeChange.{NodeChange}, specs.declared.table.Node.{Node}, specs.Changes.{each_with}, specs.Holdings.{Holding, holding, holdings_of, nodes_of, no_change, taking, node_taking, adopted}}
 use Rattle.formula_core.specs.declared.table.Node.TheVariants as node
 
--- changes of elements, what they make of these, that they fit, and what is said where there is none
+-- the changes of entries, their effect, their fit, and the fallbacks
 module _ (C A : Type 0) (f : C → A → A) (Fits : C → A → Type 0) (no_change : C) (none : A) where
   -- the last change first
   last_first : (changes : List C) (d : C) (xs : List A) (e : A) → length changes < length xs
@@ -32,7 +32,7 @@ module _ (C A : Type 0) (f : C → A → A) (Fits : C → A → Type 0) (no_chan
         same = last_first changes d xs none below ∙ h.same;
       }
 
-  -- the last change fits in what it is taken by
+  -- the last change fits its entry
   pub last_fits : (all changes : List C) (d : C) (xs : List A) (n : ℕ) (held : A) (whole : List A) → IsLeft all xs whole → all ≡ changes ++ d ∷ [] → n ≡ length changes → held ≡ get_or xs n held → Fits d held
   last_fits all changes d xs n held whole h taken at is =
       let before : IsLeft (changes ++ d ∷ []) xs whole = subst (λ (ds : List C). IsLeft ds xs whole) taken h in
@@ -41,7 +41,7 @@ module _ (C A : Type 0) (f : C → A → A) (Fits : C → A → Type 0) (no_chan
       subst (λ (o : A). Fits d o) there
       (subst (λ (x : C). Fits x (get_or xs (length changes) none)) (get_or-append_seam changes d [] no_change) (before.fit (length changes) (omega (arith, length-append changes (d ∷ [])))))
 
-  -- what is left once a change was taken out, and its element written
+  -- the rest, once a change is removed and its entry written
   pub left_after : (all changes : List C) (d : C) (xs : List A) (n : ℕ) (held new : A) (whole : List A) → IsLeft all xs whole → all ≡ changes ++ d ∷ [] → n ≡ length changes → held ≡ get_or xs n held
       → new ≡ f d held → IsLeft changes (set xs n new) whole
   left_after all changes d xs n held new whole h taken at is made =
@@ -54,7 +54,7 @@ module _ (C A : Type 0) (f : C → A → A) (Fits : C → A → Type 0) (no_chan
 abbrev pub no_node : Kept
 no_node = record { node = node.Name 0; result = Err (fault Value); sums = None }
 
--- nodes that took their changes apply what they did, and hold what they held with its changes
+-- the nodes after their changes have the same functions, and the holdings with their changes
 pub nodes_taken : (changes : List NodeChange) (nodes : List Kept) → length changes ≤ length nodes → nodes_of (each_with node_taking changes nodes) ≡ nodes_of nodes
 nodes_taken [] nodes h = refl
 nodes_taken (d ∷ changes) [] h = absurd (omega (arith, h))

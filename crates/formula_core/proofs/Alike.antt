@@ -1,4 +1,4 @@
--- Only what the names in a tree show matters to what it gives, to its change and to what that costs.
+-- The value of a tree, its change and its cost depend only on the results of the names in it.
 use Rattle.std.{proofs.Common.{◌≡◌, ℕ, ◌+◌, List, [], ◌∷◌, ◌++◌, true, false, Result, Ok, Err, refl, ap, ◌∙◌, subst, sym}, specs.List.{Contains, list_all, sum_by}, proofs.lemmas.Bool.{cond-true}, proofs.lemmas.List.Elements.{Contains-append_left, Contains-append_right, Contains-push}}
 use Rattle.std.proofs.lemmas.List.Sums.{sum_by-append, sum_by_push}
 use Rattle.apl_expr.{specs.Trees.{Tree, Const, Name, Monad, Dyad, Index, Reduce, Scan, Outer, Inner, Positions, NoPositions, Empty, Filled}, specs.declared.functions.Function1.{Function1}, specs.declared.functions.Function2.{Function2}}
@@ -10,7 +10,7 @@ use Rattle.formula_core.{specs.Changes.{NamesChange, arguments, operation_delta,
 use Rattle.apl_expr.specs.declared.functions.Function1.TheVariants as function1
 use Rattle.apl_expr.specs.declared.functions.Function2.TheVariants as function2
 
--- what holds of each name in an expression holds of each in a part of it
+-- a property of each name in an expression holds for each name in a part of it
 in_left : (P : List ℕ → Type 0) (xs ys : List (List ℕ)) → ((x : List ℕ) → Contains (xs ++ ys) x → P x) → (x : List ℕ) → Contains xs x → P x
 in_left P xs ys h x o = h x (Contains-append_left xs ys x o)
 
@@ -21,7 +21,7 @@ both_alike : (f : Function2) {p q r s : Outcome} → p ≡ q → r ≡ s → app
 both_alike f right left = λ i. applied2 f (right i) (left i)
 
 mutual
-  -- a tree gives the same where the names in it show the same
+  -- a tree has the same value if the names in it have the same results
   pub eval_alike : (t : Tree) (a b : List ℕ → Outcome) → ((x : List ℕ) → Contains (names_in t) x → a x ≡ b x) → eval t a ≡ eval t b
   eval_alike (Const l) a b h = refl
   eval_alike (Name x) a b h = h x (Contains-push [] x)
@@ -44,7 +44,7 @@ mutual
       let others = positions_alike ps a b (in_right _ (names_in e) (names_in_positions ps) h) in
       λ i. in_front (first i) (others i)
 
--- so do the written positions of an index
+-- the same for the written positions of an index
 pub values_alike : (ps : Positions) (a b : List ℕ → Outcome) → ((x : List ℕ) → Contains (names_in_positions ps) x → a x ≡ b x) → values_of ps a ≡ values_of ps b
 values_alike NoPositions a b h = refl
 values_alike (Empty ps) a b h = values_alike ps a b h
@@ -53,17 +53,17 @@ values_alike (Filled e ps) a b h =
     let others = values_alike ps a b (in_right _ (names_in e) (names_in_positions ps) h) in
     λ i. first i ∷ others i
 
--- a name showed, shows and changed the same
+-- the name has the same old result, new result and change
 pub record IsAlikeAt (c d : NamesChange) (x : List ℕ) : Type 0 where
   pub old : c.old x ≡ d.old x
   pub new : c.new x ≡ d.new x
   pub delta : c.delta x ≡ d.delta x
 
--- the change of an operation, or what it costs
+-- the change of an operation, or its cost
 abbrev OfOperation : Type 0 → Type 0
 OfOperation A = RuleModel → Result (List ArrayValue) Fault → List Delta → Outcome → A
 
--- it is the same where the arguments showed, show and changed the same
+-- it is the same if the arguments have the same old values, new values and changes
 module _ {A : Type 0} (of_operation : OfOperation A) (c d : NamesChange) where
   monad_alike : (f : Function1) (r : Tree) → ((x : List ℕ) → Contains (names_in r) x → IsAlikeAt c d x) → change c r ≡ change d r
       → of_operation (right_rule f) (arguments (eval r c.new ∷ [])) (change c r ∷ []) (applied1 f (eval r c.old))
@@ -93,7 +93,7 @@ module _ {A : Type 0} (of_operation : OfOperation A) (c d : NamesChange) where
       λ i. of_operation (index_rule (written ps)) (arguments (now_l i ∷ now_ps i)) (left i ∷ positions i) (held i)
 
 mutual
-  -- the change of a tree is the same where the names in it showed, show and changed the same
+  -- a tree has the same change if the names in it have the same results and changes
   pub change_alike : (t : Tree) (c d : NamesChange) → ((x : List ℕ) → Contains (names_in t) x → IsAlikeAt c d x) → change c t ≡ change d t
   change_alike (Const l) c d h = refl
   change_alike (Name x) c d h = (h x (Contains-push [] x)).delta
@@ -117,13 +117,13 @@ mutual
       let others = changes_alike ps c d (in_right _ (names_in e) (names_in_positions ps) h) in
       λ i. first i ∷ others i
 
--- the sum over two lists and one tree more
+-- the sum over two lists and one more tree
 sum_of_parts : (g : Tree → ℕ) (ts us : List Tree) (t : Tree) → sum_by g (ts ++ (us ++ t ∷ [])) ≡ sum_by g ts + (sum_by g us + g t)
 sum_of_parts g ts us t = sum_by-append g ts (us ++ t ∷ []) ∙ ap (λ n. sum_by g ts + n) (sum_by_push g us t)
 
--- a number of each tree that is told by what holds of the names in it
+-- a number of each tree that depends only on the names in it
 module _ (P : List ℕ → Type 0) (f g : Tree → ℕ) (same : (t : Tree) → ((x : List ℕ) → Contains (names_in t) x → P x) → f t ≡ g t) where
-  -- with one tree more
+  -- with one more tree
   one_more : (ts : List Tree) (t : Tree) → sum_by f ts ≡ sum_by g ts → f t ≡ g t → sum_by f (ts ++ t ∷ []) ≡ sum_by g (ts ++ t ∷ [])
   one_more ts t below here = sum_by_push f ts t ∙ ((λ i. below i + here i) ∙ sym (sum_by_push g ts t))
 
@@ -131,7 +131,7 @@ module _ (P : List ℕ → Type 0) (f g : Tree → ℕ) (same : (t : Tree) → (
   two_more ts us t left right here = sum_of_parts f ts us t ∙ ((λ i. left i + (right i + here i)) ∙ sym (sum_of_parts g ts us t))
 
   mutual
-    -- adds up to the same over all that have a node in a tree
+    -- it has the same sum over all nodes in a tree
     pub sums_alike : (t : Tree) → ((x : List ℕ) → Contains (names_in t) x → P x) → sum_by f (inside t) ≡ sum_by g (inside t)
     sums_alike (Const l) h = refl
     sums_alike (Name x) h = refl
@@ -153,7 +153,7 @@ module _ (P : List ℕ → Type 0) (f g : Tree → ℕ) (same : (t : Tree) → (
         let others = position_sums_alike ps (in_right _ (names_in e) (names_in_positions ps) h) in
         sum_by-append f (inside e) (inside_positions ps) ∙ ((λ i. first i + others i) ∙ sym (sum_by-append g (inside e) (inside_positions ps)))
 
--- an operation of whose arguments nothing changed does not change, and costs nothing
+-- an operation with unchanged arguments does not change and costs nothing
 pub operation_unchanged : (p : RuleModel) (r : Result (List ArrayValue) Fault) (ds : List Delta) (held : Outcome) → list_all is_same ds ≡ true
     → (operation_delta p r ds held ≡ Same) × (operation_cost p r ds held ≡ 0)
 operation_unchanged p (Ok arrays) ds held h = (cond-true _ _ _ h, cond-true _ _ _ h)
@@ -162,11 +162,11 @@ operation_unchanged p (Err e) ds held h = (cond-true _ _ _ h, refl)
 same_in_front : (d : Delta) (ds : List Delta) → d ≡ Same → list_all is_same ds ≡ true → list_all is_same (d ∷ ds) ≡ true
 same_in_front d ds e h = subst (λ (x : Delta). list_all is_same (x ∷ ds) ≡ true) (sym e) h
 
--- a tree of which nothing changes, and no node in which costs anything
+-- the tree does not change, and no node in it costs anything
 abbrev IsUnchanged : NamesChange → Tree → List Tree → Type 0
 IsUnchanged c t ts = (change c t ≡ Same) × (sum_by (cost_at c) ts ≡ 0)
 
--- so is one that applies a function to such trees
+-- the same for a function of such trees
 unchanged_before : (c : NamesChange) (f : Function1) (r t : Tree) → change c t ≡ operation_delta (right_rule f) (arguments (eval r c.new ∷ [])) (change c r ∷ []) (eval t c.old)
     → cost_at c t ≡ operation_cost (right_rule f) (arguments (eval r c.new ∷ [])) (change c r ∷ []) (eval t c.old) → IsUnchanged c r (inside r) → IsUnchanged c t (inside r ++ t ∷ [])
 unchanged_before c f r t delta cost right =
@@ -184,7 +184,7 @@ unchanged_between c f l r t delta cost left right =
     (delta ∙ here.0, sum_of_parts (cost_at c) (inside l) (inside r) t ∙ (λ i. left.1 i + (right.1 i + free i)))
 
 mutual
-  -- nothing changed of the names in a tree: then it does not change either, and no node in it costs anything
+  -- if no name in a tree changed, the tree does not change and no node in it costs anything
   pub unchanged_costs_nothing : (t : Tree) (c : NamesChange) → ((x : List ℕ) → Contains (names_in t) x → c.delta x ≡ Same) → (change c t ≡ Same) × (sum_by (cost_at c) (inside t) ≡ 0)
   unchanged_costs_nothing (Const l) c h = (refl, refl)
   unchanged_costs_nothing (Name x) c h = (h x (Contains-push [] x), refl)
@@ -213,7 +213,7 @@ mutual
       let others = unchanged_positions_cost_nothing ps c (in_right _ (names_in e) (names_in_positions ps) h) in
       (same_in_front (change c e) (changes c ps) first.0 others.0, sum_by-append (cost_at c) (inside e) (inside_positions ps) ∙ (λ i. first.1 i + others.1 i))
 
--- so it costs nothing with the tree itself
+-- the same with the tree's own node
 pub unchanged_tree_costs_nothing : (t : Tree) (c : NamesChange) → ((x : List ℕ) → Contains (names_in t) x → c.delta x ≡ Same) → tree_cost false c t ≡ 0
 unchanged_tree_costs_nothing (Name x) c h = refl
 unchanged_tree_costs_nothing (Const l) c h = refl

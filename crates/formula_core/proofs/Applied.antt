@@ -1,4 +1,4 @@
--- A tree of a function before its argument, or between its arguments, is the same whichever case of a tree that is.
+-- A tree of a function of one or two arguments has the same properties in each case of a tree.
 use Rattle.std.{proofs.Common.{◌≡◌, ℕ, List, [], ◌∷◌, ◌++◌, Bool, true, None, refl}, specs.Option.{option_map_or}}
 use Rattle.apl_expr.{specs.Trees.{Tree, before_argument, between_arguments}, specs.declared.functions.Function1.{Function1}, specs.declared.functions.Function2.{Function2}}
 use Rattle.arrays_core.specs.Outcomes.{Outcome}
@@ -7,7 +7,7 @@ use Rattle.formula_core.{specs.Plans.{node_change, node_cost_at}, specs.Rules.{b
 use Rattle.apl_expr.specs.declared.functions.Function1.TheVariants as function1
 use Rattle.apl_expr.specs.declared.functions.Function2.TheVariants as function2
 
--- what it gives
+-- its value
 pub eval_before : (names : List ℕ → Outcome) (f : Function1) (b : Tree) → eval (before_argument f b) names ≡ applied1 f (eval b names)
 eval_before names (function1.Monad f) b = refl
 eval_before names (function1.Reduce f k) b = refl
@@ -18,7 +18,7 @@ eval_between names (function2.Dyad f) a b = refl
 eval_between names (function2.Outer f) a b = refl
 eval_between names (function2.Inner f g) a b = refl
 
--- the names in it, and the trees that have a node in it
+-- the names in it, and the trees with a node in it
 pub names_before : (f : Function1) (b : Tree) → names_in (before_argument f b) ≡ names_in b
 names_before (function1.Monad f) b = refl
 names_before (function1.Reduce f k) b = refl
@@ -50,7 +50,7 @@ operation_between (function2.Dyad f) a b = refl
 operation_between (function2.Outer f) a b = refl
 operation_between (function2.Inner f g) a b = refl
 
--- its change, what that costs, and how many places its result has
+-- its change, the cost of that, and the size of its result
 pub change_before : (c : NamesChange) (f : Function1) (b : Tree) → change c (before_argument f b) ≡ operation_delta (right_rule f) (arguments (eval b c.new ∷ [])) (change c b ∷ []) (eval (before_argument f b) c.old)
 change_before c (function1.Monad f) b = refl
 change_before c (function1.Reduce f k) b = refl
@@ -81,7 +81,7 @@ size_between names (function2.Dyad f) a b = refl
 size_between names (function2.Outer f) a b = refl
 size_between names (function2.Inner f g) a b = refl
 
--- the sums that it keeps, and how many it joins
+-- its kept sums, and the number of its joins
 pub summed_before : (names : List ℕ → Outcome) (f : Function1) (b : Tree) → summed_at names (before_argument f b) ≡ option_map_or (λ fold. summed_in fold (eval b names)) (total_of f) None
 summed_before names (function1.Monad f) b = refl
 summed_before names (function1.Reduce f k) b = refl

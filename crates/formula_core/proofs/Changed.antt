@@ -1,4 +1,4 @@
--- The change of a node makes of what it held what it now gives.
+-- The old result of a node with its change is its new result.
 use Rattle.std.{proofs.Common.{◌≡◌, ℕ, suc, ◌+◌, ◌<◌, List, [], ◌∷◌, ◌++◌, length, map, Bool, true, false, ◌||◌, Result, Ok, Err, IfOk, refl, sym, ap, ◌∙◌, subst, arith, inl, inr}, proofs.lemmas.List.{length-append, length-map}, specs.List.{list_all, list_any, range_with_len}}
 use Rattle.std.proofs.lemmas.Bool.{false≢true, cases_Bool, cond-true, cond-false}
 use Rattle.apl_expr.{specs.Trees.{Tree, Index, before_argument, between_arguments, Positions, NoPositions, Empty, Filled}, specs.declared.functions.Function1.{Function1}, specs.declared.functions.Function2.{Function2}}
@@ -15,19 +15,19 @@ use Rattle.apl_expr.specs.declared.functions.Function1.TheVariants as function1
 use Rattle.apl_expr.specs.declared.expr.Dyadic.TheVariants as dyadic
 use Rattle.apl_expr.specs.declared.functions.Function2.TheVariants as function2
 
--- what was, with its change, is what is; both are arrays or errors
+-- the old value with its change is the new value; both are arrays or errors
 pub record IsChanged (old : Outcome) (d : Delta) (new : Outcome) : Type 0 where
   pub right : applied d old ≡ new
   pub fit : FitsIn d old
   pub sound_old : IfOk old IsArray
   pub sound_new : IfOk new IsArray
 
--- what a tree gave, with its change, is what it gives
+-- the old value of a tree with its change is its new value
 pub record IsTreeChanged (c : NamesChange) (t : Tree) : Type 0 where
   pub right : applied (change c t) (eval t c.old) ≡ eval t c.new
   pub fit : FitsIn (change c t) (eval t c.old)
 
--- what each argument was, with its change, is what it is
+-- the old value of each argument with its change is its new value
 abbrev pub AllChanged : List Outcome → List Delta → List Outcome → Type 0
 AllChanged [] [] [] = Unit {0}
 AllChanged (o ∷ os) (d ∷ ds) (n ∷ ns) = IsChanged o d n × AllChanged os ds ns
@@ -69,7 +69,7 @@ unchanged [] (d ∷ ds) ns h k = absurd h
 unchanged (o ∷ os) [] ns h k = absurd h
 unchanged (o ∷ os) (d ∷ ds) [] h k = absurd h
 
--- the arguments as a rule takes them
+-- the arguments in the form that a rule takes
 record Handed (os : List Outcome) (ds : List Delta) (arrays : List ArrayValue) : Type 0 where
   pub shows : Shows os (paired arrays ds)
   pub told : HaveValues (paired arrays ds) arrays ds
@@ -125,12 +125,12 @@ counted (Ok x ∷ rs) xs h = behind (all_or_first_error rs) (counted rs) refl h
     behind (Ok ys) others e h = let all : x ∷ ys ≡ xs = cc in ap (λ (l : List Item). length l) (sym all) ∙ ap suc (others ys e)
     behind (Err k) others e h = absurd (let no : ⊥ = cc in no)
 
--- a result that grew has an axis: the place of a result without axes is one item, and that one was there
+-- a grown result has an axis: a result without axes has one item, which was there already
 grown_axis : (item : List ℕ → Result Item Kind) (shape : List ℕ) (xs ys : List Item) → items_at item (last_place (one_longer shape)) ≡ Ok xs → length ys ≡ size shape → length ys + length xs ≡ size (one_longer shape) → 0 < length shape
 grown_axis item [] xs ys h old all = let one : length xs ≡ 1 = counted (map (λ before. item (walk_at [] before)) (range_with_len 0 (box_size []))) xs h in absurd (omega (arith, one, old, all))
 grown_axis item (n ∷ shape) xs ys h old all = omega arith
 
--- what a result grew by fits it
+-- the tail of a grown result fits it
 in_longer : (t : TailValue) (a : ArrayValue) (item : List ℕ → Result Item Kind) (item_type : ItemType) (shape : List ℕ) (r : Result (List Item) Kind) → IsArray a → t.shape ≡ shape → t.item_type ≡ item_type
     → items_at item (last_place shape) ≡ Ok t.items → all_or_first_error (map item (indices shape)) ≡ r → Ok (grown_by a t.items) ≡ given (with_items item_type shape r) → FitsTail a t
 in_longer t a item item_type shape (Err k) sound shaped typed last made is = absurd (let no : ⊥ = cc in no)
@@ -157,7 +157,7 @@ tail_fits p arrays t a sound h is =
     in_longer t a (p.item arrays) h.form.item_type h.form.shape (all_or_first_error (map (p.item arrays) (indices h.form.shape))) sound h.shaped h.typed h.items refl
     (is ∙ ap (λ (f : Result Form Kind). given (whole f (p.item arrays))) h.passes)
 
--- beside an error there is no patch, and nothing grows
+-- an error has no patch and does not grow
 or_yes : (b : Bool) → (b || true) ≡ true
 or_yes true = refl
 or_yes false = refl
@@ -211,7 +211,7 @@ module _ (p : RuleModel) (law : ReachCovers p) (growing : IsGrowing p p.grows) (
       subst (λ (d : Delta). FitsIn d old) same
       (fit_of p args old (node_delta p args old) refl sound (node_is_right p args old) (ap (λ d. applied d old) same ∙ (operation_becomes (Ok arrays) is ∙ sym seen)))
 
--- what a function gives by its rule is what its expression means
+-- the result of a function by its rule is the value of its expression
 pub monad_meant : (f : Function1) (o : Outcome) → result_of (right_rule f) (arguments (o ∷ [])) ≡ applied1 f o
 monad_meant f (Err e) = refl
 monad_meant f (Ok b) = right_meant f b
@@ -282,7 +282,7 @@ written_many c NoPositions = refl
 written_many c (Empty ps) = written_many c ps
 written_many c (Filled e ps) = ap suc (written_many c ps)
 
--- an operation whose arguments changed so
+-- an operation with these changed arguments
 operation_changed : (p : RuleModel) → ReachCovers p → IsGrowing p p.grows → (os : List Outcome) (ds : List Delta) (ns : List Outcome) (old new : Outcome) → IfOk old IsArray → AllChanged os ds ns → length ds ≡ length p.selectors
     → result_of p (arguments os) ≡ old → result_of p (arguments ns) ≡ new
     → (applied (operation_delta p (arguments ns) ds old) old ≡ new) × FitsIn (operation_delta p (arguments ns) ds old) old
@@ -294,7 +294,7 @@ operation_changed p law growing os ds ns old new sound all count was is =
 changed_so : (c : NamesChange) (t : Tree) (d : Delta) → change c t ≡ d → (applied d (eval t c.old) ≡ eval t c.new) × FitsIn d (eval t c.old) → IsTreeChanged c t
 changed_so c t d is h = record { right = ap (λ x. applied x (eval t c.old)) is ∙ h.0; fit = subst (λ (x : Delta). FitsIn x (eval t c.old)) (sym is) h.1 }
 
--- the change of an operation makes of what it gave what it gives, where that of each argument does
+-- the old value of an operation with its change is its new value, if that holds for each argument
 pub monad_changed : (c : NamesChange) (f : Function1) (b : Tree) → IfOk (eval (before_argument f b) c.old) IsArray → IsChanged (eval b c.old) (change c b) (eval b c.new) → IsTreeChanged c (before_argument f b)
 monad_changed c f b sound right =
     let t = before_argument f b in

@@ -1,4 +1,4 @@
--- What is counted where an expression is worked out once is what its functions cost.
+-- The count of one evaluation of an expression is the cost of its functions.
 use Rattle.std.{proofs.Common.{◌≡◌, ◌∙◌, ◌+◌, ◌<◌, ◌≤◌, ℕ, zero, suc, List, [], ◌∷◌, ◌++◌, length, map, drop, get_or, true, is_ok, Option, Some, None, Result, Ok, Err, IsOk, refl, sym, ap, subst, arith}, specs.List.{sum_by}, proofs.lemmas.Bool.{false≢true}, proofs.lemmas.List.{drop_more}}
 use Rattle.std.proofs.lemmas.List.Sums.{sum_by-append, sum_by_push}
 use Rattle.apl_expr.{specs.declared.expr.Expr.{Expr}, specs.declared.functions.Function1.{Function1}, specs.declared.functions.Function2.{Function2}}
@@ -10,7 +10,7 @@ use Rattle.formula_core.{specs.declared.evaluation.Evaluated.{Evaluated}, specs.
 use Rattle.formula_core.{specs.Meaning.{applied2, eval, eval_positions, in_front, of_right, of_both}, specs.Evaluated.{array_in, outcome_of}, specs.Plans.{tree_cost}, specs.Rules.{right_rule, both_rule}, specs.Tables.{inside, inside_positions}}
 use Rattle.formula_core.{proofs.Applied.{eval_before, eval_between, inside_before, inside_between, size_before, size_between}, proofs.Changed.{monad_meant, dyad_meant, indexing_meant}, proofs.Indexing.{error_stands, value_written}}
 
--- what two steps give, the first gives, and the second
+-- if two steps succeed, each of them does
 first_given : {A B E : Type 0} (r : Result A E) (next : A → Result B E) → is_ok (and_then r next) ≡ true → is_ok r ≡ true
 first_given (Ok x) next h = refl
 first_given (Err e) next h = h
@@ -19,12 +19,12 @@ second_given : {A B C E : Type 0} (r : Result A E) (s : Result B E) (next : A �
 second_given (Ok x) s next h = first_given s (next x) h
 second_given (Err e) s next h = absurd (false≢true h)
 
--- how many items an array has, and none are beside an error
+-- the number of items of an array; 0 for an error
 items_in : Outcome → ℕ
 items_in (Ok a) = size a.shape
 items_in (Err e) = 0
 
--- an array that a rule gives has as many items as its checks say
+-- an array by a rule has as many items as its checks say
 collected_items : (f : Form) (r : Result (List Item) Kind) → is_ok (given (with_items f.item_type f.shape r)) ≡ true → items_in (given (with_items f.item_type f.shape r)) ≡ size f.shape
 unfolding items_in
 collected_items f (Ok items) h = refl
@@ -38,11 +38,11 @@ operation_items : (p : RuleModel) (r : Result (List ArrayValue) Fault) → is_ok
 operation_items p (Ok arrays) h = checked_items (p.form arrays) (p.item arrays) h
 operation_items p (Err e) h = absurd (false≢true h)
 
--- so an operation costs as much as it gives
+-- an operation costs as many items as its result has
 meant_items : (p : RuleModel) (r : Result (List ArrayValue) Fault) (o : Outcome) → result_of p r ≡ o → is_ok o ≡ true → items_in o ≡ operation_size p r
 meant_items p r o is h = ap items_in (sym is) ∙ operation_items p r (ap is_ok is ∙ h)
 
--- what one function counts
+-- the count of one function
 most_items : (o : Outcome) (cost before after : ℕ) (gives : Result Evaluated Fault) → outcome_of gives ≡ o → (is_ok o ≡ true → items_in o ≡ cost) → AreItemsCounted gives before after → after ≤ before + cost
 unfolding items_in
 most_items o cost before after (Ok x) is sized items =
@@ -59,11 +59,11 @@ least_items o cost before after (Ok x) is sized items h =
     omega (arith, all, own, items)
 least_items o cost before after (Err e) is sized same h = absurd (false≢true (ap is_ok is ∙ h))
 
--- two counts, one after the other
+-- two counts in sequence
 then : (before now after first second : ℕ) → ticked before first ≤ now → ticked now second ≤ after → ticked before (first + second) ≤ after
 then before now after first second h more = omega (arith, h, more)
 
--- what the arguments count, and then the function of them
+-- the counts of the arguments, and then of their function
 record AreCounted (first second own before after : ℕ) (Given : Type 0) : Type 0 where
   pub most : after ≤ before + ((first + second) + own)
   pub least : Given → ticked before ((first + second) + own) ≤ after
@@ -76,7 +76,7 @@ two_counted o one two own before now then_now after First Second first second gi
 }
 
 module _ (names : List ℕ → Outcome) where
-  -- the cost of a tree is that of its arguments and its own
+  -- the cost of a tree is the cost of its arguments and its own
   pub monad_cost : (f : Function1) (b : Tree) → cost_in names (before_argument f b) ≡ cost_in names b + tree_size names (before_argument f b)
   monad_cost f b = ap (sum_by (tree_size names)) (inside_before f b) ∙ sum_by_push (tree_size names) (inside b) (before_argument f b)
 
@@ -129,7 +129,7 @@ module _ (names : List ℕ → Outcome) where
       (λ g. first_given (eval_positions ps names) _ g) (λ g. second_given (eval_positions ps names) (eval a names) _ g) items in
       record { most = subst (λ n. after ≤ before + n) (sym (index_cost a ps)) all.most; least = λ g. subst (λ n. ticked before n ≤ after) (sym (index_cost a ps)) (all.least g) }
 
-  -- what the positions from one on cost
+  -- the cost of the positions from one on
   abbrev pub cost_from : List (Option Expr) → ℕ → ℕ
   cost_from ps k = cost_in_positions names (positions_of (map position_of (drop k ps)))
 
@@ -145,7 +145,7 @@ module _ (names : List ℕ → Outcome) where
   cost_left (None ∷ ps) (suc k) = cost_left ps k
   cost_left (Some e ∷ ps) (suc k) = omega (arith, cost_left ps k, sum_by-append (tree_size names) (inside (tree_of e)) (inside_positions (positions_of (map position_of ps))))
 
-  -- where a position fails and those after it do not, that is the error of all
+  -- the first failing position from the right has the error of all
   pub failed_at : (ps : List (Option Expr)) (k : ℕ) (e : Expr) (fault : Fault) (later : List Position) → k < length ps → get_or ps k None ≡ Some e → eval (tree_of e) names ≡ Err fault
       → Ok later ≡ eval_positions (positions_of (map position_of (drop (k + 1) ps))) names → eval_positions (positions_of (map position_of ps)) names ≡ Err fault
   failed_at ps k e fault later below is failed others =

@@ -15,13 +15,13 @@ use Rattle.apl_expr.specs.declared.functions.Function1.TheVariants as function1
 use Rattle.apl_expr.specs.declared.expr.Dyadic.TheVariants as dyadic
 use Rattle.apl_expr.specs.declared.functions.Function2.TheVariants as function2
 
--- the law of each rule: where arguments agree outside their changed boxes, results agree outside what is reached
+-- the law of each rule: if the arguments agree outside their changed boxes, the results agree outside the reached box
 pub record RulesCover : Type 0 where
   pub of_right : (f : Function1) → ReachCovers (right_rule f)
   pub of_both : (f : Function2) → ReachCovers (both_rule f)
   pub of_positions : (positions : List Bool) → ReachCovers (index_rule positions)
 
--- and where it says that its node grows, the result grows by one place
+-- if a rule allows growth, the result grows by one place
 pub record RulesGrow : Type 0 where
   pub of_right : (f : Function1) → IsGrowing (right_rule f) (right_rule f).grows
   pub of_both : (f : Function2) → IsGrowing (both_rule f) (both_rule f).grows
@@ -87,6 +87,6 @@ both_growing (function2.Dyad dyadic.Decode) = never_grows _
 both_growing (function2.Outer f) = outer_growing f
 both_growing (function2.Inner f g) = never_grows _
 
--- where the rule of each function says that its node grows, the result does
+-- if the rule of a function allows growth, its result grows
 pub rules_grow : RulesGrow
 rules_grow = record { of_right = right_growing; of_both = both_growing; of_positions = index_growing }

@@ -9,7 +9,7 @@ higher a (suc b) = let below : 2 ^ a < 2 ^ (a + suc b) = pow-lt (omega arith) in
 one_more : (a all rest first : ℕ) → all ≡ first + rest → first ≡ 1 → a + 1 + rest ≡ a + all
 one_more a all rest first is one = omega (arith, is, one)
 
--- a number lies below the power of two behind those of these that are at most the number
+-- a number is less than the first power of two that exceeds it
 below_counted : (a m n : ℕ) → n < 2 ^ (a + m) → n < 2 ^ (a + count_by (λ k. nat_le (2 ^ k) n) (range_with_len a m))
 below_counted a zero n h = h
 below_counted a (suc m) n h =
@@ -31,14 +31,14 @@ below_power : (n : ℕ) → n < 2 ^ n
 below_power zero = omega arith
 below_power (suc n) = let h = below_power n in let twice : 2 ^ suc n ≡ 2 * 2 ^ n = pow-succ' 2 n in omega (arith, h, twice)
 
--- a number has its binary digits
+-- a number fits into its binary digits
 pub within_digits : (n : ℕ) → n < 2 ^ binary_digits n
 within_digits n =
     let from : n ≡ 0 + n = omega arith in
     let digits : 0 + binary_digits n ≡ binary_digits n = omega arith in
     subst (λ k. n < 2 ^ k) digits (below_counted 0 n n (subst (λ k. n < 2 ^ k) from (below_power n)))
 
--- at most 2 is at most as many as it has
+-- a number of at most 2 has at least that many digits
 pub few_within_digits : (n : ℕ) → n ≤ 2 → n ≤ binary_digits n
 few_within_digits zero h = omega arith
 few_within_digits (suc zero) h = omega arith

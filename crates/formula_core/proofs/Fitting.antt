@@ -1,10 +1,10 @@
--- What fits in what was held fits what is there now.
+-- A change that fits the old value fits the new one.
 use Rattle.std.{proofs.Common.{◌≡◌, ◌∙◌, ◌<◌, ℕ, List, [], ◌∷◌, length, drop, true, Ok, Err, refl, ap, sym, arith}, proofs.lemmas.Bool.{false≢true}}
 use Rattle.arrays_core.{specs.Arrays.{ArrayValue}, specs.Growth.{one_longer}, proofs.Growing.{rank_longer}, specs.Shapes.{size}, specs.Outcomes.{Outcome}}
 use Rattle.index_region.{specs.declared.delta.Delta.{Delta}, specs.declared.delta.Delta.TheVariants.{Same, Patch, Grown, Whole}}
 use Rattle.{change_rules.{specs.Currency.{applied}, specs.Nodes.{is_grown}}, formula_core.specs.Changes.{FitsIn, FitsNow}}
 
--- each place of the first axis stays as large
+-- each place of the first axis keeps its size
 pub others_longer : (shape : List ℕ) → drop 1 (one_longer shape) ≡ drop 1 shape
 others_longer [] = refl
 others_longer (n ∷ shape) = refl

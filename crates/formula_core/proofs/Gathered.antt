@@ -1,4 +1,4 @@
--- The operands of an operation, gathered for its rule where none of them is an error.
+-- The inputs of an operation, collected for its rule if none is an error.
 use Rattle.std.{proofs.Common.{◌≡◌, ℕ, suc, ◌+◌, ◌≤◌, List, [], ◌∷◌, length, map, Bool, ◌&&◌, Option, Some, None, is_some, Result, Ok, Err, refl, sym, ap, ◌∙◌, subst, IfOk, OnOk, false, if◌then◌else◌, arith}, specs.Borrow.{Bor}, specs.List.{list_all}, specs.Result.{result_err}}
 use Rattle.std.specs.declared.alloc.AllocError.{AllocError}
 use Rattle.arrays_core.{specs.Arrays.{ArrayValue}, specs.declared.fault.Fault.{Fault}, specs.Outcomes.{Outcome}}
@@ -9,7 +9,7 @@ use Rattle.selection_fns.specs.Index.{count_written}
 use Rattle.formula_core.{specs.declared.input.Input.{Input}, specs.declared.input.Input.TheVariants.{Good, Bad}, specs.Rules.{with_change, IsRefreshed}, specs.Changes.{FitsNow, argument_in_front, arguments, operation_delta, operation_cost}}
 use Rattle.formula_core.{specs.Inputs.{shown, stays, delta_of, HasFit, AllHaveFit, IsOperationChange, written_inputs, arrays_among, last_error}, proofs.Fitting.{axis_lies}, proofs.Stepping.{stays_same}, proofs.Values.{HaveValues, no_values, values_more, delta_by_values, cost_by_values}}
 
--- the operands are all arrays, and this is what they are
+-- the inputs are all arrays, and these are the arrays
 record IsGathered (inputs : List Input) : Type 0 where
   pub are : arguments (map shown inputs) ≡ Ok (views (arrays_among inputs))
   pub told : HaveValues (arrays_among inputs) (views (arrays_among inputs)) (map delta_of inputs)
@@ -34,16 +34,16 @@ gathered (Good a d ∷ inputs) h =
     }
 gathered (Bad f changed ∷ inputs) h = absurd (some_in_front f (arguments (map shown inputs)) h)
 
--- an array in front has no error
+-- an array in front adds no error
 pub none_with_array : (a : ArrayValue) (d : Bor Delta) (inputs : List Input) → last_error inputs ≡ None → last_error (Good a d ∷ inputs) ≡ None
 none_with_array a d inputs h = ap (λ r. result_err (argument_in_front (Ok a) r)) (gathered inputs h).are
 
--- what is so of a cost that is answered, beside the change that was put in place
+-- a property of a returned cost with the change that was stored
 pub in_place : (P : Delta × ℕ → Type 0) (change : Delta) (r : Result ℕ AllocError) → IfOk r (λ n. P (change, n)) → IfOk (with_change change r) P
 in_place P change (Ok n) h = h
 in_place P change (Err e) h = tt
 
--- the refresh of an operation that puts its change in place, by what the call that does it says
+-- the refresh of an operation that stores its change, by the contract of the call
 pub refreshed_by : (p : RuleModel) (args : List Argument) (held : Outcome) (before after : ℕ) (change : Delta) (r : Result ℕ AllocError)
     → OnOk r (change ≡ node_delta p args held) → IfOk r (λ n. n ≡ node_cost p args held) → after ≤ before + node_cost p args held
     → IfOk r (λ n. shows_error change ≡ false → after ≡ ticked before n) → before ≤ after → IsRefreshed p args held before after (with_change change r)
@@ -51,7 +51,7 @@ refreshed_by p args held before after change (Ok n) delta cost most exact rises 
     record { delta = delta; cost = cost; ticks = most; least = λ sound. omega (arith, exact sound); rises = rises }
 refreshed_by p args held before after change (Err e) delta cost most exact rises = record { delta = tt; cost = tt; ticks = most; least = tt; rises = rises }
 
--- where all operands are arrays, the rule's change is that of the operation
+-- if all inputs are arrays, the change by the rule is the change of the operation
 pub refreshed_change : (p : RuleModel) (inputs : List Input) (held : Outcome) (before after : ℕ) (r : Result (Delta × ℕ) AllocError) → last_error inputs ≡ None
     → IsRefreshed p (arrays_among inputs) held before after r → IsOperationChange p inputs held before after r
 refreshed_change p inputs held before after r none made =
@@ -76,7 +76,7 @@ is_error : (e : Fault) (r : Result (List ArrayValue) Fault) → result_err r ≡
 is_error e (Err f) h = cc
 is_error e (Ok arrays) h = absurd (let no : ⊥ = cc in no)
 
--- a later error comes before one in front
+-- a later error comes before an earlier one
 pub error_behind : (i : Input) (inputs : List Input) (e : Fault) → last_error inputs ≡ Some e → last_error (i ∷ inputs) ≡ Some e
 error_behind i inputs e h = ap (λ r. result_err (argument_in_front (shown i) r)) (is_error e (arguments (map shown inputs)) h)
 
@@ -97,7 +97,7 @@ error_change p inputs held before e d some is =
       rises = omega arith;
     }
 
--- the boxes of the patches lie in the arrays, and those that grew have axes
+-- patches lie in their arrays, and grown arrays have axes
 abbrev pub EachHasFit : List Input → Type 0
 EachHasFit [] = Unit {0}
 EachHasFit (i ∷ inputs) = HasFit i × EachHasFit inputs
@@ -123,7 +123,7 @@ arrays_have_axes [] h = tt
 arrays_have_axes (Good a d ∷ inputs) h = (axis_lies a d.now h.0, arrays_have_axes inputs h.1)
 arrays_have_axes (Bad f changed ∷ inputs) h = arrays_have_axes inputs h.1
 
--- as many as are written
+-- the number of written positions
 written_count : (positions : List (Option Input)) → length (written_inputs positions) ≡ count_written (map is_some positions)
 written_count [] = refl
 written_count (Some i ∷ positions) = ap suc (written_count positions)

@@ -1,4 +1,4 @@
--- How many sums are joined for the node of a tree.
+-- The number of joins for the node of a tree.
 use Rattle.std.{proofs.Common.{◌≡◌, ℕ, ◌+◌, ◌-◌, ◌*◌, ◌≤◌, List, [], ◌∷◌, length, Bool, true, false, ◌&&◌, is_some, Option, Some, None, Result, Ok, Err, IfOk, refl, sym, ap, ◌∙◌, subst, arith, inl, inr}, specs.Option.{option_map_or}, specs.declared.alloc.AllocError.{AllocError}}
 use Rattle.std.proofs.lemmas.Bool.{cases_Bool, cond-false, cond-true, false≢true}
 use Rattle.apl_expr.{specs.Trees.{Tree, before_argument}, specs.declared.functions.Function1.{Function1}}
@@ -29,7 +29,7 @@ grown_beside : (fold : Reduce) (t : TailValue) (a : ArrayValue) (kept : Option S
 grown_beside fold t a kept (Err e) fit is keeps = absurd fit
 grown_beside fold t a kept (Ok b) fit is keeps = let same : grown_by b t.items ≡ a = cc in record { before = b; fit = fit; becomes = sym same; keeps = ap is_some keeps ∙ some_summed fold b }
 
--- where the argument of a total is patched or grew, the sums of its lines are kept if these are long enough, or were
+-- the sums of a patched or grown argument are kept if its lines are long enough, or were before it grew
 pub kept_well : (s : Stage) (f : Function1) (b : Operand) → IsOperand (length s.inputs.now) (length s.changes.now) b → (kept : Option SummedValue) → IsKeptBy s (node.Monad f b) kept → (i : Input)
     → ((c : NamesChange) → (names : List (List ℕ)) → (trees : List Tree) → IsStaged c names trees s → GivesItsTree s.is_new c (tree_of_operand names trees b) i)
     → (fold : Reduce) → total_of f ≡ Some fold → AreSumsKept fold (shown i) (delta_of i) kept
@@ -81,7 +81,7 @@ whole_not_narrow Same h axis = refl
 whole_not_narrow (Grown t) h axis = absurd (false≢true h)
 whole_not_narrow (Patch p) h axis = absurd (false≢true h)
 
--- a count of joins: none beside an error, and for lines that are summed up one less for each than it has numbers
+-- a count of joins: 0 beside an error; for folded lines one less for each than it has numbers
 record Counts (fold : Reduce) (count : Outcome → Delta → Outcome → ℕ → ℕ) : Type 0 where
   pub error : (e : Fault) (d other : Delta) (held gave : Outcome) (n m : ℕ) → count (Err e) d held n ≡ count (Err e) other gave m
   pub folds : (a : ArrayValue) (d : Delta) (held : Outcome) (n : ℕ) → is_narrow (axis_at (length a.shape) fold.along) d ≡ false → count (Ok a) d held n ≡ n * (length_along fold.along a.shape - 1)
@@ -105,7 +105,7 @@ module _ (fold : Reduce) (count : Outcome → Delta → Outcome → ℕ → ℕ)
       counts.folds a d held n (h (axis_at (length a.shape) fold.along)) ∙ (ap (λ x. x * (length_along fold.along a.shape - 1)) e ∙ sym (counts.folds a other gave m (k (axis_at (length a.shape) fold.along))))
   new_same (Err x) d other h k held gave n m e = counts.error x d other held gave n m
 
-  -- the count of a total by its argument as it is taken is that of its tree
+  -- the count of a total for its input is the count for its tree
   counted_same : (is_new : Bool) (c : NamesChange) (f : Function1) (b : Tree) (i : Input) (held : Outcome) → GivesItsTree is_new c b i → (is_new ≡ false → held ≡ eval (before_argument f b) c.old) → right_rule f ≡ total_rule fold
       → count (shown i) (delta_of i) held (operation_cost (total_rule fold) (arguments (shown i ∷ [])) (delta_of i ∷ []) held) ≡ count (eval b c.new) (node_change is_new c b) (eval (before_argument f b) c.old) (node_cost_at is_new c (before_argument f b))
   counted_same true c f b i held ready holds rule =
@@ -123,7 +123,7 @@ module _ (fold : Reduce) (count : Outcome → Delta → Outcome → ℕ → ℕ)
       ∙ (ap (operation_cost (right_rule f) (arguments (eval b c.new ∷ [])) (change c b ∷ [])) (holds refl) ∙ sym (cost_before c f b))) in
       held_same (eval b c.new) (change c b) i input held (eval (before_argument f b) c.old) (holds refl) _ _ cost
 
--- a count of joins for the node of a tree, if it sums up lines along an axis
+-- a count of joins for the node of a tree, if it is a total
 abbrev counted_for : (Reduce → Outcome → Delta → Outcome → ℕ → ℕ) → (is_new : Bool) → NamesChange → Function1 → Tree → Option Reduce → ℕ
 counted_for count is_new c f b o = option_map_or (λ fold. count fold (eval b c.new) (node_change is_new c b) (eval (before_argument f b) c.old) (node_cost_at is_new c (before_argument f b))) o 0
 

@@ -1,4 +1,4 @@
--- What a literal gives, and which literal gives an array.
+-- The array of a literal, and the literal of an array.
 use Rattle.std.{proofs.Common.{◌≡◌, ℕ, ℤ, ◌≤◌, List, [], ◌∷◌, length, map, All, Bool, true, false, Result, Ok, Err, IfOk, refl, sym, ap, ◌∙◌, arith, if◌then◌else◌}, specs.Prelude.{nat_le}, proofs.lemmas.List.{length-map}, proofs.lemmas.List.Elements.{All-nil, All-cons, All-map}, proofs.lemmas.Bool.Decides.{nat_tests}}
 use Rattle.apl_expr.specs.Trees.{Literal, Numbers, Text}
 use Rattle.arrays_core.{specs.declared.item.Item.{Item}, specs.declared.item.Item.TheVariants.{Num, Char}, specs.declared.item.ItemType.TheVariants.{Nums, Chars}, specs.declared.item.Kind.{Kind}, specs.declared.item.Kind.TheVariants.{Limit}}
@@ -13,7 +13,7 @@ characters_back : (cs : List ℕ) → map character_of (map (λ c. Char c) cs) �
 characters_back [] = refl
 characters_back (c ∷ cs) = ap (λ rest. c ∷ rest) (characters_back cs)
 
--- an array that was chosen is the one that stands there
+-- a chosen array is the array in that branch
 chosen : (b : Bool) (x a : ArrayValue) (k : Kind) → (if b then Ok x else Err k) ≡ Ok a → x ≡ a
 chosen true x a k h = cc
 chosen false x a k h = absurd (let no : ⊥ = cc in no)
@@ -31,7 +31,7 @@ text_back cs a h =
 one_back : (x a : ArrayValue) (r : Result ArrayValue Kind) → r ≡ Ok x → r ≡ Ok a → x ≡ a
 one_back x a r given_x given_a = cc
 
--- the literal that gives an array is that of its items
+-- a literal with an array is the literal of the array's items
 pub literal_back : (l : Literal) (a : ArrayValue) → array_of l ≡ Ok a → literal_of_items a.item_type a.items ≡ l
 literal_back (Numbers []) a h = vector_back [] a h
 literal_back (Numbers (n ∷ [])) a h = ap (λ (x : ArrayValue). literal_of_items x.item_type x.items) (sym (one_back (scalar_of n) a (array_of (Numbers (n ∷ []))) refl h))
@@ -40,7 +40,7 @@ literal_back (Text []) a h = text_back [] a h
 literal_back (Text (c ∷ [])) a h = ap (λ (x : ArrayValue). literal_of_items x.item_type x.items) (sym (one_back (character_scalar_of c) a (array_of (Text (c ∷ []))) refl h))
 literal_back (Text (c ∷ d ∷ cs)) a h = text_back (c ∷ d ∷ cs) a h
 
--- what holds of an axis of a vector
+-- a property of the axis of a vector
 axes_within : (n : ℕ) → n ≤ longest_axis → All (λ m. m ≤ longest_axis) (n ∷ [])
 axes_within n h = All-cons (λ (m : ℕ). m ≤ longest_axis) n [] h (All-nil (λ (m : ℕ). m ≤ longest_axis))
 
@@ -73,7 +73,7 @@ text_is_array cs = by (nat_le (length cs) longest_axis) refl
           one_type = All-map (λ (item : Item). type_of item ≡ Chars) (λ c. Char c) cs (λ k d h. refl);
         }
 
--- what a literal gives is an array, where it is no error
+-- the result of a literal is an array, unless it is an error
 pub literal_is_array : (l : Literal) → IfOk (given (array_of l)) IsArray
 literal_is_array (Numbers []) = vector_is_array []
 literal_is_array (Numbers (n ∷ [])) = record { within = record { rank = omega arith; axes = All-nil (λ (m : ℕ). m ≤ longest_axis); size_within = omega arith }; one_item_a_place = refl; one_type = All-cons (λ (item : Item). type_of item ≡ Nums) (Num n) [] refl (All-nil (λ (item : Item). type_of item ≡ Nums)) }

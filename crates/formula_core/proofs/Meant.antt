@@ -1,4 +1,4 @@
--- The whole evaluation of a function's rule is what the function gives.
+-- The evaluation of a function's rule is the result of the function.
 use Rattle.std.proofs.Common.{◌≡◌, ℕ, List, [], ◌∷◌, Result, Ok, Err, refl}
 use Rattle.apl_expr.{specs.declared.functions.Function1.{Function1}, specs.declared.functions.Function2.{Function2}}
 use Rattle.arrays_core.{specs.Arrays.{ArrayValue, collect}, specs.declared.item.Item.{Item}, specs.declared.item.ItemType.TheVariants.{Nums}, specs.declared.item.Kind.{Kind}, specs.Outcomes.{given}}

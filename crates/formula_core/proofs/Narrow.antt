@@ -1,4 +1,4 @@
--- The totals of lines of which one place each changed: no more are worked out than places changed.
+-- The totals of lines that each changed in one place: the number of computed totals is at most that of the changed places.
 use Rattle.std.{proofs.Common.{◌≡◌, ℕ, zero, suc, ◌+◌, ◌-◌, ◌<◌, ◌≤◌, true, is_ok, List, [], ◌∷◌, length, drop, remove, min, max, Some, None, Result, Ok, Err, ap, ◌∙◌, subst, sym, refl, arith, inl, inr}, proofs.lemmas.Bool.{cases_Bool, cond-false, cond-true, eqb-true, false≢true}}
 use Rattle.std.{proofs.lemmas.List.Edits.{length-remove}, proofs.Math.Nat.{mul-le-mul}}
 use Rattle.arrays_core.{specs.Arrays.{ArrayValue}, specs.Shapes.{size}, specs.declared.item.Kind.{Kind}, specs.Outcomes.{Outcome}}
@@ -12,14 +12,14 @@ use Rattle.formula_core.specs.Changes.{FitsNow, operation_cost}
 
 -- ---- a box without an axis
 
--- where a box has one place on an axis, it has this axis
+-- a box with one place on an axis has this axis
 on_axis : (axis : ℕ) (region : List Interval) → is_one_a_line axis region ≡ true → axis < length region
 on_axis zero [] one = absurd (false≢true one)
 on_axis (suc axis) [] one = absurd (false≢true one)
 on_axis zero (s ∷ region) one = omega arith
 on_axis (suc axis) (s ∷ region) one = let there = on_axis axis region one in omega (arith, there)
 
--- what lies in a shape of a box of as many axes has no more places
+-- the part of a box of as many axes inside a shape has at most as many places
 met_within : (shape : List ℕ) (region : List Interval) → length region ≡ length shape → box_size (met shape region) ≤ box_size region
 met_within [] [] e = omega arith
 met_within [] (s ∷ region) e = absurd (omega (arith, e))
@@ -84,7 +84,7 @@ module _ (fold : Reduce) (a : ArrayValue) (first : axis_at (length a.shape) fold
   places_without_first : form_size (reduce_form fold.along a) ≤ size (drop 1 a.shape)
   places_without_first = places_by (reduce_form fold.along a) refl
 
--- where it grew along that axis, also after an error
+-- an array that grew along that axis, also with an error as the last result
 pub grown_within : (fold : Reduce) (a : ArrayValue) (t : TailValue) (held : Outcome) → FitsNow (Grown t) (Ok a) → is_narrow (axis_at (length a.shape) fold.along) (Grown t) ≡ true
     → operation_cost (total_rule fold) (Ok (a ∷ [])) (Grown t ∷ []) held ≤ new_items (Grown t)
 grown_within fold a t held fit narrow =

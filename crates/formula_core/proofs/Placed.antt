@@ -5,7 +5,7 @@ use Rattle.formula_core.{specs.declared.table.Node.{Node}, specs.Tables.{tree_at
 use Rattle.formula_core.specs.declared.table.Operand.TheVariants as operand
 use Rattle.formula_core.specs.declared.table.Node.TheVariants as node
 
--- a node stands for the same tree where more trees follow
+-- a node stands for the same tree if more trees follow
 node_front : (names : List (List ℕ)) (count : ℕ) (ts us : List Tree) (n : Node) → IsNode count (length ts) n → tree_of_node names (ts ++ us) n ≡ tree_of_node names ts n
 node_front names count ts us (node.Constant l) h = refl
 node_front names count ts us (node.Name k) h = refl
@@ -16,7 +16,7 @@ node_front names count ts us (node.Index a os) h =
     ap (λ t. Index t (positions_of (map (option_map (tree_of_operand names (ts ++ us))) os.items))) (operand_front names count ts us a h.0)
     ∙ ap (λ xs. Index (tree_of_operand names ts a) (positions_of xs)) (operands_front names count ts us os.items h.1)
 
--- the trees after begin with those before
+-- the trees after further nodes begin with those before
 begins : (names : List (List ℕ)) (ts : List Tree) (nodes : List Node) → (us : List Tree) × (trees_after names ts nodes ≡ ts ++ us)
 begins names ts [] = ([], sym (append-nil ts))
 begins names ts (n ∷ nodes) =
@@ -44,7 +44,7 @@ pub tree_next : (names : List (List ℕ)) (nodes : List Node) → IsTable (lengt
     → tree_at (trees_after names [] nodes) k ≡ tree_of_node names (trees_after names [] nodes) n
 tree_next names nodes table k below n is = ap (λ i. tree_at (trees_after names [] nodes) i) (omega arith) ∙ placed names [] nodes table k below n is
 
--- the arguments of the node at a place stand before it
+-- the arguments of the node at a place come before it
 pub node_at : (names place : ℕ) (nodes : List Node) → IsTable names place nodes → (k : ℕ) → k < length nodes → (n : Node) → get_or nodes k n ≡ n → IsNode names (place + k) n
 node_at names place [] table k below n is = absurd (omega (arith, below))
 node_at names place (m ∷ nodes) table zero below n is = subst (λ (x : Node). IsNode names (place + 0) x) is (subst (λ (i : ℕ). IsNode names i m) (omega arith) table.0)

@@ -7,7 +7,7 @@ use Rattle.formula_core.{specs.declared.input.Input.{Input}, specs.declared.kept
 use Rattle.formula_core.{specs.Changes.{NamesChange, FitsIn}, specs.Holdings.{Holding, holding, holding_at, holdings_of, nodes_of, not_worked_out, no_change, taking, adopted}, specs.Formulas.{FormulaValue, IsTableOf, new_formula, root_of}, specs.Plans.{PlanValue, node_change, node_cost_at, IsPlanOf, IsTold, IsPlanned}}
 use Rattle.formula_core.{specs.Stages.{IsDone, IsStaged, IsSumsStep, IsBegun, IsNodeStep, IsStep, IsJoined}, proofs.Placed.{tree_next, node_at}, proofs.Steps.{inputs_long, change_fits}, proofs.Tabled.{trees_long}}
 
--- the node that comes next
+-- the next node
 module _ (c : NamesChange) (names : List (List ℕ)) (trees : List Tree) (s : Stage) (staged : IsStaged c names trees s) (below : length s.changes.now < length s.nodes.now)
     (k : Kept) (is : get_or s.nodes.now (length s.changes.now) k ≡ k) where
   abbrev place : ℕ
@@ -22,7 +22,7 @@ module _ (c : NamesChange) (names : List (List ℕ)) (trees : List Tree) (s : St
   under : place < length (nodes_of s.nodes.now)
   under = omega (arith, below, length-map s.nodes.now (λ (x : Kept). x.node))
 
-  -- stands for the tree that comes next, and its arguments stand before it
+  -- it stands for the next tree, and its arguments come before it
   pub next_tree : tree_at trees place ≡ t
   next_tree = subst (λ (ts : List Tree). tree_at ts place ≡ tree_of_node names ts k.node) staged.trees_are (tree_next names (nodes_of s.nodes.now) staged.table place under k.node node_is)
 
@@ -31,14 +31,14 @@ module _ (c : NamesChange) (names : List (List ℕ)) (trees : List Tree) (s : St
       subst (λ (n : ℕ). IsNode n place k.node) (sym (inputs_long c names s.inputs.now staged.tell))
       (subst (λ (n : ℕ). IsNode (length names) n k.node) (omega arith) (node_at (length names) 0 (nodes_of s.nodes.now) staged.table place under k.node node_is))
 
-  -- held what its tree gave
+  -- it holds the old value of its tree
   pub next_held : s.is_new ≡ false → holding k ≡ holding_at c.old t
   next_held old =
       sym (get_or-map holding s.nodes.now place k (holding k) below ∙ ap holding is)
       ∙ (ap (λ (hs : List Holding). get_or hs place (holding k)) (staged.held old)
       ∙ (get_or-map (holding_at c.old) trees place (Const (Numbers [])) (holding k) (omega (arith, below, staged.known)) ∙ ap (holding_at c.old) next_tree))
 
-  -- and its change makes of that what its tree gives
+  -- its change makes the new value of its tree
   pub next_fits : (d : Delta) → d ≡ node_change s.is_new c t → IfOk k.result IsArray → (applied d k.result ≡ eval t c.new) × FitsIn d k.result
   next_fits d made sound =
       subst (λ (e : Delta). (applied e k.result ≡ eval t c.new) × FitsIn e k.result) (sym made)
@@ -64,7 +64,7 @@ module _ (c : NamesChange) (names : List (List ℕ)) (trees : List Tree) (s : St
         joined = joined.least;
       }))
 
--- a formula, by its nodes
+-- a formula by its nodes
 module _ (f : FormulaValue) (names : List (List ℕ)) (nodes : List Kept) (table : IsTableOf names (nodes_of nodes) (root_of names (nodes_of nodes))) (root : root_of names (nodes_of nodes) ≡ f.tree) (held : holdings_of nodes ≡ f.nodes) where
   trees_are : trees_after names [] (nodes_of nodes) ≡ subtrees f.tree
   trees_are = table.trees ∙ ap subtrees root
@@ -105,7 +105,7 @@ module _ (f : FormulaValue) (names : List (List ℕ)) (nodes : List Kept) (table
             (begun.done k (omega (arith, below, as_many)))));
       }
 
-  -- what comes next of the nodes comes next of the formula
+  -- the next node is the next node of the formula
   pub stepped_by : (c : NamesChange) (inputs : List Input) → IsTold f c inputs → (changes : List NodeChange) (cost : ℕ) → IsBegun f c changes cost
       → (s : Stage) → s.is_new ≡ f.is_new → s.inputs.now ≡ inputs → s.nodes.now ≡ nodes → s.changes.now ≡ changes → (d : NodeChange) (items : ℕ) (before after : MeterValue)
       → ((ns : List (List ℕ)) (ts : List Tree) → IsStaged c ns ts s → IsNodeStep s.is_new c (tree_at ts (length s.changes.now)) (get_or (holdings_of s.nodes.now) (length s.changes.now) not_worked_out) d items before after)
@@ -170,7 +170,7 @@ planned_at_end f c p begun all =
 pub plan_of : (f : FormulaValue) (c : NamesChange) (p : PlanValue) → IsBegun f c p.changes p.cost → length p.changes ≡ length f.nodes → IsPlanOf f p
 plan_of f c p begun all = record { each = all; fit = λ k below. (begun.done k below).fit }
 
--- a formula that was not worked out yet
+-- a new formula
 same_everywhere : (nodes : List Node) (trees : List Tree) → length nodes ≡ length trees → map (λ (n : Node). not_worked_out) nodes ≡ map (λ (t : Tree). not_worked_out) trees
 same_everywhere [] [] h = refl
 same_everywhere (n ∷ nodes) (u ∷ trees) h = ap (λ xs. not_worked_out ∷ xs) (same_everywhere nodes trees (omega (arith, h)))

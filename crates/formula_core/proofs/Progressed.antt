@@ -1,4 +1,4 @@
--- A plan comes forward.
+-- The progress of a plan.
 use Rattle.std.{proofs.Common.{◌≡◌, ◌<◌, ◌+◌, ◌≤◌, ℕ, zero, suc, All, List, [], ◌∷◌, ◌++◌, Bool, true, false, cond, refl, sym, ap, ◌∙◌, subst, length, take, get_or, arith, ◌⊎◌, inl, inr}, specs.List.{count_by, sum_by}, proofs.lemmas.Bool.{false≢true, cases_lt}, proofs.lemmas.List.{length-append, take_all, take-take}}
 use Rattle.std.{proofs.lemmas.List.Elements.{All-nil, All-append, All-push}, proofs.lemmas.List.Sums.{sum_by_more, sum_by_more_le, sum_by-take-le, count_by_more_yes, count_by_more_no}}
 use Rattle.apl_expr.specs.Trees.{Tree, Const, Name, Monad, Dyad, Index, Reduce, Scan, Outer, Inner, Numbers, Positions, NoPositions, Empty, Filled}
@@ -8,7 +8,7 @@ use Rattle.formula_core.{specs.Progress.{operations_among, IsAtOperation, IsPlan
 use Rattle.formula_core.proofs.Rooted.{before_root, root_last}
 use Rattle.formula_core.specs.declared.table.Node.TheVariants as node
 
--- a node applies a function where its tree does
+-- a node applies a function if and only if its tree does
 pub applied_there : (names : List (List ℕ)) (trees : List Tree) (n : Node) → is_operation (tree_of_node names trees n) ≡ applies n
 applied_there names trees (node.Constant literal) = refl
 applied_there names trees (node.Name place) = refl
@@ -16,12 +16,12 @@ applied_there names trees (node.Monad f right) = operation_before f (tree_of_ope
 applied_there names trees (node.Dyad f left right) = operation_between f (tree_of_operand names trees left) (tree_of_operand names trees right)
 applied_there names trees (node.Index array positions) = refl
 
--- it applies a function to arguments
+-- the tree applies a function
 abbrev Applies : Tree → Type 0
 Applies t = is_operation t ≡ true
 
 mutual
-  -- all trees inside a tree that have a node do
+  -- all trees with a node inside a tree apply functions
   inside_apply : (t : Tree) → All Applies (inside t)
   inside_apply (Const l) = All-nil Applies
   inside_apply (Name x) = All-nil Applies
@@ -38,7 +38,7 @@ mutual
   positions_apply (Empty ps) = positions_apply ps
   positions_apply (Filled e ps) = All-append Applies (inside e) (inside_positions ps) (inside_apply e) (positions_apply ps)
 
--- so where one of the trees that have a node does, any other does
+-- if one of the trees with a node applies a function, so does any other
 pub applies_later : (t : Tree) (k m : ℕ) → k < length (subtrees t) → is_operation (tree_at (subtrees t) k) ≡ true → m < length (subtrees t) → is_operation (tree_at (subtrees t) m) ≡ true
 applies_later (Const l) zero m below one under = absurd (false≢true one)
 applies_later (Const l) (suc k) m below one under = absurd (omega (arith, below))
@@ -56,7 +56,7 @@ applies_later (Inner f g a b) k m below one under = inside_apply (Inner f g a b)
 pub some_node : (t : Tree) → 0 < length (subtrees t)
 some_node t = omega (arith, ap (λ (ts : List Tree). length ts) (root_last t), length-append (before_root t) (t ∷ []))
 
--- and one that does not is alone
+-- a tree that is no operation has the only node
 pub leaf_alone : (t : Tree) → is_operation (tree_at (subtrees t) 0) ≡ false → length (subtrees t) ≡ 1
 leaf_alone (Const l) plain = refl
 leaf_alone (Name x) plain = refl
@@ -82,7 +82,7 @@ free is_new c (Scan f k b) plain = absurd (false≢true (sym plain))
 free is_new c (Outer f a b) plain = absurd (false≢true (sym plain))
 free is_new c (Inner f g a b) plain = absurd (false≢true (sym plain))
 
--- sums over a longer front
+-- sums over a longer front part
 module _ {X : Type 0} (f : X → ℕ) (xs : List X) (d : X) where
   front_within : (i m : ℕ) → i ≤ m → sum_by f (take i xs) ≤ sum_by f (take m xs)
   front_within i m h = omega (arith, sum_by-take-le f (take m xs) i, ap (λ ys. sum_by f ys) (take-take i m xs h))
@@ -101,7 +101,7 @@ module _ (f : FormulaValue) (changes new : List NodeChange) (d : NodeChange) (is
   pub among_more : is_operation (tree_at (subtrees f.tree) (length changes)) ≡ true → operations_among f new ≡ operations_among f changes + 1
   among_more one = ap (λ k. count_by is_operation (take k (subtrees f.tree))) one_longer ∙ count_by_more_yes is_operation (subtrees f.tree) (length changes) (Const (Numbers [])) below one
 
--- where fewer operations are done than there are, a node is left
+-- if fewer operations are done than there are, a node is left
 among_all : (f : FormulaValue) (changes : List NodeChange) → length (subtrees f.tree) ≤ length changes → operations_among f changes ≡ operations f.tree
 among_all f changes long = ap (λ ts. count_by is_operation ts) (take_all (length changes) (subtrees f.tree) long)
 
@@ -112,7 +112,7 @@ node_left f changes few known = by (cases_lt (length changes) (length (subtrees 
     by (inl under) = omega (arith, under, known)
     by (inr long) = absurd (omega (arith, few, among_all f changes long))
 
--- where a node is left that is an operation, fewer are done than there are
+-- if an operation is left, fewer are done than there are
 pub left_at : (f : FormulaValue) (changes : List NodeChange) → IsAtOperation f changes → length changes < length f.nodes → length f.nodes ≡ length (subtrees f.tree) → operations_among f changes < operations f.tree
 left_at f changes at under known =
     let one = at under in
@@ -126,11 +126,11 @@ part_left f changes few part = by (cases_lt (length changes) (length f.nodes))
     by (inl less) = less
     by (inr more) = absurd (part (omega (arith, few, more)))
 
--- where each node has its change, all are done
+-- if each node has its change, all operations are done
 pub all_among : (f : FormulaValue) (changes : List NodeChange) → length changes ≡ length f.nodes → length f.nodes ≡ length (subtrees f.tree) → operations_among f changes ≡ operations f.tree
 all_among f changes whole known = among_all f changes (omega (arith, whole, known))
 
--- where one operation more is done, a change more is there
+-- one more operation done means one more change
 pub longer : (f : FormulaValue) (changes new : List NodeChange) → operations_among f new ≡ operations_among f changes + 1 → length changes < length new
 longer f changes new one = by (cases_lt (length changes) (length new))
   where
@@ -138,7 +138,7 @@ longer f changes new one = by (cases_lt (length changes) (length new))
     by (inl under) = under
     by (inr back) = absurd (omega (arith, one, front_within (λ u. cond (is_operation u) 1 0) (subtrees f.tree) (Const (Numbers [])) (length new) (length changes) back))
 
--- what the nodes so far cost
+-- the cost of the nodes so far
 module _ (is_new : Bool) (c : NamesChange) (t : Tree) where
   pub cost_more : (k m start before after : ℕ) → k < length (subtrees t) → k < m → before ≤ start + sum_by (node_cost_at is_new c) (take k (subtrees t)) → after ≤ before + node_cost_at is_new c (tree_at (subtrees t) k)
       → after ≤ start + sum_by (node_cost_at is_new c) (take m (subtrees t))
@@ -171,7 +171,7 @@ module _ (f : FormulaValue) (c : NamesChange) (p : PlanValue) (new : List NodeCh
     next = λ rest. applies_later f.tree (length p.changes) (length new) under (planned.next below) (omega (arith, rest, planned.begun.known));
   }
 
--- where no item of a node fails, its cost is counted whole
+-- the cost of a node is counted whole if no item fails
 counted_by : (failed : Bool) (start cost own after : ℕ) → (failed ≡ true → cost ≡ 0) → (failed ≡ false → ticked 0 cost ≤ own) → own ≤ cost → after ≡ ticked start own → after ≡ ticked start cost
 counted_by true start cost own after free least most is = let none = free refl in omega (arith, most, none, is)
 counted_by false start cost own after free least most is = let all = least refl in omega (arith, most, all, is)
@@ -184,7 +184,7 @@ counted_whole is_new c t d start items none own after is computed costs most lea
     (λ sound. let all = least sound in omega (arith, all, costs, zero_is))
     (omega (arith, most, zero_is)) counted
 
--- the nodes so far count all that they cost
+-- the nodes so far are counted at their whole cost
 pub counted_on : (start before after old new cost : ℕ) → ticked start old ≤ before → after ≡ ticked before cost → new ≡ ticked old cost → ticked start new ≤ after
 counted_on start before after old new cost least is costs = omega (arith, least, is, costs)
 

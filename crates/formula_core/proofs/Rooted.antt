@@ -1,4 +1,4 @@
--- A formula is its table.
+-- A formula and its table.
 use Rattle.std.{proofs.Common.{◌≡◌, ℕ, ◌+◌, ◌-◌, ◌<◌, true, false, Box, Global, List, [], ◌∷◌, ◌++◌, length, map, take, get_or, refl, sym, ap, ◌∙◌, subst, arith, append_assoc, cond}, specs.List.{count_by}, proofs.lemmas.List.{length-append, map-append}}
 use Rattle.std.{proofs.lemmas.List.Elements.{All-nil, All-push, All-head, All-tail}, proofs.lemmas.List.Sums.{sum_by-append, count_by_more_yes, count_by_more_no}}
 use Rattle.apl_expr.specs.Trees.{Tree, Const, Name, Monad, Dyad, Index, Reduce, Scan, Outer, Inner, Numbers}
@@ -8,7 +8,7 @@ use Rattle.formula_core.proofs.Tabled.{trees_long, trees_more, table_more, at_la
 use Rattle.formula_core.specs.declared.table.Operand.TheVariants as operand
 use Rattle.formula_core.specs.declared.table.Node.TheVariants as node
 
--- a tree stands last among its subtrees
+-- the subtrees before the tree itself, which comes last
 abbrev pub before_root : Tree → List Tree
 before_root (Const c) = []
 before_root (Name x) = []
@@ -43,7 +43,7 @@ append_none (x ∷ xs) = ap (λ rest. x ∷ rest) (append_none xs)
 table_made : (names : List (List ℕ)) (nodes : List Node) (t : Tree) → names ≡ names_in t → trees_after names [] nodes ≡ subtrees t → IsTable (length names) 0 nodes → IsTableOf names nodes t
 table_made names nodes t named is table = record { root = root_found names nodes t is; named = named; trees = is; table = table }
 
--- the trees where no further names follow
+-- the trees if no further names follow
 plain : (names : List (List ℕ)) (nodes : List Node) (ts : List Tree) → trees_after (names ++ []) [] nodes ≡ ts → trees_after names [] nodes ≡ ts
 plain names nodes ts is = ap (λ ns. trees_after ns [] nodes) (sym (append_none names)) ∙ is
 
@@ -61,7 +61,7 @@ rooted_node names nodes (Scan f i b) k l = table_made names nodes (Scan f i b) l
 rooted_node names nodes (Outer f a b) k l = table_made names nodes (Outer f a b) l.named (plain names nodes (inside (Outer f a b)) (l.trees [])) (l.table (length names) (omega arith) tt)
 rooted_node names nodes (Inner f g a b) k l = table_made names nodes (Inner f g a b) l.named (plain names nodes (inside (Inner f g a b)) (l.trees [])) (l.table (length names) (omega arith) tt)
 
--- a node that is pushed
+-- an appended node
 pub nodes_pushed : (old new : List Kept) (k : Kept) (n : Node) → new ≡ old ++ k ∷ [] → k.node ≡ n → nodes_of new ≡ nodes_of old ++ n ∷ []
 nodes_pushed old new k n is node_is = ap nodes_of is ∙ (map-append (λ (x : Kept). x.node) old (k ∷ []) ∙ ap (λ (m : Node). nodes_of old ++ m ∷ []) node_is)
 
@@ -71,7 +71,7 @@ none_worked_out nodes none = subst AreNotWorkedOut (sym none) (All-nil (λ (k : 
 pub new_pushed : (old new : List Kept) (k : Kept) → new ≡ old ++ k ∷ [] → holding k ≡ not_worked_out → AreNotWorkedOut old → AreNotWorkedOut new
 new_pushed old new k is one all = subst AreNotWorkedOut (sym is) (All-push (λ (x : Kept). holding x ≡ not_worked_out) old k all one)
 
--- what new nodes hold
+-- the holdings of new nodes
 pub new_holdings : (nodes : List Kept) → AreNotWorkedOut nodes → holdings_of nodes ≡ map (λ (n : Node). not_worked_out) (nodes_of nodes)
 new_holdings [] all = refl
 new_holdings (k ∷ nodes) all =
@@ -97,7 +97,7 @@ rooted_name names nodes new t k l is =
     let name : t ≡ Name x = sym (ap (λ ns. Name (get_or ns k [])) (sym (append_none names)) ∙ l.stands []) in
     rooted_leaf names nodes new t (Name x) (node.Name k) (operand.Name k) l name refl refl refl (l.below (length names) (omega arith)) is
 
--- a node applies a function where its tree does
+-- a node applies a function if and only if its tree does
 node_applies : (names : List (List ℕ)) (trees : List Tree) (n : Node) → is_operation (tree_of_node names trees n) ≡ applies n
 node_applies names trees (node.Constant l) = refl
 node_applies names trees (node.Name k) = refl
@@ -124,7 +124,7 @@ of_nodes (k ∷ nodes) = omega (arith, of_nodes nodes, sum_by-append (λ (x : Ke
 pub operations_counted : (names : List (List ℕ)) (nodes : List Kept) (t : Tree) → IsTableOf names (nodes_of nodes) t → count_by (λ k. applies k.node) nodes ≡ operations t
 operations_counted names nodes t table = omega (arith, of_nodes nodes, applying names [] (nodes_of nodes), ap (count_by is_operation) table.trees)
 
--- one node more is counted, or not
+-- one more node is counted, or not
 pub counted_yes : (nodes : List Kept) (k c : ℕ) (n : Kept) → c ≡ count_by (λ k. applies k.node) (take k nodes) → k < length nodes → n ≡ get_or nodes k n → applies n.node ≡ true → c + 1 ≡ count_by (λ k. applies k.node) (take (k + 1) nodes)
 counted_yes nodes k c n is below at true_then = ap (λ m. m + 1) is ∙ sym (count_by_more_yes (λ (x : Kept). applies x.node) nodes k n below (ap (λ (x : Kept). applies x.node) (sym at) ∙ true_then))
 

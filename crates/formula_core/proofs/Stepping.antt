@@ -1,4 +1,4 @@
--- The change of an operation, worked out from what its operands give, is the change of its tree.
+-- The change of an operation, computed from its inputs, is the change of its tree.
 use Rattle.std.{proofs.Common.{◌≡◌, ℕ, ◌+◌, ◌≤◌, List, [], ◌∷◌, ◌++◌, map, Bool, true, false, ◌&&◌, Option, Some, None, is_some, Result, Ok, Err, refl, sym, ap, ◌∙◌, subst, IfOk, if◌then◌else◌}, specs.List.{list_all}, specs.declared.alloc.AllocError.{AllocError}, proofs.lemmas.Bool.{false≢true}}
 use Rattle.apl_expr.{specs.Trees.{Tree, Index, before_argument, between_arguments, positions_of}, specs.declared.functions.Function1.{Function1}, specs.declared.functions.Function2.{Function2}}
 use Rattle.arrays_core.{specs.Arrays.{ArrayValue}, specs.declared.fault.Fault.{Fault}, specs.Outcomes.{Outcome}}
@@ -8,7 +8,7 @@ use Rattle.formula_core.{specs.declared.input.Input.{Input}, specs.declared.inpu
 use Rattle.formula_core.{specs.Changes.{NamesChange, arguments, result_of, result_delta, result_cost, operation_delta, operation_cost, operation_size, written, values_of, change, changes, cost_at, tree_size}, specs.Inputs.{shown, stays, delta_of, written_inputs, AllHaveFit, IsInput, IsOperationChange}}
 use Rattle.formula_core.{specs.Stages.{GivesItsTree, GiveTheirTrees, IsStep}, proofs.Applied.{change_before, change_between, cost_before, cost_between, eval_before, eval_between, size_before, size_between}, proofs.Changed.{all_arrays, monad_meant, dyad_meant, indexing_meant}}
 
--- each operand gives what it should
+-- each input has its value and its change
 abbrev pub AllInputs : List Outcome → List Delta → List Input → Type 0
 AllInputs [] [] [] = Unit {0}
 AllInputs (o ∷ os) (d ∷ ds) (i ∷ is) = IsInput o d i × AllInputs os ds is
@@ -62,7 +62,7 @@ module _ (p : RuleModel) (os : List Outcome) (ds : List Delta) (is : List Input)
   pub cost_stepped : operation_cost p (arguments (map shown is)) (map delta_of is) held ≡ operation_cost p (arguments os) ds held
   cost_stepped = ap (λ xs. operation_cost p (arguments xs) (map delta_of is) held) (all_shown os ds is all) ∙ cost_by (arguments os) refl
 
--- an operation's step where the formula holds results
+-- the step of an operation in a formula that holds results
 pub held_step : (p : RuleModel) (c : NamesChange) (t : Tree) (os : List Outcome) (ds : List Delta) (is : List Input) (held : Outcome) (before after : ℕ) (r : Result (Delta × ℕ) AllocError) → AllInputs os ds is
     → change c t ≡ operation_delta p (arguments os) ds held → cost_at c t ≡ operation_cost p (arguments os) ds held → IsOperationChange p is held before after r → IsStep false c t before after r
 held_step p c t os ds is held before after r all changed costs made = record {
@@ -73,12 +73,12 @@ held_step p c t os ds is held before after r all changed costs made = record {
   rises = made.rises;
 }
 
--- the first of the operands counts as new
+-- the first input is marked new
 abbrev pub BeginsAnew : List Input → Type 0
 BeginsAnew [] = ⊥
 BeginsAnew (i ∷ is) = is_whole (delta_of i) ≡ true
 
--- an operation of which an argument is new is worked out whole
+-- an operation with a new argument is computed whole
 pub record IsWhole (p : RuleModel) (r : Result (List ArrayValue) Fault) (ds : List Delta) (held : Outcome) : Type 0 where
   pub delta : operation_delta p r ds held ≡ Whole (result_of p r)
   pub cost : operation_cost p r ds held ≡ operation_size p r
@@ -94,7 +94,7 @@ pub whole_all : (p : RuleModel) (os : List Outcome) (is : List Input) (held : Ou
 whole_all p os [] held shows new = absurd new
 whole_all p os (i ∷ is) held shows new = whole_by p (arguments (map shown (i ∷ is))) (delta_of i) (map delta_of is) held new
 
--- an operation's step where the formula was not worked out yet
+-- the step of an operation in a new formula
 pub new_step : (p : RuleModel) (c : NamesChange) (t : Tree) (os : List Outcome) (is : List Input) (held : Outcome) (before after : ℕ) (r : Result (Delta × ℕ) AllocError) → map shown is ≡ os → BeginsAnew is
     → result_of p (arguments os) ≡ eval t c.new → tree_size c.new t ≡ operation_size p (arguments os) → IsOperationChange p is held before after r → IsStep true c t before after r
 new_step p c t os is held before after r shows new meant sized made =

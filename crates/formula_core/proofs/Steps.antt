@@ -1,4 +1,4 @@
--- How the change of a node is worked out from what stands before it.
+-- The change of a node, computed from its stage.
 use Rattle.std.{proofs.Common.{◌≡◌, ℕ, zero, suc, ◌+◌, ◌<◌, List, [], ◌∷◌, ◌++◌, length, map, take, get_or, Bool, true, false, Option, Some, None, Result, Ok, Err, refl, sym, ap, ◌∙◌, subst, arith, IfOk, OnOk}, specs.List.{Contains}, specs.Option.{option_map}, proofs.lemmas.Bool.{false≢true}}
 use Rattle.std.{proofs.lemmas.List.{get_or-map, get_or_default, map_more}, specs.declared.alloc.AllocError.{AllocError}}
 use Rattle.apl_expr.specs.Trees.{Tree, Const, Name, Monad, Dyad, Index, Reduce, Scan, Outer, Inner, Numbers, positions_of}
@@ -11,7 +11,7 @@ use Rattle.formula_core.{proofs.Changed.{AllChanged, monad_changed, dyad_changed
 use Rattle.formula_core.specs.declared.table.Operand.TheVariants as operand
 use Rattle.formula_core.specs.declared.table.Node.TheVariants as node
 
--- an input that says what changed fits
+-- an input with its change fits
 pub input_fits : (now : Outcome) (d : Delta) (i : Input) → IsInput now d i → FitsNow d now → HasFit i
 input_fits now d (Good array delta) h fit = subst (λ (e : Delta). FitsNow e (Ok array)) (sym h.delta) (subst (λ (o : Outcome). FitsNow d o) (sym h.is) fit)
 input_fits now d (Bad f changed) h fit = tt
@@ -37,7 +37,7 @@ module _ (c : NamesChange) (names : List (List ℕ)) (trees : List Tree) (s : St
   known_name : (k : ℕ) → k < length s.inputs.now → Contains names (get_or names k [])
   known_name k below = name_there names k (omega (arith, below, inputs_long c names s.inputs.now staged.tell))
 
-  -- an operand's tree: what it gave, its change, and what it gives
+  -- the tree of an operand: its old value, its change and its new value
   pub operand_changed : s.is_new ≡ false → (o : Operand) → IsOperand (length s.inputs.now) (length s.changes.now) o
       → IsChanged (eval (tree_of_operand names trees o) c.old) (change c (tree_of_operand names trees o)) (eval (tree_of_operand names trees o) c.new)
   operand_changed old (operand.Literal l) within = let sound = literal_is_array l.value in record { right = refl; fit = tt; sound_old = sound; sound_new = sound }
@@ -69,7 +69,7 @@ module _ (c : NamesChange) (names : List (List ℕ)) (trees : List Tree) (s : St
   operands_changed old (None ∷ os) within = operands_changed old os within
   operands_changed old (Some o ∷ os) within = (operand_changed old o within.0, operands_changed old os within.1)
 
-  -- the change of a node makes of what it gave what it gives
+  -- the old value of a node with its change is its new value
   pub node_changed : s.is_new ≡ false → (n : Node) → IsNode (length s.inputs.now) (length s.changes.now) n → IfOk (eval (tree_of_node names trees n) c.old) IsArray → IsTreeChanged c (tree_of_node names trees n)
   node_changed old (node.Constant l) within sound = record { right = refl; fit = tt }
   node_changed old (node.Name k) within sound =
@@ -80,7 +80,7 @@ module _ (c : NamesChange) (names : List (List ℕ)) (trees : List Tree) (s : St
   node_changed old (node.Index a os) within sound =
       index_changed c (tree_of_operand names trees a) (positions_of (map (option_map (tree_of_operand names trees)) os.items)) sound (operand_changed old a within.0) (operands_changed old os.items within.1)
 
-  -- an operand as it stands is an input of its tree
+  -- the input of an operand belongs to its tree
   pub taken_input : s.is_new ≡ false → IsLiteralChange s.is_new s.of_literals.now → (o : Operand) → IsOperand (length s.inputs.now) (length s.changes.now) o → (i : Input) → IsTaken s.inputs.now (holdings_of s.nodes.now) s.changes.now s.of_literals.now o i → IsInput (eval (tree_of_operand names trees o) c.new) (change c (tree_of_operand names trees o)) i
   taken_input old literals (operand.Literal l) within i taken = subst (λ (d : Delta). IsInput (eval (Const l.value) c.new) d i) (literals.same old) taken
   taken_input old literals (operand.Name k) within i taken = subst (λ (j : Input). IsInput (c.new (get_or names k [])) (c.delta (get_or names k [])) j) (sym taken) (input_at c names s.inputs.now staged.tell k (Bad (fault Value) false) within)
@@ -98,7 +98,7 @@ module _ (c : NamesChange) (names : List (List ℕ)) (trees : List Tree) (s : St
   pub name_told : (k : ℕ) → k < length s.inputs.now → IsNameChanged c (get_or names k [])
   name_told k within = staged.changed (get_or names k []) (known_name k within)
 
-  -- and shows what that gives
+  -- it shows the value of its tree
   pub taken_shown : (o : Operand) → IsOperand (length s.inputs.now) (length s.changes.now) o → (i : Input) → IsTaken s.inputs.now (holdings_of s.nodes.now) s.changes.now s.of_literals.now o i → shown i ≡ eval (tree_of_operand names trees o) c.new
   taken_shown (operand.Literal l) within i taken = taken.is
   taken_shown (operand.Name k) within i taken = ap shown taken ∙ (input_at c names s.inputs.now staged.tell k (Bad (fault Value) false) within).is
@@ -110,7 +110,7 @@ module _ (c : NamesChange) (names : List (List ℕ)) (trees : List Tree) (s : St
       let changed = operand_changed old o within in
       input_fits (eval t c.new) (change c t) i (taken_input old literals o within i taken) (subst (λ (n : Outcome). FitsNow (change c t) n) changed.right (fit_now (change c t) (eval t c.old) changed.fit))
 
-  -- the change of a node lies in what it held
+  -- the change of a node fits its old result
   pub change_fits : (is_new : Bool) → s.is_new ≡ is_new → (n : Node) → IsNode (length s.inputs.now) (length s.changes.now) n → (held : Outcome) → (is_new ≡ false → held ≡ eval (tree_of_node names trees n) c.old) → IfOk held IsArray
       → (applied (node_change is_new c (tree_of_node names trees n)) held ≡ eval (tree_of_node names trees n) c.new) × FitsIn (node_change is_new c (tree_of_node names trees n)) held
   change_fits true is n within held holds sound = (refl, tt)
@@ -135,7 +135,7 @@ position_ready is_new c f os k x is i below at h one =
     subst (λ (ts : List (Option Tree)). GiveTheirTrees is_new c ts (is ++ i ∷ [])) (sym (map_more f os k None below))
     (ready_more is_new c (map f (take k os)) is (f (get_or os k None)) i h (subst (λ (o : Option Operand). GiveTheirTrees is_new c (f o ∷ []) (i ∷ [])) (sym at) one))
 
--- a step of a node that applies no function costs nothing
+-- a step of a node without a function costs nothing
 free_step : (is_new : Bool) (c : NamesChange) (t : Tree) (meter : ℕ) (d : Delta) → d ≡ node_change is_new c t → is_operation t ≡ false → IsStep is_new c t meter meter (Ok (d, 0))
 free_step true c (Const l) meter d is none = record { delta = is; cost = refl; ticks = omega arith; least = λ _. omega arith; rises = omega arith }
 free_step true c (Name x) meter d is none = record { delta = is; cost = refl; ticks = omega arith; least = λ _. omega arith; rises = omega arith }

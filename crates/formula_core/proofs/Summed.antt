@@ -16,13 +16,13 @@ use Rattle.formula_core.specs.declared.table.Node.TheVariants as node
 abbrev pub at_axis : Scalar2 → ℕ → ArrayValue → SummedValue
 at_axis function axis a = record { function = function; axis = axis; array = a }
 
--- an array whose sums are kept is summed up along the axis that is meant
+-- an array with kept sums is summed along its fold's axis
 as_summed : (fold : Reduce) (axis : ℕ) (a : ArrayValue) → axis ≡ axis_at (length a.shape) fold.along → keeps_sums fold a ≡ true → Some (at_axis fold.function axis a) ≡ summed fold a
 as_summed fold axis a meant keeps = ap (λ k. Some (at_axis fold.function k a)) meant ∙ sym (cond-true (keeps_sums fold a) (Some (at_axis fold.function (axis_at (length a.shape) fold.along) a)) None keeps)
 
 -- ---- an array that is patched
 
--- sums that are kept of it
+-- the kept sums
 pub record Kept (fold : Reduce) (o : Outcome) (s : SummedValue) : Type 0 where
   pub is : o ≡ Ok s.array
   pub folded : s.function ≡ fold.function
@@ -45,7 +45,7 @@ kept_of fold (Ok b) s is = elim (cases_Bool (keeps_sums fold b)) [
   | inr f ↦ let none : Some s ≡ None = is ∙ cond-false _ _ _ f in absurd (let no : ⊥ = cc in no)
 ]
 
--- where an array is patched, the trees of sums that are kept stand for what it was
+-- the kept trees of a patched array stand for its old value
 pub stood_for : (fold : Reduce) (a : ArrayValue) (p : PatchValue) (s : SummedValue) (t : TreesValue) → WasPatched fold (Ok a) p s → StandFor t s.axis s.array → StoodFor fold.along t p a
 stood_for fold a p s t was stand =
     let kept = kept_of fold (Ok s.array) s (sym was.lines) in
@@ -61,7 +61,7 @@ stood_for fold a p s t was stand =
 
 -- ---- an array that grew
 
--- the trees of sums that are kept stand for what it was
+-- the kept trees of a grown array stand for its old value
 pub stood_before : (fold : Reduce) (a : ArrayValue) (t : TailValue) (s : SummedValue) (trees : TreesValue) → WasGrown fold (Ok a) t s → StandFor trees s.axis s.array → StoodBefore fold.along trees t a
 stood_before fold a t s trees was stand =
     let kept = kept_of fold (Ok s.array) s (sym was.lines) in
@@ -75,13 +75,13 @@ stood_before fold a t s trees was stand =
       is = same;
     }
 
--- by new lines along the axis of the sums that are kept
+-- the new lines along the axis of the kept sums
 pub lines_taken : (fold : Reduce) (now : ArrayValue) (t : TailValue) (q : Box NewLinesValue Global) (kept : Option SummedValue) → is_some kept ≡ true → keeps_sums fold now ≡ true
     → q.value.function ≡ fold.function → q.value.axis ≡ axis_at (length now.shape) fold.along → q.value.tail ≡ t → IsSumsDelta fold (Ok now) (Grown t) kept (sums.Grown q)
 lines_taken fold now t q None some keeps by on_axis is = absurd (false≢true some)
 lines_taken fold now t q (Some s) some keeps by on_axis is = record { right = right; fit = fit }
   where
-    -- the axis that is meant stays
+    -- the axis stays
     meant_now : (old : Outcome) → WasSummed fold (Ok now) (Grown t) (Some s) old → s.axis ≡ axis_at (length now.shape) fold.along
     meant_now old w =
         let k = kept_of fold old s w.keeps in
@@ -111,7 +111,7 @@ lines_taken fold now t q (Some s) some keeps by on_axis is = record { right = ri
 
 -- ---- an operand of a node
 
--- an input that is not whole is what its change makes of what was there, and its change lies in it
+-- an input that is not new is its old value with its change, which fits it
 record Follows (d : Delta) (old now : Outcome) : Type 0 where
   pub becomes : applied d old ≡ now
   pub fit : FitsIn d old
@@ -201,7 +201,7 @@ sums_step c names trees s staged n within fold o is i ready kept holds d delta =
       fit = delta.fit (eval (tree_of_operand names trees o) c.old) was;
     }
 
--- the sums that a total keeps are those of what its argument was
+-- the kept sums of a total belong to its old argument
 pub kept_for : (s : Stage) (f : _) (b : Operand) → IsOperand (length s.inputs.now) (length s.changes.now) b → (kept : Option SummedValue) → IsKeptBy s (node.Monad f b) kept → (i : Input)
     → ((c : NamesChange) → (names : List (List ℕ)) → (trees : List Tree) → IsStaged c names trees s → GivesItsTree s.is_new c (tree_of_operand names trees b) i)
     → (fold : Reduce) → total_of f ≡ Some fold → IsSummedFor fold (shown i) (delta_of i) kept
@@ -242,12 +242,12 @@ kept_for s f b within kept keeps i ready fold total = record {
     held : s.is_new ≡ false → kept ≡ summed_in fold old
     held was = keeps.1.1.1.1 was ∙ summed_before c.old f (tree_of_operand names trees b) ∙ ap (λ (k : Option Reduce). option_map_or (λ x. summed_in x old) k None) total
 
--- an operand shows what its tree gives
+-- an input has the value of its tree
 shows_tree : (is_new : Bool) (c : NamesChange) (t : Tree) (i : Input) → GivesItsTree is_new c t i → shown i ≡ eval t c.new
 shows_tree true c t i ready = ready.shows refl
 shows_tree false c t i ready = (ready.is refl).is
 
--- the sums that are made anew for a total are those of what its argument is
+-- the rebuilt sums of a total belong to its new argument
 pub made_for : (s : Stage) (f : _) (b : Operand) (made : SumsDelta) → IsMadeBy s (node.Monad f b) made → (i : Input)
     → ((c : NamesChange) → (names : List (List ℕ)) → (trees : List Tree) → IsStaged c names trees s → GivesItsTree s.is_new c (tree_of_operand names trees b) i)
     → (fold : Reduce) → total_of f ≡ Some fold → AreNewSums fold (shown i) made
@@ -260,12 +260,12 @@ made_for s f b made by i ready fold total = λ sums is.
     ∙ (ap (λ (k : Option Reduce). option_map_or (λ x. summed_in x (eval t c.new)) k None) total
     ∙ ap (summed_in fold) (sym (shows_tree s.is_new c t i (ready c names trees by.1.1.1.0))))
 
--- what holds of a change, where it could be made
+-- a property of a change, if memory was not refused
 pub change_or : (P Q : SumsDelta → Type 0) (r : Result SumsDelta AllocError) → ((d : SumsDelta) → P d → Q d) → IfOk r P → IfOk r Q
 change_or P Q (Ok d) step h = step d h
 change_or P Q (Err e) step h = tt
 
--- what was joined for a change that fits the sums was joined for them
+-- the joins of a change that fits the sums were made with them
 pub joined_for : (d : SumsDelta) (kept : Option SummedValue) → FitsInSums d kept → IsJoinedFrom kept d
 joined_for d None fit = tt
 joined_for sums.Same (Some s) fit = tt

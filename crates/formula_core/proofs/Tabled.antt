@@ -1,4 +1,4 @@
--- What a table stands for, as names and nodes are added.
+-- The trees of a table while names and nodes are appended.
 use Rattle.std.{proofs.Common.{◌≡◌, ℕ, suc, ◌+◌, ◌<◌, ◌≤◌, List, [], ◌∷◌, ◌++◌, length, map, take, get_or, add-one, Option, Some, None, refl, sym, ap, ◌∙◌, subst, arith, append_assoc}, specs.Prelude.{Result, Ok, Err, OnOk, IfOk}, specs.Option.{option_map}}
 use Rattle.std.{proofs.lemmas.List.{length-append, map-append, get_or_append_left}, proofs.Math.Seq.{take-suc}, specs.Global.{Vec}}
 use Rattle.apl_expr.{specs.declared.expr.Expr.{Expr}, specs.Trees.{Tree, Const, Name, Index, before_argument, between_arguments, Numbers, position_of, positions_of, Literal}, specs.declared.functions.Function1.{Function1}, specs.declared.functions.Function2.{Function2}}
@@ -25,7 +25,7 @@ pub table_more : (names place : ℕ) (nodes : List Node) (n : Node) → IsTable 
 table_more names place [] n t h = (subst (λ (k : ℕ). IsNode names k n) (omega arith) h, tt)
 table_more names place (m ∷ nodes) n t h = (t.0, table_more names (suc place) nodes n t.1 (subst (λ (k : ℕ). IsNode names k n) (omega arith) h))
 
--- an argument stands for the same tree where more trees follow
+-- an operand stands for the same tree if more trees follow
 pub operand_front : (names : List (List ℕ)) (count : ℕ) (ts us : List Tree) (o : Operand) → IsOperand count (length ts) o → tree_of_operand names (ts ++ us) o ≡ tree_of_operand names ts o
 operand_front names count ts us (operand.Literal l) below = refl
 operand_front names count ts us (operand.Name k) below = refl
@@ -54,7 +54,7 @@ operands_more count place [] o below one = one
 operands_more count place (None ∷ os) o below one = operands_more count place os o below one
 operands_more count place (Some x ∷ os) o below one = (below.0, operands_more count place os o below.1 one)
 
--- the positions of a list with one more
+-- the positions with one more
 names_more : (ps : List (Option Tree)) (p : Option Tree) → names_in_positions (positions_of (ps ++ p ∷ [])) ≡ names_in_positions (positions_of ps) ++ names_in_positions (positions_of (p ∷ []))
 names_more [] p = refl
 names_more (None ∷ ps) p = names_more ps p
@@ -69,12 +69,12 @@ append_none : {X : Type 0} (xs : List X) → xs ++ [] ≡ xs
 append_none [] = refl
 append_none (x ∷ xs) = ap (λ rest. x ∷ rest) (append_none xs)
 
--- nodes that stand for more trees are more
+-- nodes for more trees are more
 module _ (names : List (List ℕ)) (old new : List Node) (us : List Tree) (is : trees_after names [] new ≡ trees_after names [] old ++ us) where
   grown : length old ≤ length new
   grown = omega (arith, trees_long names [] new, trees_long names [] old, ap (λ ts. length ts) is, length-append (trees_after names [] old) us)
 
--- a node is pushed behind those of its arguments
+-- a node appended after its arguments
 module _ (names names' : List (List ℕ)) (old mid new : List Node) (n : Node) (t : Tree) (front : List Tree) where
   pub lowered_push : names' ≡ names ++ names_in t
       → front ++ t ∷ [] ≡ inside t
@@ -102,7 +102,7 @@ pub lowered_monad : (names names' : List (List ℕ)) (old mid new : List Node) (
 lowered_monad names names' old mid new f b right r is =
     lowered_push names names' old mid new (node.Monad f right) (before_argument f b) (inside b) (r.named ∙ ap (λ ns. names ++ ns) (sym (names_before f b))) (sym (inside_before f b)) is r.trees (λ later. ap (λ t. before_argument f t) (r.stands later)) r.table r.below
 
--- what was lowered stays so where more follows
+-- a lowered tree stays lowered if more names and nodes follow
 module _ (names names' names'' : List (List ℕ)) (old mid new : List Node) (more : List (List ℕ)) (us : List Tree)
     (named : names'' ≡ names' ++ more) (then : (later : List (List ℕ)) → trees_after (names'' ++ later) [] new ≡ trees_after (names'' ++ later) [] mid ++ us) where
   joined : (later : List (List ℕ)) → names'' ++ later ≡ names' ++ (more ++ later)
@@ -195,18 +195,18 @@ filled_position names names' names'' old mid new ps os e o l r =
       below = λ count h. operands_more count (length new) os (Some o) (kept_all_below names names' names'' old mid new (names_in e) (inside e) r.named r.trees os l.below count h) (r.below count h, tt);
     }
 
--- what the push of a node answers
+-- the result of appending a node
 pub as_lowered : {E : Type 0} (names names' : List (List ℕ)) (old mid new : List Node) (n : Node) (t : Tree) (r : Result Operand E) → OnOk r (new ≡ mid ++ n ∷ []) → IfOk r (λ o. o ≡ operand.Node (length mid))
     → (new ≡ mid ++ n ∷ [] → IsLowered names names' old new t (operand.Node (length mid))) → IfOk r (λ o. IsLowered names names' old new t o)
 as_lowered names names' old mid new n t (Ok o) pushed place made = subst (λ (x : Operand). IsLowered names names' old new t x) (sym place) (made pushed)
 as_lowered names names' old mid new n t (Err e) pushed place made = tt
 
--- what holds of all nodes before a push, and then of all
+-- a property of all nodes before a push, and of all after it
 pub pushed_anew : {T E : Type 0} (r : Result T E) (P Q O : Type 0) → (O → P) → OnOk r (P → Q) → OnOk r (O → Q)
 pushed_anew (Ok t) P Q O before then = λ o. then (before o)
 pushed_anew (Err e) P Q O before then = tt
 
--- one position more of those of the code
+-- one more position in memory
 pub position_more : (names names' : List (List ℕ)) (old new : List Node) (xs : List (Option Expr)) (k : ℕ) (x : Option Expr) (os os' : List (Option Operand)) (o : Option Operand)
     → k < length xs → x ≡ get_or xs k x → os' ≡ os ++ o ∷ []
     → ArePositionsLowered names names' old new (map position_of (take k xs) ++ position_of x ∷ []) (os ++ o ∷ []) → ArePositionsLowered names names' old new (map position_of (take (k + 1) xs)) os'

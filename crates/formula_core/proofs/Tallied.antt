@@ -1,4 +1,4 @@
--- How many sums the nodes so far have joined.
+-- The number of joins of the nodes so far.
 use Rattle.std.{proofs.Common.{◌≡◌, ℕ, zero, suc, ◌+◌, ◌-◌, ◌*◌, ◌<◌, ◌≤◌, List, [], ◌∷◌, length, take, min, nat_lt, Bool, true, false, cond, Option, Some, None, Ok, Err, refl, sym, ap, ◌∙◌, subst, arith, inl, inr, if◌then◌else◌}, specs.List.{count_by, sum_by}, specs.Option.{option_map_or}}
 use Rattle.std.{proofs.lemmas.Bool.{cases_Bool, cond-false, cond-true, false≢true}, proofs.lemmas.List.{take_all}, proofs.lemmas.List.Sums.{count_by_more_yes, sum_by-cons, sum_by-take-le, sum_by_more}}
 use Rattle.{apl_expr.specs.Trees.{Tree, Const, Name, Monad, Dyad, Index, Scan, Outer, Inner, Numbers}, change_core.specs.Meters.{ticked}}
@@ -10,7 +10,7 @@ use Rattle.arrays_core.specs.Outcomes.{Outcome}
 use Rattle.apl_expr.specs.Trees as tree
 use Rattle.apl_expr.specs.declared.functions.Function1.TheVariants as function1
 
--- what those that do not count add nothing to
+-- entries that are not counted add nothing
 module _ {X : Type 0} (p : X → Bool) (g : X → ℕ) (plain : (x : X) → p x ≡ false → g x ≡ 0) where
   counted : (x : X) (xs : List X) → count_by p (x ∷ xs) ≡ cond (p x) 1 0 + count_by p xs
   counted x xs = sum_by-cons (λ y. cond (p y) 1 0) x xs
@@ -36,7 +36,7 @@ module _ {X : Type 0} (p : X → Bool) (g : X → ℕ) (plain : (x : X) → p x 
       let rest = same_counted xs k m (omega (arith, le)) (omega (arith, h, counted x (take m xs), counted x (take k xs))) in
       omega (arith, rest, sum_by-cons g x (take m xs), sum_by-cons g x (take k xs))
 
--- a literal and a name join none
+-- a literal and a name join nothing
 plain_joins : (is_new : Bool) (c : NamesChange) (t : Tree) → is_operation t ≡ false → least_joins is_new c t ≡ 0
 plain_joins is_new c (Const l) plain = refl
 plain_joins is_new c (Name x) plain = refl
@@ -48,7 +48,7 @@ plain_joins is_new c (Scan f k b) plain = absurd (false≢true (sym plain))
 plain_joins is_new c (Outer f a b) plain = absurd (false≢true (sym plain))
 plain_joins is_new c (Inner f g a b) plain = absurd (false≢true (sym plain))
 
--- nor do no totals
+-- no totals take no joins
 none_of : (fold : Reduce) (o : Outcome) (d : Delta) (held : Outcome) (n : ℕ) → n ≡ 0 → least_joins_of fold o d held n ≡ 0
 none_of fold (Err e) d held n none = refl
 none_of fold (Ok a) d held n none = by (has_trees_for fold a d held) refl
@@ -76,7 +76,7 @@ costless is_new c (Scan f k b) none = refl
 costless is_new c (Outer f a b) none = refl
 costless is_new c (Inner f g a b) none = refl
 
--- where no item of a node fails, it joins what it is to
+-- a node joins at least its least number if no item fails
 joined_by : (failed : Bool) (start least own after : ℕ) → (failed ≡ true → least ≡ 0) → (failed ≡ false → ticked 0 least ≤ own) → after ≡ ticked start own → ticked start least ≤ after
 joined_by true start least own after free joins is = let none = free refl in omega (arith, none, is)
 joined_by false start least own after free joins is = let all = joins refl in omega (arith, all, is)
@@ -88,7 +88,7 @@ joined_whole is_new c t d start none own after is computed joins zero_is counted
     (λ failed. costless is_new c t (computed (ap is_error (sym is) ∙ failed)))
     (λ sound. let all = joins sound in omega (arith, all, zero_is)) counted
 
--- what the nodes so far have joined
+-- the joins of the nodes so far
 module _ (is_new : Bool) (c : NamesChange) (t : Tree) where
   pub joins_more : (k m start before after : ℕ) → k < length (subtrees t) → k < m → before ≤ start + sum_by (most_joins is_new c) (take k (subtrees t)) → after ≤ before + most_joins is_new c (tree_at (subtrees t) k)
       → after ≤ start + sum_by (most_joins is_new c) (take m (subtrees t))
@@ -97,13 +97,13 @@ module _ (is_new : Bool) (c : NamesChange) (t : Tree) where
   pub joins_within : (k start now : ℕ) → now ≤ start + sum_by (most_joins is_new c) (take k (subtrees t)) → now ≤ start + tree_joins is_new c t
   joins_within k start now h = omega (arith, h, sum_by-take-le (most_joins is_new c) (subtrees t) k)
 
--- before the first operation none
+-- there are no joins before the first operation
 pub none_joined : (f : FormulaValue) (c : NamesChange) (changes : List NodeChange) (start : ℕ) → operations_among f changes ≡ 0 → ticked start (sum_by (least_joins f.is_new c) (take (length changes) (subtrees f.tree))) ≤ start
 none_joined f c changes start none =
     let free = none_counted is_operation (least_joins f.is_new c) (plain_joins f.is_new c) (take (length changes) (subtrees f.tree)) none in
     omega (arith, free)
 
--- one operation more
+-- one more operation
 further : (start before after sum one more : ℕ) → ticked start sum ≤ before → ticked before one ≤ after → more ≡ sum + one → ticked start more ≤ after
 further start before after sum one more first next is = omega (arith, first, next, is)
 

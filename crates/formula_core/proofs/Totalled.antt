@@ -1,4 +1,4 @@
--- How many sums are joined for totals.
+-- The number of joins for totals.
 use Rattle.std.{proofs.Common.{◌≡◌, ℕ, ◌+◌, ◌-◌, ◌*◌, ◌≤◌, ◌<◌, min, nat_lt, Bool, true, false, ◌&&◌, ◌||◌, is_ok, is_some, List, [], ◌∷◌, Some, None, Result, Ok, Err, IfOk, refl, sym, ap, ◌∙◌, subst, arith, inl, inr, length, if◌then◌else◌}, specs.Borrow.{Bor}, specs.declared.alloc.AllocError.{AllocError}}
 use Rattle.std.{proofs.lemmas.Bool.{and_from, and_parts, cases_Bool, cond-false, cond-true, eqb-true, false≢true, le-ltb, lt-ltb, ltb-false, ltb-true}, proofs.lemmas.Result.{IfOk-weaker}, proofs.Math.Nat.{mul-le-mul, mul-le-mul_left, mul-le-mul_right}}
 use Rattle.apl_expr.specs.declared.functions.Function1.{Function1}
@@ -23,7 +23,7 @@ total_is (function1.Reduce f k) fold h = elim (cases_Bool (has_trees f)) [
 ]
 total_is f fold h = absurd (false≢true (ap is_some h))
 
--- and by a function whose folds are kept as trees
+-- a total's function has folds that are kept as trees
 pub total_has : (f : Function1) (fold : Reduce) → total_of f ≡ Some fold → has_trees fold.function ≡ true
 total_has (function1.Reduce f k) fold h = elim (cases_Bool (has_trees f)) [
   | inl t ↦ let whole : Some (record { function = f; along = k }) ≡ Some fold = sym (cond-true (has_trees f) _ None t) ∙ h in
@@ -35,14 +35,14 @@ total_has (function1.Reduce f k) fold h = elim (cases_Bool (has_trees f)) [
 ]
 total_has f fold h = absurd (false≢true (ap is_some h))
 
--- lines that have places lie along an axis that there is
+-- lines with places lie along an axis of the array
 has_axis_along : (along : Along) (shape : List ℕ) → 0 < length_along along shape → is_axis (length shape) along ≡ true
 has_axis_along along shape long = elim (cases_Bool (is_axis (length shape) along)) [
   | inl w ↦ w
   | inr f ↦ absurd (let none = cond-false (is_axis (length shape) along) (line_length (axis_at (length shape) along) shape) 0 f in omega (arith, long, none))
 ]
 
--- lines along the first axis of an array that grew have one more place
+-- lines along the first axis of a grown array have one more place
 one_more_place : (along : Along) (a b : ArrayValue) (t : TailValue) → axis_at (length a.shape) along ≡ 0 → 0 < length b.shape → a ≡ grown_by b t.items → is_axis (length b.shape) along ≡ true
     → length_along along a.shape ≡ length_along along b.shape + 1
 one_more_place along a b t first some same on =
@@ -66,7 +66,7 @@ not_first : (b q : Bool) → (b ≡ true → q ≡ true) → (b && q) ≡ false 
 not_first true q h e = absurd (false≢true (sym e ∙ h refl))
 not_first false q h e = refl
 
--- an array whose sums are kept has long lines of numbers, and had them before it grew
+-- an array with kept sums has long lines of numbers, and had them before it grew
 pub kept_serve : (fold : Reduce) (a : ArrayValue) (d : Delta) (held : Outcome) (s : SummedValue) → IsSummedFor fold (Ok a) d (Some s) → is_narrow (axis_at (length a.shape) fold.along) d ≡ true
     → ((is_of_numbers a.item_type && had_trees d held (length_along fold.along a.shape)) ≡ true) × (1 < length_along fold.along a.shape)
 kept_serve fold a (Patch p) held s summed narrow =
@@ -93,12 +93,12 @@ kept_serve fold a (Grown t) held s summed narrow =
 kept_serve fold a Same held s summed narrow = absurd (false≢true narrow)
 kept_serve fold a (Whole r) held s summed narrow = absurd (false≢true narrow)
 
--- what holds of an answer, by two facts of it
+-- a property of a result, from two of its properties
 both_ok : (r : Result (Delta × ℕ) AllocError) (P Q R : Delta × ℕ → Type 0) → ((s : Delta × ℕ) → P s → Q s → R s) → IfOk r P → IfOk r Q → IfOk r R
 both_ok (Ok s) P Q R step p q = step s p q
 both_ok (Err e) P Q R step p q = tt
 
--- each line of two numbers joins one sum at least
+-- each line of two numbers takes at least one join
 at_least : (before after totals new long : ℕ) → after ≡ ticked before (totals * (long - 1)) → ticked before (if nat_lt 1 long then min totals new else 0) ≤ after
 at_least before after totals new long is = elim (cases_Bool (nat_lt 1 long)) [
   | inl t ↦
@@ -108,11 +108,11 @@ at_least before after totals new long is = elim (cases_Bool (nat_lt 1 long)) [
   | inr f ↦ subst (λ k. ticked before k ≤ after) (sym (cond-false (nat_lt 1 long) _ _ f)) (omega (arith, is))
 ]
 
--- an array in which a box lies has items
+-- an array with a box has items
 some_items : (a : ArrayValue) (p : PatchValue) → FitsPatch a p → 0 < size a.shape
 some_items a p lies = omega (arith, some_place p.region a.shape lies.inside, box_within_size p.region a.shape lies.inside)
 
--- where no sums are kept of lines that trees would serve, the lines are short, or there are none
+-- if trees would serve lines without sums, the lines are short, or there are none
 none_kept : (fold : Reduce) (a : ArrayValue) (d : Delta) (held : Outcome) → FitsNow d (Ok a) → AreSumsKept fold (Ok a) d None → has_trees_for fold a d held ≡ true
     → operation_cost (total_rule fold) (Ok (a ∷ [])) (d ∷ []) held * (length_along fold.along a.shape - 1) ≤ new_items d * binary_digits (length_along fold.along a.shape - 1)
 none_kept fold a (Patch p) held fit well has =
@@ -173,7 +173,7 @@ module _ (fold : Reduce) (a : ArrayValue) (delta : Bor Delta) (held : Outcome) (
   abbrev has : Bool
   has = has_trees_for fold a d held
 
-  -- by the sums that are kept
+  -- with the kept sums
   module _ (sums : SummedValue) (summed : IsSummedFor fold (Ok a) d (Some sums)) where
     narrow : has ≡ true → is_narrow axis d ≡ true
     narrow h = (and_parts (is_narrow axis d) _ h).0
@@ -202,7 +202,7 @@ module _ (fold : Reduce) (a : ArrayValue) (delta : Bor Delta) (held : Outcome) (
           all;
     }
 
-  -- lines that are short, or have no trees for another reason, are summed up
+  -- lines without trees are folded
   module _ (well : AreSumsKept fold (Ok a) d None) where
     pub totalled_by_folds : AreFoldsWithin totals long before after → IfOk r (λ s. s.1 ≡ totals) → IfOk r (λ s. is_error s.0 ≡ false → AreFolds s.1 long before after) → AreTotalsJoined fold (Good a delta) held before after r
     totalled_by_folds folds cost all = record {

@@ -1,4 +1,4 @@
--- The change of a node, from its arguments, is that from the plain values: what these are now and what changed of each, wherever that lies.
+-- The change of a node depends only on the values of its arguments and their changes, wherever they are stored.
 use Rattle.std.{proofs.Common.{◌≡◌, ℕ, List, [], ◌∷◌, map, Bool, ◌&&◌, ◌||◌, not, Option, is_ok, refl, ap, if◌then◌else◌}, specs.Borrow.{Bor}, specs.List.{list_all, list_any}}
 use Rattle.arrays_core.{specs.Arrays.{ArrayValue}, specs.Outcomes.{Outcome}}
 use Rattle.index_region.{specs.declared.delta.Delta.{Delta}, specs.declared.delta.Delta.TheVariants.{Same, Whole}, specs.Boxes.{Interval}}
@@ -6,7 +6,7 @@ use Rattle.change_core.specs.RuleModels.{RuleModel, form_size}
 use Rattle.change_rules.{specs.Nodes.{Argument, views, moved, moved_by, marks, is_same, is_whole, is_grown, is_grown_at_most, any_grown, all_same, node_delta, node_cost, grown_in, grown_size, reached_delta, reached_cost}, specs.Evaluation.{evaluation}}
 use Rattle.formula_core.specs.Changes.{result_delta, result_cost}
 
--- arrays, each with what changed of it, as arguments
+-- arrays with their changes, as arguments
 abbrev pub paired : List ArrayValue → List Delta → List Argument
 paired (a ∷ arrays) (d ∷ deltas) = (a, record { ref_ptr = (0, 0); now = d }) ∷ paired arrays deltas
 paired _ _ = []
@@ -35,7 +35,7 @@ values_more a d xs arrays ds rest = record {
   moves = ap (λ ys. moved_by d.now ∷ ys) rest.moves;
 }
 
--- only the arrays and their changes count: which are new, which grew, and which boxes changed
+-- the change depends only on which arguments are new, which grew, and which boxes changed
 abbrev delta_from : (p : RuleModel) (same whole : Bool) (seen : List ArrayValue) (grown most : Bool) (which : List Bool) (moves : List (Option (List Interval))) (held : Outcome) → Delta
 delta_from p same whole seen grown most which moves held =
     if same then Same

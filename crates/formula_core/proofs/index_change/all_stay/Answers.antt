@@ -2,7 +2,7 @@ use Rattle.std.{proofs.Common.{rules, tests, ◌≡◌, ◌∙◌, sym, refl, ap
 use Rattle.formula_core.{specs.declared.input.Input.{Input}, specs.Inputs.{stays, written_inputs}}
 use Rattle.formula_core.proofs.index_change.all_stay.Goals as goal
 
--- a position that is not written stays
+-- an empty position does not change
 written_stay : (positions : List (Option Input)) → list_all (λ p. option_map_or stays p true) positions ≡ list_all stays (written_inputs positions)
 written_stay [] = refl
 written_stay (Some input ∷ positions) = ap (λ b. stays input && b) (written_stay positions)

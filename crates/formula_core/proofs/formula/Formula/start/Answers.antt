@@ -7,7 +7,7 @@ use Rattle.formula_core.proofs.formula.Formula.start.Goals as goal
 all_known : (c : After-index) → length c.args.self.now.nodes ≡ length (subtrees c.args.self.now.tree)
 all_known c = known c.args.self.now c.self.inside.names.value.items c.self.inside.nodes.items c.self.invariant (ap (λ (v : FormulaValue). v.tree) c.self.view_is) (ap (λ (v : FormulaValue). v.nodes) c.self.view_is)
 
--- its root is an operation where its first node applies one
+-- its tree is an operation if its first node applies a function
 root_is : (c : After-index) → is_operation (tree_at (subtrees c.args.self.now.tree) 0) ≡ applies c.index.result.now.node
 root_is c =
     let f = c.args.self.now in
