@@ -1,10 +1,10 @@
--- A change that is opened and committed makes the same change of the desk as a plain change does.
+-- Opening and committing a change has the effect of the plain change.
 use Rattle.std.{proofs.Common.{◌≡◌, Bool, true, false, ◌||◌, List, [], ◌∷◌, ◌++◌, Option, Some, None, refl, sym, ap, subst, ◌∙◌}, proofs.lemmas.Bool.{false≢true}}
 use Rattle.sheet_recalc.{specs.Names.{Names}, specs.Changes.{SheetChange, Accepts}, specs.Costs.{HasCost, HasTicks}}
 use Rattle.sheet_desk.{specs.Desk.{DeskValue, SlotValue, Event, Open, Step, Commit, Drop, Plain, Show, Answer, Done, Left, Shown, Refused, with_held, AreEvents, IsMade}, specs.Histories.{makes_change, make_change, made_by, opened_after, committed, open_changes, AreAccepted, IsSameChange, OpenedIsAsPlain}}
 use Rattle.sheet_desk.{proofs.Committed.{names_committed}, proofs.Kept.{stale_changed}, proofs.Spent.{accepts_one}}
 
--- an event that makes no change makes none of those that are committed
+-- an event that makes no change adds no committed change
 none_by : (opened : List (Option SheetChange)) (event : Event) (answer : Answer) → makes_change event answer ≡ false → made_by opened event answer ≡ []
 none_by opened (Open k change) answer h = refl
 none_by opened (Step k) answer h = refl
@@ -23,7 +23,7 @@ neither : (a b : Bool) → (a || b) ≡ false → (a ≡ false) × (b ≡ false)
 neither true b h = absurd (false≢true (sym h))
 neither false b h = (refl, h)
 
--- nor do several
+-- the same for several events
 none_committed : (opened : List (Option SheetChange)) (events : List Event) (answers : List Answer) → make_change events answers ≡ false → committed opened events answers ≡ []
 none_committed opened [] answers h = refl
 none_committed opened (event ∷ events) [] h = refl
@@ -32,7 +32,7 @@ none_committed opened (event ∷ events) (answer ∷ answers) h =
     let rest = committed (opened_after opened event answer) events answers in
     ap (λ (changes : List SheetChange). changes ++ rest) (none_by opened event answer both.0) ∙ none_committed (opened_after opened event answer) events answers both.1
 
--- so they leave the names as they were
+-- such events keep the names
 same_names : (d new : DeskValue) (events : List Event) (answers : List Answer) → AreEvents d events answers new → make_change events answers ≡ false → new.names ≡ d.names
 same_names d new events answers h none =
     subst (λ (changes : List SheetChange). AreAccepted d.names changes new.names) (none_committed (open_changes d.slots) events answers none) (names_committed d new events answers h)

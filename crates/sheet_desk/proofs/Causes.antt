@@ -1,4 +1,4 @@
--- A change is accepted or refused, and for one cause, but for want of memory and which cycle is named.
+-- A change is accepted or refused, for one reason, except for want of memory and the choice of a cycle.
 use Rattle.std.{proofs.Common.{◌≡◌, ◌≢◌, ℕ, ℤ, ◌<◌, ◌⊎◌, ⊎_elim, inl, inr, true, List, [], ◌∷◌, length, is_some, None, Result, Ok, Err, refl, sym, ap, ◌∙◌, arith}, proofs.lemmas.Bool.{false≢true}}
 use Rattle.{apl_expr.specs.Trees.{Tree, Literal}, arrays_core.{specs.Arrays.{ArrayValue}, specs.declared.fault.Fault.{Fault}}}
 use Rattle.formula_core.specs.Meaning.{eval}
@@ -10,19 +10,19 @@ full_with_room : (names : Names) (name : List ℕ) → HasRoomForName names name
 full_with_room names name room full =
     ⊎_elim (λ present. false≢true (sym (ap is_some full.0) ∙ present)) (λ (few : length names < most_names). omega (arith, few, full.1)) room
 
--- a name for which there is only no room would not reach itself
+-- a name that only lacks room would not reach itself
 cycle_full : (names : Names) (name : List ℕ) (b : Binding) (cycle : List (List ℕ)) → CannotPut names name b why.SheetFull →
     IsCycleFrom (Refers (put names name b)) name cycle → ⊥
 cycle_full names name b [] full h = h
 cycle_full names name b (x ∷ via) full h = full.0 x (via, h.1)
 
--- nor does one whose definition is accepted
+-- a name whose definition is accepted does not reach itself
 cycle_accepted : (names : Names) (name : List ℕ) (t : Tree) (new : Names) (cycle : List (List ℕ)) → Accepts names (Define name t) new
     → IsCycleFrom (Refers (put names name (Formula t))) name cycle → ⊥
 cycle_accepted names name t new [] a h = h
 cycle_accepted names name t new (x ∷ via) a h = (rw a.0 at a.1) x (via, h.1)
 
--- why a definition is refused: a cycle, or no room where there is none
+-- the reason why a definition is refused: a cycle, or no room
 abbrev DefineCause : Names → List ℕ → Tree → Refusal → Type 0
 DefineCause names n t cause =
     ((names_cycle (Refused cause) ≡ true) × ((cycle : List (List ℕ)) × IsCycleFrom (Refers (put names n (Formula t))) n cycle))
@@ -45,7 +45,7 @@ define_cause names n t why.NotReady h other = absurd h
 define_cause names n t why.NoSlot h other = absurd h
 define_cause names n t why.SlotInUse h other = absurd h
 
--- why data is refused: its expression fails, or there is no room
+-- the reason why data is refused: its expression fails, or there is no room
 abbrev StoreCause : Names → List ℕ → Tree → Refusal → Type 0
 StoreCause names n t cause =
     ((e : Fault) × (cause ≡ why.Fault e) × (eval t (val names) ≡ Err e))
@@ -146,7 +146,7 @@ ok_or_err p q = cc
 one_err : {A B : Type 0} {r : Result A B} {a b : B} → r ≡ Err a → r ≡ Err b → a ≡ b
 one_err p q = cc
 
--- what is accepted is not refused
+-- an accepted change is not refused
 pub accepted_refused : (names : Names) (change : SheetChange) (new : Names) (cause : Refusal) → Accepts names change new → Refuses names change cause →
     cause ≢ why.NoMemory → ⊥
 accepted_refused names (Define n t) new cause a r other = by (define_cause names n t cause r other)
@@ -167,7 +167,7 @@ accepted_refused names (Erase n) new cause a r other = false≢true (sym (ap is_
 same : (a b : Refusal) → a ≡ b → IsSameAnswer (Refused a) (Refused b)
 same a b h = inl (ap (λ (c : Refusal). Refused c) h)
 
--- two causes of one refusal are one, or both name a cycle
+-- two reasons for one refusal are equal, or both are cycles
 pub refused_one : (names : Names) (change : SheetChange) (a b : Refusal) → Refuses names change a → a ≢ why.NoMemory → Refuses names change b → b ≢ why.NoMemory →
     IsSameAnswer (Refused a) (Refused b)
 refused_one names (Define n t) a b r other s another = by (define_cause names n t a r other) (define_cause names n t b s another)

@@ -1,4 +1,4 @@
--- The names after events are those of the changes that were made.
+-- The names after events are the result of the changes that were made.
 use Rattle.std.{proofs.Common.{◌≡◌, ℕ, zero, suc, ℤ, List, [], ◌∷◌, ◌++◌, map, Option, Some, None, refl, sym, ap, subst, ◌∙◌, arith}, specs.Option.{option_map}}
 use Rattle.{formula_core.specs.Meaning.{eval}, sheet_recalc.{specs.Names.{Names}, specs.Meaning.{val}, specs.Changes.{SheetChange, Accepts}}}
 use Rattle.sheet_desk.{specs.Slots.{with_slot}, specs.Desk.{DeskValue, SlotValue, Event, Open, Step, Commit, Drop, Plain, Show, Answer, Done, Left, Shown, Refused, stale, with_held, IsEvent, IsMade, IsStepped}}
@@ -22,12 +22,12 @@ put_changes : (slots : List (Option SlotValue)) (k : ℤ) (held : Option SlotVal
     open_changes (with_slot slots k held) ≡ with_slot (open_changes slots) k (option_map (λ (s : SlotValue). s.change) held)
 put_changes slots k held = with_slot-map (λ (s : SlotValue). s.change) slots k held
 
--- what an event makes of the names, and of what is open
+-- the effect of an event on the names and on the open changes
 record Follows (d next : DeskValue) (event : Event) (answer : Answer) : Type 0 where
   names : AreAccepted d.names (made_by (open_changes d.slots) event answer) next.names
   opened : open_changes next.slots ≡ opened_after (open_changes d.slots) event answer
 
--- names and changes that are as they were
+-- names and open changes stay
 record IsAsBefore (d next : DeskValue) : Type 0 where
   names : next.names ≡ d.names
   opened : open_changes next.slots ≡ open_changes d.slots

@@ -1,10 +1,10 @@
--- The count of steps is one number.
+-- The number of steps is unique.
 use Rattle.std.{proofs.Common.{◌≡◌, ◌≤◌, ◌+◌, ⊎_elim, ℕ, List, [], ◌∷◌, ◌++◌, sym, ap, subst, ◌∙◌, arith}, specs.List.{Contains, sum_by}, proofs.lemmas.List.Sums.{sum_by-cons, sum_by-append}, proofs.lemmas.List.Elements.{Contains-append_left, Contains-append_right, Contains-append_cases}}
 use Rattle.dep_order.{specs.Follows.{IsOnce}, proofs.Following.{contains_here, contains_there, contains_cases, contains_none}}
 use Rattle.sheet_recalc.{specs.Names.{Names}, specs.Costs.{IsStepCount, functions_in}, proofs.Keeping.{distinct_once}}
 
 module _ {A : Type 0} where
-  -- a list is what stands before an element of it, the element, and what stands behind
+  -- a list is the part before an entry, the entry, and the part after it
   record Parts (xs : List A) (x : A) : Type 0 where
     before : List A
     behind : List A
@@ -20,7 +20,7 @@ module _ {A : Type 0} where
       later : Parts xs x → Parts (y ∷ xs) x
       later p = record { before = y ∷ p.before; behind = p.behind; is = ap (λ (zs : List A). y ∷ zs) p.is }
 
-  -- a sum over different elements is at most that over a list which has them all
+  -- a sum over distinct entries is at most the sum over a list that contains them all
   sum_within : (f : A → ℕ) (xs ys : List A) → IsOnce xs → ((x : A) → Contains xs x → Contains ys x) → sum_by f xs ≤ sum_by f ys
   sum_within f [] ys once inside = omega arith
   sum_within f (x ∷ xs) ys once inside =

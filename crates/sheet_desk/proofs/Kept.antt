@@ -1,4 +1,4 @@
--- A change that stays open is stale exactly where another was made.
+-- A change that stays open is stale if and only if another one was made.
 use Rattle.std.{proofs.Common.{◌≡◌, ◌≢◌, ℕ, zero, suc, ℤ, Bool, true, false, ◌||◌, List, [], ◌∷◌, map, Option, Some, None, refl, sym, ap, subst, ◌∙◌, arith}, specs.Option.{option_map}}
 use Rattle.sheet_recalc.specs.Changes.{SheetChange}
 use Rattle.sheet_desk.{specs.Slots.{slot_in}, specs.Desk.{DeskValue, SlotValue, Event, Open, Step, Commit, Drop, Plain, Show, Answer, Done, Left, Shown, Refused, stale, held_in, with_held, IsEvent, IsStepped, AreEvents}, specs.Histories.{makes_change, make_change, Keeps, AllKeep, HoldsStale, StaleWhereChanged}}
@@ -17,11 +17,11 @@ or_assoc true b c = refl
 or_assoc false b c = refl
 
 module _ (k : ℤ) (change : SheetChange) where
-  -- a slot that finds the same holds the same
+  -- a slot with the same contents holds the same change
   same_held : (d next : DeskValue) (b : Bool) → HoldsStale d k change b → held_in next k ≡ held_in d k → HoldsStale next k change (b || false)
   same_held d next b h same = (h.0, same ∙ h.1, h.2, h.3 ∙ sym (or_false b))
 
-  -- all are stale
+  -- all open changes are stale
   all_stale : (e next : DeskValue) (b : Bool) → HoldsStale e k change b → next.slots ≡ map (option_map stale) e.slots → HoldsStale next k change (b || true)
   all_stale e next b h is = (
     stale h.0,
@@ -34,14 +34,14 @@ module _ (k : ℤ) (change : SheetChange) where
   same_other : (d : DeskValue) (j : ℤ) (held : Option SlotValue) → j ≢ k → held_in (with_held d j held) k ≡ held_in d k
   same_other d j held other = slot_in-other d.slots j k held other
 
--- the change and the flag of what is open
+-- the change and the flag of a slot
 abbrev mark : SlotValue → SheetChange × Bool
 mark s = (s.change, s.is_stale)
 
 abbrev marks : List (Option SlotValue) → List (Option (SheetChange × Bool))
 marks slots = map (option_map mark) slots
 
--- what has a mark is there
+-- a slot with a mark holds a change
 marked_as : (o : Option (Option SlotValue)) (m : SheetChange × Bool) → option_map (option_map mark) o ≡ Some (Some m) →
     (s : SlotValue) × (o ≡ Some (Some s)) × (mark s ≡ m)
 marked_as None m h = cc
@@ -73,7 +73,7 @@ stepped_marks d next j n h = by h.slot.left refl
         ap (λ (e : DeskValue). marks e.slots) one.next_is ∙ with_slot-map mark d.slots j (Some _)
         ∙ with_slot_same (marks d.slots) j (Some (h.slot.change, false)) held
 
--- an empty slot is another than one that holds something
+-- an empty slot differs from one that holds something
 empty_other : (d : DeskValue) (j k : ℤ) (s : SlotValue) → held_in d j ≡ Some None → held_in d k ≡ Some (Some s) → j ≢ k
 empty_other d j k s empty held same = clash (held_in d k) (sym (ap (held_in d) same) ∙ empty) held
   where

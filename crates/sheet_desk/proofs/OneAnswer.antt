@@ -1,4 +1,4 @@
--- An event has one answer at desks that are alike, but for want of memory and which cycle is named.
+-- An event on two alike desks has one answer, except for want of memory and the choice of a cycle.
 use Rattle.std.{proofs.Common.{◌≡◌, ◌≢◌, ◌⊎◌, ⊎_elim, inl, inr, ℕ, zero, suc, ◌-◌, ℤ, Bool, true, false, eqb, List, [], ◌∷◌, map, Option, Some, None, refl, sym, ap, subst, ◌∙◌, arith, if◌then◌else◌}, specs.Option.{option_map}}
 use Rattle.formula_core.specs.Meaning.{eval}
 use Rattle.sheet_recalc.{specs.Names.{Names}, specs.Meaning.{val}, specs.Changes.{SheetChange, Accepts, Refuses}, specs.Costs.{HasCost, IsStepCount, changed_name}, specs.declared.refusal.Refusal.{Refusal}}
@@ -7,7 +7,7 @@ use Rattle.sheet_desk.specs.Desk.{DeskValue, SlotValue, Event, Open, Step, Commi
 use Rattle.sheet_desk.{specs.Histories.{told_of_slot, AreAlike, IsSameAnswer, EachEventHasOneAnswer}, proofs.Slotted.{slot_in-map, with_slot-map}, proofs.Spent.{accepts_one}, proofs.Counted.{count_one}, proofs.Causes.{accepted_refused, refused_one}}
 use Rattle.sheet_recalc.specs.declared.refusal.Refusal.TheVariants as why
 
--- what answers tell of a slot
+-- the part of a slot that answers depend on
 abbrev Told : Type 0
 Told = SheetChange × Bool × ℕ
 
@@ -17,7 +17,7 @@ told_in d k = option_map (option_map told_of_slot) (held_in d k)
 told_alike : (d e : DeskValue) → AreAlike d e → (k : ℤ) → told_in d k ≡ told_in e k
 told_alike d e h k = sym (slot_in-map told_of_slot d.slots k) ∙ ap (λ (ts : List (Option Told)). slot_in ts k) h.slots ∙ slot_in-map told_of_slot e.slots k
 
--- the refusals of slots are of what is told of them
+-- the refusals of slots, by that part
 abbrev open_by : Option (Option Told) → Option Refusal
 open_by None = Some why.NoSlot
 open_by (Some None) = None
@@ -66,28 +66,28 @@ refusals_alike d e (Drop k) h = drop_told (held_in d k) ∙ ap drop_by (told_ali
 refusals_alike d e (Plain change) h = refl
 refusals_alike d e (Show tree) h = refl
 
--- what an event comes to that is not refused
+-- the effect of an event that is not refused
 abbrev Passes : DeskValue → Event → Answer → DeskValue → Type 0
 Passes d event Done next = IsEvent d event Done next
 Passes d event (Left n) next = IsEvent d event (Left n) next
 Passes d event (Shown outcome) next = IsEvent d event (Shown outcome) next
 Passes d event (Refused cause) next = ⊥
 
--- it is refused by its slot
+-- the slot refuses it
 record IsStopped (d : DeskValue) (event : Event) (a : Answer) (next : DeskValue) : Type 0 where
   cause : Refusal
   by_slot : slot_refusal d event ≡ Some cause
   answer : a ≡ Refused cause
   as_was : next ≡ d
 
--- or refused then
+-- it is refused afterwards
 record IsRefusedThen (d : DeskValue) (event : Event) (a : Answer) (next : DeskValue) : Type 0 where
   cause : Refusal
   refuses : RefusesThen d event cause
   answer : a ≡ Refused cause
   as_was : next ≡ d
 
--- what an event that passes is let through by
+-- an event that passes is allowed by its slot
 passes_slot : (d next : DeskValue) (event : Event) (a : Answer) → Passes d event a next → slot_refusal d event ≡ None
 passes_slot d next (Open k change) Done h = absurd h
 passes_slot d next (Open k change) (Left n) h = ap open_refusal h.empty
@@ -136,7 +136,7 @@ holding_alike d e k a b h same = record {
       ∙ sym (with_slot-map told_of_slot e.slots k b);
 }
 
--- what is told of a change that is stale
+-- that part of a stale change
 abbrev restaled : Told → Told
 restaled t = (t.0, true, t.2)
 
@@ -159,7 +159,7 @@ made_alike d e d' e' change h p q =
           ∙ ap (map (option_map told_of_slot)) (sym q.slots);
     }
 
--- what two desks that are alike hold in a slot
+-- two alike desks have alike slots
 same_told : (d e : DeskValue) → AreAlike d e → (k : ℤ) (s t : SlotValue) → held_in d k ≡ Some (Some s) → held_in e k ≡ Some (Some t) → told_of_slot s ≡ told_of_slot t
 same_told d e h k s t p q = some_some (sym (ap (option_map (option_map told_of_slot)) p) ∙ told_alike d e h k ∙ ap (option_map (option_map told_of_slot)) q)
   where
@@ -199,7 +199,7 @@ committed_alike d e d' e' k h p q =
     made_alike (with_held d k None) (with_held e k None) d' e' q.slot.change (holding_alike d e k None None h refl) (subst (λ (c : SheetChange). IsMade (with_held d k None) c
     d') same p.made) q.made
 
--- two that pass
+-- both pass
 both_pass : (d e d' e' : DeskValue) (event : Event) (a b : Answer) → AreAlike d e → Passes d event a d' → Passes e event b e' → IsSameAnswer a b × AreAlike d' e'
 both_pass d e d' e' (Open k change) Done b h p q = absurd p
 both_pass d e d' e' (Open k change) (Left m) Done h p q = absurd q
@@ -248,7 +248,7 @@ both_pass d e d' e' (Show tree) (Shown x) (Shown y) h p q = (
 both_pass d e d' e' (Show tree) (Shown x) (Refused c') h p q = absurd q
 both_pass d e d' e' (Show tree) (Refused c) b h p q = absurd p
 
--- one that passes and one that is refused
+-- one passes and one is refused
 pass_refused : (d e d' : DeskValue) (event : Event) (a : Answer) (cause : Refusal) → d.names ≡ e.names → Passes d event a d' → RefusesThen e event cause →
     cause ≢ why.NoMemory → ⊥
 pass_refused d e d' (Open k change) Done cause h p r other = absurd p
@@ -278,7 +278,7 @@ pass_refused d e d' (Show tree) (Left m) cause h p r other = absurd p
 pass_refused d e d' (Show tree) (Shown x) cause h p r other = other r
 pass_refused d e d' (Show tree) (Refused c) cause h p r other = absurd p
 
--- two that are refused
+-- both are refused
 both_refused : (d e : DeskValue) (event : Event) (c c' : Refusal) → d.names ≡ e.names → RefusesThen d event c → c ≢ why.NoMemory → RefusesThen e event c' →
     c' ≢ why.NoMemory → IsSameAnswer (Refused c) (Refused c')
 both_refused d e (Open k change) c c' h r other s another = refused_one e.names change c c' (subst (λ (ns : Names). Refuses ns change c) h r) other s another
@@ -291,7 +291,7 @@ both_refused d e (Show tree) c c' h r other s another = absurd (other r)
 same_for : (a b : Answer) (c c' : Refusal) → a ≡ Refused c → b ≡ Refused c' → IsSameAnswer (Refused c) (Refused c') → IsSameAnswer a b
 same_for a b c c' p q h = subst (λ (x : Answer). IsSameAnswer x b) (sym p) (subst (λ (y : Answer). IsSameAnswer (Refused c) y) (sym q) h)
 
--- a cause that is told is not want of memory, where the answer is not
+-- the reason of an answer is not want of memory if the answer is not
 not_memory : (a : Answer) (c : Refusal) → a ≡ Refused c → a ≢ Refused why.NoMemory → c ≢ why.NoMemory
 not_memory a c p other is = other (p ∙ ap (λ (x : Refusal). Refused x) is)
 

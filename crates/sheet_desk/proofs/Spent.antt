@@ -1,11 +1,11 @@
--- What was computed for a change that is made is no more than it costs.
+-- The items computed for a change that is made are at most its cost.
 use Rattle.std.proofs.Common.{◌≡◌, ◌≤◌, ℕ, Ok, Result, subst, sym, ◌∙◌}
 use Rattle.sheet_recalc.{specs.Names.{Names, SheetValue}, specs.Changes.{SheetChange, Define, Store, Put, SetCell, AddRow, Erase, Accepts}, specs.Costs.{HasCost}, specs.Pending.{IsPendingOn, steps_left, names_after}, specs.declared.pending.Pending.{Pending}, proofs.Stepped.{is_ready, whole_cost}}
 
 same_ok : {A B : Type 0} {r : Result A B} {a b : A} → r ≡ Ok a → r ≡ Ok b → a ≡ b
 same_ok p q = cc
 
--- what accepts a change gives one list of names
+-- an accepted change leads to one list of names
 pub accepts_one : (names : Names) (change : SheetChange) (new₁ new₂ : Names) → Accepts names change new₁ → Accepts names change new₂ → new₁ ≡ new₂
 accepts_one names (Define n t) new₁ new₂ a b = a.0 ∙ sym b.0
 accepts_one names (Store n t) new₁ new₂ a b = rw (same_ok a.1 b.1) at a.2 ∙ sym b.2

@@ -1,10 +1,10 @@
--- All that is open is marked as stale.
+-- Every open change is marked as stale.
 use Rattle.std.{proofs.Common.{◌≡◌, ℕ, zero, suc, ℤ, pos, negsuc, List, [], ◌∷◌, map, length, get_or, set, Option, Some, None, refl, sym, ap, subst, ◌∙◌, length-set}, specs.List.{All}, specs.Option.{option_map}, proofs.lemmas.Bool.{false≢true}, proofs.lemmas.List.{length-map}}
 use Rattle.std.{proofs.lemmas.List.Elements.{All-get_or, All-map, All-set}, proofs.lemmas.Option.{slice_get_within, get_or_from_slice_get}}
 use Rattle.sheet_recalc.specs.Names.{SheetValue}
 use Rattle.sheet_desk.{specs.Slots.{slot_count, slot_in, with_slot}, specs.Desk.{SlotValue, stale}, specs.Held.{IsOpenOn, AreOpenOn, marked, slot_value_of, slot_values_of}, specs.declared.slot.Slot.{Slot}}
 
--- what holds of all slots holds of the one that a number names
+-- a property of all slots holds for the slot of a number
 pub all_in : {A : Type 0} (P : Option A → Type 0) (slots : List (Option A)) (k : ℤ) (held : Option A) → All P slots → slot_in slots k ≡ Some held → P held
 all_in P slots (pos zero) held all h = cc
 all_in P slots (pos (suc place)) held all h = subst P (get_or_from_slice_get slots place held held h) (All-get_or P slots place held (slice_get_within slots place
@@ -16,18 +16,18 @@ length-with_slot slots (pos zero) held = refl
 length-with_slot slots (pos (suc place)) held = length-set slots place held
 length-with_slot slots (negsuc n) held = refl
 
--- what is put in a place is worked out on the sheet, as the others are
+-- a change stored in a slot is pending on the sheet, like the others
 pub open_put : (sheet : SheetValue) (slots : List (Option Slot)) (place : ℕ) (held : Option Slot) → AreOpenOn sheet slots → IsOpenOn sheet held →
     AreOpenOn sheet (set slots place held)
 open_put sheet slots place held all one = record { count = length-set slots place held ∙ all.count; all = All-set (IsOpenOn sheet) slots place held one all.all }
 
--- what is marked is seen as stale
+-- the model of a marked slot is stale
 pub marked_seen : (slots : List (Option Slot)) → slot_values_of (map (option_map marked) slots) ≡ map (option_map stale) (slot_values_of slots)
 marked_seen [] = refl
 marked_seen (None ∷ slots) = ap (λ (rest : List (Option SlotValue)). None ∷ rest) (marked_seen slots)
 marked_seen (Some s ∷ slots) = ap (λ (rest : List (Option SlotValue)). Some (stale (slot_value_of s)) ∷ rest) (marked_seen slots)
 
--- of what is stale nothing is asked
+-- a stale change need not be pending on the sheet
 open_when_marked : (sheet : SheetValue) (held : Option Slot) → IsOpenOn sheet (option_map marked held)
 open_when_marked sheet None = tt
 open_when_marked sheet (Some s) = λ h. absurd (false≢true (sym h))

@@ -2,7 +2,7 @@ use Rattle.std.proofs.Common.{◌≤◌, ◌+◌, ◌++◌, List, map, length, v
 use Rattle.sheet_desk.{specs.Desk.{DeskValue, Answer, AreEvents}, specs.Asked.{event_of, answer_of}}
 use Rattle.sheet_desk.proofs.desk.Desk.apply_all.Given as goal
 
--- whatever the rest is answered, all of it is answered so
+-- the answers to the rest complete the answers to all events
 abbrev pub invariant-loop-event : goal.invariant-loop-event
 invariant-loop-event l =
     record {

@@ -6,7 +6,7 @@ use mir.Syntax.{w64}
 use mir.Val.{to_z, of_z, SFits}
 use Rattle.sheet_desk.proofs.desk.Desk.commit.Goals as goal
 
--- the number of the call is the number
+-- the number of the call
 found : (slots : List (Option Slot)) (k : ℤ) (s : Slot) → SFits w64 k → slot_in slots (to_z w64 (of_z w64 k)) ≡ Some (Some s) → slot_in slots k ≡ Some (Some s)
 found slots k s fits h = subst (λ (n : ℤ). slot_in slots n ≡ Some (Some s)) (to_z-of_z w64 k fits) h
 
@@ -14,7 +14,7 @@ emptied : (slots : List (Option Slot)) (k : ℤ) (after : List (Option Slot)) �
     after ≡ with_slot slots k None
 emptied slots k after fits h = subst (λ (n : ℤ). after ≡ with_slot slots n None) (to_z-of_z w64 k fits) h
 
--- the change that was taken out is worked out on the sheet
+-- the change taken out is pending on the sheet
 pending_on : (sheet : SheetValue) (slots : List (Option Slot)) (k : ℤ) (s : Slot) → AreOpenOn sheet slots → slot_in slots k ≡ Some (Some s) →
     s.is_stale ≡ false → IsPendingOn sheet (change_of s.change) s.pending
 pending_on sheet slots k s all there fresh = all_in (IsOpenOn sheet) slots k (Some s) all.all there fresh

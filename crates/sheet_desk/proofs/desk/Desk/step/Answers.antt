@@ -8,21 +8,21 @@ use Rattle.sheet_desk.proofs.desk.Desk.step.Goals as goal
 placed : (c : In-Some) → IsPlaced c.self.inside.sheet c.self.inside.slots c.args.number c.args.self.now c.in-Some.place
 placed c = record { fits = c.ranges.number; view = c.self.view_is; found = c.in-Some.ensures }
 
--- and there the change that is worked out
+-- the pending change at that place
 placed_fresh : (c : Else-slot) → IsPlaced c.self.inside.sheet c.self.inside.slots c.args.number c.args.self.now c.in-Some.place
 placed_fresh c = record { fits = c.ranges.number; view = c.self.view_is; found = c.in-Some.ensures }
 
--- what the number finds
+-- the contents of the slot
 found : (c : Else-slot) → held_in c.args.self.now c.args.number ≡ Some (Some (slot_value_of c.in-Some-slots.slot))
 found c = held_seen (placed_fresh c) c.index-self-place.result (Some c.in-Some-slots.slot) c.in-Some-slots.is
 
--- and what it finds afterwards, where that looks the same
+-- the contents of the slot afterwards, if their model is the same
 unchanged : (c : Else-slot) (now : Slot) → slot_value_of now ≡ slot_value_of c.in-Some-slots.slot →
     seen c.self.inside.sheet (set c.self.inside.slots c.in-Some.place (Some now)) ≡ c.args.self.now
 unchanged c now same =
     put_same (placed_fresh c) c.index-self-place.result (Some c.in-Some-slots.slot) (Some now) c.in-Some-slots.is (ap (λ (s : SlotValue). Some s) same)
 
--- it is worked out on the sheet
+-- the change is pending on the sheet
 pending_on : (c : Else-slot) → IsOpenOn c.self.inside.sheet (Some c.in-Some-slots.slot)
 pending_on c =
     subst (IsOpenOn c.self.inside.sheet) c.in-Some-slots.is
