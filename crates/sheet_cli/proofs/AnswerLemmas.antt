@@ -1,16 +1,16 @@
--- What one line is answered, and what lines are.
+-- The answer to one line, and the answers to several.
 use Rattle.std.{proofs.Common.{◌≡◌, ℕ, ◌+◌, ◌-◌, ◌<◌, ◌≤◌, Bool, true, false, eqb, ltb, List, [], ◌∷◌, ◌++◌, length, take, get_or, refl, sym, ap, subst, ◌∙◌, arith, count_by, replicate, append_assoc, codes, ⊎_elim}, specs.Prelude.{◌&&◌}, proofs.lemmas.Bool.{cases_lt, cond_both}, proofs.lemmas.List.Sums.{sum_by-append}}
 use Rattle.std.{proofs.lemmas.List.{take_all, append-nil, length-take, length_push}, specs.Str.{IsUtf8, chars}}
 use Rattle.sheet_cli.{specs.Lines.{longest_line, strip_cr, ended_lines, last_line}, specs.Answer.{State, IsTextAnswer, IsAnswer, too_long, not_text, of_text}, specs.Answers.{IsFlaggedAnswer, Answers, no_lines, line_first, Answered, LinesHaveOneAnswer, IsOnlyAnswer}}
 use Rattle.sheet_cli.{specs.Progress.{most_kept, line_after, count_of, AnswersLine}, proofs.Cuts.{next_stripped, long_enough, kept_line}, proofs.OneAnswer.{line_one}}
 
--- a line of so many bytes is too long without its CR
+-- a line of at least this length is too long even without its CR
 longer : (line : List ℕ) → longest_line + 2 ≤ length line → longest_line < length (strip_cr line)
 unfolding strip_cr
 longer line h = cond_both (ltb 0 (length line) && eqb (get_or line (length line - 1) 0) 13) (take (length line - 1) line) line (λ (x : List ℕ). longest_line < length x)
     (λ e. rw length-take (omega arith)) (λ e. omega arith)
 
--- the first bytes of a line that is too long tell so
+-- the first bytes decide the answer to a line that is too long
 answer_of_long : (line line' : List ℕ) → longest_line + 2 ≤ length line → longest_line + 2 ≤ length line' → (old new : State) (answer : List ℕ) → IsAnswer old line answer new → IsAnswer old line' answer new
 answer_of_long line line' h h' old new answer (too_long l) = too_long (longer line' h')
 answer_of_long line line' h h' old new answer (not_text l n) = absurd (omega (arith, longer line h))
@@ -30,7 +30,7 @@ flagged_answer_of_kept : (flag : Bool) (ls : List (List ℕ)) (line : List ℕ) 
 flagged_answer_of_kept true ls line old new answer a = a
 flagged_answer_of_kept false ls line old new answer a = answer_of_kept ls line old new answer a
 
--- what is answered to the bytes that are kept is answered to the line
+-- the answer to the kept bytes is the answer to the line
 pub AnswersLine-kept : (old : State) (kept line input : List ℕ) (lines refused refused' : ℕ) (answer : List ℕ) (new : State) → kept ≡ take most_kept (last_line input) → lines ≡ length (ended_lines input) →
     line ≡ line_after lines kept → AnswersLine old line refused refused' answer new → AnswersLine old (next_stripped (ended_lines input) (last_line input)) refused refused' answer new
 AnswersLine-kept old kept line input lines refused refused' answer new k n e a = record {
@@ -39,11 +39,11 @@ AnswersLine-kept old kept line input lines refused refused' answer new k n e a =
   answer_is = flagged_answer_of_kept a.flag (ended_lines input) (last_line input) old new answer (rw (e ∙ kept_line kept input lines k n) at a.answer_is);
 }
 
--- what is printed for a line answers it, in one piece or two
+-- the text printed for a line answers it, in one piece or two
 pub AnswersLine-printed : (old : State) (line : List ℕ) (refused : ℕ) (printed text : List ℕ) (new : State) → printed ≡ text → IsAnswer old line printed new → AnswersLine old line refused refused text new
 AnswersLine-printed old line refused printed text new e a = record { flag = false; refused_is = omega arith; answer_is = subst (λ (t : List ℕ). IsAnswer old line t new) e a }
 
--- one answer more
+-- one more answer
 answers_push : {old mid new : State} {lines : List (List ℕ)} {flags : List Bool} {before : List ℕ} (line now : List ℕ) (flag : Bool) →
     Answers old lines flags before mid → IsFlaggedAnswer flag mid line now new → Answers old (lines ++ line ∷ []) (flags ++ flag ∷ []) (before ++ now) new
 answers_push line now flag no_lines a = rw (← append-nil now) (line_first now [] a no_lines)
@@ -56,7 +56,7 @@ count_by-push flags flag = sum_by-append _ flags (flag ∷ []) ∙ ap (λ (n : �
     one true = refl
     one false = refl
 
--- some lines are answered, and one line more
+-- some lines are answered, and one more
 pub Answered-push : (old : State) (lines : List (List ℕ)) (refused : ℕ) (before : List ℕ) (mid : State) (line : List ℕ) (refused' : ℕ) (more : List ℕ) (new : State) →
     Answered old lines refused before mid → AnswersLine mid line refused refused' more new → Answered old (lines ++ line ∷ []) refused' (before ++ more) new
 Answered-push old lines refused before mid line refused' more new a l = record {
@@ -74,7 +74,7 @@ flagged_one : (flag : Bool) (old : State) (line answer₁ answer₂ : List ℕ) 
 flagged_one true old line answer₁ answer₂ new₁ new₂ a b = (a.0 ∙ sym b.0, a.1 ∙ sym b.1)
 flagged_one false old line answer₁ answer₂ new₁ new₂ a b = line_one old line answer₁ answer₂ new₁ new₂ a b
 
--- what answers to these lines with these flags are made of
+-- the parts of the answers to these lines with these flags
 abbrev Parts : State → List (List ℕ) → List Bool → List ℕ → State → Type 0
 Parts old [] [] answer new = (answer ≡ []) × (new ≡ old)
 Parts old [] (flag ∷ flags) answer new = ⊥
@@ -98,13 +98,13 @@ answers_one old (line ∷ lines) (flag ∷ flags) answer₁ answer₂ new₁ new
     let rest = answers_one q.0 lines flags p.2 q.2 new₁ new₂ (rw first.1 at p.4) q.4 in
     (p.5 ∙ rw (first.0, rest.0) refl ∙ sym q.5, rest.1)
 
--- where no flag is set they are so many unset ones
+-- if no flag is set, the flags are all unset
 no_flags : (flags : List Bool) → count_by (λ f. f) flags ≡ 0 → flags ≡ replicate (length flags) false
 no_flags [] h = refl
 no_flags (true ∷ flags) h = let e : 1 + count_by (λ f. f) flags ≡ 0 = sym (sum_by-append _ (true ∷ []) flags) ∙ h in absurd (omega (arith, e))
 no_flags (false ∷ flags) h = ap (λ (t : List Bool). false ∷ t) (no_flags flags h)
 
--- where no line is refused memory, nothing else answers the lines
+-- if no line is refused memory, the lines have no other answer
 pub only_answer : (old : State) (lines : List (List ℕ)) (refused : ℕ) (answer : List ℕ) (new : State) → Answered old lines refused answer new → refused ≡ 0 → IsOnlyAnswer old lines answer new
 only_answer old lines refused answer new a z = λ answer' new' b.
     let same : b.flags ≡ a.flags = no_flags b.flags b.refused_is ∙ ap (λ (n : ℕ). replicate n false) (b.one_a_line ∙ sym a.one_a_line) ∙ sym (no_flags a.flags (a.refused_is ∙ z)) in

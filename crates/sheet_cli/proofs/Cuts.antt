@@ -1,9 +1,9 @@
--- How lines are cut, from the left.
+-- The lines of a list of bytes, from the left.
 use Rattle.std.{proofs.Common.{◌≡◌, ℕ, zero, suc, ◌+◌, ◌-◌, ◌<◌, ◌≤◌, min, Bool, true, false, cond, eqb, List, [], ◌∷◌, ◌++◌, length, take, get_or, refl, sym, ap, ◌∙◌, arith, ⊎_elim}, specs.Prelude.{◌==◌, ◌&&◌, Result, is_ok}, specs.Result.{IsOk}, proofs.lemmas.Bool.{and_parts, eqb-true, cases_lt, cond_both}}
 use Rattle.std.{proofs.lemmas.List.{take_all, take_more, length-take}, proofs.Math.Seq.{take-append-add}}
 use Rattle.sheet_cli.{specs.Lines.{strip_bom, onto_first, ended_lines, onto_last, last_line, line_if_any, lines_of, longest_line}, specs.Progress.{most_kept, first_stripped, line_after}}
 
--- the line that stands after these, without a byte order mark where it is the first
+-- the line after these, without a byte order mark if it is the first
 unfoldable pub next_stripped : List (List ℕ) → List ℕ → List ℕ
 next_stripped [] line = strip_bom line
 next_stripped (first ∷ lines) line = line
@@ -29,13 +29,13 @@ last_line-lf (x ∷ xs) = rw (ended_lines-lf xs, last_line-lf xs) (by_cases (eqb
     by_cases false [] l = refl
     by_cases false (k ∷ ls) l = refl
 
--- another byte goes on with the last line
+-- any other byte extends the last line
 pub ended_lines-push : (xs : List ℕ) (y : ℕ) → eqb y 10 ≡ false → ended_lines (xs ++ y ∷ []) ≡ ended_lines xs
 unfolding ended_lines last_line
 ended_lines-push [] y h = rw h refl
 ended_lines-push (x ∷ xs) y h = rw (ended_lines-push xs y h) refl
 
--- a byte order mark at the start stands in the first line, ended or not
+-- a byte order mark at the start is in the first line, ended or not
 first_kept : (a b c : ℕ) (l₀ l₁ l₂ m : List (List ℕ)) (ta tb tc : Bool) → ((a == 239) && (b == 187) && (c == 191)) ≡ false →
     let ls : List (List ℕ) = cond ta ([] ∷ l₀) (onto_first a (cond tb ([] ∷ l₁) (onto_first b (cond tc ([] ∷ l₂) (onto_first c m))))) in first_stripped ls ≡ ls
 unfolding first_stripped strip_bom
@@ -80,7 +80,7 @@ ended_lines-bom (a ∷ b ∷ c ∷ rest) = by_test ((a == 239) && (b == 187) && 
         rw h (rw (m.0, m.1, m.2) (marked (ended_lines rest)))
     by_test false h = rw h (sym (first_kept a b c _ _ _ (ended_lines rest) (a == 10) (b == 10) (c == 10) h))
 
--- the same for what stands behind the last LF
+-- the same for the bytes after the last LF
 unmarked : (a b c : ℕ) (l₀ l₁ l₂ m : List (List ℕ)) (last : List ℕ) (ta tb tc : Bool) → ((a == 239) && (b == 187) && (c == 191)) ≡ false →
     let ls₂ : List (List ℕ) = cond tc ([] ∷ m) (onto_first c m) in
     let ls₁ : List (List ℕ) = cond tb ([] ∷ ls₂) (onto_first b ls₂) in
@@ -127,7 +127,7 @@ last_line-bom (a ∷ b ∷ c ∷ rest) = by_test ((a == 239) && (b == 187) && (c
         rw h (rw (m.0, m.1, m.2) (marked_last (ended_lines rest) (last_line rest)))
     by_test false h = rw h (sym (unmarked a b c [] [] [] (ended_lines rest) (last_line rest) (a == 10) (b == 10) (c == 10) h))
 
--- one line more
+-- one more line
 pub first_stripped-push : (ls : List (List ℕ)) (l : List ℕ) → first_stripped (ls ++ l ∷ []) ≡ first_stripped ls ++ next_stripped ls l ∷ []
 unfolding first_stripped next_stripped
 first_stripped-push [] l = refl
@@ -144,7 +144,7 @@ last_line-none (y ∷ ys) h = by_cases (eqb y 10) (ended_lines ys) (last_line ys
     by_cases false [] last same h = ap (λ (t : List ℕ). y ∷ t) (same refl)
     by_cases false (l ∷ ls) last same h = absurd (omega (arith, ap length h))
 
--- and behind others they go on with theirs
+-- after other bytes they extend the last line
 pub ended_lines-piece : (xs ys : List ℕ) → ended_lines ys ≡ [] → ended_lines (xs ++ ys) ≡ ended_lines xs
 unfolding ended_lines
 ended_lines-piece [] ys h = h
@@ -174,13 +174,13 @@ take_min m ys = ⊎_elim short long (cases_lt (length ys) m)
     long : m ≤ length ys → take (min m (length ys)) ys ≡ take m ys
     long h = let e : min m (length ys) ≡ m = omega arith in rw e refl
 
--- what is kept and as much more as there is room for
+-- the kept bytes with as many more as there is room for
 pub take-room : (n room : ℕ) (xs ys : List ℕ) → length xs ≤ n → room ≡ min (n - length xs) (length ys) → xs ++ take room ys ≡ take n (xs ++ ys)
 take-room n room xs ys h e =
     let whole : n ≡ length xs + (n - length xs) = omega arith in
     rw e (rw (take_min (n - length xs) ys) (sym (take-append-add xs ys (n - length xs)) ∙ ap (λ (m : ℕ). take m (xs ++ ys)) (sym whole)))
 
--- more bytes add lines behind
+-- more bytes add lines at the end
 pub ended_lines-append : (xs ys : List ℕ) → (more : List (List ℕ)) × (ended_lines (xs ++ ys) ≡ ended_lines xs ++ more)
 unfolding ended_lines
 ended_lines-append [] ys = (ended_lines ys, refl)
@@ -219,7 +219,7 @@ unfolding next_stripped
 long_enough [] x h = omega (arith, bom_short x)
 long_enough (k ∷ ks) x h = omega arith
 
--- what is kept of a line is empty where the line is
+-- the kept part of a line is empty if and only if the line is
 pub kept_empty : (ls : List (List ℕ)) (x : List ℕ) → (length (next_stripped ls (take most_kept x)) ≡ 0 → length (next_stripped ls x) ≡ 0) × (0 < length (next_stripped ls (take most_kept x)) → 0 < length (next_stripped ls x))
 kept_empty ls x = ⊎_elim whole cut (cases_lt most_kept (length x))
   where
@@ -244,11 +244,11 @@ lines_of-is input = rw (ended_lines-bom input, last_line-bom input) refl
 pub kept_line : (kept input : List ℕ) (lines : ℕ) → kept ≡ take most_kept (last_line input) → lines ≡ length (ended_lines input) → line_after lines kept ≡ next_stripped (ended_lines input) (take most_kept (last_line input))
 kept_line kept input lines k n = line_after-is lines (ended_lines input) kept n ∙ ap (λ (x : List ℕ). next_stripped (ended_lines input) x) k
 
--- a byte that is no LF lets a piece without an LF grow
+-- a byte other than LF extends a piece without LF
 pub ended_lines-step : (bytes : List ℕ) (i : ℕ) → i < length bytes → eqb (get_or bytes i 0) 10 ≡ false → ended_lines (take i bytes) ≡ [] → ended_lines (take (i + 1) bytes) ≡ []
 ended_lines-step bytes i h n e = rw (take_more bytes i 0 h) (ended_lines-push (take i bytes) (get_or bytes i 0) n ∙ e)
 
--- how many bytes stand before an LF, and what stands up to it and with it
+-- the bytes before the first LF, and the bytes up to and with it
 pub take-lf : (bytes : List ℕ) (i : ℕ) → i < length bytes → get_or bytes i 0 ≡ 10 → take (i + 1) bytes ≡ take i bytes ++ 10 ∷ []
 take-lf bytes i h e = take_more bytes i 0 h ∙ rw e refl
 

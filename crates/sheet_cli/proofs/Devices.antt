@@ -1,4 +1,4 @@
--- Bytes that sources gave and sinks took, one after the other.
+-- Bytes of sources and sinks, one call after the other.
 use Rattle.std.{proofs.Common.{◌≡◌, ℕ, List, [], ◌++◌, take, Option, Some, None, refl, sym, ap, ◌∙◌, append_assoc}, proofs.lemmas.List.{append-nil}, specs.Io.KnownBytes.{Appends, Consumes, Keeps}}
 
 pub Appends-none : (a : Option (List ℕ)) → Appends a a []

@@ -1,4 +1,4 @@
--- What is printed for what a line asks for.
+-- The text printed for a request.
 use Rattle.{std.{proofs.Common.{◌≡◌, ℕ, ℤ, List, codes, Ok, Err, refl}, proofs.lemmas.List.{length-map}}, apl_tokens.specs.Scans.{SpannedLexeme}}
 use Rattle.apl_expr.{specs.declared.command.Command.{Command}, specs.declared.fault.LineFault.TheVariants.{Syntax, Limit}, specs.Lines.{Open, meaning, change_meaning}, specs.Answers.{IsAnswered}}
 use Rattle.{sheet_recalc.specs.History.{change_of}, sheet_desk.specs.Desk.{DeskValue, IsEvent}}
@@ -15,7 +15,7 @@ change_carried_out (lined.Cell name positions literal) old text new h = h
 change_carried_out (lined.Row name literal) old text new h = h
 change_carried_out (lined.Erase name) old text new h = h
 
--- and can be opened
+-- the changes of lines can be opened
 pub opening_carried_out : (k : ℤ) (change : asked.Change) (old : State) (text : List ℕ) (new : State) → IsAsked old (desk.Open k (change_of change)) text new → IsCarriedOut old (Open k (change_meaning change)) text new
 opening_carried_out k (lined.Define name tree) old text new h = h
 opening_carried_out k (lined.Data name tree) old text new h = h
@@ -23,7 +23,7 @@ opening_carried_out k (lined.Cell name positions literal) old text new h = h
 opening_carried_out k (lined.Row name literal) old text new h = h
 opening_carried_out k (lined.Erase name) old text new h = h
 
--- an event of a desk, as a run keeps it
+-- an event of a desk, in terms of a run's state
 pub asked_of : (d next : DeskValue) (event : desk.Event) (answer : desk.Answer) (text : List ℕ) → IsEvent d event answer next → IsPrintedFor answer text → IsAsked (state_of d) event text (state_of next)
 asked_of d next event answer text e t = record { before = d; after = next; answer = answer; event_is = e; before_is = refl; after_is = refl; text_is = t }
 

@@ -1,4 +1,4 @@
--- The list of names, one name more.
+-- The list of names with one more.
 use Rattle.std.{proofs.Common.{◌≡◌, ℕ, ◌+◌, ◌<◌, List, [], ◌∷◌, ◌++◌, length, take, get_or, sym, ap, ◌∙◌, append_assoc}, proofs.lemmas.List.{take_more, flat_map_more}}
 use Rattle.{array_text.specs.Text.{line_end}, sheet_cli.specs.Answer.{names_text}}
 

@@ -1,4 +1,4 @@
--- A line has one answer, and leads to one state.
+-- A line has one answer and leads to one state.
 use Rattle.std.{proofs.Common.{◌≡◌, ℕ, ◌<◌, ◌≤◌, ◌⊎◌, inl, inr, ℤ, List, length, Option, Some, None, Ok, Err, refl, sym, ap, subst, ◌∙◌, arith}, proofs.lemmas.List.{length-map}}
 use Rattle.apl_tokens.{specs.Scans.{Scans, SpannedLexeme, Fault, SyntaxAt, LimitAt}, proofs.Complete.{one_answer_of}}
 use Rattle.apl_expr.{specs.Limits.{most_tokens}, specs.declared.fault.LineFault.TheVariants.{Syntax, Limit}, specs.Grammar.{IsTooLarge}, specs.Lines.{Meaning, Nothing, Define, Data, Cell, Row, Erase, Show, Names, Cost, Csv, Open, Step, Commit, Drop, IsLine, HasTree}, specs.Answers.{lexemes_of, IsAnswered, IsReadAs}}
@@ -17,7 +17,7 @@ module _ (cs : List ℕ) where
   syntax_or_limit : (m n m' n' : ℕ) → Scans 0 cs (Err (SyntaxAt m n)) → Scans 0 cs (Err (LimitAt m' n')) → ⊥
   syntax_or_limit m n m' n' a b = let e : Err (SyntaxAt m n) ≡ Err (LimitAt m' n') = one_answer_of 0 cs (Err (SyntaxAt m n)) (Err (LimitAt m' n')) a b in absurd cc
 
-  -- a line of the grammar, in tokens that are the same
+  -- a line of the grammar has the same tokens
   line_in : (ts us : List SpannedLexeme) (m : Meaning) → Scans 0 cs (Ok ts) → Scans 0 cs (Ok us) → IsLine (lexemes_of us) m → IsLine (lexemes_of ts) m
   line_in ts us m a b l = subst (λ (xs : List SpannedLexeme). IsLine (lexemes_of xs) m) (tokens_one ts us a b) l
 

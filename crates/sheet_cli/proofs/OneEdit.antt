@@ -1,9 +1,9 @@
--- An edit has one outcome, but for want of memory.
+-- An edit has one outcome, except for want of memory.
 use Rattle.{std.proofs.Common.{◌≡◌, ℕ, List, refl, sym, subst, ◌∙◌}, sheet_recalc.{specs.Names.{Names}, specs.Changes.{SheetChange}, specs.Costs.{HasCost}}}
 use Rattle.sheet_desk.{specs.Desk.{Refused}, proofs.Causes.{accepted_refused, refused_one}, proofs.Spent.{accepts_one}}
 use Rattle.sheet_cli.{specs.Answer.{State, refusal_text, IsChangeAnswered, accepted, refused}, proofs.OneEvent.{texts_one}}
 
--- what accepts an edit gives one cost
+-- an accepted edit has one cost
 costs_one : (names : Names) (edit : SheetChange) (new₁ new₂ : Names) (cost₁ cost₂ : ℕ) → new₁ ≡ new₂ → HasCost names edit new₁ cost₁ → HasCost names edit new₂ cost₂ → cost₁ ≡ cost₂
 costs_one names edit new₁ new₂ cost₁ cost₂ same a b = subst (λ (new : Names). HasCost names edit new cost₁) same a ∙ sym b
 

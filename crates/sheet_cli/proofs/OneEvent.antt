@@ -1,11 +1,11 @@
--- What is asked of a slot has one answer, but for want of memory, since the events of a desk have.
+-- A slot command has one answer, except for want of memory, because each event of a desk has one.
 use Rattle.std.{proofs.Common.{◌≡◌, ◌≢◌, ℕ, inl, inr, Bool, true, List, [], ◌∷◌, map, codes, Option, Some, None, refl, sym, ap, subst, ◌∙◌}, specs.Option.{option_map}, proofs.lemmas.Bool.{false≢true}}
 use Rattle.sheet_recalc.specs.Changes.{SheetChange}
 use Rattle.sheet_desk.{specs.Desk.{SlotValue, DeskValue, Event, Plain, Answer, Done, Left, Shown, Refused, stale, IsRefused, IsEvent}, specs.Histories.{told_of_slot, AreAlike, names_cycle, IsSameAnswer}, proofs.OneAnswer.{one_answer}}
 use Rattle.sheet_cli.specs.Answer.{OpenChange, State, open_change, state_of, as_stale, IsChangeAnswered, accepted, refused, IsPrintedFor, IsAsked}
 use Rattle.sheet_recalc.specs.declared.refusal.Refusal.TheVariants as why
 
--- what answers tell of a slot is what a run keeps of it
+-- answers depend on the part of a slot that a run keeps
 abbrev told : OpenChange → SheetChange × Bool × ℕ
 told o = (o.change, o.is_stale, o.left)
 
@@ -34,7 +34,7 @@ one_state d e are =
     let slots = kept_told d.slots ∙ ap (λ (ts : List (Option (SheetChange × Bool × ℕ))). map (option_map kept) ts) are.slots ∙ sym (kept_told e.slots) in
     λ i. record { names = are.names i; cost = are.cost i; slots = slots i }
 
--- an answer is printed in one way, and all that name a cycle alike
+-- an answer has one text; all cycles have the same
 printed_one : (a : Answer) (text₁ text₂ : List ℕ) → IsPrintedFor a text₁ → IsPrintedFor a text₂ → text₁ ≡ text₂
 printed_one Done text₁ text₂ h k = h ∙ sym k
 printed_one (Left n) text₁ text₂ h k = h ∙ sym k
@@ -65,14 +65,14 @@ pub texts_one : (a b : Answer) (text₁ text₂ : List ℕ) → IsSameAnswer a b
 texts_one a b text₁ text₂ (inl same) h k = printed_one b text₁ text₂ (subst (λ (x : Answer). IsPrintedFor x text₁) same h) k
 texts_one a b text₁ text₂ (inr cycles) h k = cycle_text a text₁ cycles.0 h ∙ sym (cycle_text b text₂ cycles.1 k)
 
--- want of memory is not printed so
+-- want of memory has no such text
 no_memory : (a : Answer) (text : List ℕ) → IsPrintedFor a text → a ≢ Refused why.NoMemory
 no_memory Done text h e = let no : ⊥ = cc in no
 no_memory (Left n) text h e = let no : ⊥ = cc in no
 no_memory (Shown outcome) text h e = h
 no_memory (Refused cause) text h e = h.1 (let same : cause ≡ why.NoMemory = cc in same)
 
--- what is asked has one answer, and leads to one state
+-- a slot command has one answer and leads to one state
 pub asked_one : (old : State) (event : Event) (text₁ text₂ : List ℕ) (new₁ new₂ : State) → IsAsked old event text₁ new₁ → IsAsked old event text₂ new₂ → (text₁ ≡ text₂) × (new₁ ≡ new₂)
 asked_one old event text₁ text₂ new₁ new₂ a b =
     let one = one_answer a.before b.before a.after b.after event a.answer b.answer (alike a.before b.before (a.before_is ∙ sym b.before_is)) a.event_is b.event_is

@@ -1,4 +1,4 @@
--- How a run comes from one pull to the next.
+-- The progress of a run from one pull to the next.
 use Rattle.std.{proofs.Common.{◌≡◌, ℕ, ◌+◌, ◌<◌, ◌≤◌, Bool, true, List, [], ◌∷◌, ◌++◌, length, take, refl, sym, ap, ◌∙◌, arith, Option, Result, Ok, Err, OnOk, OnErr, append_assoc, ⊎_elim, ◌⊎◌, inl, inr, length-append}, proofs.lemmas.List.{append-nil, length_push}}
 use Rattle.std.specs.Io.KnownBytes.{Appends, Consumes, Keeps, IsAtEnd}
 use Rattle.sheet_cli.{specs.declared.run_loop.Tally.{Tally}, specs.Lines.{ended_lines, last_line, lines_of, whole_lines_of}, specs.Answer.{State}, specs.Answers.{StoppedAt}, specs.Run.{Completes, BreaksOff, IsCut}}
@@ -27,7 +27,7 @@ pub Feeds-more : (bytes₁ bytes₂ text₁ text₂ : List ℕ) (here mid there 
 Feeds-more b₁ b₂ t₁ t₂ here mid there f f' = λ old input before m.
     rw (← append_assoc input b₁ b₂, ← append_assoc before t₁ t₂) (f' old (input ++ b₁) (before ++ t₁) (f old input before m))
 
--- an LF, when the line before it was answered
+-- an LF after the line before it was answered
 pub Feeds-line : (kept kept' line text : List ℕ) (tally tally' : Tally) (state state' : State) → kept' ≡ [] → tally'.lines ≡ tally.lines + 1 →
     line ≡ line_after tally.lines kept → AnswersLine state line tally.refused_for_memory tally'.refused_for_memory text state' → Feeds (10 ∷ []) (standing kept tally state) text (standing kept' tally' state')
 Feeds-line kept kept' line text tally tally' state state' k n e a = λ old input before m. record {
@@ -36,7 +36,7 @@ Feeds-line kept kept' line text tally tally' state state' k n e a = λ old input
   answered = rw (ended_lines-lf input, first_stripped-push) (Answered-push _ _ _ _ _ _ _ _ _ m.answered (AnswersLine-kept state kept line input _ _ _ text state' m.kept_is m.lines_is e a));
 }
 
--- an LF, when only a part of the answer was written
+-- an LF after only a part of the answer was written
 pub StopsIn-line : (kept line part unwritten : List ℕ) (tally : Tally) (refused' : ℕ) (state state' : State) →
     line ≡ line_after tally.lines kept → AnswersLine state line tally.refused_for_memory refused' (part ++ unwritten) state' → StopsIn (10 ∷ []) (standing kept tally state) part state'
 StopsIn-line kept line part unwritten tally refused' state state' e a = λ old input before m. let k = AnswersLine-kept state kept line input _ _ refused' (part ++ unwritten) state' m.kept_is m.lines_is e a in record {
@@ -79,7 +79,7 @@ StoppedAt-later old lines more written new s = record {
 StoppedAt-some : (old : State) (lines : List (List ℕ)) (written : List ℕ) (new : State) → StoppedAt old lines written new → 0 < length lines
 StoppedAt-some old lines written new s = omega (arith, simp length-append at (ap length s.lines_are))
 
--- more bytes add lines behind
+-- more bytes add lines at the end
 pub StopsIn-later : (bytes more text : List ℕ) (here : Standing) (new : State) → StopsIn bytes here text new → StopsIn (bytes ++ more) here text new
 StopsIn-later bytes more text here new f = λ old input before m.
     let s = f old input before m in
@@ -87,7 +87,7 @@ StopsIn-later bytes more text here new f = λ old input before m.
     let all = ended_lines-append (input ++ bytes) more in
     rw (← append_assoc input bytes more, all.1, first_stripped-append (ended_lines (input ++ bytes)) all.0 some) (StoppedAt-later old _ all.0 _ new s)
 
--- no byte stands behind the last LF
+-- no byte follows the last LF
 pub Finishes-none : (kept line : List ℕ) (tally : Tally) (state : State) → length line ≡ 0 → line ≡ line_after tally.lines kept → Finishes (standing kept tally state) [] tally state
 Finishes-none kept line tally state h e = λ old input before m.
     let no_line : length (next_stripped (ended_lines input) (last_line input)) ≡ 0 = (kept_empty (ended_lines input) (last_line input)).0 (ap length (sym (e ∙ kept_line kept input tally.lines m.kept_is m.lines_is)) ∙ h) in
@@ -110,7 +110,7 @@ Finishes-line kept line text tally tally' state state' h n e a = λ old input be
       counted = rw all (n ∙ rw (length_push, length-first_stripped) (ap (λ (k : ℕ). k + 1) m.lines_is));
     }
 
--- of its answer a part is written
+-- a part of its answer is written
 pub StopsAtEnd-line : (kept line part unwritten : List ℕ) (tally : Tally) (refused' : ℕ) (state state' : State) → 0 < length line →
     line ≡ line_after tally.lines kept → AnswersLine state line tally.refused_for_memory refused' (part ++ unwritten) state' → StopsAtEnd (standing kept tally state) part state'
 StopsAtEnd-line kept line part unwritten tally refused' state state' h e a = λ old input before m. let k = AnswersLine-kept state kept line input _ _ refused' (part ++ unwritten) state' m.kept_is m.lines_is e a in inl (record {
@@ -129,7 +129,7 @@ StopsAtEnd-line kept line part unwritten tally refused' state state' h e a = λ 
   written_is = refl;
 })
 
--- all is answered, and flushing fails
+-- all lines are answered, and the flush fails
 pub StopsAtEnd-flush : (here : Standing) (text : List ℕ) (tally : Tally) (new : State) → Finishes here text tally new → StopsAtEnd here text new
 StopsAtEnd-flush here text tally new f = λ old input before m. inr (tally.refused_for_memory, (f old input before m).answered)
 
@@ -141,14 +141,14 @@ pub OnOk-from : {T E P : Type 0} (r : Result T E) → P → OnOk r P
 OnOk-from (Ok x) p = p
 OnOk-from (Err e) p = tt
 
--- the same, for bytes that are these
+-- the same for equal bytes
 pub Feeds-is : (bytes all text : List ℕ) (here there : Standing) → all ≡ bytes → Feeds bytes here text there → Feeds all here text there
 Feeds-is bytes all text here there e f = λ old input before m. rw e (f old input before m)
 
 pub StopsIn-is : (bytes all text : List ℕ) (here : Standing) (new : State) → all ≡ bytes → StopsIn bytes here text new → StopsIn all here text new
 StopsIn-is bytes all text here new e f = λ old input before m. rw e (f old input before m)
 
--- what a run has done between two pulls
+-- the effect of a run between two pulls
 pub record IsRunning (source₁ source₂ sink₁ sink₂ : Option (List ℕ)) (old : State) (here : Standing) (bytes_read : ℕ) : Type 0 where
   pub input : List ℕ
   pub text : List ℕ
