@@ -318,8 +318,8 @@ impl Formula {
         self.is_new = false;
     }
 
-    /// Computes the result of every node from the results of the names. The formula's result is then the value of its expression. If memory is refused,
-    /// the formula stays.
+    /// Computes the result of every node from the results of the names. The formula's result is then the value of its expression. If memory is
+    /// refused, the formula stays.
     pub fn evaluate<S: Shows>(&mut self, names: &S) -> Result<(), AllocError>
         ensures tree { self.new.tree ≡ self.old.tree }
         ensures held { OnOk result (IsHeld self.new (S.shows names.now)) }
