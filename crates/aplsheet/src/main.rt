@@ -29,7 +29,7 @@ impl Host for Machine {
         Ok(std::env::args(&self.rt)?.collect(self.rt.alloc())?)
     }
 
-    // The buffer has the file's size and one byte more, so that it never grows.
+    // The buffer has the file's size and one byte more: so reading to the end does not grow it.
     fn read(&self, path: &str) -> Result<Vec<u8>, NotRead> {
         let mut file = File::open(&self.rt, path)?;
         let size = usize::try_from(file.metadata()?.len()).unwrap_or(usize::MAX);

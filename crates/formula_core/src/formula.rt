@@ -39,7 +39,7 @@ use std::marker::Model;
 #[derive(Drop)]
 pub struct Formula {
     alloc: Global,
-    /// Boxed: an entry of data takes as much memory as an entry with a formula.
+    /// Boxed to keep a formula small: an entry of data is as large as one with a formula.
     names: Box<Vec<Name>>,
     nodes: Vec<Kept>,
     is_new: bool,
@@ -170,7 +170,7 @@ impl Formula {
         plan.changes.len() == self.nodes.len()
     }
 
-    /// Starts a plan without any function: it has only the change of a literal or name that is the whole expression. The inputs are as for `plan`.
+    /// Starts a plan with no function done. It has only the change of a literal or name that is the whole expression. The inputs are as for `plan`.
     #[inline(always)]
     pub fn start(&self, inputs: &[Input]) -> Result<Plan, AllocError>
         requires { (c : NamesChange) × IsTold self.now c inputs.now }
@@ -304,8 +304,8 @@ impl Formula {
         stage.next_place(meter)
     }
 
-    /// Applies a plan of this formula. Allocates nothing: patches are written in place. Keeps the memory of an edit's plan for the next plan; frees
-    /// of a new formula's plan: such a formula may never be edited again.
+    /// Applies a plan of this formula. Allocates nothing: patches are written in place. Keeps the memory of an edit's plan for the next plan. Frees
+    /// the memory of a new formula's plan, since the formula may never be edited.
     pub fn adopt(&mut self, plan: Plan)
         requires { IsPlanOf self.old plan }
         ensures { self.new ≡ record { tree = self.old.tree; is_new = false; nodes = adopted plan.changes self.old.nodes } }

@@ -166,7 +166,8 @@ pub(crate) fn change_of_both(
     }
 }
 
-/// Returns the one changed place of a scalar function of one argument, if no search is needed. Otherwise returns `None` and leaves the meter.
+/// Returns the one changed place of a scalar function of one argument, if it is known without the shape of the result.
+/// Otherwise returns `None` and leaves the meter.
 #[inline(always)]
 pub(crate) fn place_of_each(
     alloc: Global,
@@ -196,7 +197,8 @@ pub(crate) fn place_of_each(
     }
 }
 
-/// Returns the one changed place of a scalar function of two arguments, if no search is needed. Otherwise returns `None` and leaves the meter.
+/// Returns the one changed place of a scalar function of two arguments, if it is known without the shape of the result.
+/// Otherwise returns `None` and leaves the meter.
 #[inline(always)]
 pub(crate) fn place_of_pairs(
     alloc: Global,

@@ -52,7 +52,7 @@ impl<'a> Operation<'a> {
         refresh_with_cost(self.alloc, rule, self.args, self.held, change, meter)
     }
 
-    /// Returns the one changed place by this rule, if no search is needed. Otherwise returns `None` and leaves the meter.
+    /// Returns the one changed place by this rule, if it is known without the shape of the result. Otherwise returns `None` and leaves the meter.
     #[inline(always)]
     pub(crate) fn place_by<R: Rule>(&self, rule: &R, meter: &mut Meter) -> Option<OnePlace>
         requires count { length self.now.args.now ≡ length (R.model rule.now).selectors }

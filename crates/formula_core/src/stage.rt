@@ -104,8 +104,8 @@ impl<'a> Stage<'a> {
         Ok(positions)
     }
 
-    /// Returns the one place that changes in a node with the result `held`, if the node applies a scalar function and no search is needed.
-    /// Otherwise returns `None` and leaves the meter.
+    /// Returns the one place that changes in a node with the result `held`. The node applies a scalar function, and the place is known without the
+    /// shape of the new result. Otherwise returns `None` and leaves the meter.
     #[inline(always)]
     fn place_of(
         &self,
@@ -146,8 +146,7 @@ impl<'a> Stage<'a> {
         }
     }
 
-    /// Returns the one place that changes in the next node, if the node applies a scalar function and no search is needed. The formula is
-    /// not new. Otherwise returns `None` and leaves the meter.
+    /// Returns the one place that changes in the next node, as `place_of` does. The formula is not new.
     #[inline(always)]
     pub(crate) fn next_place(&self, meter: &mut Meter) -> Option<OnePlace>
         requires old { self.now.is_new ≡ false }

@@ -13,7 +13,7 @@ pub record Completes (source₁ source₂ sink₁ sink₂ : Option (List ℕ)) (
   pub counted : tally.lines ≡ length (lines_of input)
   pub only : tally.refused_for_memory ≡ 0 → IsOnlyAnswer old (lines_of input) text new
 
--- the input broke off, or its bytes can no longer be counted; the lines that ended are answered
+-- the input broke off, or as many bytes were read as can be counted; the lines that ended are answered
 pub record BreaksOff (source₁ source₂ sink₁ sink₂ : Option (List ℕ)) (source_failed : Bool) (old new : State) : Type 0 where
   pub input : List ℕ
   pub text : List ℕ

@@ -5,7 +5,7 @@ ghost use Rattle.sheet_cli.specs.Printed.{printed_bytes};
 
 use crate::count_line::CountLine;
 
-/// The text that a line prints. Only `Made` owns memory.
+/// The text that a line prints. Only `Made` is allocated.
 #[derive(Drop)]
 pub(crate) enum Printed {
     /// A constant text.

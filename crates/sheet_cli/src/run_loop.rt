@@ -25,7 +25,7 @@ pub struct Tally {
 /// The reason why a run stopped early.
 #[derive(Clone, Copy, Debug, PartialEq, Eq)]
 pub enum RunFault {
-    /// The source failed, or the number of bytes would exceed 64 bits.
+    /// The source failed, or gave as many bytes as can be counted.
     Read,
     /// The sink failed.
     Write,
