@@ -73,8 +73,8 @@ fn made_anew(alloc: Global, fold: Reduce, array: &Seen) -> Result<SumsDelta, All
     Ok(SumsDelta::Whole(LineSums::of(alloc, fold, array)?))
 }
 
-/// Returns the change of the sums for a patch of the array. A patch of at most `places / PLACES_TO_ONE_NEW + 1` places updates the kept sums. A larger
-/// patch rebuilds them, and so does a patch of an array without sums.
+/// Returns the change of the sums for a patch of the array. A patch of at most `places / PLACES_TO_ONE_NEW + 1` places updates the kept sums. A
+/// larger patch rebuilds them, and so does a patch of an array without sums.
 fn patch_delta(
     alloc: Global,
     fold: Reduce,

@@ -32,6 +32,6 @@ Satisfies names f = (q : List ℕ) → f q ≡ shown_beside q (binding names q) 
 abbrev pub IsSettled : Names → Type 0
 IsSettled names = Satisfies names (val names)
 
--- no other assignment satisfies the sheet
+-- the results from scratch satisfy the sheet, and no other assignment does
 abbrev pub IsOnlySolution : Names → Type 0
 IsOnlySolution names = Satisfies names (val names) × ((f : List ℕ → Outcome) → Satisfies names f → (q : List ℕ) → f q ≡ val names q)

@@ -33,7 +33,7 @@ pub record NothingLacks (t : Tables) (references : List (List ℕ)) : Type 0 whe
   pub entries : 0 < spare t.entries
   pub users : HasRoomFor bytes_eq t.users.entries references
 
--- the missing memory is allocated, or nothing lacks
+-- the missing memory is allocated, or none is missing
 abbrev pub IsBrought : {A : Type 0} → Tables → List (List ℕ) → Option (Box Growth A) → Type 0
 IsBrought t references None = NothingLacks t references
 IsBrought t references (Some b) = Brings t references b.value

@@ -38,7 +38,7 @@ pub(crate) fn growth_for(
     }
 }
 
-/// Allocates the memory that lacks for one more entry with these references. Usually nothing lacks, and nothing is allocated.
+/// Allocates the missing memory for one more entry with these references. Usually none is missing, and nothing is allocated.
 fn growth_with(
     alloc: Global,
     entries: &IndexMap<Name, Entry>,
@@ -53,7 +53,7 @@ fn growth_with(
     all_that_lacks(alloc, entries, users, references)
 }
 
-/// Allocates all missing memory for one more entry.
+/// Allocates the missing memory for one more entry, if some is missing.
 fn all_that_lacks(
     alloc: Global,
     entries: &IndexMap<Name, Entry>,
