@@ -1,4 +1,4 @@
--- Going up from a node to those that refer to it.
+-- The climb from a node to the nodes that refer to it.
 use Rattle.std.{proofs.Common.{◌≡◌, ℕ, ◌-◌, ◌<◌, ◌⊎◌, inl, inr, Bool, List, [], ◌∷◌, ◌++◌, sym, subst, arith}, proofs.lemmas.List.{length-append}, specs.Prelude.{Vec}}
 use Rattle.dep_order.{specs.Reachability.{Chain, Reaches}, specs.Users.{Uses, IsWithin}}
 
@@ -14,7 +14,7 @@ module _ {N S : Type 0} (eq : N → N → Bool) (table : List (N × Vec N S)) wh
   within_user height node user within u a via c =
       omega (arith, within a (via ++ user ∷ []) (chain_join (Uses eq table) a via user [] node c u), length-append via (user ∷ []))
 
-  -- one that reaches a user reaches the node
+  -- a node that reaches a user reaches the node
   pub reaches_on : (node user a : N) → Uses eq table user node → (a ≡ user) ⊎ Reaches (Uses eq table) a user → Reaches (Uses eq table) a node
   reaches_on node user a u (inl e) = ([], subst (λ y. Uses eq table y node) (sym e) u)
   reaches_on node user a u (inr r) = (r.0 ++ user ∷ [], chain_join (Uses eq table) a r.0 user [] node r.1 u)

@@ -38,32 +38,32 @@ module _ {A : Type 0} where
   pub follows_last : (R : A → A → Type 0) (D : A → Type 0) (xs : List A) (x : A) → Follows R D xs → ((b : A) → R x b → D b ⊎ Contains xs b) → Follows R D (xs ++ x ∷ [])
   follows_last R D xs x f needs = follows_append R D xs (x ∷ []) f (needs, tt)
 
-  -- the first of them alone
+  -- a front part of such a list is such a list
   pub follows_front : (R : A → A → Type 0) (D : A → Type 0) (xs ys : List A) → Follows R D (xs ++ ys) → Follows R D xs
   follows_front R D [] ys f = tt
   follows_front R D (x ∷ xs) ys f = (f.0, follows_front R (λ y. D y ⊎ (y ≡ x)) xs ys f.1)
 
-  -- what the one after them needs
+  -- the needs of the entry after xs are done or in xs
   pub follows_behind : (R : A → A → Type 0) (D : A → Type 0) (xs : List A) (x : A) (ys : List A) → Follows R D (xs ++ x ∷ ys) → (b : A) → R x b → D b ⊎ Contains xs b
   follows_behind R D [] x ys f b r = inl (f.0 b r)
   follows_behind R D (y ∷ xs) x ys f b r = ⊎_elim (λ l. ⊎_elim (λ d. inl d) (λ e. inr (subst (λ z. Contains (y ∷ xs) z) (sym e) (contains_here y xs))) l) (λ c. inr (contains_there y xs b c))
       (follows_behind R (λ z. D z ⊎ (z ≡ y)) xs x ys f.1 b r)
 
-  -- what one of them needs
+  -- the needs of an entry of the list are done or in the list
   pub follows_has : (R : A → A → Type 0) (D : A → Type 0) (xs : List A) (x b : A) → Follows R D xs → Contains xs x → R x b → D b ⊎ Contains xs b
   follows_has R D [] x b f c r = absurd (contains_none x c)
   follows_has R D (y ∷ ys) x b f c r = ⊎_elim (λ e. inl (f.0 b (subst (λ z. R z b) e r)))
       (λ d. ⊎_elim (λ l. ⊎_elim (λ d. inl d) (λ e. inr (subst (λ z. Contains (y ∷ ys) z) (sym e) (contains_here y ys))) l) (λ d. inr (contains_there y ys b d))
       (follows_has R (λ z. D z ⊎ (z ≡ y)) ys x b f.1 d r)) (contains_cases y ys x c)
 
-  -- what the one at a place needs
+  -- the needs of the entry at a place are done or in front of it
   pub follows_at : (R : A → A → Type 0) (D : A → Type 0) (d : A) (xs : List A) (i : ℕ) (b : A) → Follows R D xs → i < length xs → R (slice_index_or xs i d) b → D b ⊎ Contains (take i xs) b
   follows_at R D d [] i b f h r = absurd (omega (arith, h))
   follows_at R D d (x ∷ xs) zero b f h r = inl (f.0 b r)
   follows_at R D d (x ∷ xs) (suc i) b f h r = ⊎_elim (λ l. ⊎_elim (λ d. inl d) (λ e. inr (subst (λ z. Contains (x ∷ take i xs) z) (sym e) (contains_here x (take i xs)))) l) (λ c. inr (contains_there x (take i xs) b c))
       (follows_at R (λ z. D z ⊎ (z ≡ x)) d xs i b f.1 (omega (arith, h)) r)
 
-  -- those that are kept, where what they need is kept too
+  -- a filter that keeps the needs of each kept entry keeps the order
   pub follows_kept : (R S : A → A → Type 0) (D E : A → Type 0) (keep : A → Bool) (xs : List A) → ((a b : A) → keep a ≡ true → S a b → R a b × (keep b ≡ true)) → ((a : A) → keep a ≡ true → D a → E a) → Follows R D xs → Follows S E (filter keep xs)
   follows_kept R S D E keep [] needs done f = tt
   follows_kept R S D E keep (x ∷ xs) needs done f = by (keep x) refl
@@ -91,7 +91,7 @@ module _ {A : Type 0} where
   backward_only (x ∷ xs) y c = ⊎_elim (λ l. contains_there x xs y (backward_only xs y l))
       (λ r. subst (λ z. Contains (x ∷ xs) z) (sym (contains_one x y r)) (contains_here x xs)) (Contains-append_cases (backward xs) (x ∷ []) y c)
 
-  -- each after all that uses it, and turned round each after all that it uses
+  -- a list in which each entry follows its users, reversed, has each entry after its needs
   pub follows_backward : (Uses Needs : A → A → Type 0) (B D : A → Type 0) (xs : List A) → Follows Uses B xs
       → ((a : A) → Contains xs a → B a → ⊥) → IsOnce xs
       → ((a b : A) → Contains xs a → Needs a b → (D b ⊎ Contains xs b) × (Contains xs b → Uses b a))

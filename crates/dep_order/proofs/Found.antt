@@ -1,4 +1,4 @@
--- One more node among those that are found.
+-- One more node among the found ones.
 use Rattle.std.{proofs.Common.{◌≡◌, ◌⊎◌, inl, inr, Bool, true, false, cond, Option, Some, None, is_some, List, [], ◌∷◌, ◌++◌, refl, sym, ap, ◌∙◌, ⊎_elim}, specs.List.{Contains, list_any}, specs.Map.{keys_of, lookup}, proofs.lemmas.Map.Views.{Contains-from_any}}
 use Rattle.std.proofs.lemmas.List.Elements.{Contains-append_left, Contains-append_right, Contains-append_cases}
 use Rattle.indexmap.{specs.IndexMap.{insert_entry}, specs.IndexSet.{insert_key}}
@@ -25,7 +25,7 @@ module _ {N : Type 0} (eq : N → N → Bool) (exact : IsExact eq) (found : List
   pub found_closed : (R : N → N → Type 0) → Follows R (λ x. ⊥) found → ((b : N) → R node b → Contains found b) → Follows R (λ x. ⊥) (insert_key eq found node)
   found_closed R f needs = cases_inserted (λ xs. Follows R (λ x. ⊥) xs) (λ d. f) (follows_last R (λ x. ⊥) found node f (λ b r. inr (needs b r)))
 
--- a node that is not the first is put behind the others
+-- a node that differs from the first is inserted behind it
 in_front : {N : Type 0} (eq : N → N → Bool) (x : N) (ks : List N) (k : N) → eq k x ≡ false → x ∷ insert_key eq ks k ≡ insert_key eq (x ∷ ks) k
 in_front eq x ks k apart = by (list_any (eq k) ks) refl
   where
@@ -33,7 +33,7 @@ in_front eq x ks k apart = by (list_any (eq k) ks) refl
     by true is = rw (apart, is) refl
     by false is = rw (apart, is) refl
 
--- a list of nodes with something beside each, as the list of the nodes
+-- the keys of a map with values, as a list of nodes
 module _ {N V : Type 0} (eq : N → N → Bool) where
   pub key_found : (es : List (N × V)) (k : N) → is_some (lookup (eq k) es) ≡ list_any (eq k) (keys_of es)
   key_found [] k = refl
@@ -51,7 +51,7 @@ module _ {N V : Type 0} (eq : N → N → Bool) where
       by true is rest = rw is refl
       by false is rest = (rw is refl) ∙ (ap (λ ks. e.0 ∷ ks) rest ∙ in_front eq e.0 (keys_of es) k is)
 
--- a node is put behind with nothing beside it
+-- a node is inserted with no value
 pub nothing_more : {N V : Type 0} (eq : N → N → Bool) (es new : List (N × Option V)) (k : N) → ((q : N) → lookup (eq q) new ≡ cond (eq k q) (Some None) (lookup (eq q) es)) → HasNothing eq es → HasNothing eq new
 nothing_more {N} {V} eq es new k put none a v is = by (eq k a) refl
   where

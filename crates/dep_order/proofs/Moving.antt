@@ -1,9 +1,9 @@
--- Entries that move into an empty map stay as they are.
+-- Moving entries into an empty map keeps them unchanged.
 use Rattle.std.{proofs.Common.{◌≡◌, Bool, false, List, [], ◌∷◌, ◌++◌, refl, sym, ap, ◌∙◌, subst}, specs.Cmp.{IsEquivalence}, specs.Map.{keys_of}, specs.List.{IsDistinct, AllByRecursion}, proofs.lemmas.List.{append_assoc, append-nil}}
 use Rattle.indexmap.specs.IndexMap.{insert_entry, insert_all}
 
 module _ {K : Type 0} (eq : K → K → Bool) (laws : IsEquivalence eq) where
-  -- no key of these is equal to one of those
+  -- no key of the one list is equal to a key of the other
   abbrev AllNew : List K → List K → Type 0
   AllNew done [] = Unit {0}
   AllNew done (x ∷ xs) = AllByRecursion (λ y. eq y x ≡ false) done × AllNew done xs
@@ -20,7 +20,6 @@ module _ {K : Type 0} (eq : K → K → Bool) (laws : IsEquivalence eq) where
   new_none [] = tt
   new_none (x ∷ xs) = (tt, new_none xs)
 
-  -- entries
   module _ {V : Type 0} where
     keys_push : (done : List (K × V)) (e : K × V) → keys_of (done ++ e ∷ []) ≡ keys_of done ++ e.0 ∷ []
     keys_push [] e = refl

@@ -1,9 +1,9 @@
--- One list of the table is written.
+-- Writing one list of the table.
 use Rattle.std.{proofs.Common.{◌≡◌, ◌≢◌, ℕ, ◌+◌, ◌<◌, ◌⊎◌, ◌↔◌, inl, inr, Bool, true, false, cond, List, [], ◌∷◌, ◌++◌, take, length, get_or, Option, Some, IsSome, refl, sym, ap, ◌∙◌, subst, ⊎_elim}, specs.Prelude.{Vec, filter, not}, specs.Cmp.{IsEquivalence}, specs.Map.{lookup}, specs.List.{Contains}}
 use Rattle.std.{specs.Option.{unwrap_or, option_map}, proofs.lemmas.Bool.{false≢true, false_from_ne_true, cond-false}, proofs.lemmas.List.{take_more}, proofs.lemmas.List.Elements.{Contains-append_left, Contains-append_right, Contains-append_cases}}
 use Rattle.dep_order.{specs.Users.{Uses, users_of, IsExact, HasRoomFor, IsReady, IsReadyFor, EndsWith, HasNoEmptyBut, TakesOneMore}, proofs.Following.{contains_here, contains_there, contains_one, contains_cases, contains_none}}
 
--- a list that is written over a table is written over its equal
+-- a list written over a table equals one written over an equal table
 pub written_over : {N S : Type 0} (eq : N → N → Bool) (lent before after : List (N × Vec N S)) (reference : N) (list : Vec N S) → lent ≡ before
     → ((q : N) → lookup (eq q) after ≡ cond (eq reference q) (Some list) (lookup (eq q) lent)) → (q : N) → lookup (eq q) after ≡ cond (eq reference q) (Some list) (lookup (eq q) before)
 written_over {N} {S} eq lent before after reference list is =
@@ -21,7 +21,7 @@ module _ {N : Type 0} (eq : N → N → Bool) (laws : IsEquivalence eq) (exact :
       by true e = same (exact q node e)
       by false e = apart (λ is. false≢true (sym e ∙ same_eq q node is))
 
-  -- a list without a node has just the others of it
+  -- filtering a node out of a list keeps just the other nodes
   pub others : (node : N) (xs : List N) (a : N) → Contains (filter (λ other. not (eq other node)) xs) a ↔ (Contains xs a × ((a ≡ node) → ⊥))
   others node [] a = ((λ c. absurd (contains_none a c)), (λ p. p.0))
   others node (x ∷ xs) a = by (eq x node) refl (others node xs a)
@@ -93,7 +93,7 @@ module _ {N : Type 0} (eq : N → N → Bool) (laws : IsEquivalence eq) (exact :
         (λ e. (list, own b e, inr has))
         (λ apart. let r = ready b c in (r.0, other b apart ∙ r.1, r.2))
 
-    -- a list that is written is not empty, or one of these
+    -- the written list is not empty, or is the list of one of these nodes
     pub used_written : (references : List N) → Contains references reference ⊎ ((a : N) × Contains list.items a) → HasNoEmptyBut eq before references → HasNoEmptyBut eq after references
     used_written references here used b there = cases_node (Contains references b ⊎ ((a : N) × Uses eq after a b)) reference b
         (λ e. ⊎_elim (λ l. inl (subst (λ y. Contains references y) (sym e) l)) (λ r. inr (r.0, subst (λ ks. Contains ks r.0) (sym (own_users b e)) r.1)) here)
@@ -130,7 +130,7 @@ module _ {N : Type 0} where
   some_of [] none = absurd (none refl)
   some_of (x ∷ xs) none = (x, contains_here x xs)
 
-  -- one more of a list
+  -- one more element of a list
   pub one_more : (xs : List N) (i : ℕ) (x b : N) → i < length xs → x ≡ get_or xs i x → Contains (take (i + 1) xs) b ↔ (Contains (take i xs) b ⊎ (b ≡ x))
   one_more xs i x b h is = (
     (λ c. ⊎_elim (λ l. inl l) (λ r. inr (contains_one x b r)) (Contains-append_cases (take i xs) (x ∷ []) b (subst (λ ys. Contains ys b) more c))),

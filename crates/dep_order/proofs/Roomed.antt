@@ -1,9 +1,9 @@
--- The lists that a table lacks are given to it one by one.
+-- The lists that the table lacks are moved into it one by one.
 use Rattle.std.{proofs.Common.{◌≡◌, ◌≢◌, ◌<◌, ◌⊎◌, inl, inr, ⊎_elim, Bool, true, false, cond, List, [], ◌∷◌, ◌++◌, Option, Some, None, IsSome, is_some, refl, sym, ap, ◌∙◌, subst, length, arith}, specs.Cmp.{IsEquivalence}, specs.Map.{lookup}, specs.List.{Contains}, specs.Option.{unwrap_or, option_map}}
 use Rattle.std.{proofs.lemmas.Bool.{false≢true, false_from_ne_true, cond-false}, proofs.lemmas.List.Elements.{Contains-append_left, Contains-append_right, Contains-append_cases}, specs.Prelude.{Vec}}
 use Rattle.dep_order.{specs.Users.{users_of, IsExact, HasRoomFor}, specs.Room.{HasRoomAt, IsLarger, AreListsFor}, proofs.Noting.{cases_node, same_eq}, proofs.Following.{contains_here, contains_one}}
 
--- the last entry is found by its key, where no other has it
+-- the last entry is found by its key if no other entry has that key
 pub found_last : {N V : Type 0} (eq : N → N → Bool) → IsEquivalence eq → (es : List (N × V)) (k : N) (v : V) → lookup (eq k) es ≡ None → lookup (eq k) (es ++ (k, v) ∷ []) ≡ Some v
 found_last eq laws [] k v none = rw (laws.refl k) refl
 found_last {N} {V} eq laws (e ∷ es) k v none = by (eq k e.0) refl (found_last eq laws es k v)
@@ -12,7 +12,7 @@ found_last {N} {V} eq laws (e ∷ es) k v none = by (eq k e.0) refl (found_last 
     by true is more = let never : Some e.1 ≡ None = rw is at none in absurd cc
     by false is more = let rest : lookup (eq k) es ≡ None = rw is at none in rw is (more rest)
 
--- a list that has no entry is empty
+-- a list without an entry is empty
 pub nothing_in : {A : Type 0} (xs : List A) → (0 < length xs → ⊥) → xs ≡ []
 nothing_in [] none = refl
 nothing_in (x ∷ xs) none = absurd (none (omega arith))
@@ -66,7 +66,7 @@ module _ {N S : Type 0} (eq : N → N → Bool) (laws : IsEquivalence eq) (exact
     split : (P : N → Type 0) (b : N) → Contains (references ++ node ∷ []) b → (Contains references b → P b) → P node → P b
     split P b c before here = ⊎_elim before (λ r. subst P (sym (contains_one node b r)) here) (Contains-append_cases references (node ∷ []) b c)
 
-    -- the table has room for it, or the list is there
+    -- the table has room for the node, or its list is there
     pub asked_more : HasRoomAt eq table node ⊎ IsSome (lookup (eq node) lists) → AreListsFor eq table (references ++ node ∷ []) lists
     asked_more there = record {
       enough = λ b c. split (λ y. HasRoomAt eq table y ⊎ IsSome (lookup (eq y) lists)) b c (are.enough b) there;
@@ -74,7 +74,7 @@ module _ {N S : Type 0} (eq : N → N → Bool) (laws : IsEquivalence eq) (exact
       asked = λ b some. Contains-append_left references (node ∷ []) b (are.asked b some);
     }
 
-    -- a list is made for it
+    -- a list is made for the node
     pub list_more : (s : Vec N S) → IsLarger s (users_of eq table node) → ((q : N) → lookup (eq q) now ≡ cond (eq node q) (Some s) (lookup (eq q) lists)) → AreListsFor eq table (references ++ node ∷ []) now
     list_more s larger change = record {
       enough = λ b c. split (λ y. HasRoomAt eq table y ⊎ IsSome (lookup (eq y) now)) b c

@@ -1,4 +1,4 @@
-//! What depends on a node.
+//! Dependents of a node.
 ghost use Rattle.std.specs.Prelude.{◌≡◌, ℕ, ◌<◌, length, IfOk, IfSome, IfNone, nat_eq};
 ghost use Rattle.std.specs.List.{Contains, IsDistinct};
 ghost use Rattle.dep_order.specs.TopologicalOrder.{Points, IsPlaced, IsUnplaced, IsHit};
@@ -7,10 +7,10 @@ ghost use Rattle.dep_order.specs.Reachability.{Reaches};
 use crate::graph::Graph;
 use std::alloc::{AllocError, Global};
 
-/// The nodes that reach a node, by one reference or by a chain of them, each once and in any order.
+/// Returns the nodes that reach `node` by a chain of one or more references, each once, in any order.
 ///
-/// The node itself is among them only where it stands on a cycle. A number that is no node has none. The error is that the
-/// allocator refused memory.
+/// Includes the node itself only if it is on a cycle. For a number that is no node, the list is empty. Fails if the allocator refuses
+/// memory.
 pub fn dependents(alloc: Global, graph: &Graph, node: usize) -> Result<Vec<usize>, AllocError>
     ensures once { IfOk result (λ found. IsDistinct nat_eq found.items) }
     ensures reach { IfOk result (λ found. (a : ℕ) → Contains found.items a → Reaches (Points graph.now) a node) }
@@ -25,7 +25,7 @@ pub fn dependents(alloc: Global, graph: &Graph, node: usize) -> Result<Vec<usize
     Ok(found)
 }
 
-// A node with no mark that refers to the node, or to one with a mark.
+// Finds an unmarked node that refers to `node` or to a marked node.
 fn next_dependent(graph: &Graph, marks: &[bool], node: usize) -> Option<usize>
     requires { length marks.now ≡ length graph.now }
     ensures left { IfSome result (IsUnplaced marks.now) }
@@ -43,14 +43,14 @@ fn next_dependent(graph: &Graph, marks: &[bool], node: usize) -> Option<usize>
     None
 }
 
-// The first of the nodes that `from` refers to that is the node, or has a mark.
+// Returns the first reference of `from` that is `node` or is marked.
 fn hit(graph: &Graph, marks: &[bool], from: usize, node: usize) -> Option<usize>
     requires size { length marks.now ≡ length graph.now }
     requires within { from < length graph.now }
     ensures some { IfSome result (λ b. Points graph.now from b × IsHit marks.now node b) }
     ensures none { IfNone result ((b : ℕ) → Points graph.now from b → IsHit marks.now node b → ⊥) }
 {
-    // The length of a graph says that each reference is to one of its nodes.
+    // The contract of `len` states that every reference is to a node.
     let _in_range = graph.len();
     for next in graph.references(from) {
         if *next == node || marks[*next] {

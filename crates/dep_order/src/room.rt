@@ -1,4 +1,4 @@
-//! Room that a change needs in a table, made ahead of the change and brought along by it.
+//! Memory for a change of the tables. It is allocated ahead, so that the change itself allocates nothing.
 
 ghost use Rattle.std.specs.Prelude.{◌≡◌, ◌+◌, ◌^◌, ◌≤◌, ◌<◌, ◌↔◌, ◌++◌, List, [], ◌∷◌, IsTrue, IfOk, OnOk, MatchOption, length};
 ghost use Rattle.std.specs.List.{Contains};
@@ -11,7 +11,7 @@ use indexmap::IndexMap;
 use std::alloc::{AllocError, Global};
 use std::hash::Hash;
 
-// Room for twice as many as there are, and for so many more at least.
+// Returns twice the length, and at least the length plus `more`.
 fn grown_to(len: usize, more: usize) -> usize
     requires { len + more < 2 ^ 64 }
     ensures { len + more ≤ result }
@@ -19,10 +19,11 @@ fn grown_to(len: usize, more: usize) -> usize
     len.saturating_add(len).max(len + more)
 }
 
-/// The least room of a map.
+/// The least capacity of a map.
 const FEWEST_ENTRIES: usize = 8;
 
-/// A larger map, empty, where one has no room for so many more entries. A map is made larger than it is asked to be, and so it gives back the rest.
+/// Allocates a larger, empty map if this one lacks room for `more` further entries. A new map gets more capacity than asked for; the
+/// surplus is given back.
 pub fn larger_map<K: Eq + Hash, V>(
     alloc: Global,
     map: &IndexMap<K, V>,
@@ -41,7 +42,7 @@ pub fn larger_map<K: Eq + Hash, V>(
     Ok(Some(larger))
 }
 
-/// The map moves into the larger one, if there is one. No memory is asked for.
+/// Moves the map into the larger one, if there is one. Allocates nothing.
 pub fn take_larger<K: Eq + Hash + Drop, V: Drop>(
     map: &mut IndexMap<K, V>,
     larger: Option<IndexMap<K, V>>,
@@ -53,14 +54,15 @@ pub fn take_larger<K: Eq + Hash + Drop, V: Drop>(
     ensures room { more ≤ spare map.new }
 {
     if let Some(mut larger) = larger {
-        // The length brings the fact that no two keys are equal.
+        // The contract of `len` states that no two keys are equal.
         let _unique = map.len();
         larger.append(map).unwrap();
         *map = larger;
     }
 }
 
-/// The lists that a table lacks for one more user of each of these nodes: empty ones, large enough for those that are there.
+/// Allocates the lists that the table lacks for one more user of each of these nodes. Each is empty, with capacity for the users it will
+/// hold.
 pub fn lists_for<N: Eq + Hash + Copy>(
     alloc: Global,
     users: &Users<N>,
@@ -76,7 +78,7 @@ pub fn lists_for<N: Eq + Hash + Copy>(
     Ok(lists)
 }
 
-// One more list, unless the table has room there.
+// Adds a list for the node, unless the table has room there.
 fn add_list<N: Eq + Hash + Copy>(
     alloc: Global,
     users: &Users<N>,
@@ -97,7 +99,7 @@ fn add_list<N: Eq + Hash + Copy>(
     Ok(())
 }
 
-/// Each of these nodes has its list in the table, with room for one more user; where that is so, nothing need be brought along.
+/// Tests whether each of these nodes has a list in the table with room for one more user. If so, the edit needs no new lists.
 pub fn has_room_for<N: Eq + Hash + Copy>(users: &Users<N>, references: &[N]) -> bool
     ensures { IsTrue result → HasRoomFor N.eq users.now.entries references.now }
 {
@@ -109,7 +111,7 @@ pub fn has_room_for<N: Eq + Hash + Copy>(users: &Users<N>, references: &[N]) -> 
     true
 }
 
-// The node has its list, with room for one more user.
+// Tests whether the node has a list with room for one more user.
 fn has_room_at<N: Eq + Hash + Copy>(users: &Users<N>, node: N) -> bool
     ensures { IsTrue result → (references : List N) → HasRoomFor N.eq users.now.entries references → HasRoomFor N.eq users.now.entries (references ++ node ∷ []) }
 {
@@ -119,7 +121,7 @@ fn has_room_at<N: Eq + Hash + Copy>(users: &Users<N>, node: N) -> bool
     }
 }
 
-// How many nodes refer to a node, where there is no room for one more.
+// Returns the number of users of a node if there is no room for one more.
 fn users_without_room<N: Eq + Hash + Copy>(users: &Users<N>, node: N) -> Option<usize>
     ensures { MatchOption result (HasRoomAt N.eq users.now.entries node) (λ count. (count ≡ length (users_of N.eq users.now.entries node)) × (count < 2 ^ 63)) }
 {
@@ -135,7 +137,7 @@ fn users_without_room<N: Eq + Hash + Copy>(users: &Users<N>, node: N) -> Option<
     }
 }
 
-/// Each list takes the place of the one that has no room, and its nodes. No memory is asked for.
+/// Replaces each list that is full by its larger one and moves its nodes there. Allocates nothing.
 pub fn give_lists<N: Eq + Hash + Copy>(users: &mut Users<N>, mut lists: Users<N>)
     requires exact { IsExact N.eq }
     requires lists { (references : List N) × AreListsFor N.eq users.old.entries references lists.entries }
@@ -149,7 +151,7 @@ pub fn give_lists<N: Eq + Hash + Copy>(users: &mut Users<N>, mut lists: Users<N>
     }
 }
 
-// A larger list takes the place of the one that the table has for a node, and its nodes.
+// Replaces the list of a node by a larger one and moves its nodes there.
 fn give_list<N: Eq + Hash + Copy>(users: &mut Users<N>, node: N, list: Vec<N>)
     requires exact { IsExact N.eq }
     requires larger { IsLarger list (users_of N.eq users.old.entries node) }
@@ -168,7 +170,7 @@ fn give_list<N: Eq + Hash + Copy>(users: &mut Users<N>, node: N, list: Vec<N>)
     }
 }
 
-// A larger list, which is empty, takes the place of one, and its nodes.
+// Replaces a list by a larger, empty one and moves its nodes there.
 fn take_place<N: Drop>(those: &mut Vec<N>, mut larger: Vec<N>)
     requires { IsLarger larger those.old.items }
     ensures nodes { those.new.items ≡ those.old.items }

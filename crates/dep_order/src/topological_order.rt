@@ -1,4 +1,4 @@
-//! Orders and cycles.
+//! Topological orders and cycles.
 ghost use Rattle.std.specs.Prelude.{◌≡◌, ℕ, ◌<◌, length, slice_index, Some, IfOk, IfErr, IfSome, IfNone, false, true, MatchOption};
 ghost use Rattle.std.specs.List.{Contains};
 ghost use Rattle.dep_order.specs.TopologicalOrder.{IsOrder, Points, IsPlaced, IsUnplaced, IsStuck, IsCycleOf};
@@ -8,7 +8,7 @@ ghost use Rattle.dep_order.specs.declared.topological_order.OrderFault.TheVarian
 use crate::graph::Graph;
 use std::alloc::{AllocError, AllocFailed, Global};
 
-/// Why there is no order.
+/// The reason why there is no order.
 #[derive(Debug, Drop)]
 pub enum OrderFault {
     /// A cycle of at least one node: each refers to the next, and the last to the first.
@@ -33,10 +33,10 @@ impl<T: Drop> From<AllocFailed<T>> for OrderFault {
     }
 }
 
-/// All nodes, each once, in an order in which each stands after all that it refers to.
+/// Returns all nodes in topological order: each once, after all nodes that it refers to.
 ///
-/// Where there is none, `Cycle` names a cycle, which need not be the only one. `NoMemory` may come with any graph. The time
-/// grows as the number of nodes times that of nodes and references together.
+/// Returns `Cycle` with one of the cycles if there is no order. Returns `NoMemory` if the allocator refuses memory. Takes time proportional
+/// to nodes × (nodes + references).
 pub fn order(alloc: Global, graph: &Graph) -> Result<Vec<usize>, OrderFault>
     ensures order { IfOk result (λ order. IsOrder graph.now order.items) }
     ensures cycle { IfErr result (IsCycleOf graph.now) }
@@ -56,7 +56,7 @@ pub fn order(alloc: Global, graph: &Graph) -> Result<Vec<usize>, OrderFault>
     Ok(order)
 }
 
-// The first node that is not placed.
+// Returns the first node that is not placed.
 fn first_left(placed: &[bool]) -> Option<usize>
     ensures { MatchOption result ((a : ℕ) → a < length placed.now → IsPlaced placed.now a) (IsUnplaced placed.now) }
 {
@@ -68,7 +68,7 @@ fn first_left(placed: &[bool]) -> Option<usize>
     None
 }
 
-// A node that is not placed, though all that it refers to is.
+// Returns an unplaced node whose references are all placed.
 fn next_ready(graph: &Graph, placed: &[bool]) -> Option<usize>
     requires { length placed.now ≡ length graph.now }
     ensures none { IfNone result (IsStuck graph.now placed.now) }
@@ -83,7 +83,7 @@ fn next_ready(graph: &Graph, placed: &[bool]) -> Option<usize>
     None
 }
 
-// The first of the nodes that a node refers to that is not placed.
+// Returns the first reference of a node that is not placed.
 fn missing(graph: &Graph, placed: &[bool], node: usize) -> Option<usize>
     requires size { length placed.now ≡ length graph.now }
     requires within { node < length graph.now }
@@ -91,7 +91,7 @@ fn missing(graph: &Graph, placed: &[bool], node: usize) -> Option<usize>
     ensures left { IfSome result (IsUnplaced placed.now) }
     ensures points { IfSome result (Points graph.now node) }
 {
-    // The length of a graph says that each reference is to one of its nodes.
+    // The contract of `len` states that every reference is to a node.
     let _in_range = graph.len();
     for next in graph.references(node) {
         if !placed[*next] {
@@ -101,7 +101,7 @@ fn missing(graph: &Graph, placed: &[bool], node: usize) -> Option<usize>
     None
 }
 
-// A cycle among the nodes that are not placed, each of which refers to another of them.
+// Finds a cycle among the unplaced nodes. Each of them refers to an unplaced node.
 fn cycle(
     alloc: Global,
     graph: &Graph,
@@ -125,7 +125,7 @@ fn cycle(
     path[start..].to_vec(alloc)
 }
 
-// Where a node stands in a path.
+// Returns the index of a node in a path.
 fn first_at(path: &[usize], node: usize) -> usize
     requires { Contains path.now node }
     ensures within { result < length path.now }

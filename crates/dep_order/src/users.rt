@@ -1,4 +1,4 @@
-//! Who refers to whom, kept from change to change: what a change of a node reaches is found by this table, and no other node is looked at.
+//! The table of users, updated on every edit. It finds the nodes that depend on a node without visiting any other node.
 ghost use Rattle.std.specs.Prelude.{◌≡◌, ◌≤◌, ◌⊎◌, ◌↔◌, List, [], ◌∷◌, OnOk, MatchBool, MatchOption, filter, length, not, vec_capacity};
 ghost use Rattle.std.specs.List.{Contains, IsDistinct};
 ghost use Rattle.std.specs.Map.{keys_of};
@@ -9,12 +9,12 @@ use indexmap::IndexMap;
 use std::alloc::AllocError;
 use std::hash::Hash;
 
-/// For each node that others refer to, those others, in a list: most nodes have few of them.
+/// For each node that is referred to, the list of the nodes that refer to it. Most lists are short.
 pub type Users<N> = IndexMap<N, Vec<N>>;
 
-/// A node and all that reach it, by one reference or by a chain of them: each once, after all that refer to it, with a place for
-/// what is to be found out of it. No chain of references to the node is to be longer than the height. They are put into a map that is
-/// lent for its memory, in place of what it holds: where its memory is enough, none is asked for.
+/// Fills `found` with a node and all nodes that reach it by chains of references. Each key stands once, after all its users, with value
+/// `None`. No chain of references to the node may have more than `height` references. Clears the map first and reuses its memory; allocates
+/// only if that is too small.
 pub fn affected<N: Eq + Hash + Copy, V: Drop>(
     users: &Users<N>,
     node: N,
@@ -31,12 +31,12 @@ pub fn affected<N: Eq + Hash + Copy, V: Drop>(
 {
     found.truncate(0);
     climb(users, &node, height, found)?;
-    // The length says that no key stands in it twice.
+    // The contract of `len` states that no key occurs twice.
     let _distinct = found.len();
     Ok(())
 }
 
-// Adds a node after all that reach it, but for those that have been found before.
+// Adds a node after all nodes that reach it, except those already found.
 fn climb<N: Eq + Hash + Copy, V: Drop>(
     users: &Users<N>,
     node: &N,
@@ -62,7 +62,7 @@ fn climb<N: Eq + Hash + Copy, V: Drop>(
     Ok(())
 }
 
-// The node is among those that are found. Where there are none it is not looked for, and where there is one that is compared.
+// Tests whether a node is among those found. With fewer than two keys it computes no hash.
 fn is_found<N: Eq + Hash + Copy, V>(found: &IndexMap<N, V>, node: &N) -> bool
     requires { IsExact N.eq }
     ensures { MatchBool result (Contains (keys_of found.now.entries) node.now) (Contains (keys_of found.now.entries) node.now → ⊥) }
@@ -74,7 +74,7 @@ fn is_found<N: Eq + Hash + Copy, V>(found: &IndexMap<N, V>, node: &N) -> bool
     }
 }
 
-// The nodes that refer to a node.
+// Returns the nodes that refer to a node.
 fn users_of<'a, N: Eq + Hash + Copy>(users: &'a Users<N>, node: &N) -> &'a [N]
     ensures { result.now ≡ users_of N.eq users.now.entries node.now }
 {
@@ -84,7 +84,7 @@ fn users_of<'a, N: Eq + Hash + Copy>(users: &'a Users<N>, node: &N) -> &'a [N]
     }
 }
 
-/// The first of these nodes that is found.
+/// Returns the first of these references that is among the found nodes.
 pub fn first_found<N: Eq + Hash + Copy, V>(found: &IndexMap<N, V>, references: &[N]) -> Option<N>
     requires { IsExact N.eq }
     ensures { MatchOption result ((b : N) → Contains references.now b → Contains (keys_of found.now.entries) b → ⊥) (λ b. Contains references.now b × Contains (keys_of found.now.entries) b) }
@@ -97,7 +97,7 @@ pub fn first_found<N: Eq + Hash + Copy, V>(found: &IndexMap<N, V>, references: &
     None
 }
 
-/// The node refers to these, and no longer to those before. What nobody refers to any more is taken out of the table.
+/// Replaces the references of a node, `before`, by `references`. Removes the lists that become empty. Allocates nothing.
 pub fn refer<N: Eq + Hash + Copy>(users: &mut Users<N>, node: N, before: &[N], references: &[N])
     requires exact { IsExact N.eq }
     requires room { HasRoomFor N.eq users.old.entries references.now }
@@ -114,7 +114,7 @@ pub fn refer<N: Eq + Hash + Copy>(users: &mut Users<N>, node: N, before: &[N], r
     drop_unused(users, before);
 }
 
-// The node refers to this one no longer.
+// Removes the node from the users of one reference.
 fn forget<N: Eq + Hash + Copy>(users: &mut Users<N>, node: N, reference: N)
     requires { IsExact N.eq }
     ensures uses { (a b : N) → Uses N.eq users.new.entries a b ↔ (Uses N.eq users.old.entries a b × ((a ≡ node) → (b ≡ reference) → ⊥)) }
@@ -126,7 +126,7 @@ fn forget<N: Eq + Hash + Copy>(users: &mut Users<N>, node: N, reference: N)
     }
 }
 
-// A node stands in a list no longer.
+// Removes a node from a list.
 fn take_out<N: Eq + Hash + Copy>(those: &mut Vec<N>, node: N)
     ensures nodes { those.new.items ≡ filter (λ other. not (N.eq other node)) those.old.items }
     ensures room { vec_capacity those.new ≡ vec_capacity those.old }
@@ -135,7 +135,7 @@ fn take_out<N: Eq + Hash + Copy>(those: &mut Vec<N>, node: N)
     those.retain(|other| *other != node);
 }
 
-// The node refers to this one, in the room that was made for it. Where it does so twice, it is the last of the list already.
+// Adds the node to the users of one reference, in reserved room. On a repeated reference the node is already last in the list.
 fn note<N: Eq + Hash + Copy>(users: &mut Users<N>, node: N, reference: N)
     requires exact { IsExact N.eq }
     requires ready { IsReadyFor N.eq users.old.entries node (reference ∷ []) }
@@ -148,7 +148,7 @@ fn note<N: Eq + Hash + Copy>(users: &mut Users<N>, node: N, reference: N)
     }
 }
 
-// A node is the last of a list, in which there is room for it unless it was so.
+// Appends a node to a list in reserved room, unless it is already last.
 fn put_last<N: Eq + Hash + Copy>(those: &mut Vec<N>, node: N)
     requires exact { IsExact N.eq }
     requires ready { IsReady those.old node }
@@ -163,7 +163,7 @@ fn put_last<N: Eq + Hash + Copy>(those: &mut Vec<N>, node: N)
     those.push_reserved(node);
 }
 
-// Takes the lists of these nodes out of the table, where they are empty.
+// Removes the lists of these nodes from the table if they are empty.
 fn drop_unused<N: Eq + Hash + Copy>(users: &mut Users<N>, references: &[N])
     requires { IsExact N.eq }
     ensures same { (a b : N) → Uses N.eq users.new.entries a b ↔ Uses N.eq users.old.entries a b }
@@ -174,7 +174,7 @@ fn drop_unused<N: Eq + Hash + Copy>(users: &mut Users<N>, references: &[N])
     }
 }
 
-// Takes the list of a node out of the table, if it is empty.
+// Removes the list of a node from the table if it is empty.
 fn drop_if_unused<N: Eq + Hash + Copy>(users: &mut Users<N>, reference: N)
     requires { IsExact N.eq }
     ensures same { (a b : N) → Uses N.eq users.new.entries a b ↔ Uses N.eq users.old.entries a b }

@@ -7,7 +7,7 @@ written : (g : Over) (c : After-put_last g) (q : _) → lookup (g.N.PartialEq.eq
     ≡ cond (g.N.PartialEq.eq c.args.reference q) (Some c.put_last.new.those) (lookup (g.N.PartialEq.eq q) c.args.users.now.entries)
 written g c = ((c.get_mut.follows.holds c.put_last.new.those).3 (subst (λ o. IsSome o) c.in-Some.ensures.value refl)).0
 
--- the table has the reference
+-- the table has an entry for the reference
 has_one : (g : Over) (c : In_default g) → ⊥
 has_one g c =
     let ready = c.requires.ready c.args.reference (contains_here c.args.reference []) in
