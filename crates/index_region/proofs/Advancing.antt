@@ -1,8 +1,8 @@
--- The walk of a box, from each index list to the next one.
+-- The step of a walk to the next index list of a box.
 use Rattle.std.{proofs.Common.{◌≡◌, ℕ, ◌+◌, ◌*◌, ◌/◌, ◌%◌, ◌<◌, ◌≤◌, List, [], ◌∷◌, arith, true, false, Bool, sym, ap, ◌∙◌, refl, inl, inr}, proofs.lemmas.Bool.{cond-true, cond-false, lt-ltb, le-ltb, cases_order}, proofs.lemmas.Nat.{div-add-mod', div-mul-add, mod-mul-add, mod_below, div_below, mul-le}}
 use Rattle.index_region.{specs.Boxes.{Interval, interval_length, box_size, walk_at}, proofs.Walks.{rest_positive}, specs.Advancing.{stepped, next_in}}
 
--- what is there after a step
+-- the conclusion of a step
 pub record Next (region : List Interval) (before : ℕ) : Type 0 where
   pub more : before + 1 < box_size region → next_in region (walk_at region before) ≡ (walk_at region (before + 1), false)
   pub last : before + 1 ≡ box_size region → next_in region (walk_at region before) ≡ (walk_at region 0, true)
@@ -18,7 +18,7 @@ rows_below a n w h = elim (cases_order a n) [
   | inr o ↦ elim o [ inl l ↦ l | inr l ↦ absurd (let more : n * w ≤ a * w = mul-le n w a w (omega arith) (omega arith) in omega arith) ]
 ]
 
--- a step of an axis behind which the others are at their first index list
+-- an axis steps if the later axes have wrapped around
 stepped_more : (s : Interval) (i : ℕ) (index : List ℕ) → i < s.1 → stepped s i (index, true) ≡ ((i + 1) ∷ index, false)
 stepped_more s i index h = cond-true _ _ _ (lt-ltb i s.1 h)
 
@@ -75,7 +75,7 @@ next_at (s ∷ region) before h =
       last = λ e. front_last s region a b below inside rest (omega arith);
     }
 
--- a step goes from each index list to the next one, and from the last to the first
+-- a step leads from each index list to the next, and from the last to the first
 pub advanced : (region intervals : List Interval) (old new : List ℕ) (before : ℕ) → intervals ≡ region → new ≡ (next_in intervals old).0 → before + 1 < box_size region → old ≡ walk_at region before → new ≡ walk_at region (before + 1)
 advanced region intervals old new before same e h is = e ∙ (λ i. (next_in (same i) (is i)).0) ∙ ap (λ (r : List ℕ × Bool). r.0) ((next_at region before (omega arith)).more h)
 

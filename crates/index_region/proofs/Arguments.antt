@@ -1,4 +1,4 @@
--- Functions of one argument or two, given the list of their arguments.
+-- Functions of one or two arguments, applied to an argument list.
 use Rattle.std.proofs.Common.{◌≡◌, ℕ, List, [], ◌∷◌, length, Result, refl, arith}
 use Rattle.arrays_core.{specs.declared.item.Item.{Item}, specs.declared.item.Kind.{Kind}, specs.Arrays.{ArrayValue}}
 use Rattle.index_region.{specs.Checks.{Form, whole}, specs.ArgumentLists.{of_one_argument, of_two_arguments}}

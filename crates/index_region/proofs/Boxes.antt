@@ -1,11 +1,11 @@
--- Boxes made an axis at a time.
+-- Boxes built axis by axis.
 use Rattle.std.{proofs.Common.{◌≡◌, ℕ, ◌+◌, ◌-◌, ◌*◌, ◌/◌, ◌%◌, ◌<◌, ◌≤◌, List, [], ◌∷◌, ◌++◌, length, take, drop, set, remove, get_or, arith, true, false, Bool, ◌&&◌, sym, ap, ◌∙◌, subst, refl, min, max, suc, zero, nat_le, nat_eq, length-take-le, inl, inr, add-one, append_assoc, if◌then◌else◌}, specs.List.{list_all}}
 use Rattle.std.{proofs.lemmas.Bool.{and_parts, and_from, or_parts, leb-true, le-leb, ltb-false, eqb-true, eq-eqb, ne_eqb, false≢true, cases_Bool, cond-true, cond-false}, proofs.lemmas.Nat.{div-add-mod', mod_below, le-div}, proofs.Math.Nat.{div-mul-le_self, div-lt_iff_lt-mul}}
 use Rattle.std.{proofs.lemmas.List.{take_more, take_all, length-drop, length-take}, proofs.Math.Seq.{take-set-lt}}
 use Rattle.arrays_core.specs.Shapes.{size, index_after}
 use Rattle.index_region.specs.Boxes.{Interval, is_within, is_box, fits, hull_of, meet_of, whole_of, met, is_empty, cover, cover_between}
 
--- an index on an interval
+-- an index in an interval
 pub record On (s : Interval) (i : ℕ) (region : List Interval) (index : List ℕ) : Type 0 where
   pub low : s.0 ≤ i
   pub high : i ≤ s.1
@@ -20,7 +20,7 @@ on_parts s i region index h =
 pub on_from : (s : Interval) (i : ℕ) (region : List Interval) (index : List ℕ) → s.0 ≤ i → i ≤ s.1 → is_within region index ≡ true → is_within (s ∷ region) (i ∷ index) ≡ true
 on_from s i region index l u rest = and_from _ _ (and_from _ _ (le-leb s.0 i l) (le-leb i s.1 u)) rest
 
--- what lies in one box lies in the hull
+-- a place of one box lies in the hull
 pub within-hull_left : (a b : List Interval) (index : List ℕ) → length a ≡ length b → is_within a index ≡ true → is_within (hull_of a b) index ≡ true
 within-hull_left [] [] index e h = h
 within-hull_left (s ∷ a) (t ∷ b) (i ∷ index) e h =
@@ -42,7 +42,7 @@ hull_turned (s ∷ a) (t ∷ b) =
 pub within-hull_right : (a b : List Interval) (index : List ℕ) → length a ≡ length b → is_within b index ≡ true → is_within (hull_of a b) index ≡ true
 within-hull_right a b index e h = subst (λ r. is_within r index ≡ true) (hull_turned b a) (within-hull_left b a index (sym e) h)
 
--- each interval has a place
+-- no interval is empty
 abbrev pub filled : List Interval → Bool
 filled region = list_all (λ s. nat_le 1 s.0 && nat_le s.0 s.1) region
 
@@ -81,7 +81,7 @@ fits_filled (s ∷ region) (n ∷ axes) h = let parts = and_parts _ _ h in and_f
 pub fits_box : (region : List Interval) (axes : List ℕ) → length axes ≤ 4 → fits region axes ≡ true → is_box region ≡ true
 fits_box region axes few h = let e = fits_length region axes h in is_box_from region (omega arith) (fits_filled region axes h)
 
--- what is met and not empty lies in the shape
+-- a part that is cut to a shape, and is not empty, lies in it
 pub fits-met : (axes : List ℕ) (region : List Interval) → is_empty (met axes region) ≡ false → fits (met axes region) axes ≡ true
 fits-met [] region h = refl
 fits-met (n ∷ axes) [] h =
@@ -95,12 +95,12 @@ fits-met (n ∷ axes) (s ∷ region) h =
 pub met_box : (axes : List ℕ) (region : List Interval) → length axes ≤ 4 → is_empty (met axes region) ≡ false → is_box (met axes region) ≡ true
 met_box axes region few h = fits_box (met axes region) axes few (fits-met axes region h)
 
--- all of a shape with places lies in it
+-- the whole of a shape with places lies in it
 pub fits-whole : (axes : List ℕ) → 0 < size axes → fits (whole_of axes) axes ≡ true
 fits-whole [] h = refl
 fits-whole (n ∷ axes) h = and_from _ _ (and_from _ _ (le-leb 1 n (grind arith)) (le-leb n n (omega arith))) (fits-whole axes (grind arith))
 
--- the box that covers places of a shape lies in it
+-- the cover of places of a shape lies in it
 pub fits-cover : (axes : List ℕ) (p q : ℕ) → p ≤ q → q < size axes → fits (cover axes p q) axes ≡ true
 fits-cover [] p q h b = refl
 fits-cover (n ∷ axes) p q h b =
@@ -224,7 +224,7 @@ from_axis k (n ∷ axes) (i ∷ from) [] h e f = absurd (omega arith)
 from_axis zero (n ∷ axes) (i ∷ from) (j ∷ to) h e f = refl
 from_axis (suc k) (n ∷ axes) (i ∷ from) (j ∷ to) h e f = from_axis k axes from to (omega arith) (omega arith) (omega arith)
 
--- an axis on which the two have one index
+-- an axis on which the two have the same index
 pub same_on_axis : (k : ℕ) (done : List Interval) (axes from to : List ℕ) → k < length axes → length from ≡ length axes → length to ≡ length axes → get_or from k 0 ≡ get_or to k 0
     → (done ++ (get_or from k 0, get_or to k 0) ∷ []) ++ cover_between (drop (k + 1) axes) (drop (k + 1) from) (drop (k + 1) to) ≡ done ++ cover_between (drop k axes) (drop k from) (drop k to)
 same_on_axis k done axes from to h e f same = rw (append_assoc, add-one, from_axis k axes from to h e f, eq-eqb (get_or from k 0) (get_or to k 0) same) refl

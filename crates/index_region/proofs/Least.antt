@@ -1,4 +1,4 @@
--- The least boxes: that hold two boxes, or some places of a shape.
+-- The least boxes that contain two boxes, or a range of places of a shape.
 use Rattle.std.proofs.Common.{◌≡◌, ℕ, suc, zero, ◌+◌, ◌-◌, ◌*◌, ◌/◌, ◌%◌, ◌<◌, ◌≤◌, List, [], ◌∷◌, length, refl, sym, ap, subst, ◌∙◌, arith, true, Bool, ◌&&◌, inl, inr, min, max, nat_le, nat_eq, map}
 use Rattle.std.{proofs.lemmas.Bool.{and_parts, and_from, leb-true, le-leb, eqb-true, eqb-false, false≢true, cases_Bool, cond-true, cond-false, cases_order}, proofs.lemmas.Nat.{div-mul-add, mod-mul-add, mod_below, div-add-mod', mul-le}}
 use Rattle.arrays_core.{specs.Shapes.{size, is_index_of, places_before, index_after}, proofs.Shapes.{places_below}, proofs.Order.{index_after-within, places_before-index_after}}
@@ -10,7 +10,7 @@ use Rattle.index_region.{specs.Boxes.{Interval, is_within, hull_of, whole_of, co
 abbrev firsts : List Interval → List ℕ
 firsts region = map (λ s. s.0) region
 
--- an interval with a place
+-- an interval that is not empty
 record Filled (s : Interval) (region : List Interval) : Type 0 where
   order : s.0 ≤ s.1
   rest : filled region ≡ true
@@ -116,15 +116,15 @@ cover_holds axes p q b place l u =
 row_of : (axes : List ℕ) (n a b : ℕ) → b < size axes → index_after (n ∷ axes) (a * size axes + b) ≡ (a + 1) ∷ index_after axes b
 row_of axes n a b h = rw (div-mul-add a (size axes) b h, mod-mul-add a (size axes) b h) refl
 
--- one more axis of a place that another box holds
+-- an index list of another box, split at the first axis
 on_row : (t : Interval) (others : List Interval) (axes : List ℕ) (n a b : ℕ) → b < size axes → is_within (t ∷ others) (index_after (n ∷ axes) (a * size axes + b)) ≡ true → On t (a + 1) others (index_after axes b)
 on_row t others axes n a b h inside = on_parts t (a + 1) others (index_after axes b) (subst (λ index. is_within (t ∷ others) index ≡ true) (row_of axes n a b h) inside)
 
--- a shape with places has one on each of its later axes
+-- a shape with places has places on its later axes
 later_positive : (n w p : ℕ) → p < n * w → 0 < w
 later_positive n w p h = grind arith
 
--- a box that holds the first and the last place of a shape holds all
+-- a box that contains the first and the last place of a shape contains all
 ends_hold : (axes : List ℕ) (other : List Interval) → 0 < size axes → is_within other (index_after axes 0) ≡ true → is_within other (index_after axes (size axes - 1)) ≡ true → LiesIn (whole_of axes) other
 ends_hold [] other some first last [] h = first
 ends_hold [] other some first last (i ∷ index) h = absurd (false≢true h)
@@ -141,7 +141,7 @@ ends_hold (suc n ∷ axes) (t ∷ other) some first last (i ∷ index) h =
     let high = on_row t other axes (suc n) n (w - 1) (omega (arith, positive)) (subst (λ place. is_within (t ∷ other) (index_after (suc n ∷ axes) place) ≡ true) end last) in
     on_from t i other index (omega (arith, low.low, here.low)) (omega (arith, high.high, here.high)) (ends_hold axes other positive low.rest high.rest index here.rest)
 
--- what other boxes hold of a row behind which no other comes
+-- the part of another box in the last row
 one_row : (t : Interval) (other : List Interval) (axes : List ℕ) (n a b d p q : ℕ) → a * size axes + b ≡ p → a * size axes + d ≡ q → d < size axes → HoldsPlaces (n ∷ axes) p q (t ∷ other) → HoldsPlaces axes b d other
 one_row t other axes n a b d p q ep eq below holds place l u =
     (on_row t other axes n a place (omega arith) (holds (a * size axes + place) (omega arith) (omega arith))).rest

@@ -2,7 +2,7 @@
 use Rattle.std.{proofs.Common.{◌≡◌, ℕ, zero, suc, ◌<◌, ◌≤◌, true, List, [], ◌∷◌, length, get_or, set, refl, arith}, proofs.lemmas.Bool.{and_parts, and_from, leb-true, le-leb, false≢true}}
 use Rattle.arrays_core.specs.Shapes.{is_index_of}
 
--- an index is on an axis of n places
+-- the index is on an axis of n places
 pub record OnAxis (n i : ℕ) : Type 0 where
   pub low : 1 ≤ i
   pub high : i ≤ n
@@ -25,7 +25,7 @@ on_axis (n ∷ shape) (i ∷ index) zero h below =
     record { low = leb-true 1 i bounds.0; high = leb-true i n bounds.1 }
 on_axis (n ∷ shape) (i ∷ index) (suc k) h below = on_axis shape index k (and_parts _ _ h).1 (omega arith)
 
--- a list of as many is an index list where each index is on its axis
+-- indices that lie on their axes are an index list
 pub inside_by_axes : (shape index : List ℕ) → length index ≡ length shape → ((k : ℕ) → k < length shape → OnAxis (get_or shape k 0) (get_or index k 0))
     → is_index_of shape index ≡ true
 inside_by_axes [] [] e h = refl

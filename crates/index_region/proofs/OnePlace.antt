@@ -3,16 +3,16 @@ use Rattle.std.{proofs.Common.{◌≡◌, ℕ, ◌+◌, ◌-◌, ◌≤◌, List
 use Rattle.arrays_core.{specs.Limits.{most_axes}, specs.Shapes.{is_index_of}}
 use Rattle.index_region.{specs.Boxes.{Interval, box_size, walk_at, fits, is_box}, proofs.Boxes.{fits_box}}
 
--- the box of one place
+-- the box of one index list
 abbrev pub one_place : List ℕ → List Interval
 one_place index = map (λ i. (i, i)) index
 
--- it has one place
+-- its size is 1
 pub one_place_size : (index : List ℕ) → box_size (one_place index) ≡ 1
 one_place_size [] = refl
 one_place_size (i ∷ index) = let rest = one_place_size index in let here : i + 1 - i ≡ 1 = omega arith in rw (rest, here) refl
 
--- which lies in the shape
+-- it lies in the shape
 pub one_place_fits : (shape index : List ℕ) → is_index_of shape index ≡ true → fits (one_place index) shape ≡ true
 one_place_fits [] [] h = refl
 one_place_fits [] (i ∷ index) h = absurd (false≢true h)
@@ -22,7 +22,7 @@ one_place_fits (n ∷ shape) (i ∷ index) h =
     let bounds = and_parts _ _ parts.0 in
     and_from _ _ (and_from _ _ (and_from _ _ bounds.0 (le-leb i i (omega arith))) bounds.1) (one_place_fits shape index parts.1)
 
--- and is where the walk begins
+-- its walk begins at the index list
 pub one_place_walk : (index : List ℕ) → walk_at (one_place index) 0 ≡ index
 one_place_walk [] = refl
 one_place_walk (i ∷ index) = let one = one_place_size index in let rest = one_place_walk index in rw (one, rest) (let e : i + 0 ≡ i = omega arith in ap (λ (k : ℕ). k ∷ index) e)

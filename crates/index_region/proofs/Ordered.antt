@@ -1,16 +1,16 @@
--- The walk of a box keeps the order of the ravel of a shape in which the box lies.
+-- The walk of a box follows the ravel order of every shape around the box.
 use Rattle.std.{proofs.Common.{◌≡◌, ℕ, ◌+◌, ◌-◌, ◌*◌, ◌/◌, ◌%◌, ◌<◌, ◌≤◌, List, [], ◌∷◌, arith, true, inl, inr}, proofs.lemmas.Bool.{and_parts, leb-true, false≢true, cases_order}, proofs.lemmas.Nat.{mod_below, div-add-mod', mul-le}}
 use Rattle.arrays_core.{specs.Shapes.{size, places_before}, proofs.Shapes.{places_below}}
 use Rattle.index_region.{specs.Boxes.{Interval, box_size, interval_length, walk_at, fits}, proofs.Walks.{rest_positive, walk_within}, proofs.Patched.{fits_within}}
 
--- a row before another row is wholly before it
+-- every place of a row comes before every place of a later row
 rows_apart : (i j w a b : ℕ) → i < j → a < w → i * w + a < j * w + b
 rows_apart i j w a b h k =
     let next : (i + 1) * w ≤ j * w = mul-le (i + 1) w j w (omega arith) (omega arith) in
     let more : (i + 1) * w ≡ i * w + w = grind arith in
     omega arith
 
--- of two places in one row the one that comes first stands first in it
+-- two places in one row are in the order of their places within it
 rest_before : (i j w a b : ℕ) → i ≡ j → i * w + a < j * w + b → a < b
 rest_before i j w a b e h = let k = rw e at h in omega arith
 

@@ -1,10 +1,10 @@
--- What is known where checks have passed.
+-- Consequences of passed checks.
 use Rattle.std.{proofs.Common.{◌≡◌, ◌≤◌, ℕ, Bool, true, false, List, [], ◌∷◌, ◌++◌, length, get_or, Result, Ok, Err, refl, sym, ap, arith}, specs.Prelude.{nat_le}, proofs.lemmas.Bool.{and_parts, and_from, leb-true, le-leb}, proofs.lemmas.List.Sums.{list_all-from_AllPass, AllPass-from_list_all}}
 use Rattle.arrays_core.{specs.Limits.{most_axes, longest_axis, most_places}, specs.declared.item.Item.{Item}, specs.declared.item.ItemType.{ItemType}, specs.declared.item.Kind.{Kind}, specs.declared.item.Kind.TheVariants.{Limit}, specs.Arrays.{ArrayValue}, specs.Items.{type_of}}
 use Rattle.arrays_core.{specs.Shapes.{is_index_of, size, IsWithinLimits}, specs.Building.{IsRowOf}}
 use Rattle.index_region.{specs.Checks.{form_of, check, Form, limited, is_within_limits}, specs.Answers.{IsPlaceOf, IsRowIn, HasTypeOf}}
 
--- a check that has passed, and a place of what follows
+-- a passed check, with a place of the rest
 pub record Passed (holds : Bool) (rest : Result Form Kind) (index : List ℕ) : Type 0 where
   pub test : holds ≡ true
   pub place : IsPlaceOf rest index
@@ -13,7 +13,7 @@ pub passed : (holds : Bool) (kind : Kind) (rest : Result Form Kind) (index : Lis
 passed true kind rest index h = record { test = refl; place = h }
 passed false kind rest index h = absurd h
 
--- the limits of a shape, as a test
+-- a shape within the limits passes the test
 pub is_within_from : (shape : List ℕ) → IsWithinLimits shape → is_within_limits shape ≡ true
 is_within_from shape h =
     let axes = list_all-from_AllPass (λ (n : ℕ). nat_le n longest_axis) shape (λ k d below. le-leb (get_or shape k d) longest_axis (h.axes k d below)) in
@@ -29,7 +29,7 @@ within_limits shape h =
       size_within = leb-true (size shape) most_places parts.1;
     }
 
--- a test of the limits decides the last check
+-- the last check passes for a shape within the limits
 pub limited_passes : (shape : List ℕ) (item_type : ItemType) → IsWithinLimits shape → limited shape item_type ≡ Ok (form_of shape item_type)
 limited_passes shape item_type h = ap (λ (w : Bool). check w Limit (Ok (form_of shape item_type))) (is_within_from shape h)
 
@@ -49,7 +49,7 @@ inside_if false kind shape item_type index h = absurd h
 pub place_inside : (shape : List ℕ) (item_type : ItemType) (index : List ℕ) → IsPlaceOf (limited shape item_type) index → is_index_of shape index ≡ true
 place_inside shape item_type index h = inside_if (is_within_limits shape) _ shape item_type index h
 
--- the type that a form has where it is one
+-- the type of an item after one more check
 pub typed_check : (holds : Bool) (kind : Kind) (rest : Result Form Kind) (item : Item) → HasTypeOf rest item → HasTypeOf (check holds kind rest) item
 typed_check true kind rest item h = h
 typed_check false kind rest item h = tt
@@ -62,20 +62,20 @@ typed_if false kind shape item_type item h = tt
 pub typed_limited : (shape : List ℕ) (item_type : ItemType) (item : Item) → type_of item ≡ item_type → HasTypeOf (limited shape item_type) item
 typed_limited shape item_type item h = typed_if (is_within_limits shape) _ shape item_type item h
 
--- the one argument of a list of one
+-- a list of one argument
 pub one_argument : {A : Type 0} (args : List A) (b : A) → length args ≡ 1 → b ≡ get_or args 0 b → args ≡ b ∷ []
 one_argument [] b h e = absurd (omega arith)
 one_argument (x ∷ []) b h e = rw e refl
 one_argument (x ∷ y ∷ rest) b h e = absurd (omega arith)
 
--- the two arguments of a list of two
+-- a list of two arguments
 pub two_arguments : {A : Type 0} (args : List A) (a b : A) → length args ≡ 2 → a ≡ get_or args 0 a → b ≡ get_or args 1 b → args ≡ a ∷ b ∷ []
 two_arguments [] a b h d e = absurd (omega arith)
 two_arguments (x ∷ []) a b h d e = absurd (omega arith)
 two_arguments (x ∷ y ∷ []) a b h d e = rw (d, e) refl
 two_arguments (x ∷ y ∷ z ∷ rest) a b h d e = absurd (omega arith)
 
--- where checks give a form, they have passed
+-- checks that return a form have passed
 pub record Gives (holds : Bool) (rest : Result Form Kind) (form : Form) : Type 0 where
   pub test : holds ≡ true
   pub is : rest ≡ Ok form
@@ -84,7 +84,7 @@ pub gives : (holds : Bool) (kind : Kind) (rest : Result Form Kind) (form : Form)
 gives true kind rest form h = record { test = refl; is = h }
 gives false kind rest form h = let no : ⊥ = cc in absurd no
 
--- the form that the last check gives is what was asked for
+-- the form of the last check is the wanted one
 pub limited_gives : (shape : List ℕ) (item_type : ItemType) (form : Form) → limited shape item_type ≡ Ok form → form ≡ form_of shape item_type
 limited_gives shape item_type form h = decide (is_within_limits shape) h
   where
@@ -92,7 +92,7 @@ limited_gives shape item_type form h = decide (is_within_limits shape) h
     decide true h = let wanted : Form = form_of shape item_type in let same : wanted ≡ form = cc in sym same
     decide false h = let no : ⊥ = cc in absurd no
 
--- a row of a result, where a check has passed
+-- a row of a result after a passed check
 pub record RowPassed (holds : Bool) (rest : Result Form Kind) (row : List ℕ) (count : ℕ) (item_type : ItemType) : Type 0 where
   pub test : holds ≡ true
   pub row_in : IsRowIn rest row count item_type
@@ -102,7 +102,7 @@ pub row_passed : (holds : Bool) (kind : Kind) (rest : Result Form Kind) (row : L
 row_passed true kind rest row count item_type h = record { test = refl; row_in = h }
 row_passed false kind rest row count item_type h = absurd h
 
--- a row of the shape that was asked for
+-- a row of the wanted shape
 pub record RowInside (shape : List ℕ) (asked item_type : ItemType) (row : List ℕ) (count : ℕ) : Type 0 where
   pub row_of : IsRowOf shape row count
   pub typed : asked ≡ item_type

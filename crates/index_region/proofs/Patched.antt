@@ -6,11 +6,11 @@ use Rattle.arrays_core.{proofs.Shapes.{places_below}, proofs.Order.{index_after-
 use Rattle.index_region.{specs.Boxes.{Interval, is_within, box_offset, box_size, fits}, specs.Patches.{PatchValue, FitsPatch, IsPatch, patched, patched_item}, proofs.Boxes.{on_parts}}
 use mir.Val.{Fits}
 
--- a place of a row is below the size
+-- a place of a row is less than the size
 pub row_below : (i n w b : ℕ) → i < n → b < w → i * w + b < n * w
 row_below i n w b h k = rw (mul_comm n w) (mul-add-lt i w b n h k)
 
--- an index list in a box by its first axis: so many index lists come before it on that axis, each with a row behind it
+-- an index list in a box, split at the first axis
 pub record OnFirstAxis (intervals : List Interval) (index : List ℕ) (s : Interval) (i size offset : ℕ) : Type 0 where
   pub low : s.0 ≤ i
   pub filled : s.0 ≤ s.1 + 1

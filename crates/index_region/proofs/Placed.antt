@@ -3,7 +3,7 @@ use Rattle.std.{proofs.Common.{◌≡◌, ℕ, true, cond, List, get_or, Some, N
 use Rattle.arrays_core.{specs.Arrays.{ArrayValue}, specs.Items.{fill}, specs.Shapes.{is_index_of, places_before}}
 use Rattle.index_region.specs.Sources.{Place, item_from}
 
--- the item of a place of the left argument, or of the right one
+-- the item at an index list of the left or the right argument
 pub left_placed : (a b : ArrayValue) (at : List ℕ) → is_index_of a.shape at ≡ true
     → item_from a b a.item_type (Place 0 at) ≡ Ok (get_or a.items (places_before a.shape at) (fill a.item_type))
 left_placed a b at inside =

@@ -20,7 +20,7 @@ pub remove_last : (row : List ℕ) (i : ℕ) → remove (row ++ i ∷ []) (lengt
 remove_last [] i = refl
 remove_last (j ∷ row) i = ap (λ xs. j ∷ xs) (remove_last row i)
 
--- the axis that is meant is one of the array's
+-- the chosen axis is one of the axes of the array
 pub axis_below : (rank : ℕ) (along : Along) → is_axis rank along ≡ true → 0 < rank → axis_at rank along < rank
 axis_below rank First h some = some
 axis_below rank Last h some = omega arith

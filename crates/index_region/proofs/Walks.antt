@@ -1,8 +1,8 @@
--- The walk of a box in row-major order: its index lists and how many come before each correspond one to one.
+-- The walk of a box in row-major order: index lists and offsets correspond one to one.
 use Rattle.std.{proofs.Common.{◌≡◌, ℕ, ◌+◌, ◌-◌, ◌*◌, ◌/◌, ◌%◌, ◌<◌, ◌≤◌, List, [], ◌∷◌, refl, arith, true, IsTrue}, proofs.lemmas.Bool.{and_parts, and_from, leb-true, le-leb, false≢true}, proofs.lemmas.Nat.{div_below, mod_below, div-add-mod', div-mul-add, mod-mul-add, mul-le}}
 use Rattle.index_region.{specs.Boxes.{Interval, box_size, box_offset, interval_length, is_within, walk_at, fits}, proofs.Patched.{row_below}}
 
--- a box with a place has one on each of its later axes
+-- a box with places has places on its later axes
 pub rest_positive : (p n w : ℕ) → p < n * w → 0 < w
 rest_positive p n w h = grind arith
 

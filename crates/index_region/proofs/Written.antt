@@ -1,16 +1,16 @@
--- The items of a patch, written into an array one after another.
+-- Writing the items of a patch into an array one by one.
 use Rattle.std.{proofs.Common.{◌≡◌, ◌≢◌, ℕ, ◌+◌, ◌<◌, List, nat_eq, length, set, get_or, refl, ap, ◌∙◌, sym, arith, true, false, Bool, ◌&&◌, nat_lt, if◌then◌else◌, inl, inr}, proofs.lemmas.List.{get_or-set_same, get_or-set_other, ext_get_or, length-set}, proofs.lemmas.List.FromFn.{length-map-range_with_len}}
 use Rattle.std.proofs.lemmas.Bool.{cases_Bool, eqb-true, eqb-false, ltb-true, ltb-false, lt-ltb, le-ltb}
 use Rattle.arrays_core.{specs.declared.item.Item.{Item}, specs.Arrays.{ArrayValue, IsArray}, specs.Items.{fill}, specs.Shapes.{size, is_index_of, places_before, index_after}, proofs.Shapes.{places_below}, proofs.Order.{index_after-places_before, places_before-index_after}}
 use Rattle.index_region.{specs.Boxes.{is_within, box_offset, box_size, walk_at}, specs.Patches.{PatchValue, FitsPatch, patched, patched_item}, proofs.Patched.{fits_within, patched_place}, proofs.Walks.{walk_within, offset_of_walk, offset_below, walk_of_offset}}
 
--- the item at a place once the first items of the patch are written
+-- the item at a place after the first `count` items are written
 abbrev pub written : ArrayValue → PatchValue → ℕ → ℕ → Item
 written a p count place =
     let index = index_after a.shape place in
     if is_within p.region index && nat_lt (box_offset p.region index) count then get_or p.items (box_offset p.region index) (fill p.item_type) else get_or a.items place (fill a.item_type)
 
--- an array into which the first items of a patch were written
+-- an array after the first `count` items of a patch are written
 pub record IsWritten (a : ArrayValue) (p : PatchValue) (count : ℕ) (now : ArrayValue) : Type 0 where
   pub typed : now.item_type ≡ a.item_type
   pub shaped : now.shape ≡ a.shape
@@ -32,7 +32,7 @@ written_none a p sound = record {
     none true v x y e = rw e refl
     none false v x y e = refl
 
--- one item more
+-- one more item
 pub written_more : (a : ArrayValue) (p : PatchValue) (count : ℕ) (now : ArrayValue) → FitsPatch a p → IsWritten a p count now → count < box_size p.region
     → IsWritten a p (count + 1) (record now { items = set now.items (places_before a.shape (walk_at p.region count)) (get_or p.items count (fill p.item_type)) })
 written_more a p count now fit done below = record {

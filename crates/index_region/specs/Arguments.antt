@@ -1,4 +1,4 @@
--- What checks ask of an argument.
+-- Properties of arguments that checks test.
 use Rattle.std.{specs.Prelude.{nat_eq, nat_le, ℤ, pos, int_le, Bool, true, false, not, ◌||◌, List, map, length}, specs.List.{list_all}}
 use Rattle.arrays_core.{specs.declared.item.Item.{Item}, specs.declared.item.Item.TheVariants.{Num, Char}, specs.declared.item.ItemType.{ItemType}, specs.declared.item.ItemType.TheVariants.{Nums, Chars}, specs.Arrays.{ArrayValue}}
 
@@ -25,7 +25,7 @@ is_same_type Chars Chars = true
 is_same_type Nums Chars = false
 is_same_type Chars Nums = false
 
--- of numbers, or without items
+-- its items are numbers, or it has none
 abbrev pub counts_as_numbers : ArrayValue → Bool
 counts_as_numbers a = is_of_numbers a.item_type || not (has_items a)
 

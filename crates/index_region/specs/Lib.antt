@@ -1,4 +1,4 @@
--- What public contracts mean.
+-- The definitions that public contracts use.
 pub mod Checks
 pub mod Arguments
 pub mod Axes
@@ -10,7 +10,7 @@ pub mod BoxLaws
 pub mod Patches
 pub mod Tails
 pub mod Moves
--- What bodies use.
+-- The definitions that bodies use.
 pub mod Advancing
 pub mod NewItems
 pub mod Laid

@@ -2,7 +2,7 @@
 use Rattle.std.specs.Prelude.{◌≡◌, List, Option, Some, None}
 use Rattle.index_region.{specs.Boxes.{Interval}, specs.declared.delta.Delta.{Delta}, specs.declared.delta.Delta.TheVariants.{Same, Patch, Grown, Whole}, specs.declared.moved.Moved.{Moved}, specs.declared.moved.Moved.TheVariants.{Not, Inside, Longer, Anew}}
 
--- these are the places that a change has changed
+-- `Moved` agrees with the change
 abbrev pub Tells : Moved → Delta → Type 0
 Tells Not Same = Unit {0}
 Tells (Inside region) (Patch p) = region.now ≡ p.region

@@ -21,7 +21,7 @@ patched a p = record {
   items = map (λ before. patched_item a p (index_after a.shape before)) (range_with_len 0 (size a.shape));
 }
 
--- what holds of every patch
+-- the invariant of patches
 pub record IsPatch (p : PatchValue) : Type 0 where
   pub one_item_a_place : length p.items ≡ box_size p.region
   pub one_type : All (λ item. type_of item ≡ p.item_type) p.items

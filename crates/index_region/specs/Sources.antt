@@ -1,8 +1,8 @@
--- Where the items of a result come from.
+-- The sources of the items of a result.
 use Rattle.std.specs.Prelude.{ℕ, zero, suc, List, unwrap_or, Result, Ok}
 use Rattle.arrays_core.{specs.declared.item.Item.{Item}, specs.declared.item.ItemType.{ItemType}, specs.declared.item.Kind.{Kind}, specs.Items.{fill}, specs.Arrays.{ArrayValue, item_if_there}}
 
--- where an item of a result comes from: an index list of an argument (0 the left or only one, 1 the right), or fill
+-- the source of an item: an index list of an argument (0 for the left or only one, 1 for the right), or fill
 pub data Source : Type 0 where
   Place : (arg : ℕ) (at : List ℕ) → Source
   Fill : Source

@@ -1,4 +1,4 @@
-//! The check of a result's shape.
+//! The check of the shape of a result.
 
 ghost use Rattle.std.specs.Prelude.{◌≡◌};
 ghost use Rattle.index_region.specs.Checks.{limited};
@@ -6,7 +6,7 @@ ghost use Rattle.index_region.specs.Answers.{IsFormAnswerTo};
 
 use arrays_core::{ItemType, Kind, Shape, is_within_limits};
 
-/// The last check of each function, of its result's shape: LIMIT beyond the limits of arrays.
+/// Checks the shape of a result against the limits of arrays: the last check of each function. Fails with LIMIT.
 pub fn limited(shape: Shape, item_type: ItemType) -> Result<(Shape, ItemType), Kind>
     requires { shape.capacity ≡ 4 }
     ensures { IsFormAnswerTo (limited shape.items item_type) result }

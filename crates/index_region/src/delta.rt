@@ -1,19 +1,18 @@
-//! What changed of an array or a fault.
+//! The change of a value: an array or a fault.
 
 use crate::patch::Patch;
 use crate::tail::Tail;
 use arrays_core::{Array, Fault};
 
-/// What changed of an array or a fault.
+/// The change of a value: an array or a fault.
 #[derive(Drop)]
 pub enum Delta {
-    /// It is as it was.
+    /// Nothing changed.
     Same,
-    /// The items of a box are new; it was an array and is one, of the same type and shape.
+    /// The items of a box are replaced. Type and shape stay the same.
     Patch(Patch),
-    /// Its first axis has one more place, whose items are given; it was an array and is one, with the items that it had at
-    /// the places before.
+    /// The first axis has one more place, with these items. Type and older items stay the same.
     Grown(Tail),
-    /// It is another array or fault.
+    /// The value is replaced by another array or a fault.
     Whole(Result<Array, Fault>),
 }

@@ -1,4 +1,4 @@
-//! Boxes of places.
+//! Boxes of index lists.
 
 ghost use Rattle.std.specs.Prelude.{◌≡◌, ◌+◌, ◌-◌, ◌≤◌, ◌<◌, ◌^◌, ℕ, List, length, IsTrue, Some, None, if◌then◌else◌, true, map, ◌&&◌, nat_le};
 ghost use Rattle.std.specs.List.{list_all};
@@ -12,8 +12,8 @@ use crate::intervals::{Intervals, hull_of, meet_of};
 use arrays_core::{MOST_AXES, Shape, index_of_position};
 use std::marker::Model;
 
-/// A box of places: an interval on each axis, with its first and its last place, counted from 1. It is never empty;
-/// that of a scalar is its one place. It takes no memory.
+/// A box: an interval on each axis, given by its first and last place, counted from 1. It is never empty. A scalar has the box without
+/// intervals. Stored inline.
 #[derive(Drop)]
 pub struct IndexBox {
     intervals: Intervals,
@@ -27,7 +27,7 @@ impl Model for IndexBox {
     ghost invariant = { λ b. IsTrue (is_box b.intervals) };
 }
 
-/// The index list of the first place of a box.
+/// Returns the first index list of a box.
 fn first_of(intervals: &[(u32, u32)]) -> IndexList
     requires { length intervals.now ≤ most_axes }
     ensures { result ≡ walk_at intervals.now 0 }
@@ -40,8 +40,8 @@ fn first_of(intervals: &[(u32, u32)]) -> IndexList
 }
 
 impl IndexBox {
-    /// The box of these intervals: none where there are more than four, or where the first place of one is below 1 or
-    /// after its last. No interval is the one place of a scalar.
+    /// Makes a box. Returns None for more than four intervals, or an interval that is empty or begins below 1. No interval is the box of a
+    /// scalar.
     pub fn of(list: &[(u32, u32)]) -> Option<IndexBox>
         ensures { result ≡ (if is_box list.now then Some list.now else None) }
     {
@@ -54,7 +54,7 @@ impl IndexBox {
         }
     }
 
-    /// The box of what lies in a shape of some intervals, unless that is nothing.
+    /// Returns the part of the intervals that lies in a shape; None if it is empty.
     pub fn inside(axes: &[u32], intervals: &Intervals) -> Option<IndexBox>
         requires { length axes.now ≤ most_axes }
         ensures { result ≡ unless_empty (met axes.now intervals.now) }
@@ -66,9 +66,8 @@ impl IndexBox {
         Some(IndexBox { intervals })
     }
 
-    /// The box that covers the places `first` to `last` of a shape, counted from 1 in row-major order: axes before the
-    /// first on which their index lists differ have their index, that axis runs from the one's index to the other's,
-    /// later axes are whole.
+    /// Returns the least box with the places `first` to `last` of a shape, counted from 1 in row-major order. Axes in front of the first on
+    /// which the two index lists differ have their common index. That axis runs from one index to the other; later axes are whole.
     pub fn cover(shape: &Shape, first: u32, last: u32) -> IndexBox
         requires within { IsWithinLimits shape.now.items }
         requires low { 1 ≤ first }
@@ -83,7 +82,7 @@ impl IndexBox {
         }
     }
 
-    /// The box of one place of a shape, which is that at an index list.
+    /// Returns the box with one index list of a shape.
     pub fn at(shape: &[u32], index: &[u32]) -> IndexBox
         requires rank { length shape.now ≤ most_axes }
         requires inside { is_index_of shape.now index.now ≡ true }
@@ -96,7 +95,7 @@ impl IndexBox {
         IndexBox { intervals }
     }
 
-    /// A copy of the box.
+    /// Copies the box.
     pub fn copy(&self) -> IndexBox
         ensures { result ≡ self.now }
     {
@@ -105,7 +104,7 @@ impl IndexBox {
         }
     }
 
-    /// The intervals.
+    /// Borrows the intervals.
     pub fn intervals(&self) -> &Intervals
         ensures is { result.now ≡ self.now }
         ensures few { length self.now ≤ most_axes }
@@ -114,7 +113,7 @@ impl IndexBox {
         &self.intervals
     }
 
-    /// The intervals as a list.
+    /// Borrows the intervals as a slice.
     pub fn as_slice(&self) -> &[(u32, u32)]
         ensures is { result.now ≡ self.now }
         ensures few { length self.now ≤ most_axes }
@@ -123,7 +122,7 @@ impl IndexBox {
         self.intervals.as_slice()
     }
 
-    /// The least box that holds both.
+    /// Returns the least box that contains both.
     pub fn hull(&self, other: &IndexBox) -> IndexBox
         requires { length self.now ≡ length other.now }
         ensures { result ≡ hull self.now other.now }
@@ -133,7 +132,7 @@ impl IndexBox {
         }
     }
 
-    /// The box of what lies in both, unless that is nothing.
+    /// Returns the intersection; None if it is empty.
     pub fn meet(&self, other: &IndexBox) -> Option<IndexBox>
         requires { length self.now ≡ length other.now }
         ensures { result ≡ unless_empty (meet self.now other.now) }
@@ -145,7 +144,7 @@ impl IndexBox {
         Some(IndexBox { intervals })
     }
 
-    /// How many places there are.
+    /// Returns the number of places.
     pub fn size(&self) -> usize
         requires { box_size self.now < 2 ^ 64 }
         ensures { result ≡ box_size self.now }
@@ -153,7 +152,7 @@ impl IndexBox {
         size_of_intervals(self.as_slice())
     }
 
-    /// The index list of the box that has `before` others before it in row-major order.
+    /// Returns the index list of the box at the offset `before` in row-major order.
     pub fn index_at(&self, before: usize) -> IndexList
         requires size { box_size self.now < 2 ^ 64 }
         requires below { before < box_size self.now }
@@ -176,7 +175,7 @@ impl IndexBox {
         index
     }
 
-    /// The next index list of the box in row-major order; after the last one the first again.
+    /// Moves to the next index list of the box in row-major order, and from the last to the first.
     pub fn advance(&self, index: &mut IndexList)
         ensures next { (before : ℕ) → before + 1 < box_size self.now → index.old ≡ walk_at self.now before → index.new ≡ walk_at self.now (before + 1) }
         ensures around { (before : ℕ) → before + 1 ≡ box_size self.now → index.old ≡ walk_at self.now before → index.new ≡ walk_at self.now 0 }
@@ -184,21 +183,21 @@ impl IndexBox {
         index.advance(self.as_slice());
     }
 
-    /// The box lies in a shape.
+    /// Tests whether the box lies in a shape.
     pub fn lies_in(&self, axes: &[u32]) -> bool
         ensures { result ≡ fits self.now axes.now }
     {
         are_on(self.as_slice(), axes)
     }
 
-    /// The index list lies in the box.
+    /// Tests whether the box contains an index list.
     pub fn contains(&self, index: &[u32]) -> bool
         ensures { result ≡ is_within self.now index.now }
     {
         is_inside(self.as_slice(), index)
     }
 
-    /// How many index lists of the box come before this one in row-major order.
+    /// Returns the offset of an index list in the box, in row-major order.
     pub fn offset(&self, index: &[u32]) -> usize
         requires within { IsTrue (is_within self.now index.now) }
         requires size { box_size self.now < 2 ^ 64 }
@@ -209,32 +208,29 @@ impl IndexBox {
     }
 }
 
-/// The walk of a box, by `index_at` and `advance`, goes through its index lists, each once, in row-major order: in the order of the
-/// ravel of any shape in which the box lies. The function does nothing: its contract is the law.
+/// States that the walk by `index_at` and `advance` visits each index list of a box once, in the ravel order of any shape around it.
 pub fn law_of_walks()
     ensures { AllWalksAreInOrder }
 {}
 
-/// The hull of two boxes of one rank holds both, and lies in each box that holds both. The function does nothing: its contract is
-/// the law.
+/// States that the hull of two boxes of one rank is the least box that contains both.
 pub fn law_of_hulls()
     ensures { HullsAreLeast }
 {}
 
-/// The box that covers some places of a shape holds them, and lies in each box that holds them. The function does nothing: its
-/// contract is the law.
+/// States that the cover of some places of a shape is the least box that contains them.
 pub fn law_of_covers()
     ensures { CoversAreLeast }
 {}
 
-/// There are at most four intervals, and none is empty.
+/// Tests whether there are at most four intervals, none of them empty.
 fn is_box_of(list: &[(u32, u32)]) -> bool
     ensures { result ≡ is_box list.now }
 {
     list.len() <= MOST_AXES && are_filled(list)
 }
 
-/// None of the intervals is empty.
+/// Tests whether no interval is empty.
 fn are_filled(list: &[(u32, u32)]) -> bool
     ensures { result ≡ list_all (λ s. nat_le 1 s.0 && nat_le s.0 s.1) list.now }
 {
@@ -246,7 +242,7 @@ fn are_filled(list: &[(u32, u32)]) -> bool
     true
 }
 
-/// The intervals between two index lists of a shape.
+/// Returns the intervals that cover the places between two index lists of a shape.
 fn covered(axes: &[u32], from: &[u32], to: &[u32]) -> Intervals
     requires few { length axes.now ≤ most_axes }
     requires from { length from.now ≡ length axes.now }
@@ -263,7 +259,7 @@ fn covered(axes: &[u32], from: &[u32], to: &[u32]) -> Intervals
     intervals
 }
 
-/// Each interval lies on its axis, and is not empty.
+/// Tests whether each interval lies on its axis and is not empty.
 fn are_on(intervals: &[(u32, u32)], axes: &[u32]) -> bool
     ensures { result ≡ fits intervals.now axes.now }
 {
@@ -276,7 +272,7 @@ fn are_on(intervals: &[(u32, u32)], axes: &[u32]) -> bool
     }
 }
 
-/// An index list lies in the box of these intervals: each index in that of its axis.
+/// Tests whether each index of a list lies in the interval of its axis.
 fn is_inside(intervals: &[(u32, u32)], index: &[u32]) -> bool
     ensures { result ≡ is_within intervals.now index.now }
 {
@@ -289,7 +285,7 @@ fn is_inside(intervals: &[(u32, u32)], index: &[u32]) -> bool
     }
 }
 
-/// How many places of the box of these intervals come before an index list in it, and how many it has.
+/// Returns the offset of an index list in a box, and the size of the box.
 fn offset_and_size(intervals: &[(u32, u32)], index: &[u32]) -> (usize, usize)
     requires within { IsTrue (is_within intervals.now index.now) }
     requires size { box_size intervals.now < 2 ^ 64 }
@@ -310,7 +306,7 @@ fn offset_and_size(intervals: &[(u32, u32)], index: &[u32]) -> (usize, usize)
     )
 }
 
-/// How many places the box of these intervals has.
+/// Returns the number of places in these intervals.
 fn size_of_intervals(intervals: &[(u32, u32)]) -> usize
     requires { box_size intervals.now < 2 ^ 64 }
     ensures { result ≡ box_size intervals.now }

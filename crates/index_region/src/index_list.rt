@@ -1,4 +1,4 @@
-//! Index lists that take no memory.
+//! Index lists, stored inline.
 
 ghost use Rattle.std.specs.Prelude.{◌≡◌, ◌≤◌, ◌<◌, ◌+◌, ◌++◌, ◌∷◌, [], ℕ, List, length, take};
 ghost use Rattle.arrays_core.specs.Limits.{most_axes};
@@ -7,7 +7,7 @@ ghost use Rattle.index_region.specs.Advancing.{next_in};
 use arrays_core::MOST_AXES;
 use std::marker::Model;
 
-/// An index list of at most four indices. It takes no memory.
+/// An index list of at most four indices, stored inline.
 #[derive(Drop)]
 pub struct IndexList {
     indices: [u32; MOST_AXES],
@@ -23,7 +23,7 @@ impl Model for IndexList {
 }
 
 impl IndexList {
-    /// The index list of a scalar.
+    /// Returns the index list of a scalar.
     pub fn none() -> IndexList
         ensures { result ≡ [] }
     {
@@ -33,7 +33,7 @@ impl IndexList {
         }
     }
 
-    /// One more index, after the others.
+    /// Appends an index.
     pub fn push(&mut self, index: u32)
         requires { length self.old < most_axes }
         ensures is { self.new ≡ self.old ++ index ∷ [] }
@@ -43,7 +43,7 @@ impl IndexList {
         self.rank += 1;
     }
 
-    /// The indices.
+    /// Borrows the indices.
     pub fn as_slice(&self) -> &[u32]
         ensures is { result.now ≡ self.now }
         ensures few { length self.now ≤ most_axes }
@@ -51,7 +51,7 @@ impl IndexList {
         &self.indices[..self.rank]
     }
 
-    /// The next index list of some intervals in row-major order; after the last, the first again.
+    /// Moves to the next index list of a box in row-major order, and from the last to the first.
     pub(crate) fn advance(&mut self, intervals: &[(u32, u32)])
         ensures { self.new ≡ (next_in intervals.now self.old).0 }
     {
@@ -59,7 +59,7 @@ impl IndexList {
     }
 }
 
-/// The next index list in its place, and whether it is the first again.
+/// Moves to the next index list in place, and returns whether it wrapped around to the first.
 fn advance_in(intervals: &[(u32, u32)], index: &mut [u32]) -> bool
     ensures is { index.new ≡ (next_in intervals.now index.old).0 }
     ensures around { result ≡ (next_in intervals.now index.old).1 }

@@ -7,8 +7,8 @@ ghost use Rattle.index_region.specs.Boxes.{whole_of, is_empty, met, hull_of, mee
 use arrays_core::MOST_AXES;
 use std::marker::Model;
 
-/// An interval of places, counted from 1, on each of at most four axes: its first and its last place. An interval may
-/// be empty, and may go beyond the axis; where none does, they are an `IndexBox`. They take no memory.
+/// An interval of places, counted from 1, on each of at most four axes, given by its first and last place. An interval may be empty or go
+/// beyond its axis; those of an `IndexBox` are never empty. Stored inline.
 #[derive(Drop)]
 pub struct Intervals {
     intervals: [(u32, u32); MOST_AXES],
@@ -24,7 +24,7 @@ impl Model for Intervals {
 }
 
 impl Intervals {
-    /// No interval: those of a scalar.
+    /// Returns no intervals, as for a scalar.
     pub fn none() -> Intervals
         ensures { result ≡ [] }
     {
@@ -34,7 +34,7 @@ impl Intervals {
         }
     }
 
-    /// One interval.
+    /// Returns one interval.
     pub fn one(first: u32, last: u32) -> Intervals
         ensures { result ≡ (first, last) ∷ [] }
     {
@@ -44,7 +44,7 @@ impl Intervals {
         }
     }
 
-    /// The intervals of a list.
+    /// Copies the intervals of a slice.
     pub fn of(list: &[(u32, u32)]) -> Intervals
         requires { length list.now ≤ most_axes }
         ensures { result ≡ list.now }
@@ -52,7 +52,7 @@ impl Intervals {
         Intervals::none().and_all(list)
     }
 
-    /// Each axis whole.
+    /// Returns the interval of each whole axis.
     pub fn whole(axes: &[u32]) -> Intervals
         requires { length axes.now ≤ most_axes }
         ensures { result ≡ whole_of axes.now }
@@ -60,7 +60,7 @@ impl Intervals {
         Intervals::none().and_whole(axes)
     }
 
-    /// A copy of the intervals.
+    /// Copies the intervals.
     pub fn copy(&self) -> Intervals
         ensures { result ≡ self.now }
     {
@@ -70,7 +70,7 @@ impl Intervals {
         }
     }
 
-    /// The intervals as a list.
+    /// Borrows the intervals as a slice.
     pub fn as_slice(&self) -> &[(u32, u32)]
         ensures is { result.now ≡ self.now }
         ensures few { length self.now ≤ most_axes }
@@ -78,7 +78,7 @@ impl Intervals {
         &self.intervals[..self.rank]
     }
 
-    /// One more interval, after the others.
+    /// Appends an interval.
     pub fn push(&mut self, first: u32, last: u32)
         requires { length self.old < most_axes }
         ensures is { self.new ≡ self.old ++ (first, last) ∷ [] }
@@ -88,7 +88,7 @@ impl Intervals {
         self.rank += 1;
     }
 
-    /// The intervals, and after them those of a list.
+    /// Appends the intervals of a slice.
     pub fn and_all(self, list: &[(u32, u32)]) -> Intervals
         requires { length self + length list.now ≤ most_axes }
         ensures { result ≡ self ++ list.now }
@@ -100,7 +100,7 @@ impl Intervals {
         all
     }
 
-    /// The intervals, and after them more axes whole.
+    /// Appends the intervals of more whole axes.
     pub fn and_whole(self, axes: &[u32]) -> Intervals
         requires { length self + length axes.now ≤ most_axes }
         ensures { result ≡ self ++ whole_of axes.now }
@@ -112,7 +112,7 @@ impl Intervals {
         all
     }
 
-    /// The intervals with another one on an axis, where there is such an axis.
+    /// Replaces the interval on an axis, if there is such an axis.
     pub fn with(self, axis: usize, first: u32, last: u32) -> Intervals
         ensures { result ≡ set self axis (first, last) }
     {
@@ -127,7 +127,7 @@ impl Intervals {
         }
     }
 
-    /// The intervals with that of one more axis before the axis of that number.
+    /// Inserts an interval in front of the one with index `axis`.
     pub fn with_axis(self, axis: usize, first: u32, last: u32) -> Intervals
         requires few { length self < most_axes }
         requires there { axis ≤ length self }
@@ -139,7 +139,7 @@ impl Intervals {
         more.and_all(after)
     }
 
-    /// The intervals without that of an axis, where there is such an axis.
+    /// Removes the interval on an axis, if there is such an axis.
     pub fn without_axis(self, axis: usize) -> Intervals
         ensures { result ≡ remove self axis }
     {
@@ -150,14 +150,14 @@ impl Intervals {
         Intervals::of(&list[..axis]).and_all(&list[axis + 1..])
     }
 
-    /// An interval is empty.
+    /// Tests whether one of the intervals is empty.
     pub fn is_empty(&self) -> bool
         ensures { result ≡ is_empty self.now }
     {
         self.as_slice().iter().any(|(first, last)| *last < *first)
     }
 
-    /// What of them lies in a shape; an axis without an interval is whole.
+    /// Cuts the intervals to a shape. An axis without an interval is whole.
     pub fn met(&self, axes: &[u32]) -> Intervals
         requires { length axes.now ≤ most_axes }
         ensures { result ≡ met axes.now self.now }
@@ -172,7 +172,7 @@ impl Intervals {
     }
 }
 
-/// The interval on an axis; the whole axis where there is none.
+/// Returns the interval on an axis; the whole axis if there is none.
 fn interval_on(intervals: &[(u32, u32)], axis: usize, length: u32) -> (u32, u32)
     ensures { result ≡ get_or intervals.now axis (1, length) }
 {
@@ -183,7 +183,7 @@ fn interval_on(intervals: &[(u32, u32)], axis: usize, length: u32) -> (u32, u32)
     }
 }
 
-/// The least intervals that hold both.
+/// Returns the least intervals that contain both.
 pub(crate) fn hull_of(ours: &[(u32, u32)], theirs: &[(u32, u32)]) -> Intervals
     requires few { length ours.now ≤ most_axes }
     requires as_many { length ours.now ≡ length theirs.now }
@@ -197,7 +197,7 @@ pub(crate) fn hull_of(ours: &[(u32, u32)], theirs: &[(u32, u32)]) -> Intervals
     intervals
 }
 
-/// What lies in both.
+/// Returns the intersection.
 pub(crate) fn meet_of(ours: &[(u32, u32)], theirs: &[(u32, u32)]) -> Intervals
     requires few { length ours.now ≤ most_axes }
     requires as_many { length ours.now ≡ length theirs.now }

@@ -1,5 +1,4 @@
-//! What the functions of arrays share: boxes of places, patches, arrays as they are seen, the axis that a function
-//! works along, the checks, and the whole result from the items of a function.
+//! Shared parts of array functions: boxes, patches, views of arrays, checks, and results computed from their items.
 #![tactic(auto)]
 
 mod checks;

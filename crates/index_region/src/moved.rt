@@ -15,7 +15,7 @@ pub enum Moved<'a> {
     Inside(&'a IndexBox),
     /// One more place of the first axis.
     Longer,
-    /// All: another array, or an error.
+    /// Everything: another array, or an error.
     Anew,
 }
 
@@ -35,10 +35,10 @@ impl<'a> Moved<'a> {
 
 /// A change of an argument that may have a box of changed places.
 pub trait ChangedBox {
-    /// The box, if there is one.
+    /// The box of changed places, if there is one.
     ghost changed: { Self → Option (List (ℕ × ℕ)) };
 
-    /// Returns the box of the changed places; None where nothing changed, or more than a box.
+    /// Returns the box of changed places; None if nothing changed, or more than a box.
     fn changed_box(&self) -> Option<&IndexBox>
         ensures { MatchOption result (changed self.now ≡ None) (λ region. changed self.now ≡ Some region.now) };
 }

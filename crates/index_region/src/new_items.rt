@@ -1,4 +1,4 @@
-//! New items.
+//! The new items of a patch or a tail.
 
 ghost use Rattle.std.specs.Prelude.{◌≡◌, ◌<◌, ◌↔◌, ◌∷◌, [], All, length, get_or, map, IfOk, IfSome, IsNone};
 ghost use Rattle.arrays_core.specs.Items.{fill, type_of};
@@ -10,7 +10,7 @@ use arrays_core::{Array, Item, ItemType, size};
 use std::alloc::AllocError;
 use std::slice;
 
-/// New items in row-major order: one by itself takes no memory.
+/// New items in row-major order. A single item is stored inline.
 #[derive(Drop)]
 pub(crate) enum NewItems {
     One(Item),
@@ -18,7 +18,7 @@ pub(crate) enum NewItems {
 }
 
 impl NewItems {
-    /// A copy of the items.
+    /// Copies the items.
     pub(crate) fn copy(&self) -> Result<NewItems, AllocError>
         ensures { IfOk result (λ items. items ≡ self.now) }
     {
@@ -28,7 +28,7 @@ impl NewItems {
         }
     }
 
-    /// Their type.
+    /// Returns the type of the items.
     pub(crate) fn item_type(&self) -> ItemType
         ensures is { result ≡ type_of_items self.now }
         ensures sound { All (λ item. type_of item ≡ type_of_items self.now) (items_of self.now) }
@@ -39,7 +39,7 @@ impl NewItems {
         }
     }
 
-    /// How many there are.
+    /// Returns the number of items.
     pub(crate) fn count(&self) -> u32
         ensures { result ≡ length (items_of self.now) }
     {
@@ -52,7 +52,7 @@ impl NewItems {
         }
     }
 
-    /// The numbers, where they are numbers.
+    /// Borrows the numbers; None for characters.
     pub(crate) fn numbers(&self) -> Option<&[i64]>
         ensures none { IsNone result ↔ (type_of_items self.now ≡ Chars) }
         ensures is { IfSome result (λ s. (type_of_items self.now ≡ Nums) × (items_of self.now ≡ map (λ z. Num z) s.now)) }
@@ -64,7 +64,7 @@ impl NewItems {
         }
     }
 
-    /// Returns the item that lies by itself; None where an array holds the items.
+    /// Returns an item that is stored inline; None if an array holds the items.
     #[inline(always)]
     pub(crate) fn only(&self) -> Option<Item>
         ensures items { IfSome result (λ item. items_of self.now ≡ item ∷ []) }
@@ -76,7 +76,7 @@ impl NewItems {
         }
     }
 
-    /// The item after so many others.
+    /// Returns the item at an offset, counted from 0.
     pub(crate) fn item(&self, before: u32) -> Item
         requires { before < length (items_of self.now) }
         ensures is { result ≡ get_or (items_of self.now) before (fill (type_of_items self.now)) }

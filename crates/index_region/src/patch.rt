@@ -28,7 +28,7 @@ impl Model for Patch {
 }
 
 impl Patch {
-    /// The patch of a box whose items are those of an array that has as many places, in row-major order.
+    /// Makes a patch from a box and an array with as many items, in row-major order.
     pub fn of(region: IndexBox, values: Array) -> Patch
         requires { length values.items ≡ box_size region }
         ensures { result ≡ record { region = region; item_type = values.item_type; items = values.items } }
@@ -39,7 +39,7 @@ impl Patch {
         }
     }
 
-    /// The patch of a box of one place. It takes no memory.
+    /// Makes a patch of one place. Allocates nothing.
     pub fn one(region: IndexBox, item: Item) -> Patch
         requires { box_size region ≡ 1 }
         ensures { result ≡ record { region = region; item_type = type_of item; items = item ∷ [] } }
@@ -50,7 +50,7 @@ impl Patch {
         }
     }
 
-    /// A patch of its own with the same box and items. Memory is asked for where there is more than one item.
+    /// Copies the patch. Allocates only if an array holds the items.
     pub fn copy(&self) -> Result<Patch, AllocError>
         ensures { IfOk result (λ p. p ≡ self.now) }
     {
@@ -60,14 +60,14 @@ impl Patch {
         })
     }
 
-    /// The box.
+    /// Borrows the box.
     pub fn region(&self) -> &IndexBox
         ensures { result.now ≡ self.now.region }
     {
         &self.region
     }
 
-    /// The type of the items.
+    /// Returns the type of the items.
     pub fn item_type(&self) -> ItemType
         ensures is { result ≡ self.now.item_type }
         ensures sound { IsPatch self.now }
@@ -76,7 +76,7 @@ impl Patch {
         self.items.item_type()
     }
 
-    /// The new item at an index list of the box.
+    /// Returns the new item at an index list of the box.
     pub fn item(&self, index: &[u32]) -> Item
         requires { IsTrue (is_within self.now.region index.now) }
         ensures is { result ≡ get_or self.now.items (box_offset self.now.region index.now) (fill self.now.item_type) }
@@ -85,12 +85,12 @@ impl Patch {
         if let Some(item) = self.items.only() {
             return item;
         }
-        // The count says that the offset has 32 bits.
+        // The contract of `count` implies that the offset fits into 32 bits.
         let _count = self.items.count();
         self.items.item(self.region.offset(index) as u32)
     }
 
-    /// Writes the new items into an array: it is then what the array is with the patch laid over it.
+    /// Writes the new items into an array that the patch fits.
     pub fn write_into(&self, array: &mut Array)
         requires { FitsPatch array.old self.now }
         ensures { array.new ≡ patched array.old self.now }
@@ -100,7 +100,7 @@ impl Patch {
             return;
         }
         let items = self.items.count();
-        // The shape of the array says that it has one item for each place.
+        // The contract of `shape` states that the array has one item for each place.
         let _one_item_a_place = array.shape();
         let mut index = self.region.index_at(0);
         for before in 0..items {
@@ -119,7 +119,7 @@ impl Patch {
         requires typed { type_of item ≡ self.now.item_type }
         ensures { array.new ≡ patched array.old self.now }
     {
-        // The count says that the box has one place, and the shape that the array has one item for each place.
+        // The contract of `count` implies that the box has one place; that of `shape`, that the array has one item for each place.
         let _count = self.items.count();
         let _one_item_a_place = array.shape();
         let first = self.region.index_at(0);

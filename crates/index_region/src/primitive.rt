@@ -1,4 +1,4 @@
-//! Functions of arrays that are given by their checks and their items.
+//! Array functions that are defined by their checks and their items.
 
 ghost use Rattle.std.specs.Prelude.{◌≡◌, ◌++◌, ◌∷◌, [], List, ℕ, Result, Ok, IfOk, OnOk, length};
 ghost use Rattle.arrays_core.specs.declared.item.Item.{Item as AnItem};
@@ -15,7 +15,7 @@ use arrays_core::{
 };
 use std::alloc::{AllocError, Global};
 
-/// A function of arrays: what its checks give, and its item at each index list of the result.
+/// An array function: the result of its checks, and its item at each index list of the result.
 pub trait Primitive {
     ghost arity: { Self → ℕ };
 
@@ -23,13 +23,12 @@ pub trait Primitive {
 
     ghost item: { Self → List ArrayValue → List ℕ → Result AnItem AKind };
 
-    /// The checks in their order, and the shape and the type of the result. It takes no memory. There
-    /// are as many arguments as the function takes.
+    /// Checks the arguments in order, and returns the shape and type of the result. Allocates nothing.
     fn shape_of(&self, args: &[Seen]) -> Result<(Shape, ItemType), Kind>
         requires { length args.now ≡ arity self.now }
         ensures { IsFormAnswerTo (form self.now args.now) result };
 
-    /// The item at an index list of the result, where the checks have passed. It takes no memory.
+    /// Returns the item at an index list of the result, after the checks have passed. Allocates nothing.
     fn item_at(&self, args: &[Seen], index: &[u32]) -> Result<Item, Kind>
         requires count { length args.now ≡ arity self.now }
         requires place { IsPlaceOf (form self.now args.now) index.now }
@@ -37,10 +36,10 @@ pub trait Primitive {
         ensures typed { IfOk result (HasTypeOf (form self.now args.now)) };
 }
 
-/// A function of arrays that gives its items row by row: a row is what stands along the last axis of the result.
+/// An array function that computes its items by rows. A row lies along the last axis of the result.
 pub trait RowPrimitive: Primitive {
-    /// Puts a row behind the items: those of the result at the index lists that begin with `row` and end with 1 to
-    /// `count`, the last axis, where the checks have passed. Where the allocator refuses memory, what stands there is of no use.
+    /// Appends one row to `items`: the items at the index lists `row` followed by 1 to `count`, after the checks have passed. If the
+    /// allocator refuses memory, the contents of `items` are unspecified.
     fn extend_row(
         &self,
         args: &[Seen],
@@ -54,7 +53,7 @@ pub trait RowPrimitive: Primitive {
         ensures typed { items.new.item_type ≡ items.old.item_type };
 }
 
-/// A function and its arguments, whose checks have passed.
+/// A function with arguments that have passed its checks.
 #[derive(Drop)]
 struct Applied<'a, 'b, P: Primitive> {
     primitive: &'a P,
@@ -88,8 +87,7 @@ impl<'a, 'b, P: RowPrimitive> RowFunction for Applied<'a, 'b, P> {
     }
 }
 
-/// The whole result of a function: its checks, and then its items; where several items fail, the error
-/// is that of the first in row-major order.
+/// Computes the whole result: first the checks, then the items. The first error in row-major order counts.
 pub fn apply<P: Primitive>(alloc: Global, primitive: &P, args: &[Seen]) -> Result<Array, ApplyFault>
     requires { length args.now ≡ P.arity primitive.now }
     ensures { IsAnswerTo (whole (P.form primitive.now args.now) (P.item primitive.now args.now)) result }
@@ -104,7 +102,7 @@ pub fn apply<P: Primitive>(alloc: Global, primitive: &P, args: &[Seen]) -> Resul
     collect(alloc, &items, item_type, &shape)
 }
 
-/// The whole result of a function that gives its items row by row: its checks, and then its rows.
+/// Computes the whole result of a function by rows: first the checks, then the rows.
 pub fn apply_rows<P: RowPrimitive>(
     alloc: Global,
     primitive: &P,

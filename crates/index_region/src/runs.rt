@@ -1,4 +1,4 @@
-//! Runs of items of an array as it is seen. One with a patch or a tail is copied for a run: who takes many runs of it copies it before.
+//! Runs of items of a view. A patched or grown view is copied whole for each run: copy it first if you need many.
 
 ghost use Rattle.std.specs.Prelude.{◌≡◌, ◌≤◌, ◌<◌, ◌+◌, ◌-◌, ◌*◌, ◌++◌, ℕ, pos, unsigned_abs, OnOk, length, get_or};
 ghost use Rattle.arrays_core.specs.Building.{listed};
@@ -9,7 +9,7 @@ use arrays_core::ArrayBuilder;
 use std::alloc::AllocError;
 
 impl<'a> Seen<'a> {
-    /// Puts items behind others of their type: that at the place `first` and those after it. Places are counted from 0.
+    /// Appends `count` items from the place `first` on to items of the same type. Places are counted from 0.
     pub fn extend_run(
         &self,
         items: &mut ArrayBuilder,
@@ -27,8 +27,7 @@ impl<'a> Seen<'a> {
         }
     }
 
-    /// Puts items behind others of their type: that at the place `last` and those before it, the last one first. Places
-    /// are counted from 0.
+    /// Appends `count` items from the place `last` backwards to items of the same type. Places are counted from 0.
     pub fn extend_back(
         &self,
         items: &mut ArrayBuilder,
@@ -47,8 +46,7 @@ impl<'a> Seen<'a> {
         }
     }
 
-    /// Puts items behind others of their type: those that stand `step` places apart, from the place `first` on. Places
-    /// are counted from 0.
+    /// Appends the items that are `step` places apart, from the place `first` on, to items of the same type. Places are counted from 0.
     pub fn extend_steps(
         &self,
         items: &mut ArrayBuilder,
@@ -67,8 +65,8 @@ impl<'a> Seen<'a> {
         }
     }
 
-    /// Puts items behind others of their type: those at indices, each counted from 1, where index 1 stands after `before`
-    /// places.
+    /// Appends the items at `indices`, counted from 1 after the first `before` places, to items of the same type. Ignores the sign of an
+    /// index.
     pub fn extend_at(
         &self,
         items: &mut ArrayBuilder,
@@ -87,8 +85,7 @@ impl<'a> Seen<'a> {
         }
     }
 
-    /// Puts items behind others of their type: those at places, each counted from 0, where place 0 stands behind `first`
-    /// others.
+    /// Appends the items at `places`, counted from 0 after the first `first` places, to items of the same type.
     pub fn extend_places(
         &self,
         items: &mut ArrayBuilder,

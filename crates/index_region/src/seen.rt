@@ -1,4 +1,4 @@
-//! Arrays as they are seen.
+//! Views of arrays.
 
 ghost use Rattle.std.specs.Prelude.{◌≡◌, ◌+◌, ◌-◌, ◌≤◌, IfSome, IfOk, Ok, not, length, map, take, drop, ◌++◌, get_or, pos};
 ghost use Rattle.index_region.specs.Patches.{patched, FitsPatch};
@@ -18,7 +18,7 @@ use arrays_core::{Array, Item, ItemType, Shape, index_of_position, is_index_of, 
 use std::alloc::AllocError;
 use std::marker::Model;
 
-/// What an array is seen with: nothing, a patch laid over it, or a tail behind it.
+/// The change that a view adds to its array: nothing, a patch or a tail.
 #[derive(Clone, Copy, Drop)]
 enum Laid<'a> {
     Nothing,
@@ -26,7 +26,7 @@ enum Laid<'a> {
     Behind(&'a Tail),
 }
 
-/// An array that is lent: as it is, with a patch laid over it, or grown by a tail behind it. No item is copied.
+/// A borrowed view of an array: unchanged, with a patch over it, or with a tail behind it. Copies no item.
 #[derive(Drop)]
 pub struct Seen<'a> {
     array: &'a Array,
@@ -41,14 +41,14 @@ impl<'a> Model for Seen<'a> {
     ghost invariant = { λ s. IsLaid s.array.now s.laid };
 }
 
-/// None of the numbers is below 0.
+/// Tests whether no number is negative.
 fn are_none_negative(numbers: &[i64]) -> bool
     ensures { result ≡ none_negative numbers.now }
 {
     numbers.iter().all(|number| *number >= 0)
 }
 
-/// The item at an index list of an array with a patch laid over it.
+/// Returns the item at an index list of a patched array.
 #[tactic(auto, using(crate::proofs::Patched::patched_if_there))]
 fn at_patched(array: &Array, patch: &Patch, index: &[u32]) -> Option<Item>
     requires { FitsPatch array.now patch.now }
@@ -61,7 +61,7 @@ fn at_patched(array: &Array, patch: &Patch, index: &[u32]) -> Option<Item>
     array.at(index)
 }
 
-/// The item at a place, counted from 1, of an array with a patch laid over it.
+/// Returns the item at a place of a patched array, counted from 1.
 fn item_patched(array: &Array, patch: &Patch, position: u32) -> Item
     requires fits { FitsPatch array.now patch.now }
     requires low { 1 ≤ position }
@@ -76,7 +76,7 @@ fn item_patched(array: &Array, patch: &Patch, position: u32) -> Item
     }
 }
 
-/// The item at a place, counted from 1, of an array with a tail behind it.
+/// Returns the item at a place of a grown array, counted from 1.
 #[tactic(auto, using(crate::proofs::Grown::item_before, crate::proofs::Grown::item_behind))]
 fn item_grown(array: &Array, tail: &Tail, position: u32) -> Item
     requires fits { FitsTail array.now tail.now }
@@ -92,13 +92,13 @@ fn item_grown(array: &Array, tail: &Tail, position: u32) -> Item
     tail.item(position - places - 1)
 }
 
-/// The item at an index list of an array with a tail behind it.
+/// Returns the item at an index list of a grown array.
 fn at_grown(array: &Array, tail: &Tail, index: &[u32]) -> Option<Item>
     requires { FitsTail array.now tail.now }
     ensures is { result ≡ item_if_there (grown_by array.now tail.now.items) index.now }
     ensures typed { IfSome result (λ x. type_of x ≡ array.now.item_type) }
 {
-    // The shape says that it is an array.
+    // The contract of `shape` states that this is an array.
     let _is_array = array.shape();
     if is_index_of(tail.shape().as_slice(), index) {
         Some(item_grown(array, tail, position(tail.shape(), index)))
@@ -108,7 +108,7 @@ fn at_grown(array: &Array, tail: &Tail, index: &[u32]) -> Option<Item>
 }
 
 impl<'a> Seen<'a> {
-    /// The array as it is.
+    /// Views an array unchanged.
     pub fn plain(array: &'a Array) -> Seen<'a>
         ensures { result ≡ array.now }
     {
@@ -119,7 +119,7 @@ impl<'a> Seen<'a> {
         }
     }
 
-    /// The array with a patch laid over it.
+    /// Views an array with a patch over it.
     #[tactic(auto, using(crate::proofs::Patched::patched_sound))]
     pub fn patched(array: &'a Array, patch: &'a Patch) -> Seen<'a>
         requires { FitsPatch array.now patch.now }
@@ -133,7 +133,7 @@ impl<'a> Seen<'a> {
         }
     }
 
-    /// The array grown by a tail: with one more place of its first axis, whose items are those of the tail.
+    /// Views an array grown by a tail: its first axis has one more place, with the items of the tail.
     #[tactic(auto, using(crate::proofs::Grown::tail_sound))]
     pub fn grown(array: &'a Array, tail: &'a Tail) -> Seen<'a>
         requires { FitsTail array.now tail.now }
@@ -147,7 +147,7 @@ impl<'a> Seen<'a> {
         }
     }
 
-    /// A second view of what this one shows, for as long as this one is lent.
+    /// Reborrows the view.
     pub fn again<'b>(&'b self) -> Seen<'b>
         ensures { result ≡ self.now }
     {
@@ -157,7 +157,7 @@ impl<'a> Seen<'a> {
         }
     }
 
-    /// The array itself, where it is seen as it is.
+    /// Returns the array if it is viewed unchanged.
     pub fn array(&self) -> Option<&'a Array>
         ensures { IfSome result (λ a. a.now ≡ self.now) }
     {
@@ -167,7 +167,7 @@ impl<'a> Seen<'a> {
         }
     }
 
-    /// The type of the items.
+    /// Returns the type of the items.
     pub fn item_type(&self) -> ItemType
         ensures is { result ≡ self.now.item_type }
         ensures sound { IsArray self.now }
@@ -175,7 +175,7 @@ impl<'a> Seen<'a> {
         self.array.item_type()
     }
 
-    /// The lengths of the axes.
+    /// Returns the lengths of the axes.
     pub fn shape(&self) -> &Shape
         ensures is { result.now.items ≡ self.now.shape }
         ensures inline { result.now.capacity ≡ 4 }
@@ -187,7 +187,7 @@ impl<'a> Seen<'a> {
         }
     }
 
-    /// How many items there are.
+    /// Returns the number of items.
     pub fn places(&self) -> u32
         ensures is { result ≡ length self.now.items }
         ensures size { result ≡ size self.now.shape }
@@ -196,8 +196,7 @@ impl<'a> Seen<'a> {
         size(self.shape().as_slice())
     }
 
-    /// The item at an index list, if that lies below the shape: one index an axis, each from 1 to the
-    /// length of its axis.
+    /// Returns the item at an index list; None if the rank differs or an index is below 1 or beyond its axis.
     pub fn at(&self, index: &[u32]) -> Option<Item>
         ensures is { result ≡ item_if_there self.now index.now }
         ensures typed { IfSome result (λ x. type_of x ≡ self.now.item_type) }
@@ -209,7 +208,7 @@ impl<'a> Seen<'a> {
         }
     }
 
-    /// The item at a place in row-major order, counted from 1.
+    /// Returns the item at a place in row-major order, counted from 1.
     pub fn item(&self, position: u32) -> Item
         requires low { 1 ≤ position }
         requires high { position ≤ length self.now.items }
@@ -223,7 +222,7 @@ impl<'a> Seen<'a> {
         }
     }
 
-    /// The number at a place in row-major order, counted from 1; 0 for a character.
+    /// Returns the number at a place in row-major order, counted from 1; 0 for a character.
     pub fn number(&self, position: u32) -> i64
         requires low { 1 ≤ position }
         requires high { position ≤ length self.now.items }
@@ -235,22 +234,21 @@ impl<'a> Seen<'a> {
         }
     }
 
-    /// The numbers of an array of numbers, in row-major order, where they lie in one piece.
+    /// Borrows the numbers in row-major order; None for characters, and for a patched or grown array.
     pub fn numbers(&self) -> Option<&[i64]>
         ensures is { IfSome result (λ s. (self.now.item_type ≡ Nums) × (self.now.items ≡ map (λ z. Num z) s.now)) }
     {
         self.array()?.numbers()
     }
 
-    /// The characters of an array of characters, in row-major order, where they lie in one piece.
+    /// Borrows the characters in row-major order; None for numbers, and for a patched or grown array.
     pub fn characters(&self) -> Option<&[char]>
         ensures is { IfSome result (λ s. (self.now.item_type ≡ Chars) × (self.now.items ≡ map (λ c. Char c) s.now)) }
     {
         self.array()?.characters()
     }
 
-    /// An array of its own with the same items: a copy of the array, with the items of the patch written into it, or
-    /// those of the tail behind it.
+    /// Copies the array and applies its patch or tail.
     pub fn copy(&self) -> Result<Array, AllocError>
         ensures { IfOk result (λ a. a ≡ self.now) }
     {
@@ -265,7 +263,7 @@ impl<'a> Seen<'a> {
         }
     }
 
-    /// The items of a run of places, after `skipped` places, as an array of another shape that has as many.
+    /// Returns a run of items after the first `skipped` ones, in a given shape. Copies a patched or grown array first.
     pub fn part(&self, skipped: u32, shape: &Shape) -> Result<Array, AllocError>
         requires within { IsWithinLimits shape.now.items }
         requires inside { skipped + size shape.now.items ≤ length self.now.items }
@@ -281,8 +279,7 @@ impl<'a> Seen<'a> {
         }
     }
 
-    /// The items, and after them those of another array of their type, as an array of a shape that has
-    /// as many.
+    /// Joins the items of two arrays of one type, in a given shape. Copies both if one is patched or grown.
     pub fn joined(&self, other: &Seen, shape: &Shape) -> Result<Array, AllocError>
         requires within { IsWithinLimits shape.now.items }
         requires one_item_a_place { length self.now.items + length other.now.items ≡ size shape.now.items }
@@ -303,8 +300,8 @@ impl<'a> Seen<'a> {
         }
     }
 
-    /// The items at places, each given by how many come before it in row-major order, as an array of a
-    /// shape that has as many; fill where there is no such place.
+    /// Returns the items at given offsets in row-major order, in a given shape, with fill for offsets out of range. Copies a patched or
+    /// grown array first.
     pub fn picked(&self, before: &[u32], shape: &Shape) -> Result<Array, AllocError>
         requires within { IsWithinLimits shape.now.items }
         requires one_item_a_place { length before.now ≡ size shape.now.items }
@@ -320,7 +317,7 @@ impl<'a> Seen<'a> {
         }
     }
 
-    /// One of the numbers is below 0.
+    /// Tests whether a number is negative.
     pub fn has_negative(&self) -> bool
         ensures { result ≡ not (none_negative (numbers self.now)) }
     {
@@ -335,8 +332,7 @@ impl<'a> Seen<'a> {
         false
     }
 
-    /// It is of numbers, or without items: where it is not, a function that asks for numbers is
-    /// DOMAIN ERROR.
+    /// Tests whether the items are numbers, or there are none. Functions on numbers fail with DOMAIN ERROR otherwise.
     pub fn counts_as_numbers(&self) -> bool
         ensures { result ≡ counts_as_numbers self.now }
     {

@@ -1,4 +1,4 @@
-//! Where items come from.
+//! Sources of the items of a result.
 
 ghost use Rattle.std.specs.Prelude.{◌≡◌, Ok, true};
 ghost use Rattle.arrays_core.specs.Items.{type_of};
@@ -9,17 +9,15 @@ ghost use Rattle.index_region.specs.Answers.{IsSourceIn, source_value};
 use crate::seen::Seen;
 use arrays_core::{Item, ItemType, Shape, position};
 
-/// Where an item of a result comes from: an index list of an argument (0 the left or only one, 1 the
-/// right), or fill.
+/// The source of an item of a result: an index list of an argument (0 for the left or only one, 1 for the right), or fill.
 #[derive(Drop)]
 pub enum Source {
     Place { arg: usize, at: Shape },
     Fill,
 }
 
-/// The item of a source that lies in its argument, where the arguments are `left` and `right`; a function
-/// whose items all come from one argument gives it as both. No place lies in an argument without items, so
-/// that may have another type.
+/// Returns the item of a source. A function with one source argument passes it as `left` and `right`. An argument without items may have
+/// another type, as no index list lies in it.
 pub fn item_from<'a>(left: &Seen<'a>, right: &Seen<'a>, item_type: ItemType, source: Source) -> Item
     requires inside { IsSourceIn left.now right.now source }
     requires left_typed { has_items left.now ≡ true → left.now.item_type ≡ item_type }

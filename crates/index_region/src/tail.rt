@@ -1,4 +1,4 @@
-//! Tails: what an array grows by at the end of its first axis.
+//! Tails: the items of one more place at the end of the first axis of an array.
 
 ghost use Rattle.std.specs.Prelude.{◌≡◌, ◌-◌, ◌<◌, ◌≤◌, ◌↔◌, ◌∷◌, [], ℕ, length, map, get_or, IfOk, IfSome, IsNone};
 ghost use Rattle.arrays_core.specs.Growth.{grown_by, HasRoom};
@@ -14,13 +14,13 @@ use arrays_core::{Array, Item, ItemType, Room, Shape, is_same_room, shape_of, si
 use std::alloc::{AllocError, Global};
 use std::marker::Model;
 
-/// What an array grows by: one more place of its first axis, with the items of that place in row-major order, and the shape that it has then. A tail
-/// brings the room that the array may need, so that growing by it takes no memory.
+/// The growth of an array by one place of its first axis: the items of that place in row-major order, and the new shape. A tail owns the
+/// memory that the array may need, so that growing allocates nothing.
 #[derive(Drop)]
 pub struct Tail {
     shape: Shape,
     items: NewItems,
-    /// A piece of memory for all items of the array; none where they go where its items lie.
+    /// Memory for all items of the grown array; None if the new items fit into its present memory.
     room: Option<Box<Room>>,
 }
 
@@ -36,7 +36,7 @@ impl Model for Tail {
     ghost invariant = { λ t. IsTailOf t.shape.capacity t.shape.items (type_of_items t.items) (length (items_of t.items)) t.room };
 }
 
-/// Room behind so many items for others of their type, to so many in all; none where these go where those lie, and then no memory is asked for.
+/// Allocates memory for `places` items, of which `held` are in the array. Returns None, and allocates nothing, if they fit into its memory.
 fn room_behind(
     alloc: Global,
     item_type: ItemType,
@@ -53,7 +53,7 @@ fn room_behind(
     Ok(Some(Box::new(alloc, room)?))
 }
 
-/// The room that is brought, or none. It takes no memory.
+/// Returns the memory that was brought, or none. Allocates nothing.
 fn brought(alloc: Global, item_type: ItemType, room: Option<Box<Room>>) -> Room
     ensures { (held items : ℕ) → IsRoomBehind item_type held items room → (result.item_type ≡ item_type) × HasRoom held items result.places }
 {
@@ -64,8 +64,7 @@ fn brought(alloc: Global, item_type: ItemType, room: Option<Box<Room>>) -> Room
 }
 
 impl Tail {
-    /// What an array grows by to this shape, which lies inline and within the limits: by the items of another array, whatever the shape of that is.
-    /// AllocError where memory for it is refused.
+    /// Makes a tail from an array of any shape. The new shape is inline and within the limits. Fails if the allocator refuses memory.
     pub fn of(shape: Shape, values: Array) -> Result<Tail, AllocError>
         requires inline { shape.capacity ≡ 4 }
         requires within { IsWithinLimits shape.items }
@@ -82,8 +81,8 @@ impl Tail {
         })
     }
 
-    /// What an array grows by to this shape, which lies inline and within the limits: by one item. Memory is asked for only where the array needs
-    /// another piece for its items.
+    /// Makes a tail of one item. The new shape is inline and within the limits. Allocates only if the array needs larger memory for its
+    /// items.
     #[inline(always)]
     pub fn one(shape: Shape, item: Item) -> Result<Tail, AllocError>
         requires inline { shape.capacity ≡ 4 }
@@ -100,7 +99,7 @@ impl Tail {
         })
     }
 
-    /// A copy of the tail.
+    /// Copies the tail.
     pub fn copy(&self) -> Result<Tail, AllocError>
         ensures { IfOk result (λ t. t ≡ self.now) }
     {
@@ -111,25 +110,25 @@ impl Tail {
         }
     }
 
-    /// The shape that the array has then.
+    /// Returns the shape of the grown array.
     pub fn shape(&self) -> &Shape
         ensures is { result.now.items ≡ self.now.shape }
         ensures inline { result.now.capacity ≡ 4 }
         ensures sound { IsTail self.now }
     {
-        // The items say that they are of one type.
+        // The contract of `item_type` states that all items have one type.
         let _one_type = self.items.item_type();
         &self.shape
     }
 
-    /// The type of the items of the new place.
+    /// Returns the type of the new items.
     pub fn item_type(&self) -> ItemType
         ensures { result ≡ self.now.item_type }
     {
         self.items.item_type()
     }
 
-    /// The numbers of the new place in row-major order, where its items are numbers.
+    /// Borrows the new numbers in row-major order; None for characters.
     pub fn numbers(&self) -> Option<&[i64]>
         ensures none { IsNone result ↔ (self.now.item_type ≡ Chars) }
         ensures is { IfSome result (λ s. (self.now.item_type ≡ Nums) × (self.now.items ≡ map (λ z. Num z) s.now)) }
@@ -137,7 +136,7 @@ impl Tail {
         self.items.numbers()
     }
 
-    /// The item of the new place after so many others.
+    /// Returns the new item at an offset, counted from 0.
     pub(crate) fn item(&self, before: u32) -> Item
         requires { before < length self.now.items }
         ensures is { result ≡ get_or self.now.items before (fill self.now.item_type) }
@@ -146,7 +145,7 @@ impl Tail {
         self.items.item(before)
     }
 
-    /// A copy of an array that grew by it.
+    /// Returns a grown copy of an array.
     pub(crate) fn grown(&self, array: &Array) -> Result<Array, AllocError>
         requires { FitsTail array.now self.now }
         ensures { IfOk result (λ a. a ≡ grown_by array.now self.now.items) }
@@ -156,14 +155,14 @@ impl Tail {
         Ok(grown)
     }
 
-    /// An array grows by it. It takes no memory.
+    /// Grows an array in place. Allocates nothing.
     #[inline(always)]
     #[tactic(auto, using(crate::proofs::Grown::grows_by))]
     pub fn write_behind(self, array: &mut Array)
         requires { FitsTail array.old self }
         ensures { array.new ≡ grown_by array.old self.items }
     {
-        // The shapes say that it is an array, and that this is a tail.
+        // The contracts of `shape` state that these are an array and a tail.
         let _is_array = array.shape();
         let _is_tail = self.shape();
         let Tail { shape, items, room } = self;

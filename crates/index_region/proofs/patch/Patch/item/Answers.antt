@@ -3,7 +3,7 @@ use Rattle.arrays_core.{specs.declared.item.Item.{Item}, specs.Items.{fill}}
 use Rattle.index_region.{specs.Boxes.{Interval, box_size, box_offset, is_within}, specs.Patches.{PatchValue}, proofs.Walks.{offset_below}}
 use Rattle.index_region.proofs.patch.Patch.item.Goals as goal
 
--- the only item of a box is at each of its index lists
+-- a patch of one item has that item at each of its index lists
 only_there : (region : List Interval) (index : List ℕ) (items : List Item) (x d : Item) → items ≡ x ∷ [] → length items ≡ box_size region → is_within region index ≡ true → x ≡ get_or items (box_offset region index) d
 only_there region index items x d only many inside =
     let one : length items ≡ 1 = ap length only in

@@ -22,7 +22,7 @@ index_at-index-requires-clause-size c = omega (arith, c.count-items.type_inv)
 below : (c : After-as_slice) → c.loop-before.before < box_size c.args.self.now.region
 below c = subst (λ n. c.loop-before.before < n) (c.count-items.ensures ∙ c.self.invariant ∙ ap (λ (q : PatchValue). box_size q.region) c.self.view_is) c.loop-before-test.true
 
--- the index list is the one that the walk has reached
+-- the index list is the current one of the walk
 walked : (c : After-as_slice) → c.as_slice.result.now ≡ walk_at c.args.self.now.region c.loop-before.before
 walked c = c.as_slice.ensures.is ∙ c.loop-before.invariant.at (below c)
 

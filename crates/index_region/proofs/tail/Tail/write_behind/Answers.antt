@@ -2,7 +2,7 @@ use Rattle.{std.proofs.Common.{◌≡◌, ℕ, length, sym, subst}, arrays_core.
 use Rattle.index_region.{specs.NewItems.{items_of}, specs.Tails.{TailValue, FitsTail, IsRoomBehind}, specs.declared.new_items.NewItems.{NewItems}, proofs.Grown.{room_for}, proofs.tail.Tail.write_behind.Goals.{After-brought-room}}
 use Rattle.index_region.proofs.tail.Tail.write_behind.Goals as goal
 
--- the room that is brought is enough for the items
+-- the memory of the tail suffices for the items
 room : (c : After-brought-room) → IsRoomFor c.brought-room.result c.args.array.now (length (items_of c.self.inside.items))
 room c =
     let t = c.self.inside in
