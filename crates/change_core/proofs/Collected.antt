@@ -1,20 +1,20 @@
--- Items that are collected one after the other.
+-- Items collected one by one.
 use Rattle.std.{proofs.Common.{◌≡◌, ℕ, List, [], ◌∷◌, map, refl, ap, ◌∙◌, Result, Ok, Err}, specs.List.{range_with_len}}
 use Rattle.arrays_core.{specs.declared.item.Item.{Item}, specs.declared.item.Kind.{Kind}, specs.Items.{after, all_or_first_error}}
 use Rattle.{index_region.specs.Boxes.{Interval, box_size, walk_at}, change_core.specs.Parts.{items_in}}
 
--- an item or an error, and then those that follow
+-- an item or an error, followed by the rest
 abbrev pub put_first : Result Item Kind → Result (List Item) Kind → Result (List Item) Kind
 put_first (Ok x) (Ok xs) = Ok (x ∷ xs)
 put_first (Ok x) (Err k) = Err k
 put_first (Err k) _ = Err k
 
--- all items, or the first error, an item at a time
+-- all items or the first error, by recursion
 abbrev pub collected : List (Result Item Kind) → Result (List Item) Kind
 collected [] = Ok []
 collected (r ∷ rs) = put_first r (collected rs)
 
--- what a function of index lists gives along the walk of a box
+-- the values of an item function along the walk of a box
 abbrev pub along : (List ℕ → Result Item Kind) → List Interval → List (Result Item Kind)
 along item region = map (λ p. item (walk_at region p)) (range_with_len 0 (box_size region))
 

@@ -1,4 +1,4 @@
--- All that changes of a result is reached, where the law of its rule holds.
+-- By the law of a rule, the reach contains everything that changes.
 use Rattle.std.{proofs.Common.{◌≡◌, ℕ, List, [], ◌∷◌, length, map, replicate, refl, ap, ◌∙◌, sym, subst, arith, true, false, Bool, Option, Some, None, Result, Ok, Err, inl, inr}, proofs.lemmas.Bool.{true≢false, cases_Bool, cond-true, cond-false, both_ways}}
 use Rattle.arrays_core.{specs.declared.item.Item.{Item}, specs.declared.item.Kind.{Kind}, specs.Arrays.{ArrayValue, IsArray, item_if_there}, specs.Shapes.{is_index_of}, specs.Items.{fill}}
 use Rattle.change_core.{specs.declared.reach.Reach.{Reach}, specs.declared.reach.Reach.TheVariants.{Anew}, proofs.Regions.{HasFit, bounded-fits, bounded-within, join_fits, join_unmoved}}
@@ -27,14 +27,14 @@ anew_lies : (form : Result Form Kind) → LiesInResult form Anew
 anew_lies (Err k) = tt
 anew_lies (Ok f) = tt
 
--- the box of what may change lies in the result
+-- the box of a reach lies in the result
 pub reaches_inside : (p : RuleModel) → ReachLies p
 reaches_inside p args ms = elim (cases_Bool (is_anew p.selectors ms)) [
   | inl t ↦ subst (LiesInResult (p.form args)) (sym (cond-true _ _ _ t)) (anew_lies (p.form args))
   | inr f ↦ subst (LiesInResult (p.form args)) (sym (cond-false _ _ _ f)) (reach_by-lies (p.form args) p.uses args ms)
 ]
 
--- an argument is read alike at each index list outside what changed, also where it has no place
+-- an argument is read alike at each index list outside its changed box
 pub read_agrees : (c : ArgumentChange) → Agrees c → (place : List ℕ) → is_moved c.moved place ≡ false → item_if_there c.old place ≡ item_if_there c.new place
 read_agrees c h place u = elim (cases_Bool (is_index_of c.new.shape place)) [
   | inl t ↦ cond-true _ _ _ (ap (λ (s : List ℕ). is_index_of s place) h.shape ∙ t) ∙ ap (λ (x : Item). Some x) (h.outside place t u) ∙ sym (cond-true _ _ _ t)
@@ -54,7 +54,7 @@ outside_each region moved f g [] agree u h = tt
 outside_each region moved f g (place ∷ places) agree u h =
     (agree place (elim (cases_Bool (is_within region place)) [ inl t ↦ absurd (both_ways _ u (h.0 t)) | inr o ↦ o ]), outside_each region moved f g places agree u h.1)
 
--- outside of what one argument changes, it is read alike
+-- outside the part that one argument changes, it is read alike
 reads_same : (shape from : List ℕ) (u : Use) (m : Option (List Interval)) (index : List ℕ) (f g : List ℕ → Option Item) → ((region : List Interval) → m ≡ Some region → fits region from ≡ true) → ((place : List ℕ) → is_moved m place ≡ false → f place ≡ g place) → Covered from shape u → is_index_of shape index ≡ true → is_moved (changed_by shape u m) index ≡ false → map f (u.reads index) ≡ map g (u.reads index)
 reads_same shape from u None index f g fit agree cover place o = map_all f g (u.reads index) (λ p. agree p refl)
 reads_same shape from u (Some region) index f g fit agree cover place o =
@@ -76,7 +76,7 @@ items_read_same shape (c ∷ changes) (used ∷ uses) index h cover place u =
 frame_same : (c : ArgumentChange) → Agrees c → blank c.old ≡ blank c.new
 frame_same c h = λ i. record { item_type = h.kind i; shape = h.shape i; items = replicate (h.count i) (fill (h.kind i)) }
 
--- no selector changed: then the frames are the same
+-- if no selector changed, the frames are the same
 frames_same : (selectors : List Bool) (changes : List ArgumentChange) → AllAgree changes → is_anew selectors (moves changes) ≡ false → frames selectors (olds changes) ≡ frames selectors (news changes)
 frames_same [] changes h u = refl
 frames_same (s ∷ selectors) [] h u = refl
@@ -108,7 +108,7 @@ items_same p tight changes (Err k) index n h e same place u = absurd (true≢fal
 items_same p tight changes (Ok f) index n h e same place u =
     tight.determined _ _ f index (length-olds changes ∙ n) (length-news changes ∙ n) (all_sound changes h) same e place (items_read_same f.shape changes (p.uses f.shape (news changes)) index h (tight.covered (news changes) f (length-news changes ∙ n) e) place (unmoved_reach f.shape _ index u))
 
--- where the law of a rule holds, all that changes is reached
+-- by the law of a rule, the reach contains everything that changes
 pub covers : (p : RuleModel) → IsTight p → ReachCovers p
 covers p tight changes n h old_ok new_ok bounded = elim (cases_Bool (is_anew p.selectors (moves changes))) [
   | inl t ↦ absurd (bounded (cond-true _ _ _ t))

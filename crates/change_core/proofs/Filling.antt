@@ -26,7 +26,7 @@ as_many_written values new n p x long is = ap (λ (a : ArrayValue). length a.ite
 pub all_filled : (values : ArrayValue) (f : ℕ → Result Item Kind) (n p : ℕ) (all : Result (List Item) Kind) → length values.items ≡ n → n ≤ p → prepend (take p values.items) (rest_from f n p) ≡ all → all ≡ Ok values.items
 all_filled values f n p all long past rest = sym rest ∙ rest_end f n p (take p values.items) past ∙ ap (λ (xs : List Item). Ok xs) (take_all p values.items (omega arith))
 
--- a box of the result has few places, and its index lists are places of the result
+-- a box of a result within the limits is small, and its index lists are places of the result
 pub few_places : (region : List Interval) (shape : List ℕ) → IsTrue (fits region shape) → IsWithinLimits shape → box_size region ≤ 1048576
 few_places region shape fit limits = let few = box_within_size region shape fit in let most = limits.size_within in omega arith
 

@@ -1,4 +1,4 @@
--- What stays of an array that grows.
+-- The parts of an array that growth keeps.
 use Rattle.std.{proofs.Common.{◌≡◌, ℕ, zero, suc, ◌+◌, ◌<◌, ◌≤◌, List, [], ◌∷◌, ◌++◌, length, get_or, refl, ap, ◌∙◌, sym, subst, arith, true, false, Bool, Ok, Result, remove, map}, specs.List.{range_with_len}, proofs.lemmas.Bool.{and_parts, and_from, leb-true, le-leb, false≢true}}
 use Rattle.std.proofs.lemmas.List.{get_or_append_left}
 use Rattle.arrays_core.{specs.declared.item.Item.{Item}, specs.declared.item.Kind.{Kind}, specs.declared.item.ItemType.{ItemType}, specs.Arrays.{ArrayValue, IsArray, item_of}, specs.Items.{fill}, specs.Shapes.{is_index_of, places_before}, proofs.Shapes.{places_below}, specs.Growth.{one_longer}}
@@ -6,7 +6,7 @@ use Rattle.index_region.{specs.Checks.{Form, form_of}, specs.Axes.{places_along}
 use Rattle.change_core.{specs.Growth.{IsGrown, AllGrew, Extends, IsGrowing, one_grows, two_grow, never, growing}, specs.Tightness.{IsTight}, specs.RuleModels.{Growth, RuleModel, Use}, specs.Sourced.{one_rule, two_rule}}
 pub use Rattle.arrays_core.proofs.Growing.{rank_longer as length-longer}
 
--- old places are places, and come after as many others
+-- old index lists remain valid, at the same offsets
 pub still_inside : (shape index : List ℕ) → is_index_of shape index ≡ true → is_index_of (one_longer shape) index ≡ true
 still_inside [] index h = h
 still_inside (n ∷ shape) [] h = absurd (false≢true h)
@@ -20,7 +20,7 @@ as_many_before [] index = refl
 as_many_before (n ∷ shape) [] = refl
 as_many_before (n ∷ shape) (i ∷ index) = refl
 
--- what lies along an axis that is not the first
+-- the length of an axis other than the first
 pub along_longer : (shape : List ℕ) (axis : ℕ) → 0 < axis → places_along (one_longer shape) axis ≡ places_along shape axis
 along_longer [] axis h = refl
 along_longer (n ∷ shape) zero h = absurd (omega arith)
@@ -51,7 +51,7 @@ shape_grown old new h = ap (λ (a : ArrayValue). a.shape) h.is
 pub type_grown : (old new : ArrayValue) → IsGrown old new → new.item_type ≡ old.item_type
 type_grown old new h = ap (λ (a : ArrayValue). a.item_type) h.is
 
--- a form that is one longer
+-- a form that is one place longer
 pub longer_form : (p : RuleModel) (olds news : List ArrayValue) (f g : Form) (s : List ℕ) (t : ItemType) → f ≡ form_of s t → g ≡ form_of (one_longer s) t → 0 < length s
     → ((index : List ℕ) → is_index_of s index ≡ true → p.item olds index ≡ p.item news index) → Extends p olds news f g
 longer_form p olds news f g s t e k some kept = record {
@@ -61,17 +61,17 @@ longer_form p olds news f g s t e k some kept = record {
   kept = λ index inside. kept index (ap (λ (x : Form). is_index_of x.shape index) (sym e) ∙ inside);
 }
 
--- what is alike at each number of a range
+-- functions that agree on a range have the same values
 pub range_same : (u v : ℕ → Item) (from n : ℕ) → ((j : ℕ) → from ≤ j → j < from + n → u j ≡ v j) → map u (range_with_len from n) ≡ map v (range_with_len from n)
 range_same u v from zero h = refl
 range_same u v from (suc n) h = λ i. (h from (omega arith) (omega arith)) i ∷ (range_same u v (from + 1) n (λ j low high. h j (omega arith) (omega arith))) i
 
--- ---- laws of one argument, and of two
+-- ---- laws of one argument and of two
 
 pub never_grows : (p : RuleModel) → IsGrowing p never
 never_grows p marks olds news f g h so sn listed e k = absurd (false≢true listed)
 
--- of a function of one array: the result grows with it
+-- a function of one array: the result grows with it
 pub one_growing : (form : ArrayValue → Result Form Kind) (item : ArrayValue → List ℕ → Result Item Kind) (use_of : List ℕ → ArrayValue → Use) (grows : ArrayValue → Bool)
     → ((old new : ArrayValue) (f g : Form) → IsGrown old new → IsArray old → IsArray new → grows new ≡ true → form old ≡ Ok f → form new ≡ Ok g
     → Extends (one_rule form item use_of) (old ∷ []) (new ∷ []) f g) → IsGrowing (one_rule form item use_of) (one_grows grows)
@@ -91,7 +91,7 @@ one_growing form item use_of grows law (m ∷ m2 ∷ marks) (old ∷ olds) (new 
     no (o ∷ olds) h = h
 one_growing form item use_of grows law (m ∷ m2 ∷ marks) (old ∷ olds) (new ∷ new2 ∷ news) f g h so sn listed e k = absurd (false≢true listed)
 
--- of a function of two arrays, of which the left one grows, or the right one, or both
+-- a function of two arrays: the left one grows, the right one, or both
 pub record TwoGrowing (p : RuleModel) (form : ArrayValue → ArrayValue → Result Form Kind) (left right both : ArrayValue → ArrayValue → Bool) : Type 0 where
   pub left_grows : (old new b : ArrayValue) (f g : Form) → IsGrown old new → IsArray old → IsArray b → left new b ≡ true → form old b ≡ Ok f → form new b ≡ Ok g → Extends p (old ∷ b ∷ []) (new ∷ b ∷ []) f g
   pub right_grows : (a old new : ArrayValue) (f g : Form) → IsGrown old new → IsArray a → IsArray old → right a new ≡ true → form a old ≡ Ok f → form a new ≡ Ok g → Extends p (a ∷ old ∷ []) (a ∷ new ∷ []) f g
@@ -122,7 +122,7 @@ two_growing selects form item ul ur left right both law (false ∷ true ∷ []) 
     subst (λ (x : ArrayValue). form x q ≡ Ok f → Extends (two_rule selects form item ul ur) (x ∷ q ∷ []) (a ∷ b ∷ []) f g) (sym h.0) (λ was. law.right_grows a q b f g h.1.0 sn.0 so.1.0 listed was k) e
 two_growing selects form item ul ur left right both law (true ∷ true ∷ []) (o ∷ q ∷ []) (a ∷ b ∷ []) f g h so sn listed e k = law.both_grow o a q b f g h.0 h.1.0 so.0 so.1.0 listed e k
 
--- the laws of a rule are those of the rule that says when it grows
+-- a tight rule stays tight with another `grows`
 pub tight_growing : (p : RuleModel) (grows : Growth) → IsTight p → IsTight (growing p grows)
 tight_growing p grows h = record { settled = h.settled; determined = h.determined; covered = h.covered }
 

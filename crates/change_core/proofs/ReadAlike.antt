@@ -5,7 +5,7 @@ use Rattle.{std.proofs.Common.{◌≡◌, ℕ, List, [], ◌∷◌, map, true}, 
 pub item_same : (a c : ArrayValue) (index : List ℕ) → is_index_of a.shape index ≡ true → is_index_of c.shape index ≡ true → item_if_there a index ≡ item_if_there c index → item_of a index ≡ item_of c index
 item_same a c index in_a in_c read = cc
 
--- and so where it alone is read
+-- if only that index list is read
 pub one_same : (a c : ArrayValue) (index : List ℕ) → is_index_of a.shape index ≡ true → is_index_of c.shape index ≡ true
     → map (item_if_there a) (index ∷ []) ≡ map (item_if_there c) (index ∷ []) → item_of a index ≡ item_of c index
 one_same a c index in_a in_c read = item_same a c index in_a in_c (cc)

@@ -1,9 +1,9 @@
--- Boxes met with a result, and hulls of them.
+-- Boxes cut to a result, and their hulls.
 use Rattle.std.{proofs.Common.{◌≡◌, ℕ, ◌≤◌, List, [], ◌∷◌, length, refl, ap, ◌∙◌, sym, subst, arith, true, false, Option, Some, None, inl, inr, min, max}, proofs.lemmas.Bool.{and_parts, leb-true, false≢true, cases_Bool, cond-true, cond-false, both_ways, or_from, and_from, le-leb, le-ltb}}
 use Rattle.{arrays_core.specs.Shapes.{is_index_of}, change_core.specs.Reaches.{bounded, is_moved}}
 use Rattle.index_region.{proofs.Boxes.{within-hull_left, within-hull_right, fits-met, fits_length}, specs.Boxes.{Interval, fits, hull_of, is_empty, is_within, join_boxes, met, unless_empty}}
 
--- a place of the result that lies in the box lies in the part of it that is in the result
+-- a place of the result that lies in the box lies in the part cut to the result
 pub within-met : (shape : List ℕ) (intervals : List Interval) (index : List ℕ) → is_index_of shape index ≡ true → is_within intervals index ≡ true → is_within (met shape intervals) index ≡ true
 within-met [] intervals [] h k = refl
 within-met [] intervals (i ∷ index) h k = absurd (false≢true h)
@@ -32,7 +32,7 @@ lower i h = omega arith
 upper : (i n : ℕ) → i ≤ n → min i n ≡ i
 upper i n h = omega arith
 
--- what lies in a shape of a box that fits it is the box
+-- cutting a box that fits changes nothing
 pub met_fit : (shape : List ℕ) (region : List Interval) → fits region shape ≡ true → met shape region ≡ region
 met_fit [] [] h = refl
 met_fit [] (s ∷ region) h = absurd (false≢true h)
@@ -94,13 +94,13 @@ outside_hull a b index e h = (
   elim (cases_Bool (is_within b index)) [ inl t ↦ absurd (both_ways _ h (within-hull_right a b index e t)) | inr f ↦ f ],
 )
 
--- what is outside of both boxes together is outside of each
+-- an index list outside the hull is outside both boxes
 pub join_unmoved : (shape : List ℕ) (p q : Option (List Interval)) (index : List ℕ) → HasFit shape p → HasFit shape q → is_moved (join_boxes p q) index ≡ false → (is_moved p index ≡ false) × (is_moved q index ≡ false)
 join_unmoved shape None q index hp hq u = (refl, u)
 join_unmoved shape (Some a) None index hp hq u = (u, refl)
 join_unmoved shape (Some a) (Some b) index hp hq u = outside_hull a b index (fits_length a shape hp ∙ sym (fits_length b shape hq)) u
 
--- a place of the box is announced
+-- a place of the box is in the reach
 pub unless_empty-within : (shape : List ℕ) (intervals : List Interval) (index : List ℕ) → is_index_of shape index ≡ true → is_within intervals index ≡ true → is_moved (unless_empty (met shape intervals)) index ≡ true
 unless_empty-within shape intervals index h k =
     let inside = within-met shape intervals index h k in

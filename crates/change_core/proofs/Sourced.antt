@@ -1,17 +1,17 @@
--- Results whose items come from places of their arguments keep to their boxes.
+-- Results whose items are copied from the arguments satisfy the law of change.
 use Rattle.std.{proofs.Common.{◌≡◌, ℕ, zero, suc, List, [], ◌∷◌, length, map, refl, ap, ◌∙◌, sym, subst, arith, Bool, true, false, Option, None, Result, Ok, IsOk, unwrap_or}, proofs.lemmas.Bool.{false≢true}, proofs.lemmas.List.{length-replicate}}
 use Rattle.arrays_core.{specs.declared.item.Item.{Item}, specs.declared.item.ItemType.{ItemType}, specs.declared.item.Kind.{Kind}, specs.Arrays.{ArrayValue, IsArray, item_if_there}, specs.Items.{fill}, specs.Shapes.{is_index_of}}
 use Rattle.change_core.{specs.Tightness.{AllCovered, Covered, Each, IsTight, blank, framed, frames, items_read}, specs.Reaches.{is_moved}, specs.RuleModels.{Use}, specs.Sourced.{Spread, left_of, left_used, one_rule, one_sourced, other, right_of, right_used, two_rule, two_sourced, uses_of_one, uses_of_two}}
 use Rattle.index_region.{specs.ArgumentLists.{of_one_argument, of_two_arguments}, specs.Boxes.{is_within}, specs.Checks.{Form}, specs.Sources.{Source, Place, Fill, item_from}}
 
--- an item is what its source says, so it is the same where that is read alike
+-- an item is determined by its source, so it is the same if the source is read alike
 pub item_from_same : (a b c d : ArrayValue) (t : ItemType) (s : Source) → map (item_if_there a) (left_of s) ≡ map (item_if_there c) (left_of s)
     → map (item_if_there b) (right_of s) ≡ map (item_if_there d) (right_of s) → item_from a b t s ≡ item_from c d t s
 item_from_same a b c d t Fill h k = refl
 item_from_same a b c d t (Place zero index) h k = let same : item_if_there a index ≡ item_if_there c index = cc in ap (λ (o : Option Item). Ok (unwrap_or o (fill t))) same
 item_from_same a b c d t (Place (suc n) index) h k = let same : item_if_there b index ≡ item_if_there d index = cc in ap (λ (o : Option Item). Ok (unwrap_or o (fill t))) same
 
--- an item of a function of one argument is what its source says of that, so it is the same where that is read alike
+-- the same for a function of one argument
 pub item_from_same_one : (a c : ArrayValue) (t : ItemType) (s : Source) → right_of s ≡ [] → map (item_if_there a) (left_of s) ≡ map (item_if_there c) (left_of s)
     → item_from a a t s ≡ item_from c c t s
 item_from_same_one a c t s none h = item_from_same a a c c t s h (ap (map (item_if_there a)) none ∙ sym (ap (map (item_if_there c)) none))
@@ -33,7 +33,7 @@ reframed a c alike = record {
   count = sym (length-replicate (length a.items) (fill a.item_type)) ∙ ap (λ (x : ArrayValue). length x.items) alike ∙ length-replicate (length c.items) (fill c.item_type);
 }
 
--- the items of a selector are the same, those of another argument only as many
+-- a selector has the same items; another argument has as many
 pub record IsOther (selects : Bool) (d : ArrayValue) (xs : List Item) : Type 0 where
   pub count : length xs ≡ length d.items
   pub same : selects ≡ true → xs ≡ d.items
@@ -45,7 +45,7 @@ as_other : (selects : Bool) (a c : ArrayValue) → framed selects a ≡ framed s
 as_other true a c alike = ((λ i. record { item_type = (alike i).item_type; shape = (alike i).shape; items = a.items }), record { count = ap (λ (x : ArrayValue). length x.items) alike; same = λ _. ap (λ (x : ArrayValue). x.items) alike })
 as_other false a c alike = let r = reframed a c alike in (r.is, record { count = r.count; same = λ e. absurd (false≢true e) })
 
--- what the author of a function of one array shows: the checks see no items, an item is settled by what it reads, and the box is right
+-- the obligations of a function of one array: the checks read no items, the items that it reads determine an item, and the box is right
 pub record OneTight (form : ArrayValue → Result Form Kind) (item : ArrayValue → List ℕ → Result Item Kind) (use_of : List ℕ → ArrayValue → Use) : Type 0 where
   pub blind : (d : ArrayValue) (xs : List Item) → length xs ≡ length d.items → form (other d xs) ≡ form d
   pub settled : (d : ArrayValue) (xs : List Item) (f : Form) (index : List ℕ) → length xs ≡ length d.items → form d ≡ Ok f → is_index_of f.shape index ≡ true
@@ -78,8 +78,7 @@ one_tight form item use_of h = record { settled = settled; determined = determin
     all_covered [] f n e = absurd (omega arith)
     all_covered (b ∷ x ∷ rest) f n e = absurd (omega arith)
 
--- the law of a function of two arrays. Where the left one is a selector, it is known whole. That both are arrays is known
--- of the new ones, whose items these are
+-- the obligations of a function of two arrays, of which a selector is known in full. The new arguments are known to be arrays
 pub record TwoArraysTight (selects : Bool) (form : ArrayValue → ArrayValue → Result Form Kind) (item : ArrayValue → ArrayValue → List ℕ → Result Item Kind) (left right : List ℕ → ArrayValue → ArrayValue → Use) : Type 0 where
   pub blind : (c d : ArrayValue) (xs ys : List Item) → IsOther selects c xs → length ys ≡ length d.items → form (other c xs) (other d ys) ≡ form c d
   pub settled : (c d : ArrayValue) (xs ys : List Item) (f : Form) (index : List ℕ) → IsArray c → IsArray d → IsOther selects c xs → length ys ≡ length d.items → form c d ≡ Ok f → is_index_of f.shape index ≡ true
@@ -126,7 +125,7 @@ two_arrays_tight selects form item left right h = record { settled = settled; de
     all_covered (a ∷ []) f n e = absurd (omega arith)
     all_covered (a ∷ b ∷ x ∷ rest) f n e = absurd (omega arith)
 
--- where that is of no use
+-- the same without that knowledge
 pub record TwoTight (selects : Bool) (form : ArrayValue → ArrayValue → Result Form Kind) (item : ArrayValue → ArrayValue → List ℕ → Result Item Kind) (left right : List ℕ → ArrayValue → ArrayValue → Use) : Type 0 where
   pub blind : (c d : ArrayValue) (xs ys : List Item) → IsOther selects c xs → length ys ≡ length d.items → form (other c xs) (other d ys) ≡ form c d
   pub settled : (c d : ArrayValue) (xs ys : List Item) (f : Form) (index : List ℕ) → IsOther selects c xs → length ys ≡ length d.items → form c d ≡ Ok f → is_index_of f.shape index ≡ true
@@ -144,7 +143,7 @@ two_tight selects form item left right h = two_arrays_tight selects form item le
   covered_right = h.covered_right;
 })
 
--- where items come from places, it is enough that neither the checks nor the sources see items
+-- for copied items it suffices that neither the checks nor the sources read items
 pub one_sourced-tight : (form : ArrayValue → Result Form Kind) (source : ArrayValue → List ℕ → Source) (box : List ℕ → ArrayValue → Spread)
     → ((d : ArrayValue) (xs : List Item) → length xs ≡ length d.items → form (other d xs) ≡ form d)
     → ((d : ArrayValue) (xs : List Item) (index : List ℕ) → length xs ≡ length d.items → source (other d xs) index ≡ source d index)
@@ -174,7 +173,7 @@ two_sourced-tight selects form item_type source left right blind blind_type blin
   covered_right = covered_right;
 })
 
--- the left argument is a selector, and all items come from the right one
+-- the left argument is a selector, and all items are copied from the right one
 pub selected_sourced-tight : (form : ArrayValue → ArrayValue → Result Form Kind) (item_type : ArrayValue → ArrayValue → ItemType) (source : ArrayValue → ArrayValue → List ℕ → Source) (box : List ℕ → ArrayValue → ArrayValue → Spread)
     → ((a d : ArrayValue) (ys : List Item) → length ys ≡ length d.items → form a (other d ys) ≡ form a d)
     → ((a d : ArrayValue) (ys : List Item) → length ys ≡ length d.items → item_type a (other d ys) ≡ item_type a d)

@@ -1,4 +1,4 @@
--- What may change by an argument and those after it.
+-- The changes by one argument and by the later ones.
 use Rattle.std.{proofs.Common.{◌≡◌, ℕ, suc, zero, ◌<◌, List, [], ◌∷◌, length, drop, get_or, refl, ap, ◌∙◌, sym, subst, arith, Bool, true, false, ◌||◌, Option, Some, None}, proofs.lemmas.List.{drop_all}}
 use Rattle.arrays_core.specs.Arrays.{ArrayValue}
 use Rattle.change_core.{proofs.Covers.{changed-fits}, proofs.Regions.{HasFit, bounded-fits}, specs.Reaches.{AllFit, Fits, bounded, changed, is_anew}, specs.RuleModels.{FitsAt, Use, box_at}}
@@ -28,7 +28,7 @@ anew_nothing [] = refl
 anew_nothing (true ∷ selectors) = refl
 anew_nothing (false ∷ selectors) = refl
 
--- past all arguments none is a selector
+-- past the last argument no selector is left
 pub anew_past : (selectors : List Bool) (ms : List (Option (List Interval))) (which : ℕ) → which ≡ length ms → is_anew (drop which selectors) (drop which ms) ≡ false
 anew_past selectors ms which e = ap (is_anew (drop which selectors)) (drop_all which ms (omega arith)) ∙ anew_nothing (drop which selectors)
 
@@ -54,7 +54,7 @@ anew_there (s ∷ selectors) (n ∷ ms) (suc which) m region l count e f h = lat
     later true None h = h
     later false n h = h
 
--- what one argument changes
+-- the part that one argument changes
 abbrev pub moved_at : List ℕ → List Use → ℕ → Option (List Interval) → Option (List Interval)
 moved_at shape uses which None = None
 moved_at shape uses which (Some region) = bounded shape (box_at uses which region)
@@ -82,7 +82,7 @@ changed_nothing : (shape : List ℕ) (uses : List Use) → None ≡ changed shap
 changed_nothing shape [] = refl
 changed_nothing shape (u ∷ us) = refl
 
--- past all arguments nothing changes
+-- past the last argument nothing changes
 pub changed_past : (shape : List ℕ) (uses : List Use) (ms : List (Option (List Interval))) (which : ℕ) → which ≡ length ms → None ≡ changed shape (drop which uses) (drop which ms)
 changed_past shape uses ms which e = changed_nothing shape (drop which uses) ∙ sym (ap (changed shape (drop which uses)) (drop_all which ms (omega arith)))
 

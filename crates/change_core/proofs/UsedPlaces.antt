@@ -4,7 +4,7 @@ use Rattle.arrays_core.{specs.Shapes.{is_index_of, size, places_before, index_af
 use Rattle.index_region.{proofs.Least.{within-whole, cover-within}, specs.Boxes.{Interval, is_within}}
 use Rattle.change_core.{specs.Tightness.{Covered}, specs.Places.{by_place, cover_in, first_of_box, last_of_box}, specs.Reaches.{is_moved}}
 
--- an index list in the box lies between the box's first and last in the ravel
+-- an index list of the box lies between its first and last index list in the ravel
 pub offset_between : (axes : List ℕ) (region : List Interval) (index : List ℕ) → is_within region index ≡ true → (places_before axes (first_of_box region) ≤ places_before axes index) × (places_before axes index ≤ places_before axes (last_of_box region))
 offset_between axes [] [] h = (omega arith, omega arith)
 offset_between axes [] (i ∷ index) h = absurd (false≢true h)

@@ -6,7 +6,7 @@ use Rattle.change_core.{specs.Tightness.{Covered, Each}, specs.Reaches.{is_moved
 use Rattle.index_region.specs.Boxes.{Interval, fits, is_within, whole_of}
 pub use Rattle.index_region.proofs.Least.{within-whole}
 
--- an axis that the argument lacks, of which it uses an interval
+-- an interval of an axis that the argument lacks
 abbrev pub across : ℕ → Interval → Use
 across axis place = record {
   reads = λ index. if nat_le place.0 (get_or index axis 0) && nat_le (get_or index axis 0) place.1 then remove index axis ∷ [] else [];
@@ -70,11 +70,11 @@ lines-covered from shape axis len l region index fit place =
     let few : axis ≤ length index = omega (arith, as_long shape index place) in
     each_map _ (insert index axis) (range_with_len 1 len) (each_all _ (range_with_len 1 len) (λ j. within-insert axis j region index few))
 
--- what an interval changes on an item's own line
+-- the image contains every place on the line that reads the interval
 abbrev pub Follows : (Interval → Interval) → ℕ → ℕ → Type 0
 Follows image i j = (s : Interval) → 1 ≤ s.0 → s.0 ≤ j → j ≤ s.1 → ((image s).0 ≤ i) × (i ≤ (image s).1)
 
--- d stands where an index list has no such axis, which does not come to be asked
+-- d is the default index for a missing axis; it is never used
 pub within-set : (d axis j : ℕ) (image : Interval → Interval) (from : List ℕ) (region : List Interval) (index : List ℕ) → fits region from ≡ true → (axis < length index → Follows image (get_or index axis d) j) → is_within region (set index axis j) ≡ true → is_within (set region axis (image (get_or region axis (0, 0)))) index ≡ true
 within-set d zero j image from [] [] fit f h = refl
 within-set d zero j image from (s ∷ region) [] fit f h = absurd (false≢true h)
@@ -155,7 +155,7 @@ index-drop [] rest index place = place
 index-drop (n ∷ first) rest [] place = absurd (false≢true place)
 index-drop (n ∷ first) rest (i ∷ index) place = index-drop first rest index (and_parts _ _ place).1
 
--- covered whatever the box of the argument, and at its places alone
+-- covered for any box, with reads inside the argument
 pub record IsOnto (mid shape : List ℕ) (u : Use) : Type 0 where
   pub covered : (region : List Interval) (index : List ℕ) → is_index_of shape index ≡ true → Each (λ place. is_within region place ≡ true → is_moved (u.box region) index ≡ true) (u.reads index)
   pub places : (index : List ℕ) → is_index_of shape index ≡ true → Each (λ place. is_index_of mid place ≡ true) (u.reads index)

@@ -7,7 +7,7 @@ pub box_size-whole : (axes : List ℕ) → box_size (whole_of axes) ≡ size axe
 box_size-whole [] = refl
 box_size-whole (n ∷ axes) = let one : n + 1 - 1 ≡ n = omega arith in rw (one, box_size-whole axes) refl
 
--- the walk of the box of all places is that of the shape
+-- the walk of the box of all places is the ravel order of the shape
 pub walk-whole : (axes : List ℕ) (p : ℕ) → walk_at (whole_of axes) p ≡ index_after axes p
 walk-whole [] p = refl
 walk-whole (n ∷ axes) p =
@@ -16,7 +16,7 @@ walk-whole (n ∷ axes) p =
     let tail : walk_at (whole_of axes) (p % box_size (whole_of axes)) ≡ index_after axes (p % size axes) = rw sized (walk-whole axes (p % size axes)) in
     λ i. head i ∷ tail i
 
--- so the items of that box are those of all index lists in their order
+-- the items of that box are those of all index lists in ravel order
 pub walk_is : (shape : List ℕ) (item : List ℕ → Result Item Kind) → along item (whole_of shape) ≡ map item (indices shape)
 walk_is shape item =
     sym (fill_by_all (λ p. item (walk_at (whole_of shape) p)) (map item (indices shape)) (box_size (whole_of shape)) (item [])
@@ -28,7 +28,7 @@ abbrev pub prepend : List Item → Result (List Item) Kind → Result (List Item
 prepend xs (Ok ys) = Ok (xs ++ ys)
 prepend xs (Err k) = Err k
 
--- what the places from p on give
+-- the values of the places from p on
 abbrev pub rest_from : (ℕ → Result Item Kind) → ℕ → ℕ → Result (List Item) Kind
 rest_from f n p = collected (map f (range_with_len p (n - p)))
 
@@ -67,6 +67,6 @@ length-collected : (f : ℕ → Result Item Kind) (n a : ℕ) (xs : List Item) �
 length-collected f zero a xs e = let same : [] ≡ xs = cc in sym (ap length same)
 length-collected f (suc n) a xs e = put_length (f a) (collected (map f (range_with_len (a + 1) n))) xs n (λ ys h. length-collected f n (a + 1) ys h) e
 
--- as many items as places
+-- there are as many items as places
 pub length-along : (item : List ℕ → Result Item Kind) (region : List Interval) (xs : List Item) → collected (along item region) ≡ Ok xs → length xs ≡ box_size region
 length-along item region xs e = length-collected (λ p. item (walk_at region p)) (box_size region) 0 xs e

@@ -7,7 +7,7 @@ use Rattle.index_region.specs.Boxes.{Interval, box_size, walk_at}
 abbrev pub items_in : (List ℕ → Result Item Kind) → List Interval → Result (List Item) Kind
 items_in item region = all_or_first_error (map (λ before. item (walk_at region before)) (range_with_len 0 (box_size region)))
 
--- a call answers these items as an array of this type, or their error, or want of memory
+-- the result of a call: the wanted items as an array of this type, the wanted error, or lack of memory
 abbrev pub HoldsItems : ItemType → Result (List Item) Kind → Result ArrayValue ApplyFault → Type 0
 HoldsItems item_type wanted (Ok a) = (wanted ≡ Ok a.items) × (a.item_type ≡ item_type)
 HoldsItems item_type wanted (Err (KindFault k)) = wanted ≡ Err k

@@ -15,11 +15,11 @@ first_of_box region = map (λ s. s.0) region
 abbrev pub last_of_box : List Interval → List ℕ
 last_of_box region = map (λ s. s.1) region
 
--- the box that covers the places of a shape from the one to the other, counted from 0, as far as there are such
+-- the least box that contains the places `lo` to `hi` of a shape, counted from 0; places beyond the end are left out
 abbrev pub cover_in : List ℕ → ℕ → ℕ → Option (List Interval)
 cover_in shape lo hi = if nat_lt lo (size shape) then Some (cover shape lo (min hi (size shape - 1))) else None
 
--- the items in the order of the ravel, again from the first where they end
+-- the items in ravel order, starting over when they run out
 abbrev pub by_place : List ℕ → List ℕ → Use
 by_place from shape = record {
   reads = λ index. index_after from (places_before shape index % size from) ∷ [];

@@ -1,4 +1,4 @@
--- What may change of a result where boxes of the arguments changed.
+-- The part of a result that may change after boxes of the arguments changed.
 use Rattle.std.specs.Prelude.{ℕ, List, ◌∷◌, Bool, true, false, Option, Some, None, Result, Ok, Err, IsTrue, if◌then◌else◌}
 use Rattle.arrays_core.{specs.declared.item.Kind.{Kind}, specs.Arrays.{ArrayValue}}
 use Rattle.index_region.{specs.Boxes.{Interval, is_within, fits, met, unless_empty, join_boxes}, specs.Checks.{Form}}
@@ -13,17 +13,17 @@ abbrev pub AllFit : List ArrayValue → List (Option (List Interval)) → Type 0
 AllFit (a ∷ args) (moved ∷ moves) = Fits a moved × AllFit args moves
 AllFit _ _ = Unit {0}
 
--- the box of what lies in the result, unless that is nothing
+-- the part that lies in the result; None if it is empty
 abbrev pub bounded : List ℕ → Option (List Interval) → Option (List Interval)
 bounded shape None = None
 bounded shape (Some region) = unless_empty (met shape region)
 
--- what may change of the result by one argument
+-- the part of the result that one argument may change
 abbrev pub changed_by : List ℕ → Use → Option (List Interval) → Option (List Interval)
 changed_by shape u None = None
 changed_by shape u (Some region) = bounded shape (u.box region)
 
--- what may change of the result by all arguments: the least box that holds what may change by each
+-- the part of the result that all arguments may change: the hull of the parts for each
 abbrev pub changed : List ℕ → List Use → List (Option (List Interval)) → Option (List Interval)
 changed shape (u ∷ uses) (m ∷ moves) = join_boxes (changed_by shape u m) (changed shape uses moves)
 changed shape _ _ = None
@@ -39,27 +39,27 @@ abbrev pub as_reach : Option (List Interval) → Reach
 as_reach None = Unmoved
 as_reach (Some region) = Inside region
 
--- what may change where no selector changed
+-- the reach if no selector changed
 abbrev pub reach_by : Result Form Kind → (List ℕ → List ArrayValue → List Use) → List ArrayValue → List (Option (List Interval)) → Reach
 reach_by (Err kind) uses args moves = Anew
 reach_by (Ok f) uses args moves = as_reach (changed f.shape (uses f.shape args) moves)
 
--- what may change of the result, by the new arguments and the changed box of each
+-- the reach, given the new arguments and the changed box of each
 abbrev pub reach_of : RuleModel → List ArrayValue → List (Option (List Interval)) → Reach
 reach_of p args moves = if is_anew p.selectors moves then Anew else reach_by (p.form args) p.uses args moves
 
--- the index list lies in what changed of an argument
+-- the index list lies in the changed box of an argument
 abbrev pub is_moved : Option (List Interval) → List ℕ → Bool
 is_moved None index = false
 is_moved (Some region) index = is_within region index
 
--- the index list lies in what may change of the result
+-- the index list lies in the reach
 abbrev pub is_reached : Reach → List ℕ → Bool
 is_reached Unmoved index = false
 is_reached (Inside region) index = is_within region index
 is_reached Anew index = true
 
--- a box of what may change lies in the result
+-- the box of a reach lies in the result
 abbrev pub LiesInResult : Result Form Kind → Reach → Type 0
 LiesInResult (Ok f) (Inside region) = IsTrue (fits region f.shape)
 LiesInResult _ _ = Unit {0}

@@ -1,14 +1,14 @@
--- The law of a rule: all that changes of a result lies in the box that the rule gives.
+-- The law of change: the box of a rule contains everything that changes in the result.
 use Rattle.std.specs.Prelude.{◌≡◌, ◌≢◌, ℕ, List, [], ◌∷◌, Bool, true, false, Option, None, Ok, IsTrue, IsOk, map, length, replicate}
 use Rattle.arrays_core.{specs.declared.item.Item.{Item}, specs.Arrays.{ArrayValue, IsArray, item_of, item_if_there}, specs.Items.{fill}, specs.Shapes.{is_index_of}}
 use Rattle.index_region.{specs.Answers.{IsPlaceOf}, specs.Boxes.{Interval, is_within, fits}, specs.Checks.{Form}}
 use Rattle.change_core.{specs.declared.reach.Reach.{Reach}, specs.declared.reach.Reach.TheVariants.{Anew}, specs.RuleModels.{Use, RuleModel}, specs.Reaches.{Fits, is_moved, is_reached, reach_of, LiesInResult}}
 
--- an array of which no item is known but how many there are
+-- the array with fill for every item
 abbrev pub blank : ArrayValue → ArrayValue
 blank a = record { item_type = a.item_type; shape = a.shape; items = replicate (length a.items) (fill a.item_type) }
 
--- a selector as it is, of another argument no item
+-- a selector keeps its items; another argument shows none
 abbrev pub framed : Bool → ArrayValue → ArrayValue
 framed true a = a
 framed false a = blank a
@@ -18,17 +18,17 @@ abbrev pub frames : List Bool → List ArrayValue → List ArrayValue
 frames (selects ∷ selectors) (a ∷ args) = framed selects a ∷ frames selectors args
 frames _ _ = []
 
--- for each argument the items that an item of the result reads, where there are such
+-- the items of each argument that an item of the result reads; None for an index list outside the argument
 abbrev pub items_read : List ArrayValue → List Use → List ℕ → List (List (Option Item))
 items_read (a ∷ args) (u ∷ uses) index = map (item_if_there a) (u.reads index) ∷ items_read args uses index
 items_read _ _ index = []
 
--- it holds of each
+-- P holds of each
 abbrev pub Each : {A : Type 0} → (A → Type 0) → List A → Type 0
 Each P [] = Unit {0}
 Each P (x ∷ xs) = P x × Each P xs
 
--- an item that reads a place of a changed box lies in what that box may change
+-- an item that reads a place of a changed box lies in the intervals which that box may change
 abbrev pub Covered : List ℕ → List ℕ → Use → Type 0
 Covered from shape u = (region : List Interval) (index : List ℕ) → fits region from ≡ true → is_index_of shape index ≡ true
     → Each (λ place. is_within region place ≡ true → is_moved (u.box region) index ≡ true) (u.reads index)
@@ -38,8 +38,8 @@ AllCovered shape args [] = Unit {0}
 AllCovered shape [] (u ∷ uses) = Unit {0}
 AllCovered shape (a ∷ args) (u ∷ uses) = Covered a.shape shape u × AllCovered shape args uses
 
--- the law of a rule, of one call: selectors, types and shapes settle what the checks give where they pass; with the items
--- that an item reads of arrays they settle that item; and the items that read a changed place lie in the boxes
+-- the law of change for one rule. Selectors, types and shapes determine the form if the checks pass. With the items that an item reads,
+-- they determine that item. The items that read a changed place lie in the boxes
 pub record IsTight (p : RuleModel) : Type 0 where
   pub settled : (old new : List ArrayValue) → frames p.selectors old ≡ frames p.selectors new → IsOk (p.form old) → IsOk (p.form new) → p.form old ≡ p.form new
   pub determined : (old new : List ArrayValue) (f : Form) (index : List ℕ) → length old ≡ length p.selectors → length new ≡ length p.selectors
@@ -47,7 +47,7 @@ pub record IsTight (p : RuleModel) : Type 0 where
       → items_read old (p.uses f.shape new) index ≡ items_read new (p.uses f.shape new) index → p.item old index ≡ p.item new index
   pub covered : (args : List ArrayValue) (f : Form) → length args ≡ length p.selectors → p.form args ≡ Ok f → AllCovered f.shape args (p.uses f.shape args)
 
--- an argument before and after, and the box of what changed of it
+-- an argument before and after, and its changed box
 pub record ArgumentChange : Type 0 where
   pub old : ArrayValue
   pub new : ArrayValue
@@ -62,7 +62,7 @@ news changes = map (λ c. c.new) changes
 abbrev pub moves : List ArgumentChange → List (Option (List Interval))
 moves changes = map (λ c. c.moved) changes
 
--- before and after there is one type and shape, and one item at each index list outside what changed
+-- the argument keeps its type and shape, and its items outside the changed box
 pub record Agrees (c : ArgumentChange) : Type 0 where
   pub sound : IsArray c.new
   pub fit : Fits c.new c.moved
@@ -76,17 +76,16 @@ abbrev pub AllAgree : List ArgumentChange → Type 0
 AllAgree [] = Unit {0}
 AllAgree (c ∷ changes) = Agrees c × AllAgree changes
 
--- the result has one shape and type before and after, and one item (or error) at each place that is not reached
+-- the result keeps its form, and its items (or errors) outside the reach
 pub record Covers (p : RuleModel) (old new : List ArrayValue) (reach : Reach) : Type 0 where
   pub form : p.form old ≡ p.form new
   pub outside : (index : List ℕ) → IsPlaceOf (p.form new) index → is_reached reach index ≡ false → p.item old index ≡ p.item new index
 
--- where the arguments agree outside their changed boxes, and the checks pass before and after, all that changes of the
--- result is reached
+-- if the arguments agree outside their changed boxes, and the checks pass before and after, the reach contains everything that changes
 abbrev pub ReachCovers : RuleModel → Type 0
 ReachCovers p = (changes : List ArgumentChange) → length changes ≡ length p.selectors → AllAgree changes → IsOk (p.form (olds changes)) → IsOk (p.form (news changes))
     → reach_of p (news changes) (moves changes) ≢ Anew → Covers p (olds changes) (news changes) (reach_of p (news changes) (moves changes))
 
--- a box of what may change lies in the result
+-- the box of a reach lies in the result
 abbrev pub ReachLies : RuleModel → Type 0
 ReachLies p = (args : List ArrayValue) (moves : List (Option (List Interval))) → LiesInResult (p.form args) (reach_of p args moves)

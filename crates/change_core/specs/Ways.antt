@@ -3,26 +3,26 @@ use Rattle.std.{specs.Prelude.{ℕ, ◌+◌, ◌≤◌, List, [], ◌∷◌, ◌
 use Rattle.change_core.specs.RuleModels.{Use}
 use Rattle.index_region.specs.Boxes.{Interval, whole_of}
 
--- an argument of which no item is read, or a selector
+-- no item of the argument is read, or it is a selector
 abbrev pub unread : Use
 unread = record { reads = λ _. []; box = λ _. None }
 
--- item by item
+-- each item reads the item at its own index list
 abbrev pub alike : Use
 alike = record { reads = λ index. index ∷ []; box = λ region. Some region }
 
--- every item of the result may read what is given
+-- a change may change every item of the result
 abbrev pub everywhere : List ℕ → (List ℕ → List (List ℕ)) → Use
 everywhere shape reads = record { reads = reads; box = λ _. Some (whole_of shape) }
 
--- an axis of the result: its length, where each place comes from on the argument's axis (what is no place there is fill),
--- and where the places of an interval of that go to
+-- an axis of the result: its length, the place on the argument's axis from which each place comes (fill if there is none), and the image of
+-- an interval of that axis
 pub record Axis : Type 0 where
   pub len : ℕ
   pub source : ℕ → ℕ
   pub image : Interval → Interval
 
--- places come from an interval only within its image
+-- every place that comes from an interval lies in its image
 pub record IsSoundAxis (x : Axis) : Type 0 where
   pub low : (s : Interval) (i : ℕ) → 1 ≤ i → i ≤ x.len → 1 ≤ s.0 → s.0 ≤ x.source i → x.source i ≤ s.1 → (x.image s).0 ≤ i
   pub high : (s : Interval) (i : ℕ) → 1 ≤ i → i ≤ x.len → 1 ≤ s.0 → s.0 ≤ x.source i → x.source i ≤ s.1 → i ≤ (x.image s).1
@@ -38,29 +38,29 @@ abbrev pub images : List Axis → List Interval → List Interval
 images (x ∷ axes) (s ∷ intervals) = x.image s ∷ images axes intervals
 images _ _ = []
 
--- a line along an axis (from 0) for each item of a result without that axis
+-- each item reads a line along an axis (from 0) that the result lacks
 abbrev pub lines : ℕ → ℕ → Use
 lines axis len = record { reads = λ index. map (insert index axis) (range_with_len 1 len); box = λ region. Some (remove region axis) }
 
--- places along the item's own line; what an interval changes there
+-- each item reads places on its own line along an axis; the image of a changed interval there
 abbrev pub along : ℕ → (List ℕ → List ℕ) → (Interval → Interval) → Use
 along axis places image = record {
   reads = λ index. map (set index axis) (places index);
   box = λ region. Some (set region axis (image (get_or region axis (0, 0))));
 }
 
--- the first axes of the result are the argument's
+-- the argument has the first axes of the result
 abbrev pub front : ℕ → List ℕ → Use
 front rank rest = record { reads = λ index. take rank index ∷ []; box = λ region. Some (region ++ whole_of rest) }
 
--- the last axes of the result are the argument's
+-- the argument has the last axes of the result
 abbrev pub back : List ℕ → Use
 back first = record { reads = λ index. drop (length first) index ∷ []; box = λ region. Some (whole_of first ++ region) }
 
 abbrev pub both_intervals : Interval → Interval → Interval
 both_intervals s t = (max s.0 t.0, min s.1 t.1)
 
--- the part of an axis, of n places, that is in each interval that goes to it
+-- the part of an axis of n places that lies in every interval which maps to it
 abbrev pub meet_at : ℕ → ℕ → List ℕ → List Interval → Interval
 meet_at axis n (to ∷ axes) (s ∷ intervals) = if nat_eq to axis then both_intervals s (meet_at axis n axes intervals) else meet_at axis n axes intervals
 meet_at axis n _ _ = (1, n)

@@ -1,4 +1,4 @@
-//! Functions of arrays that say what a change of their arguments changes of their result.
+//! Array functions that state which items of their result a change may change.
 
 ghost use Rattle.std.specs.Prelude.{◌≡◌, ◌≤◌, ◌<◌, ℕ, List, Bool, length, map, get_or, false, IfSome, IfOk, IfErr, OnOk, IsTrue, Ok, Err};
 ghost use Rattle.arrays_core.specs.Arrays.{ArrayValue, IsAnswerTo};
@@ -19,36 +19,35 @@ use arrays_core::{ApplyFault, Array, Item, ItemType, Kind, Shape, size};
 use index_region::{ChangedBox, IndexBox, Intervals, Primitive, Seen, apply};
 use std::alloc::Global;
 
-/// A function of arrays that says what a change of its arguments changes of its result: it is a `Rule`. What gives items here ticks no meter; `Rule`,
-/// which a change is worked out by, has no way to these.
+/// An array function that states which items of its result a change of its arguments may change. Every such function is a `Rule`. The calls
+/// here that compute items do not tick a meter; a recalculation reaches them only through `Rule`, which does.
 pub trait Announced: Primitive {
-    /// The arguments that say by their items what is read of the others: a change of one makes the result anew.
+    /// Marks the arguments whose items decide which items of the others are read. A change of one recomputes the whole result.
     ghost selectors: { Self → List Bool };
 
-    /// How its results use its arguments, given the shape of the result.
+    /// The uses of the arguments, given the shape of the result.
     ghost uses: { Self → List ℕ → List ArrayValue → List Use };
 
-    /// When its results grow with its arguments, given these, as they are now, and which of them grew.
+    /// True if the result grows, given the new arguments and marks for those that grew.
     ghost growth: { Self → List ArrayValue → List Bool → Bool } = { λ _. never };
 
-    /// Where the marked arguments grew by one place of their first axis, and the others are as they were, its result
-    /// grows so too.
+    /// Tests whether the result grows by one place of its first axis. Each marked argument grew so; the others are unchanged.
     fn grows(&self, args: &[Seen], grown: &[bool]) -> bool
         requires count { length args.now ≡ Self.arity self.now }
         requires marks { length grown.now ≡ length args.now }
         ensures { result ≡ growth self.now args.now grown.now };
 
-    /// An item of the result may be made from many items of the arguments. Where that is not so, what changes of the result is made from the arguments as
-    /// they are seen, without a copy of one that was patched. This says how a result is best made, and nothing of what it is.
+    /// Tests whether an item of the result may read many items of the arguments. If not, changed items are computed from views, without
+    /// copying a patched argument. Only the cost depends on it.
     fn reads_many_items(&self) -> bool {
         true
     }
 
-    /// A change of the argument makes the result anew.
+    /// Tests whether a change of the argument recomputes the whole result.
     fn selects(&self, which: usize) -> bool
         ensures { result ≡ get_or (selectors self.now) which false };
 
-    /// The intervals of the result that a changed box of an argument may change. The shape of the result is given.
+    /// Returns the intervals of the result that a changed box of one argument may change, given the shape of the result.
     fn box_of(
         &self,
         args: &[Seen],
@@ -62,8 +61,8 @@ pub trait Announced: Primitive {
         requires checked { HasShape (Self.form self.now args.now) shape.now }
         ensures { result ≡ box_at (uses self.now shape.now args.now) which region.now };
 
-    /// Checks the arguments, and returns the places of the result that may change, as `Rule` has it. Override it if they are known without the shape of the
-    /// result.
+    /// Checks the arguments, and returns the places of the result that may change, as in `Rule`. Override it if they are known without the
+    /// shape of the result.
     fn reached<M: ChangedBox>(&self, args: &[Seen], moved: &[M]) -> Result<Reached, Kind>
         requires count { length args.now ≡ Self.arity self.now }
         requires moves { length moved.now ≡ length args.now }
@@ -75,8 +74,8 @@ pub trait Announced: Primitive {
         self.reached_by_boxes(args, moved)
     }
 
-    /// Does the same by the shape of the result: joins the boxes that each argument may change to the least box. An impl with its own `reached` calls it if it
-    /// knows no shorter way.
+    /// Does the same from the shape of the result: returns the hull of the boxes that the arguments may change. An override of `reached`
+    /// calls it as a fallback.
     fn reached_by_boxes<M: ChangedBox>(&self, args: &[Seen], moved: &[M]) -> Result<Reached, Kind>
         requires count { length args.now ≡ Self.arity self.now }
         requires moves { length moved.now ≡ length args.now }
@@ -94,7 +93,7 @@ pub trait Announced: Primitive {
         }
     }
 
-    /// Returns the places that may change of a result of this shape.
+    /// Returns the places that may change in a result of this shape.
     fn reach_in<M: ChangedBox>(&self, args: &[Seen], shape: &[u32], moved: &[M]) -> Reach
         requires count { length args.now ≡ Self.arity self.now }
         requires moves { length moved.now ≡ length args.now }
@@ -117,7 +116,7 @@ pub trait Announced: Primitive {
         as_reach(reached)
     }
 
-    /// The whole result. A type that has an `apply` of its own answers with that by a line in its impl, as a trait cannot call what stands in the type alone.
+    /// Computes the whole result. Override with `self.apply(..)`: a trait method cannot call an inherent one.
     fn whole(&self, alloc: Global, args: &[Seen]) -> Result<Array, ApplyFault>
         requires { length args.now ≡ Self.arity self.now }
         ensures { IsAnswerTo (whole (Self.form self.now args.now) (Self.item self.now args.now)) result }
@@ -125,8 +124,8 @@ pub trait Announced: Primitive {
         apply(alloc, self, args)
     }
 
-    /// The items of a box of the result in row-major order, as an array of any shape, or the first error among them; None where no
-    /// way is known that is shorter than one item after another.
+    /// Returns the items of a box of the result in row-major order, in any shape, or the first error among them. Returns None if no way is
+    /// faster than item by item.
     fn items_at_once(
         &self,
         _alloc: Global,
@@ -146,10 +145,10 @@ pub trait Announced: Primitive {
 
     ghost counted: { (rule : Self) → length (selectors rule) ≡ Self.arity rule };
 
-    /// The boxes hold all that changes.
+    /// The boxes contain everything that changes.
     ghost tight: { (rule : Self) → IsTight (record { selectors = selectors rule; form = Self.form rule; item = Self.item rule; uses = uses rule; grows = growth rule }) };
 
-    /// The result grows where it says so.
+    /// The result grows when `grows` holds.
     ghost growing: { (rule : Self) → IsGrowing (record { selectors = selectors rule; form = Self.form rule; item = Self.item rule; uses = uses rule; grows = growth rule }) (growth rule) };
 }
 
@@ -167,7 +166,7 @@ impl<P: Announced> Rule for P {
 
     fn all(&self, alloc: Global, args: &[Seen], meter: &mut Meter) -> Result<Array, ApplyFault> {
         let whole = self.whole(alloc, args);
-        // counted from its own shape, as the checks of an index look at all its positions
+        // Takes the count from the result: the checks of an index would read all its positions again.
         meter.add(match &whole {
             Ok(array) => size(array.shape().as_slice()),
             Err(_) => self.places(args),

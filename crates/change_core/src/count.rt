@@ -1,11 +1,11 @@
-//! A count that stays at the greatest number of 64 bits.
+//! A counter that saturates at the greatest number of 64 bits.
 
 ghost use Rattle.std.specs.Prelude.{◌≡◌, ◌≤◌, ℕ};
 ghost use Rattle.change_core.specs.Meters.{ticked};
 
 use std::marker::Model;
 
-/// A count that stays at the greatest number of 64 bits.
+/// A counter that saturates at the greatest number of 64 bits.
 #[derive(Drop)]
 pub struct Count {
     count: u64,
@@ -18,14 +18,14 @@ impl Model for Count {
 }
 
 impl Count {
-    /// Nothing was counted.
+    /// Returns a counter at 0.
     pub fn new() -> Self
         ensures { result ≡ 0 }
     {
         Count { count: 0 }
     }
 
-    /// Counts so many more.
+    /// Adds a number of 32 bits.
     pub fn add(&mut self, more: u32)
         ensures exact { self.new ≡ ticked self.old more }
         ensures rises { self.old ≤ self.new }
@@ -33,7 +33,7 @@ impl Count {
         self.count = self.count.saturating_add(u64::from(more));
     }
 
-    /// Counts so many more, where they may be beyond 32 bits.
+    /// Adds a number of 64 bits.
     pub fn add_many(&mut self, more: u64)
         ensures exact { self.new ≡ ticked self.old more }
         ensures rises { self.old ≤ self.new }
@@ -41,7 +41,7 @@ impl Count {
         self.count = self.count.saturating_add(more);
     }
 
-    /// Counts what another has counted, too.
+    /// Adds another counter.
     pub fn include(&mut self, other: &Count)
         ensures exact { self.new ≡ ticked self.old other.now }
         ensures rises { self.old ≤ self.new }
@@ -49,7 +49,7 @@ impl Count {
         self.count = self.count.saturating_add(other.count);
     }
 
-    /// How many were counted.
+    /// Returns the count.
     pub fn total(&self) -> u64
         ensures { result ≡ self.now }
     {

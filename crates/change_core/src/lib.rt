@@ -1,4 +1,4 @@
-//! What a change rule is: what changes of a result where boxes of the arguments changed.
+//! Change rules: which items of a result change after boxes of the arguments changed.
 #![tactic(auto)]
 
 mod announced;

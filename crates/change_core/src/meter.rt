@@ -1,4 +1,4 @@
-//! What a change computes: items of results, and joins of sums.
+//! The work of a recalculation: computed items, and joins of partial sums.
 
 ghost use Rattle.std.specs.Prelude.{◌≡◌, ◌+◌, ◌≤◌};
 ghost use Rattle.change_core.specs.Meters.{ticked};
@@ -6,7 +6,7 @@ ghost use Rattle.change_core.specs.Meters.{ticked};
 use crate::count::Count;
 use std::marker::Model;
 
-/// How many items of results were computed, and how many sums of parts were joined for them.
+/// Counts the items that were computed, and the joins of partial sums made for them.
 #[derive(Drop)]
 pub struct Meter {
     ticks: Count,
@@ -22,7 +22,7 @@ impl Model for Meter {
 }
 
 impl Meter {
-    /// A meter that has counted nothing.
+    /// Returns a meter at 0.
     pub fn new() -> Self
         ensures { result ≡ record { ticks = 0; joins = 0 } }
     {
@@ -41,7 +41,7 @@ impl Meter {
         self.ticks.add(1);
     }
 
-    /// Counts so many items.
+    /// Counts several items.
     pub fn add(&mut self, items: u32)
         ensures exact { self.new ≡ record { ticks = ticked self.old.ticks items; joins = self.old.joins } }
         ensures rises { self.old.ticks ≤ self.new.ticks }
@@ -49,14 +49,14 @@ impl Meter {
         self.ticks.add(items);
     }
 
-    /// Counts so many joins of sums of parts.
+    /// Counts several joins of partial sums.
     pub fn count_joins(&mut self, joins: u64)
         ensures { self.new ≡ record { ticks = self.old.ticks; joins = ticked self.old.joins joins } }
     {
         self.joins.add_many(joins);
     }
 
-    /// Counts what another meter has counted, too.
+    /// Adds the counts of another meter.
     pub fn include(&mut self, other: &Meter)
         ensures exact { self.new ≡ record { ticks = ticked self.old.ticks other.now.ticks; joins = ticked self.old.joins other.now.joins } }
         ensures rises { self.old.ticks ≤ self.new.ticks }
@@ -65,14 +65,14 @@ impl Meter {
         self.joins.include(&other.joins);
     }
 
-    /// How many items were counted.
+    /// Returns the number of items.
     pub fn ticks(&self) -> u64
         ensures { result ≡ self.now.ticks }
     {
         self.ticks.total()
     }
 
-    /// How many joins were counted.
+    /// Returns the number of joins.
     pub fn joins(&self) -> u64
         ensures { result ≡ self.now.joins }
     {

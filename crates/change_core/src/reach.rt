@@ -1,4 +1,4 @@
-//! What may change of a result by all its arguments.
+//! The part of a result that may change.
 
 ghost use Rattle.std.specs.Prelude.{◌≡◌, ◌≤◌, ℕ, List, length, Some};
 ghost use Rattle.arrays_core.specs.Limits.{most_axes};
@@ -10,28 +10,28 @@ ghost use Rattle.change_core.specs.Tightness.{ReachCovers, ReachLies};
 use crate::rule::Rule;
 use index_region::{IndexBox, Intervals};
 
-/// What may change of a result.
+/// The part of a result that may change.
 #[derive(Drop)]
 pub enum Reach {
     /// Nothing.
     Unmoved,
     /// The places of a box.
     Inside(IndexBox),
-    /// All of it, its shape too.
+    /// The whole result, including its shape.
     Anew,
 }
 
-/// A rule's answer to a change of its arguments in boxes.
+/// The answer of a rule to changed boxes of its arguments.
 #[derive(Drop)]
 pub struct Reached {
     /// The places of the result that may change.
     pub reach: Reach,
-    /// One item alone is made from few items of the arguments, without a copy of one that was patched. It chooses the way to make an item; no contract
-    /// rests on it.
+    /// A single item reads few items of the arguments, so it is computed from views without copying a patched argument. Only the choice of
+    /// the way depends on it; no contract does.
     pub reads_few: bool,
 }
 
-/// The least box that holds both, where there are two.
+/// Returns the hull of two boxes, either of which may be missing.
 pub(crate) fn join_boxes(left: Option<IndexBox>, right: Option<IndexBox>) -> Option<IndexBox>
     requires { (a b : List (ℕ × ℕ)) → left ≡ Some a → right ≡ Some b → length a ≡ length b }
     ensures { result ≡ join_boxes left right }
@@ -43,7 +43,7 @@ pub(crate) fn join_boxes(left: Option<IndexBox>, right: Option<IndexBox>) -> Opt
     }
 }
 
-/// The box of what lies in a shape, unless that is nothing.
+/// Returns the part of the intervals that lies in a shape; None if it is empty.
 pub(crate) fn bounded(shape: &[u32], region: Option<Intervals>) -> Option<IndexBox>
     requires { length shape.now ≤ most_axes }
     ensures { result ≡ bounded shape.now region }
@@ -51,7 +51,7 @@ pub(crate) fn bounded(shape: &[u32], region: Option<Intervals>) -> Option<IndexB
     IndexBox::inside(shape, &region?)
 }
 
-/// The box of the last place of the first axis of a shape, unless it has no items.
+/// Returns the box of the last place of the first axis of a shape; None if the shape has no items.
 pub fn last_place(shape: &[u32]) -> Option<IndexBox>
     requires { length shape.now ≤ most_axes }
     ensures { result ≡ last_place shape.now }
@@ -63,7 +63,7 @@ pub fn last_place(shape: &[u32]) -> Option<IndexBox>
     IndexBox::inside(shape, &last)
 }
 
-/// The reach of a box, if there is one.
+/// Converts an optional box to a reach.
 pub(crate) fn as_reach(region: Option<IndexBox>) -> Reach
     ensures { result ≡ as_reach region }
 {
@@ -73,8 +73,8 @@ pub(crate) fn as_reach(region: Option<IndexBox>) -> Reach
     }
 }
 
-/// What the law of a rule gives: where arguments agree outside their changed boxes, results agree outside what is
-/// reached, which lies in the result.
+/// States the law of change of a rule: if arguments agree outside their changed boxes, results agree outside the reach. The reach lies in
+/// the result.
 pub fn reach_covers<R: Rule>(rule: &R)
     ensures covers { ReachCovers (R.model rule.now) }
     ensures lies { ReachLies (R.model rule.now) }
@@ -82,8 +82,8 @@ pub fn reach_covers<R: Rule>(rule: &R)
     let _rule = rule;
 }
 
-/// States the law of growth of a rule: if its marked arguments grew by one place of their first axis and `grows` holds, the result grows by one
-/// place and keeps the items of its old places.
+/// States the law of growth of a rule: if its marked arguments grew by one place of their first axis and `grows` holds, the result grows by
+/// one place and keeps its old items.
 pub fn growth_extends<R: Rule>(rule: &R)
     ensures { IsGrowing (R.model rule.now) (R.model rule.now).grows }
 {

@@ -1,4 +1,4 @@
-//! What a change rule is.
+//! Change rules.
 
 ghost use Rattle.std.specs.Prelude.{◌≡◌, ◌+◌, ◌≤◌, length, map, IfOk, IfErr, OnOk, IsTrue, Ok, Err};
 ghost use Rattle.arrays_core.specs.Arrays.{IsAnswerTo};
@@ -13,9 +13,8 @@ use arrays_core::{ApplyFault, Array, Item, ItemType, Kind, Shape, shape_of, size
 use index_region::{ChangedBox, IndexBox, Seen};
 use std::alloc::Global;
 
-/// A function of arrays, by its checks, its items, and what a change of its arguments changes of its result, with its laws: the boxes hold all that
-/// changes, and the result grows where it says so. It has no way to an item that does not tick. None of `shape`, `item`, `grows` and `reach` takes
-/// memory.
+/// An array function with its change rule. Its laws: the boxes contain everything that changes, and the result grows when `grows` holds.
+/// Every computed item ticks the meter. None of `shape`, `item`, `grows` and `reach` allocates.
 pub trait Rule {
     ghost use Rattle.change_core.specs.RuleModels.{RuleModel, Passes, form_size};
     ghost use Rattle.change_core.specs.Reaches.{AllFit, reach_of};
@@ -24,15 +23,15 @@ pub trait Rule {
     ghost use Rattle.change_core.specs.Tightness.{IsTight};
     ghost use Rattle.change_core.specs.Growth.{IsGrowing};
 
-    /// Its checks, its items, and how its results use its arguments.
+    /// The model: the checks, the items, and the uses of the arguments.
     ghost model: { Self → RuleModel };
 
-    /// The checks in their order, and the shape and the type of the result.
+    /// Checks the arguments in order, and returns the shape and type of the result.
     fn shape(&self, args: &[Seen]) -> Result<(Shape, ItemType), Kind>
         requires { length args.now ≡ length (model self.now).selectors }
         ensures { IsFormAnswerTo ((model self.now).form args.now) result };
 
-    /// How many places the result has; none where a check fails.
+    /// Returns the number of places of the result; 0 if a check fails.
     fn places(&self, args: &[Seen]) -> u32
         requires { length args.now ≡ length (model self.now).selectors }
         ensures { result ≡ form_size ((model self.now).form args.now) }
@@ -43,7 +42,7 @@ pub trait Rule {
         }
     }
 
-    /// The item at an index list of the result. It ticks once.
+    /// Returns the item at an index list of the result. Ticks once.
     fn item(&self, args: &[Seen], index: &[u32], meter: &mut Meter) -> Result<Item, Kind>
         requires count { length args.now ≡ length (model self.now).selectors }
         requires place { IsPlaceOf ((model self.now).form args.now) index.now }
@@ -53,7 +52,7 @@ pub trait Rule {
         ensures rises { meter.old.ticks ≤ meter.new.ticks }
         ensures joins { meter.new.joins ≡ meter.old.joins };
 
-    /// The whole result. It ticks as often as the result has places.
+    /// Computes the whole result. Ticks once for each place of the result.
     fn all(&self, alloc: Global, args: &[Seen], meter: &mut Meter) -> Result<Array, ApplyFault>
         requires { length args.now ≡ length (model self.now).selectors }
         ensures is { IsAnswerTo (whole ((model self.now).form args.now) ((model self.now).item args.now)) result }
@@ -61,8 +60,7 @@ pub trait Rule {
         ensures rises { meter.old.ticks ≤ meter.new.ticks }
         ensures joins { meter.new.joins ≡ meter.old.joins };
 
-    /// The items of a box, as `part` says, made one after another. A `part` of an impl's own, as that of every `Announced`, calls it where no shorter way
-    /// is known.
+    /// Computes the items of a box one by one, as `part` specifies. An override of `part` calls it as a fallback, as `Announced` does.
     fn item_by_item(
         &self,
         alloc: Global,
@@ -95,8 +93,8 @@ pub trait Rule {
         Ok(values)
     }
 
-    /// The items of a box of the result in row-major order, as an array of any shape, or the first error among them. It
-    /// ticks at most as often as the box has places, and as often where it answers Ok.
+    /// Returns the items of a box of the result in row-major order, in any shape, or the first error among them. Ticks at most once for
+    /// each place of the box, and exactly so on success.
     fn part(
         &self,
         alloc: Global,
@@ -119,21 +117,20 @@ pub trait Rule {
         self.item_by_item(alloc, args, shape, item_type, region, meter)
     }
 
-    /// Where the marked arguments grew by one place of their first axis, and the others are as they were, the result
-    /// grows so too.
+    /// Tests whether the result grows by one place of its first axis. Each marked argument grew so; the others are unchanged.
     fn grows(&self, args: &[Seen], grown: &[bool]) -> bool
         requires count { length args.now ≡ length (model self.now).selectors }
         requires marks { length grown.now ≡ length args.now }
         ensures { result ≡ (model self.now).grows args.now grown.now };
 
-    /// An item of the result may be made from many items of the arguments. Where that is not so, what changes of the result is made from the arguments as
-    /// they are seen, without a copy of one that was patched. This says how a result is best made, and nothing of what it is.
+    /// Tests whether an item of the result may read many items of the arguments. If not, changed items are computed from views, without
+    /// copying a patched argument. Only the cost depends on it.
     fn reads_many_items(&self) -> bool {
         true
     }
 
-    /// Checks the arguments, and returns the places of the result that may change: the arguments are these now, and changed in these boxes. Returns the error
-    /// of the first check that fails.
+    /// Checks the new arguments, and returns the places of the result that may change, given the changed box of each argument. Returns the
+    /// error of the first check that fails.
     fn reached<M: ChangedBox>(&self, args: &[Seen], moved: &[M]) -> Result<Reached, Kind>
         requires count { length args.now ≡ length (model self.now).selectors }
         requires moves { length moved.now ≡ length args.now }
@@ -142,7 +139,7 @@ pub trait Rule {
         ensures passes { OnOk result (Passes ((model self.now).form args.now)) }
         ensures reach { IfOk result (λ r. r.reach ≡ reach_of (model self.now) args.now (map M.changed moved.now)) };
 
-    /// What may change of the result, where the arguments are these now, and changed in the boxes that are given.
+    /// Returns the part of the result that may change, given the new arguments and the changed box of each.
     fn reach(&self, args: &[Seen], moved: &[Option<IndexBox>]) -> Reach
         requires count { length args.now ≡ length (model self.now).selectors }
         requires moves { length moved.now ≡ length args.now }
@@ -155,9 +152,9 @@ pub trait Rule {
         }
     }
 
-    /// The boxes hold all that changes.
+    /// The boxes contain everything that changes.
     ghost tight: { (rule : Self) → IsTight (model rule) };
 
-    /// The result grows where it says so.
+    /// The result grows when `grows` holds.
     ghost growing: { (rule : Self) → IsGrowing (model rule) (model rule).grows };
 }

@@ -13,11 +13,11 @@ loop-later-init g c =
       kept = anew_past (g.Self.Announced.selectors c.args.self.now) moves _ (omega (arith, past));
     }
 
--- as many arguments changed as there are selectors
+-- there are as many changes as selectors
 count : (g : Over) (c : After-changed_box g) → length (map g.M.ChangedBox.changed c.args.moved.now) ≡ length (g.Self.Announced.selectors c.args.self.now)
 count g c = length-map c.args.moved.now g.M.ChangedBox.changed ∙ c.requires.moves ∙ c.requires.count ∙ sym (g.met.Self.Announced.counted c.args.self.now)
 
--- the box that is looked at stands there among the changed boxes
+-- the current box is the one at its index in the list of changes
 there : (g : Over) (c : After-changed_box g) → let which = length c.args.moved.now - 1 - c.loop-later.later in let m = g.M.ChangedBox.changed c.index-moved-which.result in m ≡ get_or (map g.M.ChangedBox.changed c.args.moved.now) which m
 there g c =
     let changed = g.M.ChangedBox.changed in
