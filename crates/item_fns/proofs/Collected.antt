@@ -1,4 +1,4 @@
--- Numbers that a rule gives place by place, as an array.
+-- The array of the numbers that a rule returns place by place.
 use Rattle.std.{proofs.Common.{◌≡◌, ℕ, ◌<◌, List, [], ◌∷◌, length, get_or, map, refl, ap, sym, ◌∙◌, arith, ℤ, pos, Result, Ok, Err}, proofs.lemmas.List.{length-map, ext_get_or, get_or_default}, proofs.Math.ListN.{get_or-map}}
 use Rattle.arrays_core.{specs.declared.item.Item.{Item}, specs.declared.item.Item.TheVariants.{Num}, specs.declared.item.ItemType.TheVariants.{Nums}, specs.declared.item.Kind.{Kind}, specs.Items.{all_or_first_error, after}, specs.Shapes.{size, indices, index_after}, specs.Arrays.{collect, with_items}}
 use Rattle.{arrays_core.proofs.Order.{length-indices, get_or-indices}, item_fns.{specs.Items.{number_item}, specs.NumberLists.{number_items}}}
@@ -12,7 +12,7 @@ items_collected (Ok z ∷ rs) = ap (after (Num z)) (items_collected rs) ∙ move
     moved z (Ok zs) = refl
     moved z (Err k) = refl
 
--- a rule that gives these numbers at these places gives their array
+-- a rule that returns these numbers at these places returns their array
 pub collected : (shape : List ℕ) (rule : List ℕ → Result Item Kind) (rs : List (Result ℤ Kind)) → length rs ≡ size shape
     → ((i : ℕ) → i < size shape → rule (index_after shape i) ≡ number_item (get_or rs i (Ok (pos 0))))
     → collect Nums shape rule ≡ with_items Nums shape (number_items (all_or_first_error rs))

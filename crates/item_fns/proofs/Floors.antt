@@ -1,4 +1,4 @@
--- Quotients that are rounded down, against those toward zero.
+-- Quotients that are rounded down, compared with those rounded toward zero.
 use Rattle.std.{proofs.Common.{◌≡◌, ℕ, zero, suc, ◌+◌, ◌/◌, ◌%◌, ◌^◌, refl, ap, ◌∙◌, inl, inr, arith, ℤ, pos, negsuc, neg_ℤ, ◌-ℤ◌, Bool, true, false, cond, Result, Ok, Err, int_lt, int_div}, specs.Prelude.{nat_lt}, specs.Ordering.{int_eq}, proofs.lemmas.Bool.Decides.{Decides-int_eq, nat_tests}}
 use Rattle.std.{proofs.lemmas.Bool.{cases_lt, le-ltb, true≢false, false_from_ne_true}, proofs.lemmas.Int.{ints}, proofs.lemmas.Nat.{div-mul-add}}
 use Rattle.arrays_core.{specs.declared.item.Kind.{Kind}, specs.declared.item.Kind.TheVariants.{Limit}}
@@ -8,7 +8,7 @@ use mathlib.Core.Bool.{beq}
 pub not_zero : (b : ℤ) → (b ≡ pos 0 → ⊥) → int_eq b (pos 0) ≡ false
 not_zero b h = false_from_ne_true _ (λ t. h ((Decides-int_eq b (pos 0)).0 t))
 
--- the quotient toward zero is one above the one that is rounded down
+-- the quotient toward zero is one more than the quotient rounded down
 pub record IsOneAbove (a b : ℤ) : Type 0 where
   pub magnitude : ℕ
   pub quotient : int_div a b ≡ neg_ℤ (pos magnitude)
@@ -20,7 +20,7 @@ one_less q = omega (arith, ints)
 negative_one_less : (q : ℕ) → negsuc q ≡ neg_ℤ (pos q) -ℤ pos 1
 negative_one_less q = omega (arith, ints)
 
--- it is so where the signs differ and something is left
+-- this holds if the signs differ and the residue is not 0
 pub one_above : (a b : ℤ) → (b ≡ pos 0 → ⊥) → beq (int_lt a (pos 0)) (int_lt b (pos 0)) ≡ false → (residue b a ≡ pos 0 → ⊥) → IsOneAbove a b
 one_above (pos a) (pos b) some differ left =
     let same = rw (le-ltb a 0 (omega arith), le-ltb b 0 (omega arith)) at differ in absurd (true≢false same)
@@ -40,7 +40,7 @@ one_above (negsuc a) (pos (suc b)) some differ left =
           record { magnitude = a / suc b; quotient = ap (λ q. neg_ℤ (pos q)) same; floor = negative_one_less (a / suc b) }
     ]
 
--- where a number from 0 down is beyond the 64 bits, so is the next one down
+-- if a number from 0 down overflows, so does the next lower one
 pub held_below : (q : ℕ) (k : Kind) → number_or_limit (neg_ℤ (pos q)) ≡ Err k → number_or_limit (neg_ℤ (pos q) -ℤ pos 1) ≡ Err k
 held_below zero k h = cc
 held_below (suc m) k h =

@@ -32,7 +32,7 @@ module _ (f : ℤ → ℤ → Result ℤ Kind) (xs ys : List ℤ) where
   pub get_or-results : (k : ℕ) (d : Result ℤ Kind) → k < paired_length xs ys → get_or (results_by f xs ys) k d ≡ f (number_at xs k) (number_at ys k)
   get_or-results k d h = get_or-map-range_with_len (λ j. f (number_at xs j) (number_at ys j)) 0 (paired_length xs ys) k k d h (omega arith)
 
-  -- where both are of one length, each place has the result of the numbers there
+  -- if both have one length, each place has the result of the numbers there
   pub own_result : (k : ℕ) (d : Result ℤ Kind) → length xs ≡ length ys → k < length xs → get_or (results_by f xs ys) k d ≡ f (get_or xs k (pos 0)) (get_or ys k (pos 0))
   own_result k d equal h =
       get_or-results k d (omega (arith, places_of_equal xs ys equal))

@@ -1,4 +1,4 @@
--- Where the identity of a function leaves a number, or a truth value, as it is.
+-- The numbers or truth values that the identity of a function leaves unchanged.
 use Rattle.std.{proofs.Common.{◌≡◌, [], ◌∷◌, ℕ, suc, ◌*◌, ◌/◌, ◌^◌, refl, ap, ◌∙◌, arith, Bool, true, false, Ok, ℤ, pos, negsuc, neg_ℤ, ◌+ℤ◌, ◌-ℤ◌, ◌*ℤ◌, SFits, w64}, proofs.Math.Nat.{div-one, pow-zero}, proofs.lemmas.Grind.{pow_more}, proofs.lemmas.Int.{ints, clamps}}
 use Rattle.arrays_core.proofs.CaseWords.{◌⇒◌, AllSame}
 use Rattle.function_names.specs.declared.scalar.Scalar2.TheVariants.{Plus, Minus, Times, Divide, Power, Residue, Maximum, Minimum, Less, LessOrEqual, Equal, GreaterOrEqual, Greater, NotEqual, And, Or}

@@ -28,7 +28,7 @@ too_low : (m : ℕ) → 2 ^ 63 < m → number_or_limit (neg_ℤ (pos m)) ≡ Err
 too_low zero h = absurd (omega arith)
 too_low (suc m) h = let far = le-ltb m (2 ^ 63) (omega arith) in rw far refl
 
--- from the exponent 64 on the powers of 2 and of what is greater are out of range
+-- from exponent 64 on, the powers of numbers from 2 on are out of range
 far_power : (a n : ℕ) → 2 ≤ a → 64 ≤ n → 2 ^ 63 < a ^ n
 far_power a n h k =
     let by_base : 2 ^ n ≤ a ^ n = pow-le-pow_left h n in
@@ -65,7 +65,7 @@ pub odd_power : (b : ℤ) → (of_z w64 (int_rem b (pos 2)) ≡ 0 → ⊥) → p
 odd_power (pos n) h = ap number_or_limit (odd_is n h)
 odd_power (negsuc n) h = ap Ok (odd_is (suc n) (λ e. h (ap (λ r. of_z w64 (neg_ℤ (pos r))) e)))
 
--- what is not 0, 1 or -1 is 2 or more without its sign
+-- a number other than 0, 1 and -1 has a magnitude of at least 2
 two_or_more : (a : ℤ) → (of_z w64 a ≡ 0 → ⊥) → (of_z w64 a ≡ 1 → ⊥) → (of_z w64 a ≡ 18446744073709551615 → ⊥) → 2 ≤ unsigned_abs a
 two_or_more (pos n) none one minus_one = omega arith
 two_or_more (negsuc zero) none one minus_one = absurd (minus_one refl)

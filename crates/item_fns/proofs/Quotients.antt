@@ -1,11 +1,11 @@
--- Quotients by the machine's remainder, and those by -1.
+-- Quotients by the machine's remainder, and quotients by -1.
 use Rattle.std.{proofs.Common.{◌≡◌, ◌/◌, ◌%◌, ◌^◌, ◌<◌, ◌≤◌, suc, SFits, unsigned_abs, refl, ap, sym, ◌∙◌, inl, arith, ℤ, pos, negsuc, neg_ℤ, ◌+ℤ◌, ◌-ℤ◌, ◌*ℤ◌, false, of_z, w64, int_rem, int_div}, proofs.Math.IntN.{*ℤ_comm}, proofs.lemmas.Int.{ints, quot-rem, rem_below, fits_signed_from_abs}, specs.Ordering.{int_eq}}
 use Rattle.item_fns.{specs.Numbers.{residue, quotient, number_or_limit}, proofs.Residues.{as_it_is, whole_quotient, quotient_whole}, proofs.Signs.{zero_of_bits}}
 
 nothing_left : (a p r : ℤ) → a -ℤ p ≡ pos 0 → p +ℤ r ≡ a → r ≡ pos 0
 nothing_left a p r h e = omega (arith, ints)
 
--- where the residue is 0, so is the machine's remainder
+-- if the residue is 0, the machine's remainder is 0
 pub no_remainder : (a b : ℤ) → int_eq b (pos 0) ≡ false → residue b a ≡ pos 0 → int_rem a b ≡ pos 0
 no_remainder a b some whole =
     nothing_left a (int_div a b *ℤ b) (int_rem a b) (rw (ap (λ z. b *ℤ z) (sym (whole_quotient a b some whole)) ∙ *ℤ_comm b (int_div a b)) at (rw some at whole)) (quot-rem a b)
@@ -20,7 +20,7 @@ no_bits a b some fits none =
     let below = rem_below a b reach.0 in
     zero_of_bits (int_rem a b) (fits_signed_from_abs w64 (int_rem a b) (let r = reach.1 in omega arith)) none
 
--- where the machine's remainder is 0, so is the residue
+-- if the machine's remainder is 0, the residue is 0
 pub no_residue : (a b : ℤ) → (of_z w64 b ≡ 0 → ⊥) → int_rem a b ≡ pos 0 → residue b a ≡ pos 0
 no_residue a b some none = sym (as_it_is b a (int_rem a b) some refl (inl none)) ∙ none
 

@@ -52,7 +52,7 @@ nonzero_rest (suc k) h = (k, refl)
 nonzero_place : (r : ℕ) → (r ≡ 0 → ⊥) → 0 < r
 nonzero_place r h = omega arith
 
--- a remainder of the other sign than the divisor is corrected by the divisor
+-- if the signs of remainder and divisor differ, the divisor is added
 pub corrected : (a b rest : ℤ) → (of_z w64 a ≡ 0 → ⊥) → rest ≡ int_rem b a → (of_z w64 rest ≡ 0 → ⊥)
     → not (beq (int_lt rest (pos 0)) (int_lt a (pos 0))) ≡ true → rest +ℤ a ≡ residue a b
 corrected (pos zero) b rest some is far differ = absurd (some refl)
@@ -94,7 +94,7 @@ as_it_is (negsuc a) (pos b) rest some is how =
           let bad = rw (is, le-ltb (b % suc a) 0 (omega arith)) at same in absurd (true≢false bad)
     ]
 
--- where nothing is left, a division toward zero is one that rounds down
+-- if the residue is 0, division toward zero equals division rounded down
 pub whole_quotient : (a b : ℤ) → int_eq b (pos 0) ≡ false → residue b a ≡ pos 0 → int_div a b ≡ floor_div a b
 whole_quotient (pos a) (pos b) some whole = refl
 whole_quotient (negsuc a) (negsuc b) some whole = refl

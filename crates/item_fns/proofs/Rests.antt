@@ -1,4 +1,4 @@
--- A residue is what is left of one number after a whole number of times another.
+-- A residue of b is b minus a multiple of a.
 use Rattle.std.{proofs.Common.{◌≡◌, ℕ, zero, suc, ◌%◌, ◌<◌, sym, subst, inl, inr, arith, false, ℤ, pos, negsuc, neg_ℤ, ◌+ℤ◌, ◌-ℤ◌, ◌*ℤ◌}, specs.Ordering.{int_eq}, proofs.lemmas.Int.{ints}, proofs.lemmas.Bool.{cases_lt, true≢false, false_from_ne_true}, proofs.lemmas.Bool.Decides.{Decides-int_eq}}
 use Rattle.std.proofs.lemmas.Nat.{mod_below}
 use Rattle.item_fns.{specs.Numbers.{residue, floor_div}, specs.Residue.{IsFromZeroBelow, IsRest}, proofs.Residues.{next_mod, both_positive, both_negative, negative_dividend, negative_dividend_whole, negative_divisor, negative_divisor_whole}}

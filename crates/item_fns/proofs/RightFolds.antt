@@ -1,4 +1,4 @@
--- Folds of lists that are not empty, from the last entry to the first.
+-- Folds of non-empty lists, from the last element to the first.
 use Rattle.std.{proofs.Common.{◌≡◌, ℕ, zero, suc, ◌+◌, ◌-◌, ◌*◌, ◌<◌, ◌≤◌, List, [], ◌∷◌, length, get_or, drop, take, refl, ap, sym, ◌∙◌, arith, Result, Ok, Err}, proofs.lemmas.List.{drop_more, get_or-take, get_or-drop, length-drop, length-take, ext_get_or}}
 use Rattle.std.proofs.lemmas.List.FromFn.{length-map-range_with_len, get_or-map-range_with_len}
 use Rattle.{arrays_core.{specs.declared.item.Kind.{Kind}, specs.Items.{and_then}}, item_fns.specs.Folds.{strided, folded}}
@@ -14,13 +14,13 @@ module _ {A : Type 0} (f : A → A → Result A Kind) where
   fold_last (x ∷ y ∷ xs) zero d h = absurd (omega arith)
   fold_last (x ∷ xs) (suc k) d h = fold_last xs k d (omega arith)
 
-  -- an error of the rest stands
+  -- an error of the rest is the result
   pub error_stands : (xs : List A) (k : ℕ) (e : Kind) → k < length xs → folded f (drop k xs) ≡ Err e → folded f xs ≡ Err e
   error_stands [] k e h g = absurd (omega arith)
   error_stands (x ∷ xs) zero e h g = g
   error_stands (x ∷ xs) (suc k) e h g = fold_more x xs (omega arith) ∙ (rw (error_stands xs k e (omega arith) g) refl)
 
--- one entry more in front
+-- one more element in front
 pub rest_more : {A : Type 0} (f : A → A → Result A Kind) (xs : List A) (d : A) (j : ℕ) (y : A) → j + 1 < length xs → folded f (drop (j + 1) xs) ≡ Ok y
     → folded f (drop j xs) ≡ f (get_or xs j d) y
 rest_more f xs d j y h e =
@@ -28,7 +28,7 @@ rest_more f xs d j y h e =
     ∙ fold_more f (get_or xs j d) (drop (j + 1) xs) (omega (arith, length-drop (j + 1) xs))
     ∙ (rw e refl)
 
--- ---- entries a stride apart
+-- ---- elements a stride apart
 
 module _ {A : Type 0} (d : A) (xs : List A) where
   pub length-strided : (first stride count : ℕ) → length (strided d xs first stride count) ≡ count
@@ -50,7 +50,7 @@ module _ {A : Type 0} (d : A) (xs : List A) where
         let long = length-strided first stride count in
         rest_more f (strided d xs first stride count) d j y (omega arith) e ∙ ap (λ x. f x y) (get_or-strided first stride count j d (omega arith))
 
-  -- the first entries of a line
+  -- the first elements of a line
   pub take-strided : (first stride count n : ℕ) → n ≤ count → take n (strided d xs first stride count) ≡ strided d xs first stride n
   take-strided first stride count n h =
       let ys = strided d xs first stride count in
@@ -63,7 +63,7 @@ module _ {A : Type 0} (d : A) (xs : List A) where
       ∙ get_or-strided first stride count k d (omega arith)
       ∙ sym (get_or-strided first stride n k d inside))
 
--- entries one apart are a run
+-- elements with stride 1 are a run
 pub strided_run : {A : Type 0} (d : A) (xs : List A) (first count : ℕ) → first + count ≤ length xs → take count (drop first xs) ≡ strided d xs first 1 count
 strided_run d xs first count h =
     let long = length-take count (drop first xs) in

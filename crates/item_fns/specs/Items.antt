@@ -1,4 +1,4 @@
--- The scalar functions on items: a character is a domain error, but for equality.
+-- The scalar functions on items: a character is a domain error, except for equality.
 use Rattle.std.specs.Prelude.{◌==◌, ℤ, Bool, false, not, Result, Ok, Err}
 use Rattle.arrays_core.{specs.declared.item.Item.{Item}, specs.declared.item.Item.TheVariants.{Num, Char}, specs.declared.item.Kind.{Kind}, specs.declared.item.Kind.TheVariants.{Domain}}
 use Rattle.function_names.{specs.declared.scalar.Scalar1.{Scalar1}, specs.declared.scalar.Scalar2.{Scalar2}, specs.declared.scalar.Scalar2.TheVariants.{Equal, NotEqual}}
@@ -13,7 +13,7 @@ abbrev pub monadic_on_item : Scalar1 → Item → Result Item Kind
 monadic_on_item f (Num b) = number_item (monadic_on_number f b)
 monadic_on_item f (Char b) = Err Domain
 
--- of items that are not both numbers only equality can be asked
+-- of the items other than two numbers, only equality is defined
 abbrev pub dyadic_on_others : Scalar2 → Bool → Result Item Kind
 dyadic_on_others Equal same = Ok (Num (truth same))
 dyadic_on_others NotEqual same = Ok (Num (truth (not same)))

@@ -1,9 +1,9 @@
--- What public contracts mean.
+-- The definitions that public contracts use.
 pub mod Numbers
 pub mod Items
 pub mod Identities
 pub mod Folds
 pub mod RightFold
--- What proofs and bodies use.
+-- The definitions that proofs and bodies use.
 pub mod NumberLists
 pub mod Residue

@@ -1,4 +1,4 @@
--- Scalar functions of plain lists of numbers.
+-- Scalar functions of lists of numbers.
 use Rattle.std.{specs.Prelude.{◌≡◌, ℕ, ◌==◌, ℤ, pos, List, length, map, get_or, if◌then◌else◌, Result, Ok, Err, Vec}, specs.List.{range_with_len}}
 use Rattle.arrays_core.{specs.declared.item.Item.{Item}, specs.declared.item.Item.TheVariants.{Num}, specs.declared.item.Kind.{Kind}, specs.declared.fault.ApplyFault.{ApplyFault}, specs.declared.fault.ApplyFault.TheVariants.{Kind as KindFault, NoMemory}}
 use Rattle.function_names.{specs.declared.scalar.Scalar1.{Scalar1}, specs.declared.scalar.Scalar2.{Scalar2}}
@@ -8,11 +8,11 @@ use Rattle.item_fns.specs.Numbers.{monadic_on_number, dyadic_on_numbers}
 abbrev pub monadic_results : Scalar1 → List ℤ → List (Result ℤ Kind)
 monadic_results f xs = map (monadic_on_number f) xs
 
--- the number at a place; a list of one number has it at every place
+-- the number at a place; a list of one number is extended
 abbrev pub number_at : List ℤ → ℕ → ℤ
 number_at xs k = get_or xs (if length xs == 1 then 0 else k) (pos 0)
 
--- how many places two lists have, where one of one number stands for as many as the other has
+-- the common length of two lists; a list of one number is extended
 abbrev pub paired_length : List ℤ → List ℤ → ℕ
 paired_length xs ys = if length xs == 1 then length ys else length xs
 
@@ -23,7 +23,7 @@ results_by function xs ys = map (λ k. function (number_at xs k) (number_at ys k
 abbrev pub dyadic_results : Scalar2 → List ℤ → List ℤ → List (Result ℤ Kind)
 dyadic_results f xs ys = results_by (dyadic_on_numbers f) xs ys
 
--- a call answers what was asked for, or want of memory
+-- the result of a call: the wanted list, the wanted error, or lack of memory
 abbrev pub IsListAnswerTo : {G : Type 0} → Result (List ℤ) Kind → Result (Vec ℤ G) ApplyFault → Type 0
 IsListAnswerTo wanted (Ok v) = wanted ≡ Ok v.items
 IsListAnswerTo wanted (Err (KindFault k)) = wanted ≡ Err k

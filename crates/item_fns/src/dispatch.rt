@@ -1,4 +1,4 @@
-//! The choice of a function: of numbers, and of lists of numbers.
+//! Dispatch on the name of a scalar function, for numbers and lists of numbers.
 
 ghost use Rattle.std.specs.Prelude.{◌≡◌, ◌≢◌, ℤ, Result, length, IfOk, vec_len};
 ghost use Rattle.arrays_core.specs.declared.item.Kind.{Kind};
@@ -13,7 +13,7 @@ use arrays_core::{ApplyFault, Kind};
 use function_names::{Scalar1, Scalar2};
 use std::alloc::Global;
 
-/// A function of one number.
+/// Applies a function to a number.
 pub(crate) fn one_number(function: Scalar1, b: i64) -> Result<i64, Kind>
     ensures { result ≡ monadic_on_number function b }
 {
@@ -27,7 +27,7 @@ pub(crate) fn one_number(function: Scalar1, b: i64) -> Result<i64, Kind>
     }
 }
 
-/// A function of two numbers: a number, or the error that `Scalar2` names. It takes no memory.
+/// Applies a function to two numbers. Fails with the error that `Scalar2` documents. Allocates nothing.
 pub fn two_numbers(function: Scalar2, a: i64, b: i64) -> Result<i64, Kind>
     ensures { result ≡ dyadic_on_numbers function a b }
 {
@@ -61,7 +61,7 @@ impl TwoNumbers for Scalar2 {
     }
 }
 
-/// A scalar function of a list of numbers, place by place.
+/// Applies a scalar function to each number of a list.
 pub fn on_numbers(alloc: Global, function: Scalar1, numbers: &[i64]) -> Result<Vec<i64>, ApplyFault>
     ensures is { IsListAnswerTo (all_or_first_error (monadic_results function numbers.now)) result }
     ensures long { IfOk result (λ v. vec_len v ≡ length numbers.now) }
@@ -83,20 +83,19 @@ pub fn on_numbers(alloc: Global, function: Scalar1, numbers: &[i64]) -> Result<V
     }
 }
 
-/// What is made with a function of two numbers, of whatever type it is, so that each has a loop of its
-/// own.
+/// A computation that is compiled separately for each function of two numbers, so that each gets its own loop.
 pub trait WithFunction {
-    /// What is made.
+    /// The type of its result.
     type Output;
 
     ghost makes: { Self → (ℤ → ℤ → Result ℤ Kind) → Self.Output → Type 0 };
 
-    /// Makes it with a function.
+    /// Runs it with one function.
     fn with<S: TwoNumbers + Copy>(self, step: S) -> Self::Output
         ensures { makes self (S.gives step) result };
 }
 
-/// Makes something with the function of two numbers that is named.
+/// Runs a computation with the function of this name.
 pub fn with_function<W: WithFunction>(function: Scalar2, made: W) -> W::Output
     ensures { W.makes made (dyadic_on_numbers function) result }
 {
@@ -122,7 +121,7 @@ pub fn with_function<W: WithFunction>(function: Scalar2, made: W) -> W::Output
     }
 }
 
-/// The results at each place of two lists of numbers.
+/// The application of a function to two lists, place by place.
 #[derive(Drop)]
 struct Results<'a> {
     alloc: Global,
@@ -141,8 +140,7 @@ impl<'a> WithFunction for Results<'a> {
     }
 }
 
-/// A scalar function of two lists of numbers, place by place. A list of one number stands for as many
-/// as the other has.
+/// Applies a scalar function to two lists, place by place. A list of one number is extended to the length of the other.
 pub fn on_number_lists(
     alloc: Global,
     function: Scalar2,

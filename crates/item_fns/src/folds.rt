@@ -6,7 +6,7 @@ ghost use Rattle.item_fns.specs.Folds.{strided, folded};
 use crate::kernels::TwoNumbers;
 use arrays_core::Kind;
 
-/// The right fold of a list of numbers.
+/// Folds a list of numbers from the right.
 pub fn fold_list<S: TwoNumbers>(step: &S, numbers: &[i64]) -> Result<i64, Kind>
     requires { 0 < length numbers.now }
     ensures { result ≡ folded (S.gives step.now) numbers.now }
@@ -19,7 +19,7 @@ pub fn fold_list<S: TwoNumbers>(step: &S, numbers: &[i64]) -> Result<i64, Kind>
     Ok(result)
 }
 
-/// The right fold of `count` numbers that stand a stride apart, the first of them after `first` others.
+/// Folds `count` numbers from the right, `stride` places apart, beginning at index `first`.
 pub fn fold_numbers<S: TwoNumbers>(
     step: &S,
     numbers: &[i64],

@@ -5,8 +5,8 @@ ghost use Rattle.item_fns.specs.Identities.{identity_of};
 
 use function_names::Scalar2;
 
-/// What a reduction of no items gives: the identity of the function (ISO/IEC 13751, "Reduction"), which
-/// `⍲` and `⍱` have none of. It takes no memory.
+/// Returns the identity of a function: its reduction of no items (ISO/IEC 13751, "Reduction"). Returns None for `⍲` and `⍱`. Allocates
+/// nothing.
 pub fn identity(function: Scalar2) -> Option<i64>
     ensures { result ≡ identity_of function }
 {

@@ -10,8 +10,7 @@ use crate::numbers::truth;
 use arrays_core::{Item, Kind};
 use function_names::{Scalar1, Scalar2};
 
-/// A scalar function of one item: a number, or the error that `Scalar1` names. A character is DOMAIN.
-/// It takes no memory.
+/// Applies a scalar function to an item. Fails with DOMAIN for a character, or with the error that `Scalar1` documents. Allocates nothing.
 pub fn one(function: Scalar1, item: Item) -> Result<Item, Kind>
     ensures is { result ≡ monadic_on_item function item }
     ensures typed { IfOk result (λ x. type_of x ≡ Nums) }
@@ -22,7 +21,7 @@ pub fn one(function: Scalar1, item: Item) -> Result<Item, Kind>
     }
 }
 
-/// A function of items that are not both numbers: only equality can be asked of them.
+/// Applies a function to items that are not both numbers. Fails with DOMAIN except for `Equal` and `NotEqual`.
 fn others(function: Scalar2, same: bool) -> Result<Item, Kind>
     ensures is { result ≡ dyadic_on_others function same }
     ensures typed { IfOk result (λ x. type_of x ≡ Nums) }
@@ -34,8 +33,8 @@ fn others(function: Scalar2, same: bool) -> Result<Item, Kind>
     }
 }
 
-/// A scalar function of two items: a number, or the error that `Scalar2` names. A character is DOMAIN
-/// but in `Equal` and `NotEqual`, where it never equals a number. It takes no memory.
+/// Applies a scalar function to two items. Fails with DOMAIN for a character, except in `Equal` and `NotEqual`: a character never equals a
+/// number. Otherwise fails as `Scalar2` documents. Allocates nothing.
 pub fn two(function: Scalar2, left: Item, right: Item) -> Result<Item, Kind>
     ensures is { result ≡ dyadic_on_items function left right }
     ensures typed { IfOk result (λ x. type_of x ≡ Nums) }

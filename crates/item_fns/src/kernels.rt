@@ -1,4 +1,4 @@
-//! Functions of numbers as types, so that a loop over many numbers is made for each function.
+//! A type for each function of numbers, so that each gets its own compiled loop.
 
 ghost use Rattle.std.specs.Prelude.{◌≡◌, ℤ, Result, Ok};
 ghost use Rattle.arrays_core.specs.declared.item.Kind.{Kind};
@@ -13,21 +13,21 @@ use arrays_core::Kind;
 pub(crate) trait OneNumber {
     ghost gives: { Self → ℤ → Result ℤ Kind };
 
-    /// What it gives of a number.
+    /// Applies the function.
     fn at(&self, b: i64) -> Result<i64, Kind>
         ensures { result ≡ gives self.now b };
 }
 
-/// A function of two numbers: a number, or an error. It takes no memory.
+/// A function of two numbers that returns a number or an error. It allocates nothing.
 pub trait TwoNumbers {
     ghost gives: { Self → ℤ → ℤ → Result ℤ Kind };
 
-    /// What the function gives for two numbers.
+    /// Applies the function.
     fn at(&self, a: i64, b: i64) -> Result<i64, Kind>
         ensures { result ≡ gives self.now a b };
 }
 
-/// A function of two numbers with its left one given.
+/// A function of two numbers with a fixed left argument.
 #[derive(Clone, Copy)]
 pub(crate) struct WithLeft<S> {
     pub(crate) step: S,
@@ -42,7 +42,7 @@ impl<S: TwoNumbers> OneNumber for WithLeft<S> {
     }
 }
 
-/// A function of two numbers with its right one given.
+/// A function of two numbers with a fixed right argument.
 #[derive(Clone, Copy)]
 pub(crate) struct WithRight<S> {
     pub(crate) step: S,
@@ -57,7 +57,7 @@ impl<S: TwoNumbers> OneNumber for WithRight<S> {
     }
 }
 
-/// The number itself.
+/// Identity.
 #[derive(Clone, Copy)]
 pub(crate) struct Same;
 
@@ -69,7 +69,7 @@ impl OneNumber for Same {
     }
 }
 
-/// The number of the other sign.
+/// Negation.
 #[derive(Clone, Copy)]
 pub(crate) struct Negative;
 
@@ -81,7 +81,7 @@ impl OneNumber for Negative {
     }
 }
 
-/// ¯1, 0 or 1.
+/// Sign: ¯1, 0 or 1.
 #[derive(Clone, Copy)]
 pub(crate) struct Direction;
 
@@ -93,7 +93,7 @@ impl OneNumber for Direction {
     }
 }
 
-/// The number without its sign.
+/// Absolute value.
 #[derive(Clone, Copy)]
 pub(crate) struct Magnitude;
 
@@ -105,7 +105,7 @@ impl OneNumber for Magnitude {
     }
 }
 
-/// 1 for 0 and 0 for 1.
+/// Logical not, of 0 and 1.
 #[derive(Clone, Copy)]
 pub(crate) struct Not;
 
@@ -117,7 +117,7 @@ impl OneNumber for Not {
     }
 }
 
-/// The sum.
+/// Sum.
 #[derive(Clone, Copy)]
 pub struct Plus;
 
@@ -129,7 +129,7 @@ impl TwoNumbers for Plus {
     }
 }
 
-/// The difference.
+/// Difference.
 #[derive(Clone, Copy)]
 pub struct Minus;
 
@@ -141,7 +141,7 @@ impl TwoNumbers for Minus {
     }
 }
 
-/// The product.
+/// Product.
 #[derive(Clone, Copy)]
 pub struct Times;
 
@@ -153,7 +153,7 @@ impl TwoNumbers for Times {
     }
 }
 
-/// The quotient.
+/// Quotient.
 #[derive(Clone, Copy)]
 pub struct Divide;
 
@@ -165,7 +165,7 @@ impl TwoNumbers for Divide {
     }
 }
 
-/// The power.
+/// Power.
 #[derive(Clone, Copy)]
 pub struct Power;
 
@@ -177,7 +177,7 @@ impl TwoNumbers for Power {
     }
 }
 
-/// The residue.
+/// Residue.
 #[derive(Clone, Copy)]
 pub struct Residue;
 
@@ -189,7 +189,7 @@ impl TwoNumbers for Residue {
     }
 }
 
-/// The greater.
+/// Maximum.
 #[derive(Clone, Copy)]
 pub struct Maximum;
 
@@ -201,7 +201,7 @@ impl TwoNumbers for Maximum {
     }
 }
 
-/// The lesser.
+/// Minimum.
 #[derive(Clone, Copy)]
 pub struct Minimum;
 
@@ -213,7 +213,7 @@ impl TwoNumbers for Minimum {
     }
 }
 
-/// Whether a is less.
+/// Tests a < b.
 #[derive(Clone, Copy)]
 pub struct Less;
 
@@ -225,7 +225,7 @@ impl TwoNumbers for Less {
     }
 }
 
-/// Whether a is not greater.
+/// Tests a ≤ b.
 #[derive(Clone, Copy)]
 pub struct LessOrEqual;
 
@@ -237,7 +237,7 @@ impl TwoNumbers for LessOrEqual {
     }
 }
 
-/// Whether they are equal.
+/// Tests a = b.
 #[derive(Clone, Copy)]
 pub struct Equal;
 
@@ -249,7 +249,7 @@ impl TwoNumbers for Equal {
     }
 }
 
-/// Whether a is not less.
+/// Tests a ≥ b.
 #[derive(Clone, Copy)]
 pub struct GreaterOrEqual;
 
@@ -261,7 +261,7 @@ impl TwoNumbers for GreaterOrEqual {
     }
 }
 
-/// Whether a is greater.
+/// Tests a > b.
 #[derive(Clone, Copy)]
 pub struct Greater;
 
@@ -273,7 +273,7 @@ impl TwoNumbers for Greater {
     }
 }
 
-/// Whether they differ.
+/// Tests a ≠ b.
 #[derive(Clone, Copy)]
 pub struct NotEqual;
 
@@ -285,7 +285,7 @@ impl TwoNumbers for NotEqual {
     }
 }
 
-/// Both; both are looked at, so `0∧2` is DOMAIN.
+/// Logical and. Checks both arguments: `0∧2` is DOMAIN.
 #[derive(Clone, Copy)]
 pub struct And;
 
@@ -297,7 +297,7 @@ impl TwoNumbers for And {
     }
 }
 
-/// At least one; both are looked at.
+/// Logical or. Checks both arguments.
 #[derive(Clone, Copy)]
 pub struct Or;
 
@@ -309,7 +309,7 @@ impl TwoNumbers for Or {
     }
 }
 
-/// Not both; both are looked at.
+/// Logical nand. Checks both arguments.
 #[derive(Clone, Copy)]
 pub struct Nand;
 
@@ -321,7 +321,7 @@ impl TwoNumbers for Nand {
     }
 }
 
-/// Neither; both are looked at.
+/// Logical nor. Checks both arguments.
 #[derive(Clone, Copy)]
 pub struct Nor;
 

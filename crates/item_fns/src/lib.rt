@@ -1,4 +1,4 @@
-//! The scalar functions on items: of one item or two, of numbers by a kernel for each function, and right folds of numbers.
+//! The scalar functions on items: on one item or two, kernels for numbers, and right folds of numbers.
 #![tactic(auto)]
 
 mod dispatch;

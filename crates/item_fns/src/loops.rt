@@ -1,4 +1,4 @@
-//! Loops over plain slices of numbers, one for each function.
+//! Loops over slices of numbers, compiled for each function.
 
 ghost use Rattle.std.specs.Prelude.{◌≡◌, ◌≢◌, ◌<◌, length, map, get_or, pos, IfOk, vec_len};
 ghost use Rattle.arrays_core.specs.Items.{all_or_first_error};
@@ -8,7 +8,7 @@ use crate::kernels::{OneNumber, TwoNumbers, WithLeft, WithRight};
 use arrays_core::{ApplyFault, Kind, room_of};
 use std::alloc::Global;
 
-/// A function of each number of a list.
+/// Applies a function to each number of a list.
 pub(crate) fn on_each<S: OneNumber>(
     alloc: Global,
     step: &S,
@@ -25,7 +25,7 @@ pub(crate) fn on_each<S: OneNumber>(
     Ok(results)
 }
 
-/// A function of the numbers at one place of two lists.
+/// Applies a function to the numbers at one place of two lists.
 #[inline]
 fn at_place<S: TwoNumbers>(step: &S, left: &[i64], right: &[i64], place: usize) -> Result<i64, Kind>
     requires in_left { place < length left.now }
@@ -35,7 +35,7 @@ fn at_place<S: TwoNumbers>(step: &S, left: &[i64], right: &[i64], place: usize) 
     step.at(left[place], right[place])
 }
 
-/// A function of the numbers at each place of two lists of one length.
+/// Applies a function to two lists of one length, place by place.
 fn on_pairs<S: TwoNumbers>(
     alloc: Global,
     step: &S,
@@ -54,8 +54,7 @@ fn on_pairs<S: TwoNumbers>(
     Ok(results)
 }
 
-/// A function of two lists of numbers, place by place; a list of one number stands for as many as the
-/// other has.
+/// Applies a function to two lists, place by place. A list of one number is extended to the length of the other.
 pub(crate) fn on_lists<S: TwoNumbers + Copy>(
     alloc: Global,
     step: S,

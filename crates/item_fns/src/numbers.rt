@@ -7,14 +7,14 @@ ghost use Rattle.item_fns.specs.Numbers.{number_or_limit, floor_div, truth, quot
 
 use arrays_core::Kind;
 
-/// 1 for yes and 0 for no.
+/// Returns 1 for true and 0 for false.
 pub fn truth(yes: bool) -> i64
     ensures { result ≡ truth yes }
 {
     if yes { 1 } else { 0 }
 }
 
-/// 0 and 1 as truth values, any other number DOMAIN.
+/// Converts 0 and 1 to truth values. Fails with DOMAIN for any other number.
 pub(crate) fn as_truth(a: i64) -> Result<bool, Kind>
     ensures { result ≡ as_truth a }
 {
@@ -25,7 +25,7 @@ pub(crate) fn as_truth(a: i64) -> Result<bool, Kind>
     }
 }
 
-/// The number, or LIMIT where it was beyond 64 bits.
+/// Unwraps a checked result. Fails with LIMIT on overflow.
 pub(crate) fn in_range(number: Option<i64>) -> Result<i64, Kind>
     ensures { (z : ℤ) → SomeIff number (FitsSigned w64 z) z → result ≡ number_or_limit z }
 {
@@ -35,8 +35,7 @@ pub(crate) fn in_range(number: Option<i64>) -> Result<i64, Kind>
     }
 }
 
-/// What is left of b after a times the greatest whole number not above b divided by a. The machine's
-/// remainder has the sign of b; where that is the other one, a is added.
+/// Returns the residue b - a×⌊b÷a; b for a = 0. The machine's remainder has the sign of b: if the signs differ, adds a.
 pub fn residue(a: i64, b: i64) -> i64
     ensures is { result ≡ residue a b }
     ensures rest { a ≢ pos 0 → IsRest a b result }
@@ -52,8 +51,8 @@ pub fn residue(a: i64, b: i64) -> i64
     }
 }
 
-/// a divided by b, DOMAIN where it is not whole. The machine's quotient and remainder come of one
-/// division, but for ¯1.
+/// Divides a by b. Fails with DOMAIN if the quotient is no integer, with LIMIT on overflow. Except for b = ¯1, one machine division yields
+/// quotient and remainder.
 pub(crate) fn quotient(a: i64, b: i64) -> Result<i64, Kind>
     ensures { result ≡ quotient a b }
 {
@@ -69,8 +68,7 @@ pub(crate) fn quotient(a: i64, b: i64) -> Result<i64, Kind>
     Ok(a / b)
 }
 
-/// The greatest whole number not above a divided by b, or LIMIT where that is beyond 64 bits. The
-/// machine's quotient is the one toward zero.
+/// Returns ⌊a÷b. Fails with LIMIT on overflow. The machine's quotient rounds toward zero.
 pub fn floor_quotient(a: i64, b: i64) -> Result<i64, Kind>
     requires { b ≢ pos 0 }
     ensures { result ≡ number_or_limit (floor_div a b) }
@@ -85,7 +83,8 @@ pub fn floor_quotient(a: i64, b: i64) -> Result<i64, Kind>
     in_range(quotient?.checked_sub(1))
 }
 
-/// a to the power b. From 2 on, and from ¯2 down, `checked_pow` stops after at most 64 steps.
+/// Returns a to the power b. Fails with DOMAIN if it is no integer, with LIMIT on overflow. For a ≥ 2 or a ≤ ¯2, `checked_pow` overflows
+/// within 64 multiplications.
 pub(crate) fn power(a: i64, b: i64) -> Result<i64, Kind>
     ensures { result ≡ power a b }
 {

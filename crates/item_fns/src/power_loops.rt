@@ -1,4 +1,4 @@
-//! Powers of lists: of one number by a table, and squares by a product.
+//! Powers of lists: a table for a single base, and a product for squares.
 
 ghost use Rattle.std.specs.Prelude.{◌≡◌, ◌≢◌, ◌<◌, ◌≤◌, ℕ, pos, length, get_or, Ok, IfOk, vec_len};
 ghost use Rattle.arrays_core.specs.Items.{all_or_first_error};
@@ -12,11 +12,10 @@ use crate::numbers::{in_range, power};
 use arrays_core::{ApplyFault, Kind};
 use std::alloc::Global;
 
-/// How many powers are kept: no later one of 2, of ¯2 or of what is farther from 0 is within 64 bits. A
-/// list of as many exponents is worth a table.
+/// The size of a table. For a base ≥ 2 or ≤ ¯2, no power from 64 on fits into 64 bits. The table pays from 64 exponents on.
 const KEPT: usize = 64;
 
-/// The powers of one number, the first of them kept in a table.
+/// The powers of one base, the first of them in a table.
 #[derive(Drop)]
 struct PowersOf {
     base: i64,
@@ -27,7 +26,7 @@ struct PowersOf {
 }
 
 impl PowersOf {
-    /// The table of a number: its powers from the power 0 on that are within 64 bits.
+    /// Makes the table of a base: its powers from 0 on that fit into 64 bits.
     fn new(base: i64) -> PowersOf
         ensures { result.base ≡ base }
     {
@@ -61,7 +60,7 @@ impl OneNumber for PowersOf {
     }
 }
 
-/// The number times itself.
+/// The square.
 #[derive(Clone, Copy)]
 struct Square;
 
@@ -73,8 +72,7 @@ impl OneNumber for Square {
     }
 }
 
-/// Powers of two lists of numbers, place by place; a list of one number stands for as many as the other
-/// has.
+/// Raises a list to a list of powers, place by place. A list of one number is extended to the length of the other.
 pub(crate) fn on_powers(alloc: Global, left: &[i64], right: &[i64]) -> Result<Vec<i64>, ApplyFault>
     requires { length left.now ≢ 1 → length right.now ≢ 1 → length left.now ≡ length right.now }
     ensures is { IsListAnswerTo (all_or_first_error (dyadic_results two.Power left.now right.now)) result }

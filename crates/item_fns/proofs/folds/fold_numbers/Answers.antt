@@ -10,7 +10,7 @@ loop-before-init g c =
       below = omega arith;
     }
 
--- the fold from here on is what the step gives
+-- the fold from here on is the result of the step
 at_gives : (g : Over) (c : After-at g)
     → folded (g.S.TwoNumbers.gives c.args.step.now) (drop (c.loop-before.before - 1) (strided (pos 0) c.args.numbers.now c.args.first c.args.stride c.args.count)) ≡ c.at.result
 at_gives g c =

@@ -3,7 +3,7 @@ use Rattle.arrays_core.proofs.Order.{front_more, front_error}
 use Rattle.item_fns.{proofs.Errors.{list_error}, proofs.loops.on_each.Given.{Over}, proofs.loops.on_each.Goals.{After-at}}
 use Rattle.item_fns.proofs.loops.on_each.Goals as goal
 
--- the result at this place is what the step gives
+-- the result at this place is the result of the step
 at_gives : (g : Over) (c : After-at g) (d : _) → get_or (map (g.S.OneNumber.gives c.args.step.now) c.args.numbers.now) c.loop-number.number-index d ≡ c.at.result
 at_gives g c d =
     let item = get_or c.args.numbers.now c.loop-number.number-index (pos 0) in

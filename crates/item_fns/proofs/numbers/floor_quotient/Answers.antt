@@ -13,11 +13,11 @@ first c =
     let divided : SomeIff c.checked_div.result (CanDivide w64 a b) (int_div a b) = rw (to_z-of_z w64 a c.ranges.a, to_z-of_z w64 b c.ranges.b) at c.checked_div.ensures in
     c.in_range-quotient.ensures (int_div a b) (some_iff_rest c.checked_div.result _ _ _ (has_bits b c.ranges.b c.requires) divided)
 
--- the rest of the division
+-- the residue of the division
 rest : (c : After-residue) → c.residue.result ≡ residue c.args.b c.args.a
 rest c = rw (to_z-of_z w64 c.args.b c.ranges.b, to_z-of_z w64 c.args.a c.ranges.a) at c.residue.ensures.is
 
--- where there is a rest, the floor is one below
+-- if the residue is not 0, the floor is one less
 one : (c : After-residue) → (of_z w64 c.residue.result ≡ 0 → ⊥) → IsOneAbove c.args.a c.args.b
 one c some =
     one_above c.args.a c.args.b c.requires (rw (to_z-of_z w64 c.args.a c.ranges.a, to_z-of_z w64 c.args.b c.ranges.b) at c.if-a-b.false) (λ e. some (ap (of_z w64) (rest c ∙ e)))
