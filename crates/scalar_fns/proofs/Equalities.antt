@@ -1,4 +1,4 @@
--- Equality of arrays of characters, and of numbers beside characters.
+-- Equality of arrays of characters, and of numbers with characters.
 use Rattle.std.{proofs.Common.{◌≡◌, ℕ, ◌+◌, ◌<◌, ◌==◌, Bool, true, false, if◌then◌else◌, List, [], ◌∷◌, ◌++◌, ◌≤◌, length, get_or, map, refl, ap, sym, ◌∙◌, arith, ℤ, pos, SFits, w64, to_z, of_z, vec_len, vec_capacity, Result, Ok, Err, IfOk, replicate}, specs.Prelude.{Vec}, proofs.lemmas.Int.{to_z-of_z}}
 use Rattle.std.{proofs.lemmas.List.{length-map, get_or-map, get_or-replicate, length-replicate}, proofs.lemmas.List.Elements.{All-get_or}, proofs.lemmas.List.FromFn.{get_or-map-range_with_len, length-map-range_with_len}, proofs.lemmas.Bool.{eqb-true}, proofs.lemmas.Bool.Decides.{nat_tests}}
 use Rattle.arrays_core.{specs.Building.{listed}, specs.declared.item.Item.{Item}, specs.declared.item.Item.TheVariants.{Num, Char}, specs.declared.item.ItemType.TheVariants.{Nums}, specs.declared.item.Kind.{Kind}, specs.Items.{all_or_first_error, after, fill, type_of}, specs.Shapes.{size, index_after}}
@@ -10,7 +10,7 @@ all_ok : (zs : List ℤ) → all_or_first_error {E = Kind} (map (λ z. Ok z) zs)
 all_ok [] = refl
 all_ok (z ∷ zs) = ap (after z) (all_ok zs)
 
--- two arrays whose items have these answers
+-- two arrays whose items compare with these results
 answers_collected : (equal : Bool) (a b : ArrayValue) (shape : List ℕ) (zs : List ℤ) → common a.shape b.shape ≡ Ok shape → length zs ≡ size shape
     → ((i : ℕ) → i < size shape → dyadic_on_items (equality equal) (extended a (index_after shape i)) (extended b (index_after shape i)) ≡ Ok (Num (get_or zs i (pos 0))))
     → dyadic_on_arrays (equality equal) a b ≡ answers_of shape zs
@@ -41,7 +41,7 @@ of_characters equal a b cs ds shape zs is_a is_b common_is answers =
     (asked_of_characters equal (character_at cs i) (character_at ds i)))
     ∙ ap (λ z. Ok (Num z)) (sym (answers.each i h)))
 
--- the items of an array are of its type, wherever it extends to
+-- the items of an extended array have its type
 type_there : (a : ArrayValue) (shape : List ℕ) (i : ℕ) → IsArray a → ExtendsTo a.shape shape → i < size shape → type_of (extended a (index_after shape i)) ≡ a.item_type
 type_there a shape i is fits h =
     let place = extended_place a shape i fits h in
@@ -58,7 +58,7 @@ of_other_types equal a b shape is_a is_b differ common_is =
     (λ e. differ (sym (type_there a shape i is_a fits.0 h) ∙ e ∙ type_there b shape i is_b fits.1 h))
     ∙ ap (λ z. Ok (Num z)) (sym (get_or-replicate (size shape) i (told equal false) (pos 0) h)))
 
--- answers so far, place by place, where there is room for all
+-- the results so far, place by place, with capacity for all
 pub record AreToldTo {G : Type 0} (place most : ℕ) (answer : ℕ → ℤ) (answers : Vec ℤ G) : Type 0 where
   pub long : vec_len answers ≡ place
   pub room : most ≤ vec_capacity answers
@@ -72,7 +72,7 @@ told_more place most answer answers more z before here fits items longer room = 
   made = listed_more answer [] answers.items more.items place z before.made (rw (to_z-of_z w64 z fits) at items) here;
 }
 
--- one character stands at every place
+-- a single character is at every place
 one_at : (cs : List ℕ) (k : ℕ) → length cs ≡ 1 → character_at cs k ≡ get_or cs 0 0
 one_at cs k one = ap (λ n. get_or cs (if n == 1 then 0 else k) 0) one
 
@@ -86,7 +86,7 @@ own_at cs k there = by (length cs == 1) refl
 turned : (x y : ℕ) → (x == y) ≡ (y == x)
 turned x y = grind (arith, nat_tests)
 
--- answers that are listed place by place
+-- results that are listed place by place
 told_at : (equal : Bool) (xs ys : List ℕ) (places : ℕ) (same : ℕ → Bool) (zs : List ℤ) → zs ≡ listed places (λ k. told equal (same k))
     → ((k : ℕ) → k < places → same k ≡ (character_at xs k == character_at ys k)) → AreTold equal xs ys places zs
 told_at equal xs ys places same zs made is = record {
@@ -114,7 +114,7 @@ told_in_pairs equal xs ys places zs even long made =
     told_at equal xs ys places (λ k. get_or xs k 0 == get_or ys k 0) zs (made ∙ ap (λ n. listed n (λ k. told equal (get_or xs k 0 == get_or ys k 0))) long) (λ k h.
     sym (ap (λ y. character_at xs k == y) (own_at ys k (omega arith)) ∙ ap (λ x. x == get_or ys k 0) (own_at xs k (omega arith))))
 
--- what is known of the items of a list that was made
+-- a property of the items of a returned list
 pub of_items : {G E : Type 0} (r : Result (Vec ℤ G) E) (P Q : List ℤ → Type 0) → ((zs : List ℤ) → P zs → Q zs) → IfOk r (λ v. P v.items) → IfOk r (λ v. Q v.items)
 of_items (Ok v) P Q goes is = goes v.items is
 of_items (Err e) P Q goes is = tt

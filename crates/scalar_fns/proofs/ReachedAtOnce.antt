@@ -1,4 +1,4 @@
--- If each changed array has the shape of the result, the changed places are the places of the result that may change.
+-- If each changed array has the shape of the result, its changed places are the places of the result that may change.
 use Rattle.std.{proofs.Common.{◌≡◌, ℕ, List, [], ◌∷◌, length, refl, ap, ◌∙◌, sym, subst, arith, true, false, Bool, Option, Some, None, Result, Ok}, specs.Prelude.{is_some, bytes_eq, MatchOption}, specs.Borrow.{Bor}, proofs.lemmas.Bool.{cond-false, cond-true, and_parts, eqb-true, leb-true, false≢true}}
 use Rattle.std.proofs.lemmas.Slice.Eq.{bytes_eq-Decides}
 use Rattle.arrays_core.{specs.Arrays.{ArrayValue}, specs.declared.item.Kind.{Kind}, specs.declared.item.ItemType.TheVariants.{Nums}}
@@ -19,7 +19,7 @@ join_none : (box : Option (List Interval)) → join_boxes box None ≡ box
 join_none None = refl
 join_none (Some region) = refl
 
--- an array with the shape of the result may change its own changed places
+-- an array with the shape of the result may change just its own changed places
 by_own : (a : ArrayValue) (shape : List ℕ) (box : Option (List Interval)) → (is_some box ≡ true → a.shape ≡ shape) → Fits a box → changed_by shape (extended_use shape a) box ≡ box
 by_own a shape None shaped fit = refl
 by_own a shape (Some region) shaped fit =
@@ -54,7 +54,7 @@ one_reach f (a ∷ []) moves box h are fit = ap (reach_of (each_monadic_rule f) 
     by_box None fit = refl
     by_box (Some region) fit = ap as_reach (ap (λ (box : Option (List Interval)). join_boxes box None) (within region a.shape fit.0))
 
--- the checks pass, and each array that changed has the shape of the result: both have one shape, or the one that is as it was is extended to the other
+-- the checks pass and each changed array has the shape of the result: both have one shape, or the unchanged one is extended
 pub keeps_one_shape : (a b : ArrayValue) (left right : Bool) → bytes_eq a.shape b.shape ≡ true → KeepsPlaces a b left right
 keeps_one_shape a b left right h =
     let same : a.shape ≡ b.shape = (bytes_eq-Decides a.shape b.shape).0 h in
@@ -70,7 +70,7 @@ keeps_right a b left right still h =
     let parts = and_parts _ _ h in
     (b.shape, (common_right a.shape b.shape (eqb-true _ _ parts.0) (leb-true _ _ parts.1), ((λ t. absurd (false≢true (sym still ∙ t))), (λ _. refl))))
 
--- so of two arguments of a list
+-- the same for two arguments in a list
 module _ (args : List ArrayValue) (moves : List (Option (List Interval))) (a b : ArrayValue) (left right : Option (List Interval))
     (are : args ≡ a ∷ b ∷ []) (boxes : moves ≡ left ∷ right ∷ []) (keeps : KeepsPlaces a b (is_some left) (is_some right)) where
   pub two_pass : Passes (of_two_arguments each_dyadic_form args)

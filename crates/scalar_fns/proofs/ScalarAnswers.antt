@@ -1,4 +1,4 @@
--- What scalar functions of arrays answer is the whole of their checks and items.
+-- Scalar functions of arrays return the whole result of their checks and items.
 use Rattle.std.proofs.Common.{◌≡◌, ℕ, ◌≤◌, Bool, true, false, cond, eqb, List, [], ◌∷◌, length, get_or, refl, ap, sym, subst, ◌∙◌, ◌⊎◌, inl, inr, arith, Result, Ok, Err, bytes_eq, nat_lt}
 use Rattle.arrays_core.{specs.declared.item.Kind.{Kind}, specs.declared.item.ItemType.TheVariants.{Nums}, specs.declared.fault.ApplyFault.{ApplyFault}, specs.Shapes.{size}, specs.Arrays.{ArrayValue, IsArray, IsAnswerTo, collect}}
 use Rattle.function_names.{specs.declared.scalar.Scalar1.{Scalar1}, specs.declared.scalar.Scalar2.{Scalar2}}
@@ -6,7 +6,7 @@ use Rattle.scalar_fns.{specs.ScalarExtension.{common, for_shape, monadic_on_arra
 use Rattle.index_region.{specs.ArgumentLists.{of_one_argument, of_two_arguments}, specs.Checks.{form_of, whole}, proofs.Passing.{two_arguments}}
 use Rattle.change_core.specs.RuleModels.{HasShape}
 
--- what is answered for the array that is the argument
+-- the result for the only argument
 pub each_monadic_answer : (f : Scalar1) (args : List ArrayValue) (a l : ArrayValue) (x : Result ArrayValue ApplyFault) → length args ≡ 1 → a ≡ get_or args 0 a → l ≡ a
     → IsAnswerTo (monadic_on_array f l) x → IsAnswerTo (whole (of_one_argument each_monadic_form args) (λ index. of_one_argument (λ b. each_monadic_item f b index) args)) x
 each_monadic_answer f [] a l x n p s h = absurd (omega arith)
@@ -20,7 +20,7 @@ whole_of_each f a b = by (common a.shape b.shape)
     by (Ok shape) = refl
     by (Err k) = refl
 
--- what is answered for two arrays that are the arguments
+-- the result for the two arguments
 pub each_dyadic_answer : (f : Scalar2) (args : List ArrayValue) (a b l r : ArrayValue) (x : Result ArrayValue ApplyFault) → length args ≡ 2 → a ≡ get_or args 0 a → b ≡ get_or args 1 b → l ≡ a → r ≡ b
     → IsAnswerTo (dyadic_on_arrays f l r) x → IsAnswerTo (whole (of_two_arguments each_dyadic_form args) (λ index. of_two_arguments (λ c d. each_dyadic_item f c d index) args)) x
 each_dyadic_answer f args a b l r x n p q s t h =

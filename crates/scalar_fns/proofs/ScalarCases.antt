@@ -1,4 +1,4 @@
--- What may change of the scalar functions in worked cases.
+-- Worked cases of the reach of scalar functions, computed.
 use Rattle.std.proofs.Common.{ℕ, List, [], ◌∷◌, Some, None, replicate, pos, refl}
 use Rattle.arrays_core.{specs.declared.item.Item.TheVariants.{Num}, specs.declared.item.ItemType.TheVariants.{Nums}, specs.Arrays.{ArrayValue}, specs.Shapes.{size}, proofs.CaseWords.{◌⇒◌, AllSame}}
 use Rattle.function_names.{specs.declared.scalar.Scalar1.TheVariants.{Negative}, specs.declared.scalar.Scalar2.TheVariants.{Plus}}
@@ -30,7 +30,7 @@ of_two_arrays_cases : AllSame (
     reach_of (each_dyadic_rule Plus) (zeros (1 ∷ []) ∷ zeros (3 ∷ []) ∷ []) (Some ((1, 1) ∷ []) ∷ None ∷ []) ⇒ Inside ((1, 3) ∷ []) ∷  -- vector of one extended
     reach_of (each_dyadic_rule Plus) (zeros [] ∷ zeros (0 ∷ []) ∷ []) (Some [] ∷ None ∷ []) ⇒ Unmoved ∷  -- extended over nothing
     reach_of (each_dyadic_rule Plus) (zeros [] ∷ zeros [] ∷ []) (Some [] ∷ None ∷ []) ⇒ Inside [] ∷  -- two scalars
-    -- where a check fails no box is told
+    -- a failed check reaches everything
     reach_of (each_dyadic_rule Plus) (zeros (2 ∷ []) ∷ zeros (3 ∷ []) ∷ []) (Some ((1, 1) ∷ []) ∷ None ∷ []) ⇒ Anew ∷
     [])
 of_two_arrays_cases = refl

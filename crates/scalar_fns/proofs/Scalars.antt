@@ -1,8 +1,8 @@
--- A number beside an array, as the array that has no axes and the number as its item.
+-- A number beside an array, as a scalar.
 use Rattle.std.{proofs.Common.{◌≡◌, ℕ, ℤ, List, [], ◌∷◌, length, eqb, refl, Ok, inl, inr, arith}, proofs.lemmas.Bool.{cases_Bool, lt-ltb, le-ltb}}
 use Rattle.{arrays_core.{specs.Arrays.{scalar_of}, specs.Shapes.{size}}, scalar_fns.{specs.ScalarExtension.{common}, proofs.Joint.{IsOfNumbers}}}
 
--- the other array's shape is that of the result
+-- the result has the shape of the other array
 pub common_right : (a : List ℕ) → common a [] ≡ Ok a
 common_right [] = refl
 common_right (n ∷ a) =
@@ -19,6 +19,6 @@ common_left (n ∷ b) =
       | inr many ↦ rw many refl
     ]
 
--- its ravel is a list of the number
+-- the ravel of the scalar is a list of the number
 pub of_number : (z : ℤ) → IsOfNumbers (scalar_of z) (z ∷ [])
 of_number z = record { items = refl; long = refl }

@@ -1,4 +1,4 @@
-//! Equality of characters: of two lists, place by place.
+//! Equality of two lists of characters, place by place.
 
 ghost use Rattle.std.specs.Prelude.{◌≡◌, ◌≢◌, ◌==◌, length, get_or, IfOk};
 ghost use Rattle.arrays_core.specs.Building.{listed};
@@ -8,14 +8,14 @@ use arrays_core::room_of;
 use item_fns::truth;
 use std::alloc::{AllocError, Global};
 
-/// 1 or 0: whether two items are the same, or where that is not asked whether they differ.
+/// Returns 1 or 0 for `=` or, if `equal` is false, for `≠`, given whether two items are the same.
 pub(crate) fn tell(equal: bool, same: bool) -> i64
     ensures { result ≡ told equal same }
 {
     truth(same == equal)
 }
 
-/// For each character of a list whether it is a given one, or differs.
+/// Compares each character of a list with a given one, for `=` or `≠`.
 fn told_each(
     alloc: Global,
     equal: bool,
@@ -31,7 +31,7 @@ fn told_each(
     Ok(answers)
 }
 
-/// For each place of two lists of one length whether the characters there are equal, or differ.
+/// Compares two lists of one length, place by place, for `=` or `≠`.
 fn told_pairs(
     alloc: Global,
     equal: bool,
@@ -48,8 +48,7 @@ fn told_pairs(
     Ok(answers)
 }
 
-/// Whether the characters of two lists are equal, or differ, place by place; a list of one character
-/// stands for as many as the other has.
+/// Compares two lists, place by place, for `=` or `≠`. A list of one character is extended to the length of the other.
 pub(crate) fn equalities(
     alloc: Global,
     equal: bool,

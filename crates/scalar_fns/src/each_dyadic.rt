@@ -25,21 +25,21 @@ pub struct EachDyadic {
     pub function: Scalar2,
 }
 
-/// The other array has one item and no greater rank.
+/// Tests whether the other array has one item and no greater rank.
 fn is_extended_to(array: &Seen, other: &Seen) -> bool
     ensures { result ≡ is_extended_to array.now other.now }
 {
     other.places() == 1 && other.shape().len() <= array.shape().len()
 }
 
-/// The two arrays have one shape.
+/// Tests whether the two arrays have one shape.
 fn have_one_shape(left: &Seen, right: &Seen) -> bool
     ensures { result ≡ bytes_eq left.now.shape right.now.shape }
 {
     left.shape().as_slice() == right.shape().as_slice()
 }
 
-/// Returns whether it is known at once that the checks pass and that each array that changed has the shape of the result.
+/// Tests cheaply whether the checks pass and each changed array has the shape of the result. A negative answer decides nothing.
 fn keep_places(left: &Seen, right: &Seen, left_changed: bool, right_changed: bool) -> bool
     ensures { IsTrue result → KeepsPlaces left.now right.now left_changed right_changed }
 {
@@ -50,7 +50,7 @@ fn keep_places(left: &Seen, right: &Seen, left_changed: bool, right_changed: boo
     }
 }
 
-/// Returns the least box that holds the changed places of both arguments.
+/// Returns the hull of the changed boxes of both arguments.
 fn joined<M: ChangedBox>(left: &M, right: &M) -> Reach
     requires { (a b : List (ℕ × ℕ)) → M.changed left.now ≡ Some a → M.changed right.now ≡ Some b → length a ≡ length b }
     ensures { result ≡ as_reach (join_boxes (M.changed left.now) (M.changed right.now)) }

@@ -20,9 +20,8 @@ use index_region::Seen;
 use item_fns::{on_number_lists, on_numbers, one, two};
 use std::alloc::Global;
 
-/// The shape of a result of two arrays: of equal shapes that shape. An array of one item extends to
-/// the other's shape; where both have one item it is the shape of the greater rank. Otherwise
-/// different ranks are RANK, then different shapes LENGTH. It takes no memory.
+/// Returns the shape of a result of two arrays. Equal shapes are kept. An array of one item extends to the shape of the other; if both have
+/// one item, the shape of greater rank counts. Fails with RANK if ranks differ, then with LENGTH if shapes differ. Allocates nothing.
 pub fn common_shape(left: &Shape, right: &Shape) -> Result<Shape, Kind>
     requires left_within { IsWithinLimits left.now.items }
     requires right_within { IsWithinLimits right.now.items }
@@ -50,12 +49,12 @@ pub fn common_shape(left: &Shape, right: &Shape) -> Result<Shape, Kind>
     Ok(shape_of(*left.allocator(), chosen.as_slice()))
 }
 
-/// The item of an array at an index list of the common shape.
+/// Returns the item of an array at an index list of the common shape.
 pub(crate) fn extended_item(array: &Seen, index: &[u32]) -> Item
     requires { size array.now.shape ≢ 1 → IsTrue (is_index_of array.now.shape index.now) }
     ensures { result ≡ extended array.now index.now }
 {
-    // The shape says that there is one item a place.
+    // The contract of `shape` states that there is one item for each place.
     let shape = array.shape();
     if shape.len() != index.len() {
         return array.item(1);
@@ -66,7 +65,7 @@ pub(crate) fn extended_item(array: &Seen, index: &[u32]) -> Item
     }
 }
 
-/// Two arrays and the shape of their result.
+/// A function with its two arguments and the shape of the result.
 #[derive(Drop)]
 struct Pairs<'a> {
     function: Scalar2,
@@ -93,7 +92,7 @@ impl<'a> ItemFunction for Pairs<'a> {
     }
 }
 
-/// An array and what is asked of each of its items.
+/// A function with its argument.
 #[derive(Drop)]
 struct Items<'a> {
     function: Scalar1,
@@ -113,7 +112,7 @@ impl<'a> ItemFunction for Items<'a> {
     }
 }
 
-/// A scalar function of an array of numbers, by its ravel.
+/// Applies a scalar function to an array of numbers, in one loop over its ravel.
 fn apply_to_numbers(
     alloc: Global,
     function: Scalar1,
@@ -129,7 +128,7 @@ fn apply_to_numbers(
     Ok(Array::from_numbers(shape, results)?)
 }
 
-/// A scalar function of two arrays of numbers, by their ravels.
+/// Applies a scalar function to two arrays of numbers, in one loop over their ravels.
 fn apply_to_number_lists(
     alloc: Global,
     function: Scalar2,
@@ -147,7 +146,7 @@ fn apply_to_number_lists(
     Ok(Array::from_numbers(shape, results)?)
 }
 
-/// The answer for items that are all different: a character never equals a number.
+/// Returns the result of `=` or `≠` for items that all differ: a character never equals a number.
 fn unequal_items(alloc: Global, equal: bool, shape: &Shape) -> Result<Array, ApplyFault>
     requires { IsWithinLimits shape.now.items }
     ensures { IsAnswerTo (answers_of shape.now.items (replicate (size shape.now.items) (told equal false))) result }
@@ -157,7 +156,7 @@ fn unequal_items(alloc: Global, equal: bool, shape: &Shape) -> Result<Array, App
     Ok(Array::from_numbers(shape, answers)?)
 }
 
-/// Whether the items of two arrays that are not both of numbers are equal, or differ, place by place.
+/// Compares two arrays that are not both of numbers, place by place, for `=` or `≠`.
 fn equal_items(
     alloc: Global,
     equal: bool,
@@ -183,8 +182,8 @@ fn equal_items(
     Ok(Array::from_numbers(shape, answers)?)
 }
 
-/// A scalar function of an array, item by item (ISO/IEC 13751, "Monadic scalar functions"). The result is of numbers and has
-/// the array's shape; where several items fail, the error is that of the first in row-major order.
+/// Applies a scalar function to each item of an array (ISO/IEC 13751, "Monadic scalar functions"). The result has numbers in the shape of
+/// the array. Fails with the first error of an item in row-major order.
 pub fn apply_one(alloc: Global, function: Scalar1, array: &Array) -> Result<Array, ApplyFault>
     ensures { IsAnswerTo (monadic_on_array function array.now) result }
 {
@@ -196,8 +195,8 @@ pub fn apply_one(alloc: Global, function: Scalar1, array: &Array) -> Result<Arra
     collect(alloc, &items, ItemType::Nums, shape)
 }
 
-/// A scalar function of an array and, at its right, a number: what `apply_two` gives of the array that has no axes and the number as its
-/// item. That array is not made where the other one is of numbers.
+/// Applies a scalar function to an array and a number at its right, as `apply_two` does with a scalar. Builds no scalar if the array has
+/// numbers.
 pub fn apply_to_right(
     alloc: Global,
     function: Scalar2,
@@ -212,7 +211,7 @@ pub fn apply_to_right(
     }
 }
 
-/// A scalar function of a number and, at its right, an array, as `apply_to_right` says of an array and a number.
+/// Applies a scalar function to a number and an array at its right, as `apply_to_right` does with sides exchanged.
 pub fn apply_to_left(
     alloc: Global,
     function: Scalar2,
@@ -227,9 +226,8 @@ pub fn apply_to_left(
     }
 }
 
-/// A scalar function of two arrays, item by item (ISO/IEC 13751, "Dyadic scalar functions"). The result is of numbers and
-/// has the shape that `common_shape` gives, whose RANK and LENGTH come before any error of an item;
-/// where several items fail, the error is that of the first in row-major order.
+/// Applies a scalar function to each pair of items of two arrays (ISO/IEC 13751, "Dyadic scalar functions"). The result has numbers in the
+/// shape of `common_shape`. Fails with its RANK or LENGTH, then with the first error of an item in row-major order.
 pub fn apply_two(
     alloc: Global,
     function: Scalar2,

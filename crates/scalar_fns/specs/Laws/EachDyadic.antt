@@ -1,4 +1,4 @@
--- All that changes of a scalar function of two arrays lies in its box.
+-- The law of change for scalar functions of two arrays.
 use Rattle.std.{proofs.Common.{◌≡◌, ℕ, true, false, eqb, List, map, refl, ap, sym, subst, ◌∙◌, inl, inr, Result, Ok, Err, bytes_eq, if◌then◌else◌}, proofs.lemmas.Bool.{eqb-true, cases_Bool, cond-true, cond-false}, proofs.lemmas.Slice.Eq.{bytes_eq-Decides}}
 use Rattle.arrays_core.{specs.declared.item.Kind.{Kind}, specs.declared.item.ItemType.TheVariants.{Nums}, specs.Shapes.{size, is_index_of}, specs.Arrays.{ArrayValue}}
 use Rattle.function_names.specs.declared.scalar.Scalar2.{Scalar2}
@@ -7,7 +7,7 @@ use Rattle.item_fns.specs.Items.{dyadic_on_items}
 use Rattle.index_region.{specs.Boxes.{Interval, is_within, whole_of}, specs.Checks.{Form, form_of}}
 use Rattle.change_core.{specs.Tightness.{Covered, IsTight}, proofs.Growing.{tight_growing}, proofs.Sourced.{two_tight}, proofs.UsedWays.{within-whole}}
 
--- where an argument of the result's shape is read, is the place itself
+-- an argument with the shape of the result is read at the place itself
 read_at : (from shape index : List ℕ) → from ≡ shape → is_index_of shape index ≡ true → (if eqb (size from) 1 then map (λ _. 1) from else index) ≡ index
 read_at from shape index same place = elim (cases_Bool (eqb (size from) 1)) [
   | inl one ↦ cond-true _ _ _ one ∙ only_index from index (eqb-true _ _ one) (rw same place)

@@ -22,7 +22,7 @@ both_ones (suc (suc x) ∷ a) (suc y ∷ b) p q n = let no = factor_le (suc (suc
 both_ones (suc zero ∷ a) (suc (suc y) ∷ b) p q n = let no = factor_le (suc (suc y)) (size b) 1 q (omega arith) in absurd (omega arith)
 both_ones (suc zero ∷ a) (suc zero ∷ b) p q n = let rest = both_ones a b (omega arith) (omega arith) (omega arith) in λ i. 1 ∷ rest i
 
--- a shape of one place and no greater rank leaves the other as it is
+-- an array of one item and no greater rank keeps the shape of the other
 pub common_left : (a b : List ℕ) → size b ≡ 1 → length b ≤ length a → common a b ≡ Ok a
 common_left a b one low =
     let single : (size b == 1) ≡ true = eq-eqb _ _ one in
@@ -50,7 +50,7 @@ common_same a = elim (cases_Bool (size a == 1)) [
   | inr f ↦ cond-false _ _ _ f ∙ cond-false _ _ _ f ∙ cond-true _ _ (Err Rank) (eq-eqb (length a) (length a) refl) ∙ cond-true _ _ (Err Length) ((bytes_eq-Decides a a).1 refl)
 ]
 
--- the form of a common shape
+-- the form for a common shape
 form_in : (a b : ArrayValue) (s : List ℕ) (f : Form) → common a.shape b.shape ≡ Ok s → each_dyadic_form a b ≡ Ok f → f ≡ form_of s Nums
 form_in a b s f is e =
     let form : each_dyadic_form a b ≡ Ok (form_of s Nums) = ap (λ (r : Result (List ℕ) Kind). for_shape r (λ shape. Ok (form_of shape Nums))) is in
@@ -59,7 +59,7 @@ form_in a b s f is e =
 
 -- ---- items
 
--- at a place of its own shape an array gives its item there
+-- at an index list of its own shape, an extended array has its own item
 extended_own : (a : ArrayValue) (index : List ℕ) → is_index_of a.shape index ≡ true → extended a index ≡ item_of a index
 extended_own a index inside = ap (λ (k : ℕ). get_or a.items k (fill a.item_type)) (elim (cases_Bool (size a.shape == 1)) [
   | inl t ↦
@@ -78,14 +78,14 @@ extended_kept old new index h sound inside =
 long_grown : (old new : ArrayValue) → IsGrown old new → length new.shape ≡ length old.shape
 long_grown old new h = ap (λ (s : List ℕ). length s) (shape_grown old new h) ∙ length-longer old.shape
 
--- what was extended to the grown array was extended to the old one
+-- an array that extends to the grown array extended to the old one
 was_extended : (old new b : ArrayValue) → IsGrown old new → is_extended_to new b ≡ true → (size b.shape ≡ 1) × ((length b.shape ≤ length old.shape) × (length b.shape ≤ length new.shape))
 was_extended old new b h listed =
     let parts = and_parts _ _ listed in
     let low = leb-true (length b.shape) (length new.shape) parts.1 in
     (eqb-true _ _ parts.0, (omega (arith, low, long_grown old new h), low))
 
--- shapes that are one after they grew were one
+-- shapes that are equal after growth were equal before
 same_before : (s t : List ℕ) → 0 < length s → 0 < length t → one_longer s ≡ one_longer t → s ≡ t
 same_before [] t p q e = absurd (omega arith)
 same_before (n ∷ s) [] p q e = absurd (omega arith)

@@ -1,4 +1,4 @@
--- All that changes of a scalar function of one array lies in its box.
+-- The law of change for scalar functions of one array.
 use Rattle.std.proofs.Common.{◌≡◌, refl, ap, ◌∙◌, true}
 use Rattle.arrays_core.{specs.declared.item.ItemType.TheVariants.{Nums}, specs.Shapes.{is_index_of}}
 use Rattle.function_names.specs.declared.scalar.Scalar1.{Scalar1}

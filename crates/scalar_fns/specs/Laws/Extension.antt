@@ -1,9 +1,9 @@
--- How the items of two arrays of one item, or of one shape, extend to their common shape.
+-- The extension of two arrays to their common shape.
 use Rattle.std.{proofs.Common.{◌≡◌, ℕ, Bool, true, false, cond, eqb, List, refl, ◌⊎◌, inl, inr, Ok, Err, bytes_eq}, proofs.lemmas.Bool.{eqb-true}, proofs.lemmas.Slice.Eq.{bytes_eq-Decides}}
 use Rattle.arrays_core.{specs.declared.item.Kind.{Kind}, specs.Shapes.{size}}
 use Rattle.scalar_fns.specs.ScalarExtension.{common}
 
--- an array of one item, or of the common shape
+-- an array has one item or the common shape
 pub record ExtendsTo (s shape : List ℕ) : Type 0 where
   pub either : (size s ≡ 1) ⊎ (s ≡ shape)
 

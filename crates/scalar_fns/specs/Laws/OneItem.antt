@@ -1,10 +1,10 @@
--- An array of one item gives it everywhere, any other one the item at an index list.
+-- An array of one item has it everywhere; any other array has the item at the index list.
 use Rattle.std.{proofs.Common.{◌≡◌, ℕ, zero, suc, ◌≤◌, true, eqb, List, [], ◌∷◌, map, refl, arith, inl, inr, if◌then◌else◌}, proofs.lemmas.Bool.{eqb-true, eqb-false, cases_Bool, cond-true, cond-false, and_parts, leb-true, false≢true}}
 use Rattle.arrays_core.{specs.declared.item.Item.{Item}, specs.Shapes.{size, is_index_of, places_before}, specs.Arrays.{ArrayValue, item_of, item_if_there}, proofs.Shapes.{factor_le}}
 use Rattle.scalar_fns.specs.ScalarExtension.{extended}
 use Rattle.change_core.{specs.Sourced.{other}, proofs.ReadAlike.{one_same}}
 
--- the one index list of a shape of one place
+-- the only index list of a shape of one place
 pub ones_inside : (shape : List ℕ) → size shape ≡ 1 → is_index_of shape (map (λ _. 1) shape) ≡ true
 ones_inside [] h = refl
 ones_inside (zero ∷ shape) h = absurd (omega arith)
@@ -29,7 +29,7 @@ only_index (suc zero ∷ shape) (i ∷ index) h place =
     λ k. one k ∷ only_index shape index (omega arith) parts.1 k
 only_index (suc (suc n) ∷ shape) (i ∷ index) h place = let no = factor_le (suc (suc n)) (size shape) 1 h (omega arith) in absurd (omega arith)
 
--- an array of one item or at one of its index lists is extended alike where it is read alike
+-- an array that is read alike is extended alike
 pub extended_same : (c : ArrayValue) (xs : List Item) (index : List ℕ) → ((size c.shape ≡ 1 → ⊥) → is_index_of c.shape index ≡ true)
     → map (item_if_there (other c xs)) ((if eqb (size c.shape) 1 then map (λ _. 1) c.shape else index) ∷ []) ≡ map (item_if_there c) ((if eqb (size c.shape) 1 then map (λ _. 1) c.shape else index) ∷ [])
     → extended (other c xs) index ≡ extended c index

@@ -1,7 +1,7 @@
 use Rattle.scalar_fns.{proofs.Joint.{AreOfNumbers, plain_arrays, places_are, both_fit}, proofs.scalar_extension.apply_two.Goals.{In-Some-numbers}}
 use Rattle.scalar_fns.proofs.scalar_extension.apply_two.Goals as goal
 
--- the arrays are of numbers, and have the shape in common
+-- the arrays have numbers and a common shape
 joint : (c : In-Some-numbers) → AreOfNumbers c.args.left.now c.args.right.now c.in-Some.numbers.now c.in-Some-numbers.others.now c.in_ok-shape.shape.items
 joint c = record {
   left = record { items = c.in-Some.ensures.is.1; long = c.shape.ensures.sound.one_item_a_place };

@@ -2,7 +2,7 @@ use Rattle.{std.{proofs.Common.{◌≡◌, ◌∙◌, map, true, sym, ap, subst}
 use Rattle.scalar_fns.{specs.EachDyadic.{KeepsPlaces}, proofs.ReachedAtOnce.{some_as, two_pass, two_reach}, proofs.each_dyadic.EachDyadicAnnounced.reached.Given.{Over}, proofs.each_dyadic.EachDyadicAnnounced.reached.Goals.{After-keep_places}}
 use Rattle.scalar_fns.proofs.each_dyadic.EachDyadicAnnounced.reached.Goals as goal
 
--- where it is known at once, by the boxes that changed
+-- the shortcut by the changed boxes applies
 keeps : (g : Over) (c : After-keep_places g) → c.keep_places.result ≡ true
     → KeepsPlaces c.index-args-0.result c.index-args-1.result (is_some (g.M.ChangedBox.changed c.index-moved-0.result)) (is_some (g.M.ChangedBox.changed c.index-moved-1.result))
 keeps g c holds =
