@@ -1,4 +1,4 @@
--- What a call of a rule's box is given.
+-- The arguments of a call of `box_of`.
 use Rattle.std.proofs.Common.{◌≡◌, ◌<◌, ℕ, zero, suc, List, [], ◌∷◌, length, true, Result, Ok, Err, arith, refl, subst, sym}
 use Rattle.arrays_core.{specs.declared.item.Kind.{Kind}, specs.Arrays.{ArrayValue}}
 use Rattle.index_region.{specs.ArgumentLists.{of_two_arguments}, specs.Boxes.{Interval, fits}, specs.Checks.{Form}}

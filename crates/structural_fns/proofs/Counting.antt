@@ -1,4 +1,4 @@
--- Counts and index lists, one axis after another.
+-- Counts and index lists, axis by axis.
 use Rattle.std.proofs.Common.{◌≡◌, ℕ, zero, suc, ◌+◌, ◌-◌, ◌<◌, ◌≤◌, ℤ, pos, unsigned_abs, Bool, true, false, if◌then◌else◌, ◌&&◌, nat_le, Result, Ok, Err, All, List, [], ◌∷◌, length, replicate, ap, get_or, drop, refl, subst, sym, ◌∙◌, arith, w64, to_z, of_z, SFits}
 use Rattle.std.{proofs.lemmas.List.{drop_more, length-map, length-replicate, get_or-map, get_or-replicate}, proofs.lemmas.Bool.{lt-leb}, proofs.lemmas.Int.{to_z-of_z}, specs.List.{list_all}}
 use Rattle.arrays_core.{specs.declared.item.ItemType.{ItemType}, specs.declared.item.Kind.{Kind}, specs.declared.item.Kind.TheVariants.{Limit}, specs.Arrays.{ArrayValue}, specs.Shapes.{size, IsWithinLimits, is_index_of}, proofs.Shapes.{as_long}}
@@ -71,7 +71,7 @@ by_rank false n shape h = h
 pub counted_within : (a b : ArrayValue) → All (λ n. n ≤ 1048576) b.shape → All (λ n. n ≤ 1048576) (counted_shape a b)
 counted_within a b h = by_rank (is_scalar b) (length a.items) b.shape h
 
--- an index of what is left of an axis, and the place that it comes from
+-- an index on an axis of the result, and the place that it comes from
 pub record LeftAt (a b : ArrayValue) (index : List ℕ) (k : ℕ) : Type 0 where
   pub there : k < length index
   pub four : length a.items ≤ 4

@@ -1,10 +1,10 @@
--- The rows of what is left of an array.
+-- The rows of a result of drop.
 use Rattle.std.{proofs.Common.{◌≡◌, ℕ, suc, ◌+◌, ◌-◌, ◌<◌, ◌≤◌, ℤ, pos, negsuc, nat_eq, true, List, [], ◌∷◌, ◌++◌, length, get_or, Ok, refl, ap, sym, ◌∙◌, arith}, proofs.lemmas.Bool.{eqb-true}}
 use Rattle.arrays_core.{specs.declared.item.ItemType.{ItemType}, specs.Items.{fill}, specs.Arrays.{ArrayValue, IsArray}, specs.Shapes.{is_index_of, places_before}, specs.Building.{IsRowOf}, proofs.Shapes.{places_below}}
 use Rattle.index_region.{specs.Answers.{IsRowIn}, specs.Arguments.{numbers, is_list, counts_as_numbers}, proofs.Passing.{row_passed, row_inside}, proofs.Placed.{right_placed}}
 use Rattle.structural_fns.{specs.AxisCounts.{counted_shape, uncounted}, specs.Drop.{drop_form, drop_item, dropped_shape, kept_place, kept_places}, proofs.Counting.{numbers_long, dropped_long}, proofs.SourcePlaces.{kept_inside, uncounted_inside}, proofs.SteppedRows.{place_beside}, proofs.TakenRows.{uncounted_place}}
 
--- what is known of a row of what is left
+-- the facts about such a row
 record LeftRow (a b : ArrayValue) (row : List ℕ) (count : ℕ) (item_type : ItemType) : Type 0 where
   row_of : IsRowOf (dropped_shape (counted_shape a b) (numbers a)) row count
   counts : length (numbers a) ≡ length (counted_shape a b)
@@ -21,7 +21,7 @@ left_row a b row count item_type h =
     let as_left = dropped_long (counted_shape a b) (numbers a) (omega arith) in
     record { row_of = inside.row_of; counts = omega arith; long = omega (arith, inside.row_of.long) }
 
--- the places of a row: those of the other axes, and behind them that on the last
+-- the places of a row: on the other axes, followed by the last axis
 record PlacesOfRow (counts : List ℤ) (row : List ℕ) : Type 0 where
   long : length (kept_places counts row) ≡ length row
   is : (i : ℕ) → kept_places counts (row ++ i ∷ []) ≡ kept_places counts row ++ kept_place (get_or counts (length row) (pos 0)) i ∷ []

@@ -125,7 +125,7 @@ module _ (along : Along) (a b : ArrayValue) (others : List ℕ) (first : axis_at
 
 -- ---- the checks, and the whole
 
--- two sides that are whole, and what is known of their result
+-- two whole sides, and the facts about their result
 pub record AreJoined (along : Along) (a b : ArrayValue) (shape : List ℕ) : Type 0 where
   pub as_many : length a.items + length b.items ≡ size shape
   pub whole : catenate_whole along a b ≡ Ok (record { item_type = joined_type a b; shape = shape; items = a.items ++ b.items })

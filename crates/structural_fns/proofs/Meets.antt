@@ -1,4 +1,4 @@
--- Intervals that go to one axis, met one by one.
+-- The intersection of the intervals that go to one axis, one by one.
 use Rattle.std.{proofs.Common.{◌≡◌, ℕ, zero, suc, ◌-◌, ◌<◌, List, [], ◌∷◌, length, drop, get_or, unsigned_abs, arith, ◌∙◌}, proofs.lemmas.List.{length-map}, proofs.lemmas.Bool.{cond-false, false_from_ne_true, eqb-true}}
 use Rattle.{arrays_core.specs.Arrays.{ArrayValue}, index_region.{specs.Arguments.{number_of, numbers}, specs.Boxes.{Interval}}}
 use Rattle.{change_core.specs.Ways.{meet_at}, structural_fns.specs.DyadicTranspose.{axes_to, axes_from_zero}}

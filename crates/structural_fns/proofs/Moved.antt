@@ -1,4 +1,4 @@
--- Intervals that take and drop move, one axis after another.
+-- Intervals that take and drop move, axis by axis.
 use Rattle.std.{proofs.Common.{◌≡◌, ◌+◌, ◌<◌, ◌≤◌, ℕ, zero, suc, ℤ, pos, List, [], ◌∷◌, length, get_or, drop, refl, true, arith}, proofs.lemmas.Bool.{and_parts, leb-true, false≢true}, proofs.lemmas.List.{drop_more}}
 use Rattle.{index_region.specs.Boxes.{Interval, fits}, change_core.specs.Ways.{images}}
 use Rattle.structural_fns.{specs.Take.{taken, taken_axes}, specs.Drop.{kept, kept_axes}}

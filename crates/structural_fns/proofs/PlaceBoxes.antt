@@ -5,11 +5,11 @@ use Rattle.{function_names.specs.declared.along.Along.TheVariants.{First, Last, 
 use Rattle.change_core.{specs.declared.reach.Reach.{Reach}, specs.declared.reach.Reach.TheVariants.{Unmoved, Inside, Anew}, specs.RuleModels.{RuleModel}, specs.Reaches.{reach_of}}
 use Rattle.structural_fns.{specs.Ravel.{ravel_rule}, specs.Reshape.{reshape_rule}, specs.Take.{take_rule}, specs.Drop.{drop_rule}, specs.Catenate.{catenate_rule}}
 
--- what may change of f B where a box of B changed
+-- the reach of f B after a change of a box of B
 abbrev of_one : RuleModel → ArrayValue → List Interval → Reach
 of_one rule b region = reach_of rule (b ∷ []) (Some region ∷ [])
 
--- of A f B where a box of A changed, of B, and of both
+-- the reach of A f B after a change of a box of A, of B, and of both
 abbrev of_left : RuleModel → ArrayValue → ArrayValue → List Interval → Reach
 of_left rule a b region = reach_of rule (a ∷ b ∷ []) (Some region ∷ None ∷ [])
 
@@ -49,9 +49,9 @@ ravel_cases = refl
 reshape_cases : AllSame (
     of_right reshape_rule (counts 3 4) twelve ((6, 7) ∷ []) ⇒ Inside ((2, 2) ∷ (2, 3) ∷ []) ∷  -- reshape in row
     of_right reshape_rule (counts 3 4) twelve ((4, 5) ∷ []) ⇒ Inside ((1, 2) ∷ (1, 4) ∷ []) ∷  -- reshape over rows
-    -- items are needed again
+    -- items are repeated
     of_right reshape_rule (counts 3 4) five ((2, 2) ∷ []) ⇒ Inside ((1, 3) ∷ (1, 4) ∷ []) ∷
-    -- as many items as places, and places that are not needed
+    -- as many items as places, and places that are left out
     of_right reshape_rule (scalar 5) five ((2, 2) ∷ []) ⇒ Inside ((2, 2) ∷ []) ∷
     of_right reshape_rule (counts 2 2) twelve ((5, 5) ∷ []) ⇒ Unmoved ∷  -- reshape past
     of_right reshape_rule (counts 2 2) twelve ((4, 9) ∷ []) ⇒ Inside ((2, 2) ∷ (2, 2) ∷ []) ∷  -- reshape partly past
@@ -114,7 +114,7 @@ catenate_left = refl
 catenate_right : of_right (catenate_rule Last) three five ((2, 2) ∷ []) ≡ Inside ((5, 5) ∷ [])
 catenate_right = refl
 
--- the least box that holds what may change by each
+-- the hull of both reaches
 catenate_both : of_both (catenate_rule Last) three five ((3, 3) ∷ []) ((2, 2) ∷ []) ≡ Inside ((3, 5) ∷ [])
 catenate_both = refl
 

@@ -1,11 +1,11 @@
--- The rows of an array whose places along an axis stand the other way round.
+-- The rows of a result of reverse.
 use Rattle.std.{proofs.Common.{◌≡◌, ℕ, suc, ◌+◌, ◌-◌, ◌<◌, ◌≤◌, true, List, [], ◌∷◌, ◌++◌, length, get_or, set, Ok, ap, sym, ◌∙◌, arith}, proofs.lemmas.List.{get_or_default}}
 use Rattle.arrays_core.{specs.declared.item.ItemType.{ItemType}, specs.Items.{fill}, specs.Arrays.{ArrayValue, IsArray}, specs.Shapes.{is_index_of, places_before}, specs.Building.{IsRowOf}, proofs.Rows.{places_in_row}}
 use Rattle.index_region.{specs.Answers.{IsRowIn}, specs.Axes.{places_along}, proofs.Passing.{row_passed, row_inside}, proofs.Placed.{left_placed}, proofs.RowIndices.{set_before, get_before, set_last, get_last, axis_below}}
 use Rattle.function_names.{specs.Axes.{is_axis, axis_at}, specs.declared.along.Along.{Along}}
 use Rattle.structural_fns.{specs.Reverse.{reverse_form, reverse_item}, proofs.SourcePlaces.{reversed_inside}, proofs.SteppedRows.{place_beside, row_fits}}
 
--- a row of what is reversed
+-- a row of a reversed array
 pub record ReversedRow (along : Along) (b : ArrayValue) (row : List ℕ) (count : ℕ) (item_type : ItemType) : Type 0 where
   pub row_in : IsRowIn (reverse_form along b) row count item_type
 
@@ -51,7 +51,7 @@ module _ (along : Along) (b : ArrayValue) (row : List ℕ) (count : ℕ) (item_t
     pub other_fits : IsArray b → first + count ≤ length b.items
     other_fits sound = let fits = row_fits b.shape at_index others (λ i. i) count inside_at at_other (λ k. omega arith) row_of.some in omega (arith, sound.one_item_a_place)
 
-  -- along the last axis it is one that is read from its end
+  -- along the last axis it is a row of the array, read backwards
   module _ (last_axis : axis ≡ length row) where
     at_last : (i : ℕ) → at_index i ≡ row ++ (suc count - i) ∷ []
     at_last i =

@@ -1,4 +1,4 @@
--- The rows of an array whose places are moved along an axis.
+-- The rows of a result of rotate.
 use Rattle.std.{proofs.Common.{◌≡◌, ℕ, zero, suc, pos, negsuc, ◌+◌, ◌-◌, ◌*◌, ◌/◌, ◌%◌, ◌<◌, ◌≤◌, ◌⊎◌, inl, inr, ℤ, ◌+ℤ◌, ◌-ℤ◌, unsigned_abs, nat_eq, ◌||◌, bytes_eq, if◌then◌else◌, true, List, [], ◌∷◌, ◌++◌, length, get_or, set, remove, Ok, ap, sym, subst, ◌∙◌, arith}, specs.Int.{int_rem_euclid}}
 use Rattle.std.{proofs.lemmas.Bool.{cases_lt, eq-eqb}, proofs.lemmas.Int.{ints}, proofs.lemmas.List.{get_or_default}, proofs.lemmas.Nat.{mod-mul-add}}
 use Rattle.arrays_core.{specs.declared.item.ItemType.{ItemType}, specs.Items.{fill}, specs.Arrays.{ArrayValue, IsArray}, specs.Shapes.{size, is_index_of, places_before}, proofs.Shapes.{places_below}, proofs.Rows.{places_in_row}}
@@ -60,7 +60,7 @@ next_place n amount i some =
     let next : (pos (i + 1) +ℤ amount) -ℤ pos 1 ≡ z +ℤ pos 1 = omega (arith, ints) in
     rw (next, residue_euclid n z some, residue_euclid n (z +ℤ pos 1) some) (next_euclid n z some)
 
--- the places that come to a row: from the first on to the end, and then from 1
+-- the places of a row: from the first one to the end, then from 1
 pub record Turned (n p q j : ℕ) : Type 0 where
   pub low : 1 ≤ q
   pub high : q ≤ n
@@ -93,7 +93,7 @@ turned n amount (suc j) some h =
 
 -- ---- the items of a row
 
--- the items of a row along the last axis are a line from a place on, and then what stands before that
+-- a row along the last axis is a line from a place on, followed by the items in front of that place
 pub record TurnedLine (along : Along) (a b : ArrayValue) (row : List ℕ) (count first from : ℕ) : Type 0 where
   pub low : 1 ≤ from
   pub high : from ≤ count
@@ -152,7 +152,7 @@ module _ (along : Along) (a b : ArrayValue) (row : List ℕ) (count : ℕ) (item
     pub other_fits : IsArray b → first + count ≤ length b.items
     other_fits sound = let fits = row_fits b.shape at_index others (λ i. i) count inside_at at_other (λ k. omega arith) passed_row.row_of.some in omega (arith, sound.one_item_a_place)
 
-  -- along the last axis it is a line from some place on, and then from its begin
+  -- along the last axis it is a line from some place on, followed by its beginning
   module _ (last_axis : axis ≡ length row) where
     abbrev amount : ℤ
     amount = number_of (extended a row)

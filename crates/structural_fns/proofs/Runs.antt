@@ -1,4 +1,4 @@
--- Results whose items are a run of those of an argument.
+-- Results whose items are a run of the argument.
 use Rattle.std.{proofs.Common.{◌≡◌, ℕ, ◌+◌, ◌-◌, ◌%◌, ◌<◌, ◌≤◌, List, [], ◌∷◌, ◌++◌, take, drop, length, get_or, Some, Result, Ok, Bool, true, false, cond, refl, sym, ap, subst, ◌∙◌, arith}, specs.Prelude.{unwrap_or, not, nat_eq, ◌&&◌}, proofs.lemmas.Bool.{eqb-true, eqb-false}, proofs.lemmas.Bool.Decides.{nat_tests}}
 use Rattle.std.{proofs.lemmas.Nat.{mod_below}, proofs.lemmas.List.FromFn.{fill_by_all, length-map-range_with_len, get_or-map-range_with_len}, proofs.Math.ListN.{get_or-eq_default}, proofs.Math.Nat.{mod-eq_of_lt}, proofs.lemmas.List.{length-take-le, length-drop, get_or-take, get_or-drop}}
 use Rattle.arrays_core.{specs.declared.item.Item.{Item}, specs.declared.item.ItemType.{ItemType}, specs.declared.item.Kind.{Kind}, specs.declared.item.Kind.TheVariants.{Rank, Domain}, specs.Items.{fill, and_then}, specs.Building.{listed}, specs.Shapes.{size, index_after, places_before}}
@@ -6,11 +6,11 @@ use Rattle.arrays_core.{specs.Arrays.{ArrayValue, item_if_there, collect, with_i
 use Rattle.index_region.{specs.Checks.{form_of, Form, limited}, specs.Arguments.{is_list, counts_as_numbers, none_negative, numbers}, specs.ArgumentLists.{of_one_argument, of_two_arguments}, specs.Sources.{Place, Fill, item_from}, proofs.Passing.{gives, limited_gives}}
 use Rattle.structural_fns.{specs.Reshape.{magnitudes, again_under, reshape_form, reshape_item, reshape_whole}, specs.Ravel.{ravel_item, ravel_whole}}
 
--- the item at the index list that has k before it
+-- the item at the index list with offset k
 pub item_after : (b : ArrayValue) (k : ℕ) → k < size b.shape → item_if_there b (index_after b.shape k) ≡ Some (get_or b.items k (fill b.item_type))
 item_after b k h = rw (index_after-within b.shape k h, places_before-index_after b.shape k h) refl
 
--- the array of a run of items, where the rule gives them in their order
+-- the array of a run of items, if the rule returns them in order
 pub run_collected : (item_type : ItemType) (shape : List ℕ) (rule : List ℕ → Result Item Kind) (items : List Item) (skipped : ℕ) (d : Item)
     → skipped + size shape ≤ length items
     → ((k : ℕ) → k < size shape → rule (index_after shape k) ≡ Ok (get_or items (skipped + k) d))
@@ -38,7 +38,7 @@ module _ (b : ArrayValue) (inside : size b.shape ≤ length b.items) where
       ap (λ r. and_then r (λ f. collect f.item_type f.shape (ravel_item b))) is
       ∙ run_collected b.item_type (size b.shape ∷ []) (ravel_item b) b.items 0 (fill b.item_type) (omega arith) ravelled_item
 
--- the form that a passed check gives is what was asked for
+-- a passed check returns the wanted form
 pub limited_is : {asked shape : List ℕ} {asked_type item_type : ItemType} → limited asked asked_type ≡ Ok (form_of shape item_type) → (shape ≡ asked) × (item_type ≡ asked_type)
 limited_is {asked = asked} {shape = shape} {asked_type = asked_type} {item_type = item_type} is =
     let same = limited_gives asked asked_type (form_of shape item_type) is in
@@ -60,7 +60,7 @@ ravel_answer (a ∷ []) b v places asked shape asked_type item_type one same is_
     ap ravel_whole (sym same) ∙ ravelled b (omega arith) checked
     ∙ ap (λ xs. Ok (record { item_type = b.item_type; shape = xs; items = take (size xs) (drop 0 b.items) })) (sym shaped) ∙ ap (λ w. Ok w) (sym made)
 
--- ---- reshape, where no item is needed twice
+-- ---- reshape without repetition
 
 pub positive : (n : ℕ) → 0 < n → nat_eq n 0 ≡ false
 positive n h = grind (arith, nat_tests)
@@ -82,7 +82,7 @@ module _ (a b : ArrayValue) (as_many : length b.items ≡ size b.shape) (few : s
       ap (λ r. and_then r (λ f. collect f.item_type f.shape (reshape_item a b))) is
       ∙ run_collected b.item_type (magnitudes a) (reshape_item a b) b.items 0 (fill b.item_type) (omega arith) reshaped_item
 
--- what is known where the checks of reshape have passed
+-- the facts that the checks of reshape establish
 pub record ReshapePassed (a b : ArrayValue) (shape : List ℕ) (item_type : ItemType) : Type 0 where
   pub form : reshape_form a b ≡ Ok (form_of shape item_type)
   pub shaped : shape ≡ magnitudes a
@@ -108,7 +108,7 @@ reshape_answer (a ∷ c ∷ []) b v shape item_type two same passed as_many few 
     ap (λ x. reshape_whole a x) (sym same) ∙ reshaped a b as_many fits (here ∙ ap (λ xs. Ok (form_of xs item_type)) shaped ∙ ap (λ t. Ok (form_of (magnitudes a) t)) passed.typed)
     ∙ ap (λ xs. Ok (record { item_type = b.item_type; shape = xs; items = take (size xs) (drop 0 b.items) })) (sym shaped) ∙ ap (λ w. Ok w) (sym made)
 
--- ---- reshape, where items are needed again
+-- ---- reshape with repetition
 
 module _ (a b : ArrayValue) (as_many : length b.items ≡ size b.shape) where
   abbrev again : ℕ → Item

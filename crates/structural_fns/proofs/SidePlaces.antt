@@ -1,4 +1,4 @@
--- The place in a side that an item of a catenation comes from lies in that side.
+-- The place in a side that an item of a catenation is copied from lies in that side.
 use Rattle.std.{proofs.Common.{◌≡◌, ℕ, zero, suc, ◌+◌, ◌<◌, ◌≤◌, Bool, true, false, ◌||◌, if◌then◌else◌, nat_eq, List, [], ◌∷◌, length, get_or, set, insert, remove, bytes_eq, refl, ap, sym, subst, ◌∙◌, arith}, proofs.lemmas.Bool.{and_parts, and_from, eqb-true, false≢true}, proofs.lemmas.List.Edits.{length-insert}}
 use Rattle.std.proofs.lemmas.Slice.Eq.{bytes_eq-Decides}
 use Rattle.arrays_core.{specs.Arrays.{ArrayValue}, specs.Shapes.{is_index_of}, proofs.Shapes.{as_long, head_of}}
@@ -24,7 +24,7 @@ of_more (m ∷ others) n (i ∷ index) (suc k) h inside =
     let rest = of_more others n index k (omega arith) parts.1 in
     record { on = rest.on; rest = and_from _ _ parts.0 rest.rest; there = omega (arith, rest.there) }
 
--- an index in the place of that on an axis, where the others are on theirs
+-- replacing the index on one axis, with all indices on their axes
 put_inside : (shape index : List ℕ) (k i : ℕ) → k < length shape → k < length index → is_index_of (remove shape k) (remove index k) ≡ true → OnAxis (get_or shape k 0) i
     → is_index_of shape (set index k i) ≡ true
 put_inside [] index k i s l h on = absurd (omega arith)
@@ -34,7 +34,7 @@ put_inside (n ∷ shape) (j ∷ index) (suc k) i s l h on =
     let parts = and_parts _ _ h in
     and_from _ _ parts.0 (put_inside shape index k i (omega arith) (omega arith) parts.1 on)
 
--- a side's index list lies in it where its indices on the other axes do
+-- an index list of a side lies in it if its indices on the other axes do
 in_side_inside : (rank axis : ℕ) (s : ArrayValue) (index : List ℕ) (i : ℕ) → axis < rank → axis < length index
     → (is_scalar s ≡ false → is_index_of (other_axes rank axis s) (remove index axis) ≡ true) → OnAxis (joined_places rank axis s) i
     → is_index_of s.shape (in_side rank axis s index i) ≡ true
@@ -50,14 +50,14 @@ in_side_inside rank axis s index i below there others on = decide (is_scalar s) 
     decide true e = scalar_inside s.shape (eqb-true (length s.shape) 0 e)
     decide false e = by_rank (nat_eq (length s.shape) rank) refl (others e) on
 
--- what is known of an index list of a catenation
+-- the facts about an index list of a catenation
 pub record JoinFacts (rank axis : ℕ) (a b : ArrayValue) (index : List ℕ) : Type 0 where
   pub long : length index ≡ rank
   pub on : OnAxis (joined_places rank axis a + joined_places rank axis b) (get_or index axis 0)
   pub left : (i : ℕ) → OnAxis (joined_places rank axis a) i → is_index_of a.shape (in_side rank axis a index i) ≡ true
   pub right : (i : ℕ) → OnAxis (joined_places rank axis b) i → is_index_of b.shape (in_side rank axis b index i) ≡ true
 
--- the other axes of the right side, unless it is a scalar, are those of the result
+-- the right side has the other axes of the result, unless it is a scalar
 right_axes : (rank axis : ℕ) (a b : ArrayValue) (scalar : Bool) → is_scalar a ≡ scalar → is_scalar b ≡ false → axes_agree rank axis a b ≡ true
     → other_axes rank axis (if scalar then b else a) ≡ other_axes rank axis b
 right_axes rank axis a b true e f h = refl

@@ -1,4 +1,4 @@
--- The place that a source names lies in its argument.
+-- The index list of a source lies in its argument.
 use Rattle.std.{proofs.Common.{◌≡◌, ℕ, zero, suc, ◌≤◌, map, zip, ◌+◌, ◌-◌, ◌<◌, ◌%◌, nat_eq, ◌&&◌, ℤ, pos, negsuc, ◌+ℤ◌, ◌-ℤ◌, unsigned_abs, Bool, true, false, if◌then◌else◌, List, [], ◌∷◌, length, get_or, replicate, set, reverse, refl, subst, arith}, specs.Int.{int_rem_euclid}, specs.List.{filter}}
 use Rattle.std.{proofs.lemmas.Bool.{and_parts, leb-true, eqb-true, eq-eqb, false≢true}, proofs.lemmas.List.{length-map, get_or-map, length-reverse, get_or-reverse}, proofs.lemmas.List.FromFn.{get_or-map-range_with_len, length-map-range_with_len}, proofs.lemmas.Grind.{get_or_default_zero}, proofs.lemmas.Nat.{mod_below}}
 use Rattle.arrays_core.{specs.Arrays.{ArrayValue}, specs.Shapes.{size, is_index_of, index_after}, proofs.Order.{index_after-within}, proofs.Shapes.{as_long, head_of}}
@@ -12,7 +12,7 @@ ravel_inside b index h =
     let one = on_axis (size b.shape ∷ []) index 0 (place_inside (size b.shape ∷ []) b.item_type index h) (omega arith) in
     index_after-within b.shape (get_or index 0 0 - 1) (omega (arith, one.low, one.high))
 
--- the places of an array again and again
+-- the places of a repeated array
 pub recycled_inside : (shape : List ℕ) (before places : ℕ) → places ≡ size shape → 0 < places → is_index_of shape (index_after shape (before % places)) ≡ true
 recycled_inside shape before places e some = index_after-within shape (before % places) (omega (arith, mod_below before places some))
 
@@ -41,7 +41,7 @@ transpose_inside b index h =
     let axis : get_or (reverse shape) other 0 ≡ get_or shape k 0 = rw back at (get_or-reverse shape other 0 (omega arith)) in
     record { low = omega (arith, on.low); high = omega (arith, on.high) })
 
--- a place that is counted round the end of an axis is on it
+-- a place that is counted cyclically is on its axis
 pub rotated_on_axis : (n : ℕ) (amount : ℤ) (i : ℕ) → 0 < n → OnAxis n (rotated_place n amount i)
 rotated_on_axis n amount i some =
     let z = (pos i +ℤ amount) -ℤ pos 1 in
@@ -60,7 +60,7 @@ rotated_inside shape index k amount h =
     subst (λ (m : ℕ). OnAxis m (rotated_place (places_along shape k) amount (get_or index k 1))) n
     (rotated_on_axis (places_along shape k) amount (get_or index k 1) (omega (arith, on.low, on.high))))
 
--- an index list of the shape that counts are for is one of the array
+-- an index list of the shape that the counts apply to yields one of the array
 pub uncounted_inside : (a b : ArrayValue) (index : List ℕ) → is_index_of (counted_shape a b) index ≡ true → is_index_of b.shape (uncounted b index) ≡ true
 uncounted_inside a b index h = by_test (is_scalar b) refl h
   where
@@ -98,7 +98,7 @@ later_at_most : (m : ℕ) (lengths : List ℕ) (n : ℕ) → HasAtMost lengths n
 later_at_most m [] n h = absurd (omega (arith, h.some))
 later_at_most m (k ∷ lengths) n h = record { some = omega arith; low = omega (arith, h.low) }
 
--- the least of the lengths at the axis that axis k goes to is at most that of axis k
+-- the least length at the target of axis k is at most the length of axis k
 least_at : (axes shape : List ℕ) (k j : ℕ) → k < length axes → k < length shape → get_or axes k 0 ≡ j → HasAtMost (lengths_at axes shape j) (get_or shape k 0)
 least_at [] shape k j a s e = absurd (omega arith)
 least_at (x ∷ axes) [] k j a s e = absurd (omega arith)

@@ -20,7 +20,7 @@ pub row_some : (form : Result Form Kind) (row : List ℕ) (count : ℕ) (item_ty
 row_some (Ok form) row count item_type h = h.0.some
 row_some (Err kind) row count item_type h = absurd h
 
--- ---- a row whose items stand one after another in an array
+-- ---- a row of consecutive items of an array
 
 module _ (shape : List ℕ) (at : ℕ → List ℕ) (others : List ℕ) (place : ℕ → ℕ) (count : ℕ) (inside : (j : ℕ) → j < count → is_index_of shape (at (0 + j + 1)) ≡ true)
     (is : (i : ℕ) → at i ≡ others ++ place i ∷ []) (next : (j : ℕ) → place (0 + j + 1) ≡ place 1 + j) where
@@ -38,7 +38,7 @@ module _ (shape : List ℕ) (at : ℕ → List ℕ) (others : List ℕ) (place :
       let place = place_beside (count - 1) last in
       omega arith
 
--- ---- a row whose items stand at these index lists of an array, which are evenly spaced
+-- ---- a row of evenly spaced items of an array
 
 module _ (b : ArrayValue) (at : ℕ → List ℕ) (count step : ℕ)
     (inside : (i : ℕ) → 1 ≤ i → i ≤ count → is_index_of b.shape (at i) ≡ true)
@@ -103,7 +103,7 @@ fewer_axes (n ∷ shape) (i ∷ index) h some w =
     fewer zero some within = absurd (omega arith)
     fewer (suc m) some within = omega arith
 
--- a row of what is transposed
+-- a row of a transposed array
 module _ (b : ArrayValue) (row : List ℕ) (count : ℕ) (item_type : ItemType) (h : IsRowIn (transpose_form b) row count item_type) (first : ℕ)
     (begins : first ≡ places_before b.shape (reverse (row ++ 1 ∷ []))) where
   abbrev of_row : TransposedRow b row count
@@ -128,7 +128,7 @@ before_end [] x y (suc k) h = refl
 before_end (z ∷ xs) x y zero h = refl
 before_end (z ∷ xs) x y (suc k) h = before_end xs x y k (λ e. h (ap suc e))
 
--- how many places apart the items stand along axis r, counted from 0: the strides of the axes that go there
+-- the distance of items along axis r, counted from 0: the sum of the strides of the axes that go there
 abbrev stride_to : List ℕ → List ℕ → ℕ → ℕ
 stride_to (n ∷ shape) (j ∷ axes) r = cond (nat_eq (j - 1) r) (size shape) 0 + stride_to shape axes r
 stride_to shape axes r = 0
@@ -172,7 +172,7 @@ place_by_two shape axes row count m i least low high =
     (step_of_two (places_before shape (gathered axes (row ++ 1 ∷ []))) (places_before shape (gathered axes (row ++ m ∷ []))) (stride_to shape axes (length row)) m count i low high least
     (gathered_steps shape axes row m))
 
--- a row of what is transposed by axes
+-- a row of an array transposed by axes
 module _ (a b : ArrayValue) (row : List ℕ) (count : ℕ) (item_type : ItemType) (h : IsRowIn (transpose_by_form a b) row count item_type) (first second m : ℕ) (least : m ≡ min count 2)
     (begins : first ≡ places_before b.shape (gathered (axes_to a) (row ++ 1 ∷ []))) (goes_on : second ≡ places_before b.shape (gathered (axes_to a) (row ++ m ∷ []))) where
   abbrev index_at : ℕ → List ℕ

@@ -1,4 +1,4 @@
--- The rows of what is taken.
+-- The rows of a result of take.
 use Rattle.std.{proofs.Common.{◌≡◌, ℕ, zero, suc, ◌+◌, ◌-◌, ◌<◌, ◌≤◌, min, ℤ, pos, negsuc, unsigned_abs, nat_eq, Bool, true, false, cond, if◌then◌else◌, List, [], ◌∷◌, ◌++◌, length, get_or, replicate, Some, None, Result, Ok, refl, ap, sym, subst, ◌∙◌, arith}, specs.Prelude.{unwrap_or, int_le}}
 use Rattle.std.proofs.lemmas.Bool.{eqb-true, false≢true, false_from_ne_true, le-leb}
 use Rattle.arrays_core.{specs.declared.item.Item.{Item}, specs.declared.item.ItemType.{ItemType}, specs.declared.item.Kind.{Kind}, specs.Items.{fill}, specs.Arrays.{ArrayValue, IsArray}, specs.Building.{listed, with_row}, specs.Shapes.{size, is_index_of, places_before}, proofs.Shapes.{places_below}}
@@ -6,7 +6,7 @@ use Rattle.arrays_core.proofs.Rows.{row_end, same_row, places_in_row, with_row_n
 use Rattle.index_region.{specs.Answers.{IsRowIn, IsPlaceOf}, specs.Arguments.{numbers, is_scalar, is_list, counts_as_numbers}, specs.Sources.{Place, Fill, item_from}, proofs.Passing.{passed, place_inside, row_passed, row_inside}}
 use Rattle.structural_fns.{specs.AxisCounts.{counted_shape, uncounted}, specs.Reshape.{magnitudes}, specs.Take.{take_form, take_item, take_source, taken_place, taken_places, AreOnLastAxis}, proofs.Counting.{numbers_long, magnitudes_long, magnitude_at}, proofs.SourcePlaces.{uncounted_inside}}
 
--- what is known of a row of what is taken
+-- the facts about such a row
 pub record TakenRow (a b : ArrayValue) (row : List ℕ) (count : ℕ) (item_type : ItemType) : Type 0 where
   pub rank : length row < 4
   pub axes : length (counted_shape a b) ≡ length row + 1
@@ -29,7 +29,7 @@ taken_row a b row count item_type h =
       typed = inside.typed;
     }
 
--- what is known of the axes and the counts by one place of a row
+-- the facts about the axes and the counts, from one place of a row
 pub record TakenLong (a b : ArrayValue) (row : List ℕ) : Type 0 where
   pub axes : length (counted_shape a b) ≡ length row + 1
   pub counts : length a.items ≡ length row + 1
@@ -43,7 +43,7 @@ taken_long a b row i h =
     let long = magnitudes_long a in
     record { axes = omega (arith, end.long); counts = omega (arith, end.long) }
 
--- the places of a row: those of the other axes, and behind them that on the last
+-- the places of a row: on the other axes, followed by the last axis
 pub record PlacesOfRow (shape : List ℕ) (counts : List ℤ) (row : List ℕ) : Type 0 where
   pub long : length (taken_places shape counts row) ≡ length row
   pub is : (i : ℕ) → taken_places shape counts (row ++ i ∷ []) ≡ taken_places shape counts row ++ taken_place (get_or shape (length row) 0) (get_or counts (length row) (pos 0)) i ∷ []
@@ -120,7 +120,7 @@ pub record KeptRow (a b : ArrayValue) (row : List ℕ) (before kept place : ℕ)
   pub inside : 0 < kept → IsArray b → place + kept ≤ length b.items
   pub item : (j : ℕ) → j < kept → take_item a b (row ++ (before + (0 + j + 1)) ∷ []) ≡ Ok (get_or b.items (place + j) (fill b.item_type))
 
--- the places of a row of what is taken
+-- the places of a row of the result
 module _ (a b : ArrayValue) (row : List ℕ) (axes : length (counted_shape a b) ≡ length row + 1) (counts : length a.items ≡ length row + 1) where
   on_axes : PlacesOfRow (counted_shape a b) (numbers a) row
   on_axes = let long = numbers_long a in places_of_row (counted_shape a b) (numbers a) row axes (omega arith)

@@ -1,4 +1,4 @@
--- What may change of the functions that move places along axes, or axes, in worked cases.
+-- Worked cases of the reach of reverse, rotate and transpose, computed.
 use Rattle.std.proofs.Common.{ℕ, ℤ, List, [], ◌∷◌, length, map, Some, None, replicate, pos, refl}
 use Rattle.arrays_core.{specs.declared.item.Item.TheVariants.{Num}, specs.declared.item.ItemType.TheVariants.{Nums}, specs.Arrays.{ArrayValue}, specs.Shapes.{size}, proofs.CaseWords.{◌⇒◌, AllSame}}
 use Rattle.function_names.specs.declared.along.Along.TheVariants.{First, Last, Axis}
@@ -22,7 +22,7 @@ reverse_cases : AllSame (
     reach_of (reverse_rule Last) (zeros [] ∷ []) (Some [] ∷ []) ⇒ Inside [] ∷  -- scalar reversed
     reach_of (reverse_rule Last) (zeros (0 ∷ []) ∷ []) (Some ((1, 1) ∷ []) ∷ []) ⇒ Unmoved ∷  -- nothing reversed
     reach_of (reverse_rule Last) (zeros (5 ∷ []) ∷ []) (None ∷ []) ⇒ Unmoved ∷  -- unchanged reversed
-    -- where a check fails no box is told
+    -- a failed check reaches everything
     reach_of (reverse_rule (Axis (pos 2))) (zeros (5 ∷ []) ∷ []) (Some ((2, 3) ∷ []) ∷ []) ⇒ Anew ∷
     [])
 reverse_cases = refl

@@ -1,4 +1,4 @@
--- Lines along an axis, and places counted round its end.
+-- Lines along an axis, and places counted cyclically.
 use Rattle.std.{proofs.Common.{◌≡◌, ℕ, zero, suc, ◌/◌, ◌<◌, ℤ, pos, negsuc, false, ◌||◌, nat_eq, length, remove, bytes_eq, ap, arith}, specs.Int.{int_rem_euclid}, specs.Ordering.{int_eq}, proofs.lemmas.Int.{ints}, proofs.lemmas.Bool.{false_from_ne_true}, proofs.lemmas.Bool.Decides.{Decides-int_eq}}
 use Rattle.arrays_core.{specs.declared.item.Item.{Item}, specs.declared.item.Kind.TheVariants.{Axis as AxisKind, Rank, Length, Domain}, specs.Items.{type_of}, specs.Arrays.{ArrayValue}}
 use Rattle.item_fns.{specs.Numbers.{residue}, proofs.Residues.{both_positive}}
@@ -10,7 +10,7 @@ use lib.IntN.{nat_abs, pos-*ℤ-negsuc}
 not_zero : (a : ℕ) → int_eq (pos (suc a)) (pos 0) ≡ false
 not_zero a = false_from_ne_true _ (λ t. let e : suc a ≡ 0 = ap nat_abs ((Decides-int_eq (pos (suc a)) (pos 0)).0 t) in absurd (omega arith))
 
--- the residue of a positive number is what is left of a division that rounds down
+-- the residue by a positive number is the remainder of the quotient rounded down
 pub residue_euclid : (n : ℕ) (z : ℤ) → 0 < n → residue (pos n) z ≡ int_rem_euclid z (pos n)
 residue_euclid zero z h = absurd (omega arith)
 residue_euclid (suc a) (pos b) h = rw (not_zero a) (both_positive b a)

@@ -6,7 +6,7 @@ use Rattle.index_region.{specs.Checks.{form_of}, specs.Arguments.{is_list, count
 use Rattle.structural_fns.{specs.Reshape.{magnitudes}, specs.AxisCounts.{counted_shape, counted_form}, specs.Take.{taken_place, take_form, take_item, take_whole}, specs.Drop.{kept_place, dropped_shape, drop_form, drop_item, drop_whole}, proofs.Counting.{numbers_long}}
 use Rattle.structural_fns.proofs.Runs.{item_after, run_collected, limited_is}
 
--- what is known where the checks of counts have passed
+-- the facts that the checks of counts establish
 pub record CountsPassed (asked : List ℕ) (a b : ArrayValue) (shape : List ℕ) (item_type : ItemType) : Type 0 where
   pub shaped : shape ≡ asked
   pub typed : item_type ≡ b.item_type
@@ -105,7 +105,7 @@ kept_fits : (n : ℕ) (z : ℤ) → unsigned_abs z ≤ n → kept_place z 1 - 1 
 kept_fits n (pos c) h = omega arith
 kept_fits n (negsuc c) h = omega arith
 
--- the run begins at any place where no items are left
+-- if no items are left, the run may begin anywhere
 kept_whole : (item_type : ItemType) (n : ℕ) (items : List Item) (a : ArrayValue) (z : ℤ) (skipped : ℕ) → numbers a ≡ z ∷ [] → n ≡ length items
     → skipped + (n - unsigned_abs z) ≤ n → (0 < n - unsigned_abs z → skipped ≡ kept_place z 1 - 1)
     → drop_form a (of_vector item_type n items) ≡ Ok (form_of ((n - unsigned_abs z) ∷ []) item_type)
@@ -116,7 +116,7 @@ kept_whole item_type n items a z skipped counted long fits begins form =
     ∙ run_collected item_type ((n - unsigned_abs z) ∷ []) (drop_item a b) items skipped (fill item_type) (omega arith)
     (λ k h. kept_item item_type n items a z skipped k counted (kept_moves z k ∙ ap (λ m. (m + k) / 1 + 1) (sym (begins (omega arith)))) (omega arith))
 
--- what is known of a vector and its counts, where the checks have passed
+-- the facts about a vector and its counts that the checks establish
 pub record DroppedVector (a b : ArrayValue) (shape : List ℕ) : Type 0 where
   pub counted : numbers a ≡ get_or (numbers a) 0 (pos 0) ∷ []
   pub shaped : shape ≡ (length b.items - unsigned_abs (get_or (numbers a) 0 (pos 0))) ∷ []
@@ -141,7 +141,7 @@ dropped_vector a b shape form one_axis sound =
       one = passed.long;
     }
 
--- the first place that is left of a vector, where one is
+-- the first place of the result, if there is one
 pub record FirstKept (a b : ArrayValue) (shape : List ℕ) : Type 0 where
   pub bound : 1 + unsigned_abs (get_or (numbers a) 0 (pos 0)) ≤ 1048576
   pub fits : kept_place (get_or (numbers a) 0 (pos 0)) 1 - 1 + size shape ≤ length b.items

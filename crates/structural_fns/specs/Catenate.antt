@@ -1,4 +1,4 @@
--- Catenate: two arrays after one another along an axis.
+-- Catenate: two arrays joined along an axis.
 use Rattle.std.specs.Prelude.{ℕ, suc, ◌+◌, ◌-◌, max, nat_eq, nat_le, Bool, not, ◌&&◌, ◌||◌, if◌then◌else◌, List, [], ◌∷◌, ◌++◌, length, get_or, set, insert, remove, Result, false, Some, ◌≡◌, ◌≤◌, ◌⊎◌}
 use Rattle.arrays_core.{specs.declared.item.Item.{Item}, specs.declared.item.ItemType.{ItemType}, specs.declared.item.Kind.{Kind}, specs.declared.item.Kind.TheVariants.{Axis, Rank, Length, Domain}, specs.Arrays.{ArrayValue}}
 use Rattle.function_names.{specs.declared.along.Along.{Along}, specs.Axes.{is_axis, axis_at}}
@@ -10,7 +10,7 @@ use Rattle.scalar_fns.specs.ScalarExtension.{same_shape}
 abbrev pub joined_rank : ArrayValue → ArrayValue → ℕ
 joined_rank a b = max 1 (max (length a.shape) (length b.shape))
 
--- how many places a side takes along the axis
+-- the number of places of a side along the axis
 abbrev pub joined_places : ℕ → ℕ → ArrayValue → ℕ
 joined_places rank axis a = if nat_eq (length a.shape) rank then get_or a.shape axis 0 else 1
 
@@ -18,11 +18,11 @@ joined_places rank axis a = if nat_eq (length a.shape) rank then get_or a.shape 
 abbrev pub other_axes : ℕ → ℕ → ArrayValue → List ℕ
 other_axes rank axis a = if nat_eq (length a.shape) rank then remove a.shape axis else a.shape
 
--- a scalar joins any array; else the ranks differ by at most 1
+-- a scalar joins any array; otherwise the ranks differ by at most 1
 abbrev pub ranks_join : ArrayValue → ArrayValue → Bool
 ranks_join a b = (is_scalar a || is_scalar b) || (nat_le (length a.shape) (suc (length b.shape)) && nat_le (length b.shape) (suc (length a.shape)))
 
--- a scalar is repeated over the other axes; else these are the same
+-- a scalar is repeated over the other axes; otherwise they are equal
 abbrev pub axes_agree : ℕ → ℕ → ArrayValue → ArrayValue → Bool
 axes_agree rank axis a b = (is_scalar a || is_scalar b) || same_shape (other_axes rank axis a) (other_axes rank axis b)
 
@@ -30,7 +30,7 @@ axes_agree rank axis a b = (is_scalar a || is_scalar b) || same_shape (other_axe
 abbrev pub types_join : ArrayValue → ArrayValue → Bool
 types_join a b = (not (has_items a) || not (has_items b)) || is_same_type a.item_type b.item_type
 
--- that of the side that has items
+-- the type of the side that has items
 abbrev pub joined_type : ArrayValue → ArrayValue → ItemType
 joined_type a b = if not (has_items a) && has_items b then b.item_type else a.item_type
 
@@ -38,7 +38,7 @@ joined_type a b = if not (has_items a) && has_items b then b.item_type else a.it
 abbrev pub joined_shape : ℕ → ℕ → ArrayValue → ArrayValue → List ℕ
 joined_shape rank axis a b = insert (other_axes rank axis (if is_scalar a then b else a)) axis (joined_places rank axis a + joined_places rank axis b)
 
--- the checks of two sides, and what follows them
+-- the checks of two sides, before the rest
 abbrev pub sides_checked : ℕ → ℕ → ArrayValue → ArrayValue → Result Form Kind → Result Form Kind
 sides_checked rank axis a b rest =
     check (ranks_join a b) Rank
@@ -54,17 +54,17 @@ catenate_form along a b =
     (sides_checked rank axis a b
     (limited (joined_shape rank axis a b) (joined_type a b)))
 
--- a side's index list at place i along the axis; a scalar is repeated over the others
+-- the index list of a side at place i along the axis; a scalar is repeated over the other axes
 abbrev pub in_side : ℕ → ℕ → ArrayValue → List ℕ → ℕ → List ℕ
 in_side rank axis a index i = if is_scalar a then [] else (if nat_eq (length a.shape) rank then set index axis i else remove index axis)
 
--- a side's index list for place i of a row of the result, where so many places along the axis are the other side's
+-- the index list of a side for place i of a row of the result, with `skipped` places of the other side in front
 abbrev pub in_side_of_row : ℕ → ℕ → ArrayValue → List ℕ → ℕ → List ℕ
 in_side_of_row axis skipped a row i =
     let index = row ++ i ∷ [] in
     in_side (length row + 1) axis a index (get_or index axis 0 - skipped)
 
--- the first places along the axis are those of a
+-- the first places along the axis come from a
 abbrev pub catenate_source : Along → ArrayValue → ArrayValue → List ℕ → Source
 catenate_source along a b index =
     let rank = joined_rank a b in
@@ -86,14 +86,14 @@ pub record IsSide (side : ArrayValue) (rank : ℕ) : Type 0 where
   pub low : length side.shape ≤ rank
   pub near : (length side.shape ≡ 0) ⊎ (rank ≤ length side.shape + 1)
 
--- What a change of an argument of catenate changes of the result.
+-- The change rule of catenate.
 
 -- a place of the result's axis
 abbrev pub one_place : ℕ → Interval
 one_place i = (i, i)
 
--- a side that stands after so many places of the axis: a scalar is repeated over the other axes, an array of one rank
--- less is one place, the intervals of any other are moved
+-- a side with `before` places in front: a scalar is repeated over the other axes, an array of one rank less is one place, the intervals of
+-- any other are moved
 abbrev pub side_box : List ℕ → ℕ → ℕ → ArrayValue → Spread
 side_box shape axis before side region =
     if is_scalar side then Some (set (whole_of shape) axis (one_place (before + 1)))
@@ -103,7 +103,7 @@ side_box shape axis before side region =
 abbrev pub catenate_left_box : Along → List ℕ → ArrayValue → ArrayValue → Spread
 catenate_left_box along shape a b = side_box shape (axis_at (length shape) along) 0 a
 
--- the right side stands after the places of the left one
+-- the places of the left side are in front of the right side
 abbrev pub catenate_right_box : Along → List ℕ → ArrayValue → ArrayValue → Spread
 catenate_right_box along shape a b = let axis = axis_at (length shape) along in side_box shape axis (joined_places (length shape) axis a) b
 

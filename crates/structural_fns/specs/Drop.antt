@@ -1,11 +1,11 @@
--- Drop, A↓B: the first places of each axis, or the last, left out.
+-- Drop, A↓B: leaves out the first or last places of each axis.
 use Rattle.std.specs.Prelude.{ℕ, ◌+◌, ◌-◌, ℤ, pos, negsuc, unsigned_abs, List, [], ◌∷◌, Result, suc, true, Some, None}
 use Rattle.arrays_core.{specs.declared.item.Item.{Item}, specs.declared.item.Kind.{Kind}, specs.Arrays.{ArrayValue}}
 use Rattle.index_region.{specs.Checks.{Form, whole}, specs.Arguments.{numbers}, specs.Sources.{Place, Source, item_from}}
 use Rattle.change_core.{specs.RuleModels.{RuleModel}, specs.Ways.{Axis, images}, specs.Sourced.{Spread, two_sourced}}
 use Rattle.structural_fns.specs.AxisCounts.{counted_shape, uncounted, counted_form, counted_box}
 
--- the lengths that are left of the axes
+-- the lengths of the axes of the result
 abbrev pub dropped_shape : List ℕ → List ℤ → List ℕ
 dropped_shape (n ∷ shape) (count ∷ counts) = (n - unsigned_abs count) ∷ dropped_shape shape counts
 dropped_shape shape counts = []
@@ -14,17 +14,17 @@ dropped_shape shape counts = []
 abbrev pub drop_form : ArrayValue → ArrayValue → Result Form Kind
 drop_form a b = counted_form (dropped_shape (counted_shape a b) (numbers a)) a b
 
--- where place i of what is left stands: a positive count leaves out the first places, a negative one the last
+-- the place that place i of the result comes from: a positive count leaves out the first places, a negative one the last
 abbrev pub kept_place : ℤ → ℕ → ℕ
 kept_place (pos count) i = i + count
 kept_place (negsuc count) i = i
 
--- where the index list of what is left stands: its place on each axis
+-- the index list that an index list of the result comes from
 abbrev pub kept_places : List ℤ → List ℕ → List ℕ
 kept_places (count ∷ counts) (i ∷ index) = kept_place count i ∷ kept_places counts index
 kept_places counts index = []
 
--- where the item at an index list comes from
+-- the source of the item at an index list
 abbrev pub drop_source : ArrayValue → ArrayValue → List ℕ → Source
 drop_source a b index = Place 1 (uncounted b (kept_places (numbers a) index))
 
@@ -36,9 +36,9 @@ drop_item a b index = item_from a b b.item_type (drop_source a b index)
 abbrev pub drop_whole : ArrayValue → ArrayValue → Result ArrayValue Kind
 drop_whole a b = whole (drop_form a b) (drop_item a b)
 
--- What a change of an argument of drop changes of the result.
+-- The change rule of drop.
 
--- what is left of an axis of n places, and where drop puts an interval of it
+-- the axis of the result for an axis of n places, with the image of an interval
 abbrev pub kept : ℕ → ℤ → Axis
 kept n (pos count) = record { len = n - count; source = kept_place (pos count); image = λ s. (s.0 - count, s.1 - count) }
 kept n (negsuc count) = record { len = n - suc count; source = kept_place (negsuc count); image = λ s. s }
@@ -47,7 +47,7 @@ abbrev pub kept_axes : List ℕ → List ℤ → List Axis
 kept_axes (n ∷ shape) (count ∷ counts) = kept n count ∷ kept_axes shape counts
 kept_axes shape counts = []
 
--- each interval goes to where drop puts it
+-- each interval is replaced by its image
 abbrev pub drop_box : List ℕ → ArrayValue → ArrayValue → Spread
 drop_box shape a b region = Some (images (kept_axes (counted_shape a b) (numbers a)) (counted_box a b region))
 

@@ -1,4 +1,4 @@
--- Dyadic transpose, A⍉B: axis i of b goes to axis A[i].
+-- Dyadic transpose, A⍉B: axis i of b becomes axis A[i].
 use Rattle.std.{specs.Prelude.{ℕ, ◌-◌, max, min, nat_eq, ℤ, pos, int_le, unsigned_abs, Bool, ◌&&◌, List, [], ◌∷◌, map, length, get_or, zip, Result, true, Some, None}, specs.List.{filter, list_all, list_any, range_with_len}}
 use Rattle.arrays_core.{specs.declared.item.Item.{Item}, specs.declared.item.Kind.{Kind}, specs.declared.item.Kind.TheVariants.{Rank, Length, Domain}, specs.Arrays.{ArrayValue}}
 use Rattle.index_region.{specs.Checks.{check, Form, limited, whole}, specs.Arguments.{is_list, counts_as_numbers, numbers}, specs.Sources.{Place, Source, item_from}}
@@ -27,7 +27,7 @@ all_positive zs = list_all (λ z. int_le (pos 1) z) zs
 abbrev pub occurs : List ℕ → ℕ → Bool
 occurs axes j = list_any (λ k. nat_eq k j) axes
 
--- each axis from 1 to the greatest occurs
+-- every axis up to the greatest is named, and no entry is below 1
 abbrev pub are_axes : List ℤ → Bool
 are_axes zs =
     let axes = map unsigned_abs zs in
@@ -37,7 +37,7 @@ are_axes zs =
 abbrev pub lengths_at : List ℕ → List ℕ → ℕ → List ℕ
 lengths_at axes shape j = map (λ p. p.1) (filter (λ p. nat_eq p.0 j) (zip axes shape))
 
--- an axis that several go to has their least length
+-- an axis that several axes go to has their least length
 abbrev pub transposed_shape : List ℕ → List ℕ → List ℕ
 transposed_shape axes shape = map (λ j. least_of (lengths_at axes shape j)) (range_with_len 1 (greatest_of axes))
 
@@ -53,7 +53,7 @@ transpose_by_form a b =
 abbrev pub gathered : List ℕ → List ℕ → List ℕ
 gathered axes index = map (λ j. get_or index (j - 1) 0) axes
 
--- where the item at an index list comes from
+-- the source of the item at an index list
 abbrev pub transpose_by_source : ArrayValue → ArrayValue → List ℕ → Source
 transpose_by_source a b index = Place 1 (gathered (axes_to a) index)
 
@@ -65,16 +65,16 @@ transpose_by_item a b index = item_from a b b.item_type (transpose_by_source a b
 abbrev pub transpose_by_whole : ArrayValue → ArrayValue → Result ArrayValue Kind
 transpose_by_whole a b = whole (transpose_by_form a b) (transpose_by_item a b)
 
--- What may change of A⍉B: on each axis what lies in all changed intervals that go there; anew where A changed.
+-- The change rule of A⍉B: on each axis, the part in all changed intervals that go there; everything if A changed.
 
 -- the axes that the axes of b go to, counted from 0
 abbrev pub axes_from_zero : ArrayValue → List ℕ
 axes_from_zero a = map (λ j. j - 1) (axes_to a)
 
--- the box: each axis of the result, as far as it lies in all intervals that go to it
+-- the box: the part of each axis of the result that lies in all intervals which go to it
 abbrev pub transpose_by_box : List ℕ → ArrayValue → Spread
 transpose_by_box shape a region = Some (meets (axes_from_zero a) region 0 shape)
 
--- each item reads the place that it comes from; A says which
+-- each item reads the place that it is copied from, which A selects
 abbrev pub transpose_by_rule : RuleModel
 transpose_by_rule = two_sourced true transpose_by_form (λ a b. b.item_type) transpose_by_source (λ shape a b region. None) (λ shape a b. transpose_by_box shape a)

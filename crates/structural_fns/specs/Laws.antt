@@ -1,4 +1,4 @@
--- Proofs that impls give with their functions. No contract cites them.
+-- Laws that impls supply with their functions. No contract cites them.
 pub mod Reverse
 pub mod Transpose
 pub mod DyadicTranspose

@@ -1,4 +1,4 @@
--- What public contracts mean.
+-- The definitions that public contracts use.
 pub mod AxisCounts
 pub mod Reshape
 pub mod Ravel
@@ -9,7 +9,7 @@ pub mod Reverse
 pub mod Rotate
 pub mod Transpose
 pub mod DyadicTranspose
--- What proofs and bodies use.
+-- The definitions that proofs and bodies use.
 pub mod LeastLength
--- Proofs that impls give with their functions: all that changes lies in the boxes, and what grows.
+-- The laws that impls supply with their functions: change and growth.
 pub mod Laws

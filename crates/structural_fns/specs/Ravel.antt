@@ -8,7 +8,7 @@ use Rattle.change_core.{specs.Places.{first_of_box, last_of_box}, specs.RuleMode
 abbrev pub ravel_form : ArrayValue → Result Form Kind
 ravel_form b = limited (size b.shape ∷ []) b.item_type
 
--- where the item at an index list comes from
+-- the source of the item at an index list
 abbrev pub ravel_source : ArrayValue → List ℕ → Source
 ravel_source b index = Place 0 (index_after b.shape (get_or index 0 0 - 1))
 
@@ -20,7 +20,7 @@ ravel_item b index = item_from b b b.item_type (ravel_source b index)
 abbrev pub ravel_whole : ArrayValue → Result ArrayValue Kind
 ravel_whole b = whole (ravel_form b) (ravel_item b)
 
--- What a change of the argument of ravel changes of the result.
+-- The change rule of ravel.
 
 -- from the first place of the box in the ravel to the last
 abbrev pub ravel_box : List ℕ → ArrayValue → Spread

@@ -1,10 +1,10 @@
--- Reshape, A⍴B: the items in row-major order, again and again, under another shape.
+-- Reshape, A⍴B: the items in row-major order, repeated as needed, in another shape.
 use Rattle.std.specs.Prelude.{ℕ, ◌%◌, unsigned_abs, ◌&&◌, if◌then◌else◌, List, map, length, get_or, Result, true, None}
 use Rattle.arrays_core.{specs.declared.item.Item.{Item}, specs.declared.item.Kind.{Kind}, specs.declared.item.Kind.TheVariants.{Rank, Domain}, specs.Arrays.{ArrayValue}, specs.Items.{fill}, specs.Building.{listed}, specs.Shapes.{size, index_after, places_before}}
 use Rattle.index_region.{specs.Checks.{check, Form, limited, whole}, specs.Arguments.{is_list, has_items, counts_as_numbers, numbers, none_negative}, specs.Sources.{Place, Fill, Source, item_from}}
 use Rattle.change_core.{specs.Places.{by_place}, specs.RuleModels.{RuleModel}, specs.Sourced.{Spread, two_sourced}}
 
--- the lengths of axes that an array of numbers asks for, whatever their signs
+-- the axis lengths that an array of numbers gives, regardless of signs
 abbrev pub magnitudes : ArrayValue → List ℕ
 magnitudes a = map unsigned_abs (numbers a)
 
@@ -15,11 +15,11 @@ reshape_form a b =
     (check (counts_as_numbers a && none_negative (numbers a)) Domain
     (limited (magnitudes a) b.item_type))
 
--- the ravel of b, again and again
+-- the ravel of b, repeated
 abbrev pub reshape_source : List ℕ → ArrayValue → List ℕ → Source
 reshape_source shape b index = if has_items b then Place 1 (index_after b.shape (places_before shape index % size b.shape)) else Fill
 
--- the items of b, again and again, under a shape; fill where b has none
+-- the items of b, repeated in a shape; fill if b has none
 abbrev pub again_under : ArrayValue → List ℕ → ArrayValue
 again_under b shape = record {
   item_type = b.item_type;
@@ -35,9 +35,9 @@ reshape_item a b index = item_from a b b.item_type (reshape_source (magnitudes a
 abbrev pub reshape_whole : ArrayValue → ArrayValue → Result ArrayValue Kind
 reshape_whole a b = whole (reshape_form a b) (reshape_item a b)
 
--- What a change of an argument of reshape changes of the result.
+-- The change rule of reshape.
 
--- all where items are needed again; else from the first place of the box in the ravel to the last, as far as there are such
+-- everything if items are repeated; otherwise from the first place of the box in the ravel to the last, cut to the result
 abbrev pub reshape_box : List ℕ → ArrayValue → ArrayValue → Spread
 reshape_box shape a b = (by_place b.shape shape).box
 

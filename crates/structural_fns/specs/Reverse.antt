@@ -1,4 +1,4 @@
--- Reverse, ⌽B along an axis: its places from the last to the first. A scalar's index list is empty, and so nothing is set.
+-- Reverse, ⌽B along an axis: its places in reverse order. A scalar has the empty index list, so nothing is set.
 use Rattle.std.specs.Prelude.{ℕ, suc, ◌-◌, List, length, get_or, set, Result}
 use Rattle.arrays_core.{specs.declared.item.Item.{Item}, specs.declared.item.Kind.{Kind}, specs.declared.item.Kind.TheVariants.{Axis}, specs.Arrays.{ArrayValue}}
 use Rattle.function_names.{specs.declared.along.Along.{Along}, specs.Axes.{is_axis, axis_at}}
@@ -9,7 +9,7 @@ use Rattle.change_core.{specs.RuleModels.{RuleModel}, specs.Sourced.{Spread, on_
 abbrev pub reverse_form : Along → ArrayValue → Result Form Kind
 reverse_form along b = check (is_axis (length b.shape) along) Axis (limited b.shape b.item_type)
 
--- where the item at an index list comes from
+-- the source of the item at an index list
 abbrev pub reverse_source : Along → ArrayValue → List ℕ → Source
 reverse_source along b index =
     let axis = axis_at (length b.shape) along in
@@ -23,18 +23,18 @@ reverse_item along b index = item_from b b b.item_type (reverse_source along b i
 abbrev pub reverse_whole : Along → ArrayValue → Result ArrayValue Kind
 reverse_whole along b = whole (reverse_form along b) (reverse_item along b)
 
--- What may change of ⌽B along an axis: the changed interval of the axis, counted from its other end.
+-- The change rule of ⌽B along an axis: the changed interval of the axis, counted from its other end.
 
 -- an interval of an axis of n places, counted from its other end
 abbrev pub reversed : ℕ → Interval → Interval
 reversed n s = (suc n - s.1, suc n - s.0)
 
--- the box: the interval of the axis reversed, other axes as they are
+-- the box: the interval of the axis reversed, other axes unchanged
 abbrev pub reverse_box : Along → ArrayValue → Spread
 reverse_box along b =
     let axis = axis_at (length b.shape) along in
     on_axis axis (reversed (places_along b.shape axis))
 
--- each item reads the place that it comes from
+-- each item reads the place that it is copied from
 abbrev pub reverse_rule : Along → RuleModel
 reverse_rule along = one_sourced (reverse_form along) (reverse_source along) (λ shape b. reverse_box along b)

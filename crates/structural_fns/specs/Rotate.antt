@@ -1,4 +1,4 @@
--- Rotate, A⌽B along an axis: its places moved along it, and round its end.
+-- Rotate, A⌽B along an axis: its places moved cyclically.
 use Rattle.std.specs.Prelude.{ℕ, suc, nat_eq, ℤ, pos, ◌+ℤ◌, ◌-ℤ◌, unsigned_abs, ◌||◌, List, length, get_or, set, remove, Result, ◌==◌, if◌then◌else◌, [], ◌∷◌, map, insert, false, Some}
 use Rattle.arrays_core.{specs.declared.item.Item.{Item}, specs.declared.item.Kind.{Kind}, specs.declared.item.Kind.TheVariants.{Axis, Rank, Length, Domain}, specs.Arrays.{ArrayValue}, specs.Shapes.{size}}
 use Rattle.function_names.{specs.declared.along.Along.{Along}, specs.Axes.{is_axis, axis_at}}
@@ -22,15 +22,15 @@ rotate_form along a b =
     (check (counts_as_numbers a) Domain
     (limited b.shape b.item_type)))
 
--- how far the line of an index list is rotated
+-- the amount for the line of an index list
 abbrev pub rotation : ℕ → ArrayValue → List ℕ → ℤ
 rotation axis a index = number_of (extended a (remove index axis))
 
--- the place that comes to place i of n
+-- the place that moves to place i of n
 abbrev pub rotated_place : ℕ → ℤ → ℕ → ℕ
 rotated_place n amount i = suc (unsigned_abs (residue (pos n) ((pos i +ℤ amount) -ℤ pos 1)))
 
--- where the item at an index list comes from
+-- the source of the item at an index list
 abbrev pub rotate_source : Along → ArrayValue → ArrayValue → List ℕ → Source
 rotate_source along a b index =
     let axis = axis_at (length b.shape) along in
@@ -44,27 +44,27 @@ rotate_item along a b index = item_from a b b.item_type (rotate_source along a b
 abbrev pub rotate_whole : Along → ArrayValue → ArrayValue → Result ArrayValue Kind
 rotate_whole along a b = whole (rotate_form along a b) (rotate_item along a b)
 
--- What may change of A⌽B along an axis: whole lines along it, as a place may come from any place of its line.
+-- The change rule of A⌽B along an axis: whole lines along it, as an item may come from any place of its line.
 
--- the box of B: the axis whole, other axes as they are
+-- the box of B: the axis whole, other axes unchanged
 abbrev pub rotate_box : Along → ArrayValue → Spread
 rotate_box along b =
     let axis = axis_at (length b.shape) along in
     on_axis axis (λ s. (1, places_along b.shape axis))
 
--- the box of A: all where it is one amount, else the lines of the changed amounts
+-- the box of A: everything if it has one amount, otherwise the lines of the changed amounts
 abbrev pub amounts_box : Along → List ℕ → ArrayValue → ArrayValue → Spread
 amounts_box along shape a b region =
     let axis = axis_at (length b.shape) along in
     Some (if has_one_item a then whole_of shape else insert region axis (1, places_along b.shape axis))
 
--- each item reads the amount of its line, of one amount that one
+-- each item reads the amount of its line, or the only amount
 abbrev pub amounts_use : Along → List ℕ → ArrayValue → ArrayValue → Use
 amounts_use along shape a b = record {
   reads = λ index. (if size a.shape == 1 then map (λ _. 1) a.shape else remove index (axis_at (length b.shape) along)) ∷ [];
   box = amounts_box along shape a b;
 }
 
--- each item reads its amount, and the place that it comes from
+-- each item reads its amount, and the place that it is copied from
 abbrev pub rotate_rule : Along → RuleModel
 rotate_rule along = two_rule false (rotate_form along) (rotate_item along) (amounts_use along) (λ shape a b. right_used (rotate_source along a b) (rotate_box along b))

@@ -8,7 +8,7 @@ use Rattle.change_core.{specs.RuleModels.{RuleModel}, specs.Sourced.{Spread, one
 abbrev pub transpose_form : ArrayValue → Result Form Kind
 transpose_form b = limited (reverse b.shape) b.item_type
 
--- where the item at an index list comes from
+-- the source of the item at an index list
 abbrev pub transpose_source : ArrayValue → List ℕ → Source
 transpose_source b index = Place 0 (reverse index)
 
@@ -20,12 +20,12 @@ transpose_item b index = item_from b b b.item_type (transpose_source b index)
 abbrev pub transpose_whole : ArrayValue → Result ArrayValue Kind
 transpose_whole b = whole (transpose_form b) (transpose_item b)
 
--- What may change of ⍉B: the changed box with its axes in reverse order.
+-- The change rule of ⍉B: the changed box with its axes in reverse order.
 
 -- the box: the intervals in reverse order
 abbrev pub transpose_box : Spread
 transpose_box region = Some (reverse region)
 
--- each item reads the place that it comes from
+-- each item reads the place that it is copied from
 abbrev pub transpose_rule : RuleModel
 transpose_rule = one_sourced transpose_form transpose_source (λ shape b. transpose_box)

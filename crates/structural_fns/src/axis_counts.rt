@@ -1,4 +1,4 @@
-//! What take and drop share: a count for each axis, and the axes that the counts are for.
+//! Shared parts of take and drop: one count for each axis.
 
 ghost use Rattle.std.specs.Prelude.{◌≡◌, ◌≤◌, All, IfOk, IfErr, List, ℕ, length};
 ghost use Rattle.arrays_core.specs.Limits.{most_axes, longest_axis};
@@ -8,8 +8,8 @@ ghost use Rattle.structural_fns.specs.AxisCounts.{counted_shape, counted_form, u
 use arrays_core::{Kind, Shape, shape_of};
 use index_region::{IndexBox, Intervals, Seen};
 
-/// The checks of the counts: RANK where they are neither a scalar nor a vector, LENGTH where they are
-/// not as many as the axes (a scalar takes any), DOMAIN where they are not numbers.
+/// Checks the counts. Fails with RANK unless they are a scalar or a vector, with LENGTH unless there is one for each axis (a scalar takes
+/// any number), with DOMAIN unless they are numbers.
 pub(crate) fn check_axis_counts(counts: &Seen, array: &Seen) -> Result<(), Kind>
     ensures passed { IfOk result (λ _. (shape : List ℕ) → counted_form shape counts.now array.now ≡ limited shape array.now.item_type) }
     ensures failed { IfErr result (λ kind. (shape : List ℕ) → counted_form shape counts.now array.now ≡ Err kind) }
@@ -28,7 +28,7 @@ pub(crate) fn check_axis_counts(counts: &Seen, array: &Seen) -> Result<(), Kind>
     Ok(())
 }
 
-/// The shape that the counts are for: of a scalar, an axis of one place for each count.
+/// Returns the shape that the counts apply to: the array's own, or for a scalar an axis of length 1 for each count.
 pub(crate) fn counted_shape(counts: &Seen, array: &Seen) -> Shape
     requires { length counts.now.items ≤ most_axes }
     ensures is { result.items ≡ counted_shape counts.now array.now }
@@ -45,7 +45,7 @@ pub(crate) fn counted_shape(counts: &Seen, array: &Seen) -> Shape
     }
 }
 
-/// The index list of the array itself, from one of the shape that the counts are for.
+/// Converts an index list of that shape to one of the array.
 pub(crate) fn uncounted(array: &Seen, index: Shape) -> Shape
     requires { index.capacity ≡ 4 }
     ensures is { result.items ≡ uncounted array.now index.items }
@@ -59,7 +59,7 @@ pub(crate) fn uncounted(array: &Seen, index: Shape) -> Shape
     }
 }
 
-/// The intervals of a box on the axes of that shape: of a scalar, its one place on each.
+/// Returns the intervals of a box on the axes of that shape; of a scalar, its one place on each.
 pub(crate) fn counted_box(counts: &Seen, array: &Seen, region: &IndexBox) -> Intervals
     requires { length counts.now.items ≤ most_axes }
     ensures { result ≡ counted_box counts.now array.now region.now }

@@ -1,4 +1,4 @@
-//! Catenate: two arrays after one another along an axis.
+//! Catenate: joins two arrays along an axis.
 
 ghost use Rattle.std.specs.Prelude.{◌≡◌, ◌≤◌, ◌<◌, ◌+◌, ◌-◌, ◌^◌, ◌++◌, ◌∷◌, [], ◌↔◌, ℕ, IfOk, OnOk, Err, IfErr, IsTrue, Result, true, if◌then◌else◌, length, nat_eq, ◌&&◌, Some};
 ghost use Rattle.std.proofs.Common.{rules};
@@ -29,7 +29,7 @@ use index_region::{
 };
 use std::alloc::{AllocError, Global};
 
-/// The rank of the result: the greater one, and at least 1.
+/// Returns the rank of the result: the greater rank, and at least 1.
 fn joined_rank(left: &Seen, right: &Seen) -> usize
     ensures is { result ≡ joined_rank left.now right.now }
     ensures low { 1 ≤ result }
@@ -39,7 +39,7 @@ fn joined_rank(left: &Seen, right: &Seen) -> usize
     rank.max(1)
 }
 
-/// How many places a side takes along the axis.
+/// Returns the number of places of a side along the axis.
 fn joined_places(side: &Seen, rank: usize, axis: usize) -> u32
     requires { axis < rank }
     ensures is { result ≡ joined_places rank axis side.now }
@@ -49,7 +49,7 @@ fn joined_places(side: &Seen, rank: usize, axis: usize) -> u32
     if axes.len() == rank { axes[axis] } else { 1 }
 }
 
-/// The other axes of a side; an array of one rank less has no axis to leave out.
+/// Returns the other axes of a side. An array of one rank less has no axis to leave out.
 fn other_axes(side: &Seen, rank: usize, axis: usize) -> Shape
     requires { axis < rank }
     ensures is { result.items ≡ other_axes rank axis side.now }
@@ -64,7 +64,7 @@ fn other_axes(side: &Seen, rank: usize, axis: usize) -> Shape
     }
 }
 
-/// A scalar joins any array; else the ranks differ by at most 1.
+/// Tests whether the ranks can join: a scalar joins any array; otherwise they differ by at most 1.
 fn ranks_join(left: &Seen, right: &Seen) -> bool
     ensures { result ≡ ranks_join left.now right.now }
 {
@@ -75,7 +75,7 @@ fn ranks_join(left: &Seen, right: &Seen) -> bool
     left <= right + 1 && right <= left + 1
 }
 
-/// A scalar is repeated over the other axes; else these are the same.
+/// Tests whether the other axes agree. A scalar is repeated over them.
 fn axes_agree(left: &Seen, right: &Seen, rank: usize, axis: usize) -> bool
     requires { axis < rank }
     ensures { result ≡ axes_agree rank axis left.now right.now }
@@ -87,7 +87,7 @@ fn axes_agree(left: &Seen, right: &Seen, rank: usize, axis: usize) -> bool
     others.as_slice() == other_axes(right, rank, axis).as_slice()
 }
 
-/// The types are the same, or one side is without items.
+/// Tests whether the types agree, or one side has no items.
 fn types_join(left: &Seen, right: &Seen) -> bool
     ensures { result ≡ types_join left.now right.now }
 {
@@ -97,7 +97,7 @@ fn types_join(left: &Seen, right: &Seen) -> bool
     left.item_type() == right.item_type()
 }
 
-/// The type of the side that has items; with none, the left one's.
+/// Returns the type of the left side, unless only the right side has items.
 fn joined_type(left: &Seen, right: &Seen) -> ItemType
     ensures { result ≡ joined_type left.now right.now }
 {
@@ -108,7 +108,7 @@ fn joined_type(left: &Seen, right: &Seen) -> ItemType
     }
 }
 
-/// The checks of two sides: RANK, LENGTH and DOMAIN.
+/// Checks the two sides. Fails with RANK, LENGTH or DOMAIN, in this order.
 fn check_sides(left: &Seen, right: &Seen, rank: usize, axis: usize) -> Result<(), Kind>
     requires { axis < rank }
     ensures passed { IfOk result (λ _. (rest : Result Form AKind) → sides_checked rank axis left.now right.now rest ≡ rest) }
@@ -127,7 +127,7 @@ fn check_sides(left: &Seen, right: &Seen, rank: usize, axis: usize) -> Result<()
     Ok(())
 }
 
-/// The other axes, of the side that is no scalar where one is.
+/// Returns the other axes, taken from a side that is no scalar if there is one.
 fn shared_axes(left: &Seen, right: &Seen, rank: usize, axis: usize) -> Shape
     requires { axis < rank }
     ensures is { result.items ≡ other_axes rank axis (if is_scalar left.now then right.now else left.now) }
@@ -140,7 +140,7 @@ fn shared_axes(left: &Seen, right: &Seen, rank: usize, axis: usize) -> Shape
     }
 }
 
-/// The shape of the result.
+/// Returns the shape of the result.
 fn joined_shape(left: &Seen, right: &Seen, rank: usize, axis: usize) -> Shape
     requires there { axis < rank }
     requires greatest { rank ≡ joined_rank left.now right.now }
@@ -154,7 +154,7 @@ fn joined_shape(left: &Seen, right: &Seen, rank: usize, axis: usize) -> Shape
     with_axis(*left.shape().allocator(), others.as_slice(), axis, places)
 }
 
-/// A side's index list at place i along the axis; a scalar is repeated over the others.
+/// Returns the index list of a side at place `i` along the axis. A scalar is repeated.
 fn in_side(side: &Seen, rank: usize, axis: usize, index: &[u32], i: u32) -> Shape
     requires there { axis < rank }
     requires long { length index.now ≡ rank }
@@ -175,7 +175,7 @@ fn in_side(side: &Seen, rank: usize, axis: usize, index: &[u32], i: u32) -> Shap
     at
 }
 
-/// How many places of a side come before that of an item of a row.
+/// Returns the offset in a side of an item of a row.
 fn place_in_side(side: &Seen, axis: usize, skipped: u32, row: &[u32], i: u32) -> u32
     requires rank { length row.now < most_axes }
     requires axis { axis ≤ length row.now }
@@ -190,7 +190,7 @@ fn place_in_side(side: &Seen, axis: usize, skipped: u32, row: &[u32], i: u32) ->
     places_before(shape, at.as_slice())
 }
 
-/// Puts the items of a part of a row that comes from one side behind the others: `kept` places after `before` ones.
+/// Appends the part of a row that comes from one side: `kept` items after the first `before` places.
 fn extend_side(
     side: &Seen,
     axis: usize,
@@ -217,7 +217,7 @@ fn extend_side(
     extend_evenly(side, first, second - first, kept, items)
 }
 
-/// A side is taken once, item by item in row-major order: no scalar is repeated over other axes.
+/// Tests whether each item of a side is used once, in row-major order: no scalar is repeated.
 fn is_run(side: &Seen, rank: usize) -> bool
     ensures is { IsTrue result ↔ (is_scalar side.now ≡ true → rank ≡ 1) }
     ensures sound { IsArray side.now }
@@ -225,7 +225,7 @@ fn is_run(side: &Seen, rank: usize) -> bool
     !side.shape().is_empty() || rank == 1
 }
 
-/// The items of the left side, and then those of the right one.
+/// Joins the items of the left and the right side.
 fn joined_runs(left: &Seen, right: &Seen, shape: &Shape) -> Result<Array, AllocError>
     requires within { IsWithinLimits shape.now.items }
     requires one_item_a_place { length left.now.items + length right.now.items ≡ size shape.now.items }
@@ -245,11 +245,10 @@ fn joined_runs(left: &Seen, right: &Seen, shape: &Shape) -> Result<Array, AllocE
     left.joined(right, shape)
 }
 
-/// Catenate, `A,B` and `A⍪B` (ISO/IEC 13751, "Join along an axis"): the places of A along the axis, and
-/// then those of B. A scalar beside an array, and an array of one rank less, are one place along the
-/// axis, a scalar repeated over the others; two scalars make a vector. The type is that of the side that
-/// has items. AXIS where the axis is not one of the greater rank, RANK where ranks differ by more than
-/// 1, LENGTH where other axes differ, DOMAIN where types differ, LIMIT beyond the limits of arrays.
+/// Catenate, `A,B` and `A⍪B` (ISO/IEC 13751, "Join along an axis"): the places of A along the axis, followed by those of B. A scalar, or an
+/// array of one rank less, is one place along the axis; a scalar is repeated over the other axes. Two scalars make a vector. The type is
+/// that of the side that has items. AXIS if the axis is none of the result's, RANK if ranks differ by more than 1, LENGTH if other axes
+/// differ, DOMAIN if types differ, LIMIT beyond the limits of arrays.
 #[derive(Clone, Copy, PartialEq, Eq, Debug)]
 pub struct Catenate {
     /// The axis along which the sides are joined.
@@ -257,8 +256,7 @@ pub struct Catenate {
 }
 
 impl Catenate {
-    /// Where the item at an index list of the result comes from, where the checks have passed. It takes no memory. There are as
-    /// many arguments as the function takes.
+    /// Returns the source of the item at an index list of the result, after the checks have passed. Allocates nothing.
     pub fn source_of(&self, args: &[Seen], index: &[u32]) -> Source
         requires count { length args.now ≡ 2 }
         requires place { IsPlaceOf (of_two_arguments (catenate_form self.now.along) args.now) index.now }
@@ -268,7 +266,7 @@ impl Catenate {
         self.source(&args[0], &args[1], index)
     }
 
-    /// Where the item at an index list of the result comes from, of these two arguments.
+    /// Returns the source of the item at an index list of the result.
     fn source(self, left: &Seen, right: &Seen, index: &[u32]) -> Source
         requires { IsPlaceOf (catenate_form self.along left.now right.now) index.now }
         ensures is { source_value result ≡ catenate_source self.along left.now right.now index.now }
@@ -286,7 +284,7 @@ impl Catenate {
         Source::Place { arg: 1, at }
     }
 
-    /// The sides are joined along the first of `rank` axes.
+    /// Tests whether the sides are joined along the first of `rank` axes.
     fn is_along_first(self, rank: usize) -> bool
         requires low { 1 ≤ rank }
         requires high { rank ≤ most_axes }
@@ -295,8 +293,7 @@ impl Catenate {
         self.along.is_axis(rank as u32) && self.along.axis_at(rank as u32) == 0
     }
 
-    /// The array of both sides. Along the first axis the items of each side are copied in one run,
-    /// unless one of them is a scalar beside a matrix or more.
+    /// Computes the whole result. Along the first axis, copies each side in one run unless a scalar is repeated.
     pub fn apply(&self, alloc: Global, args: &[Seen]) -> Result<Array, ApplyFault>
         requires { length args.now ≡ 2 }
         ensures { IsAnswerTo (of_two_arguments (catenate_whole self.now.along) args.now) result }
@@ -366,7 +363,7 @@ impl RowPrimitive for Catenate {
     }
 }
 
-/// Where an interval goes of a side that stands after so many places of the axis.
+/// Moves an interval of a side by the `before` places in front of it.
 fn moved_interval(before: u32, interval: (u32, u32)) -> (u32, u32)
     requires within { before ≤ longest_axis }
     requires order { interval.0 ≤ interval.1 }
@@ -377,7 +374,7 @@ fn moved_interval(before: u32, interval: (u32, u32)) -> (u32, u32)
     (before + first, before + last)
 }
 
-/// The intervals of a result for a changed box of a side that stands after so many places of the axis.
+/// Returns the intervals of the result for a changed box of a side with `before` places in front of it.
 fn side_box(side: &Seen, shape: &[u32], axis: usize, before: u32, region: &IndexBox) -> Intervals
     requires rank { length shape.now ≤ most_axes }
     requires there { axis < length shape.now }

@@ -1,4 +1,4 @@
-//! Drop: all places of each axis but a number of the first or of the last.
+//! Drop: leaves out the first or last places of each axis.
 
 ghost use Rattle.std.specs.Prelude.{◌≡◌, ◌≤◌, ◌+◌, unsigned_abs, IsTrue, IfOk, Ok, length, ◌∷◌, [], ℕ};
 ghost use Rattle.std.proofs.Common.{rules};
@@ -27,7 +27,7 @@ use index_region::{
 use smallvec::SmallVec;
 use std::alloc::{AllocError, Global};
 
-/// The lengths that are left of the axes.
+/// Returns the lengths of the axes of the result.
 fn dropped_shape(counts: &Seen, axes: &[u32]) -> Shape
     requires long { length counts.now.items ≡ length axes.now }
     requires rank { length axes.now ≤ most_axes }
@@ -43,7 +43,7 @@ fn dropped_shape(counts: &Seen, axes: &[u32]) -> Shape
     shape
 }
 
-/// Where a place of what is left of an axis stands on the axis.
+/// Returns the place on an axis that place `i` of the result comes from.
 fn kept_place(count: i64, i: u32) -> u32
     requires { i + unsigned_abs count ≤ longest_axis }
     ensures { result ≡ kept_place count i }
@@ -55,7 +55,7 @@ fn kept_place(count: i64, i: u32) -> u32
     }
 }
 
-/// The places of an index list of what is left on each axis.
+/// Returns the places on all axes that an index list of the result comes from.
 fn kept_places(counts: &Seen, array: &Seen, index: &[u32]) -> Shape
     requires long { length counts.now.items ≡ length (counted_shape counts.now array.now) }
     requires within { IsWithinLimits (dropped_shape (counted_shape counts.now array.now) (numbers counts.now)) }
@@ -71,7 +71,7 @@ fn kept_places(counts: &Seen, array: &Seen, index: &[u32]) -> Shape
     places
 }
 
-/// The places of a vector that are left.
+/// Drops places of a vector in one run.
 fn kept_run(counts: &Seen, vector: &Seen, shape: &Shape) -> Result<Array, AllocError>
     requires form { drop_form counts.now vector.now ≡ Ok (form_of shape.now.items vector.now.item_type) }
     requires one_axis { length vector.now.shape ≡ 1 }
@@ -86,15 +86,14 @@ fn kept_run(counts: &Seen, vector: &Seen, shape: &Shape) -> Result<Array, AllocE
     vector.part(first - 1, shape)
 }
 
-/// Drop, `A↓B` (ISO/IEC 13751, "Drop"): a positive count leaves out the first places of its axis, a
-/// negative one the last; no length is below 0. A scalar B has as many axes of one place as A has
-/// counts. RANK where A is neither a scalar nor a vector, LENGTH where it has not a count for each
-/// axis, DOMAIN where it is not of numbers, LIMIT beyond the limits of arrays.
+/// Drop, `A↓B` (ISO/IEC 13751, "Drop"): a positive count leaves out the first places of its axis, a negative one the last. No length is
+/// below 0. A scalar B has an axis of length 1 for each count. RANK if A is neither a scalar nor a vector, LENGTH unless it has a count for
+/// each axis, DOMAIN unless it has numbers, LIMIT beyond the limits of arrays.
 #[derive(Clone, Copy, PartialEq, Eq, Debug)]
 pub struct DropPlaces;
 
 impl DropPlaces {
-    /// The index list of the array whose item stands at an index list of the result. It takes no memory.
+    /// Returns the index list of the array for an index list of the result. Allocates nothing.
     fn place_of(self, counts: &Seen, array: &Seen, index: &[u32]) -> Shape
         requires { IsPlaceOf (drop_form counts.now array.now) index.now }
         ensures is { result.items ≡ uncounted array.now (kept_places (numbers counts.now) index.now) }
@@ -104,8 +103,7 @@ impl DropPlaces {
         uncounted(array, kept_places(counts, array, index))
     }
 
-    /// Where the item at an index list of the result comes from, where the checks have passed. It takes no memory. There are as
-    /// many arguments as the function takes.
+    /// Returns the source of the item at an index list of the result, after the checks have passed. Allocates nothing.
     pub fn source_of(&self, args: &[Seen], index: &[u32]) -> Source
         requires count { length args.now ≡ 2 }
         requires place { IsPlaceOf (of_two_arguments drop_form args.now) index.now }
@@ -115,7 +113,7 @@ impl DropPlaces {
         self.source(&args[0], &args[1], index)
     }
 
-    /// Where the item at an index list of the result comes from, of these two arguments.
+    /// Returns the source of the item at an index list of the result.
     fn source(self, counts: &Seen, array: &Seen, index: &[u32]) -> Source
         requires { IsPlaceOf (drop_form counts.now array.now) index.now }
         ensures is { source_value result ≡ drop_source counts.now array.now index.now }
@@ -125,7 +123,7 @@ impl DropPlaces {
         Source::Place { arg: 1, at }
     }
 
-    /// The array of the places that are left. Those of a vector are copied in one run.
+    /// Computes the whole result. Copies a vector in one run.
     pub fn apply(&self, alloc: Global, args: &[Seen]) -> Result<Array, ApplyFault>
         requires { length args.now ≡ 2 }
         ensures { IsAnswerTo (of_two_arguments drop_whole args.now) result }
@@ -182,7 +180,7 @@ impl RowPrimitive for DropPlaces {
     }
 }
 
-/// Where drop puts an interval of an axis of which so many places are left out, by a negative count the last ones.
+/// Maps an interval of an axis to the result, for this count.
 fn kept_interval(count: i64, interval: (u32, u32)) -> (u32, u32)
     ensures { (n : ℕ) → result ≡ (kept n count).image interval }
 {
@@ -197,7 +195,7 @@ fn kept_interval(count: i64, interval: (u32, u32)) -> (u32, u32)
     )
 }
 
-/// Where drop puts the intervals of a box.
+/// Maps the intervals of a box to the result.
 fn kept_box(counts: &Seen, axes: &[u32], intervals: &[(u32, u32)]) -> Intervals
     requires long { length counts.now.items ≡ length axes.now }
     requires rank { length axes.now ≤ most_axes }

@@ -1,4 +1,4 @@
-//! Dyadic transpose: each axis goes to the axis that is named for it.
+//! Dyadic transpose: moves each axis to the axis that is named for it.
 
 ghost use Rattle.std.specs.Prelude.{◌≡◌, ◌≤◌, ◌<◌, ◌++◌, [], get_or, List, ℕ, Option, Some, None, IfOk, IfErr, Err, if◌then◌else◌, ◌∷◌, length};
 ghost use Rattle.std.proofs.Common.{rules};
@@ -28,7 +28,7 @@ use index_region::{
 use smallvec::SmallVec;
 use std::alloc::{AllocError, Global};
 
-/// No entry is below 1.
+/// Tests whether no entry is below 1.
 fn all_positive(axes: &Seen) -> bool
     ensures { result ≡ all_positive (numbers axes.now) }
 {
@@ -40,7 +40,7 @@ fn all_positive(axes: &Seen) -> bool
     true
 }
 
-/// The magnitude of an entry.
+/// Returns the magnitude of an entry.
 fn entry(axes: &Seen, place: u32) -> u64
     requires there { place < length axes.now.items }
     requires within { length axes.now.items ≤ most_places }
@@ -50,7 +50,7 @@ fn entry(axes: &Seen, place: u32) -> u64
     axes.number(place + 1).unsigned_abs()
 }
 
-/// The greatest entry.
+/// Returns the greatest entry.
 fn greatest(axes: &Seen) -> u64
     ensures { result ≡ greatest_of (axes_to axes.now) }
 {
@@ -61,7 +61,7 @@ fn greatest(axes: &Seen) -> u64
     greatest
 }
 
-/// An entry names the axis.
+/// Tests whether an entry names the axis.
 fn occurs(axes: &Seen, axis: u64) -> bool
     ensures { result ≡ occurs (axes_to axes.now) axis }
 {
@@ -73,8 +73,8 @@ fn occurs(axes: &Seen, axis: u64) -> bool
     false
 }
 
-/// No entry is below 1, and each axis from 1 to the greatest entry is named. The walk ends at the first
-/// axis that is not, so it takes at most one turn more than there are entries.
+/// Tests whether no entry is below 1 and every axis up to the greatest entry is named. Stops at the first axis that is not named, so it
+/// makes at most one step more than there are entries.
 fn are_axes(axes: &Seen) -> bool
     ensures { result ≡ are_axes (numbers axes.now) }
 {
@@ -89,7 +89,7 @@ fn are_axes(axes: &Seen) -> bool
     true
 }
 
-/// The least length so far, or one more length where that is less and its axis goes there.
+/// Updates a minimum: returns the lesser of `least` and `length`, if this axis counts.
 fn lesser(least: Option<u32>, goes: bool, length: u32) -> Option<u32>
     ensures { (rest : List ℕ) → least_with result rest ≡ least_with least (if goes then length ∷ rest else rest) }
 {
@@ -102,7 +102,7 @@ fn lesser(least: Option<u32>, goes: bool, length: u32) -> Option<u32>
     }
 }
 
-/// The least length of the axes that go to an axis.
+/// Returns the least length of the axes that go to an axis.
 fn least_length(axes: &Seen, lengths: &[u32], axis: u64) -> u32
     requires { length lengths.now ≡ length axes.now.items }
     ensures { result ≡ least_of (lengths_at (axes_to axes.now) lengths.now axis) }
@@ -115,7 +115,7 @@ fn least_length(axes: &Seen, lengths: &[u32], axis: u64) -> u32
     least.unwrap_or(0)
 }
 
-/// The shape of the result, or LIMIT where it has more axes than an array may have.
+/// Returns the shape of the result. Fails with LIMIT if it has too many axes.
 fn transposed_shape(axes: &Seen, lengths: &[u32]) -> Result<Shape, Kind>
     requires { length lengths.now ≡ length axes.now.items }
     ensures is { IfOk result (λ shape. shape.items ≡ transposed_shape (axes_to axes.now) lengths.now) }
@@ -133,7 +133,7 @@ fn transposed_shape(axes: &Seen, lengths: &[u32]) -> Result<Shape, Kind>
     Ok(shape)
 }
 
-/// The index of each axis: that of the axis that it goes to.
+/// Gathers the index of each axis from the axis it goes to.
 fn gathered(alloc: Global, axes: &Seen, index: &[u32]) -> Shape
     requires { length axes.now.items ≤ most_axes }
     ensures is { result.items ≡ gathered (axes_to axes.now) index.now }
@@ -147,16 +147,14 @@ fn gathered(alloc: Global, axes: &Seen, index: &[u32]) -> Shape
     at
 }
 
-/// Dyadic transpose, `A⍉B` (ISO/IEC 13751, "Dyadic transpose"): axis i of B goes to axis A[i]; an axis
-/// that several go to has their least length, and all take its index. RANK where A is neither a scalar
-/// nor a vector, LENGTH where it has not an entry for each axis, DOMAIN where it is not of numbers, an
-/// entry is below 1, or an axis up to the greatest entry is not named.
+/// Dyadic transpose, `A⍉B` (ISO/IEC 13751, "Dyadic transpose"): axis i of B becomes axis A[i]. If several become one axis, it has their
+/// least length and all take its index. RANK if A is neither a scalar nor a vector, LENGTH unless it has an entry for each axis. DOMAIN
+/// unless it has numbers from 1 on, and names each axis up to the greatest.
 #[derive(Clone, Copy, PartialEq, Eq, Debug)]
 pub struct DyadicTranspose;
 
 impl DyadicTranspose {
-    /// Where the item at an index list of the result comes from, where the checks have passed. It takes no memory. There are as
-    /// many arguments as the function takes.
+    /// Returns the source of the item at an index list of the result, after the checks have passed. Allocates nothing.
     pub fn source_of(&self, args: &[Seen], index: &[u32]) -> Source
         requires count { length args.now ≡ 2 }
         requires place { IsPlaceOf (of_two_arguments transpose_by_form args.now) index.now }
@@ -166,7 +164,7 @@ impl DyadicTranspose {
         self.source(&args[0], &args[1], index)
     }
 
-    /// Where the item at an index list of the result comes from, of these two arguments.
+    /// Returns the source of the item at an index list of the result.
     fn source(self, axes: &Seen, array: &Seen, index: &[u32]) -> Source
         requires { IsPlaceOf (transpose_by_form axes.now array.now) index.now }
         ensures is { source_value result ≡ transpose_by_source axes.now array.now index.now }
@@ -176,7 +174,7 @@ impl DyadicTranspose {
         Source::Place { arg: 1, at }
     }
 
-    /// How many places of the array come before that of an item of a row.
+    /// Returns the offset in the array of an item of a row.
     fn place_in_row(self, axes: &Seen, array: &Seen, row: &[u32], index: u32) -> u32
         requires rank { length row.now < most_axes }
         requires place { IsPlaceOf (transpose_by_form axes.now array.now) (row.now ++ index ∷ []) }
@@ -189,7 +187,7 @@ impl DyadicTranspose {
         places_before(shape, at.as_slice())
     }
 
-    /// The array whose axes have gone to those that are named.
+    /// Computes the whole result by rows.
     pub fn apply(&self, alloc: Global, args: &[Seen]) -> Result<Array, ApplyFault>
         requires { length args.now ≡ 2 }
         ensures { IsAnswerTo (of_two_arguments transpose_by_whole args.now) result }
@@ -247,7 +245,7 @@ impl RowPrimitive for DyadicTranspose {
     }
 }
 
-/// The axis, counted from 0, that an axis goes to.
+/// Returns the axis that an axis goes to, counted from 0.
 fn axis_to(axes: &Seen, axis: usize) -> u64
     requires few { axis < most_axes }
     requires there { axis < length axes.now.items }
@@ -258,7 +256,7 @@ fn axis_to(axes: &Seen, axis: usize) -> u64
         .saturating_sub(1)
 }
 
-/// What of an axis of so many places lies in each interval that goes to it.
+/// Returns the part of an axis of the result that lies in every interval which goes to it.
 fn meet_at(axes: &Seen, intervals: &[(u32, u32)], axis: usize, places: u32) -> (u32, u32)
     requires few { length intervals.now ≤ most_axes }
     requires as_many { length intervals.now ≡ length axes.now.items }
@@ -275,7 +273,7 @@ fn meet_at(axes: &Seen, intervals: &[(u32, u32)], axis: usize, places: u32) -> (
     (first, last)
 }
 
-/// What of each axis of a shape lies in all intervals that go to it.
+/// Returns that part for each axis of a shape.
 fn meets(axes: &Seen, intervals: &[(u32, u32)], shape: &[u32]) -> Intervals
     requires few { length intervals.now ≤ most_axes }
     requires as_many { length intervals.now ≡ length axes.now.items }

@@ -1,4 +1,4 @@
-//! Rows whose items are evenly spaced in an array: as many places from each to the next.
+//! Rows of items that are evenly spaced in an array.
 
 ghost use Rattle.std.specs.Prelude.{◌≡◌, ◌<◌, ◌+◌, ◌*◌, ◌++◌, ℕ, OnOk, length, get_or};
 ghost use Rattle.arrays_core.specs.Building.{listed};
@@ -8,8 +8,8 @@ use arrays_core::ArrayBuilder;
 use index_region::Seen;
 use std::alloc::AllocError;
 
-/// Puts the items that stand `step` places apart behind the others, from the place `first` on: one item again and
-/// again where the step is 0, a run where it is 1. Places are counted from 0.
+/// Appends `count` items, `step` places apart, from the place `first` on. Step 0 repeats one item; step 1 copies a run. Places are counted
+/// from 0.
 pub fn extend_evenly(
     array: &Seen,
     first: u32,

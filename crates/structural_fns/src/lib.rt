@@ -1,5 +1,4 @@
-//! Functions that reorder arrays or change their shape: each item of a result comes from a place of an
-//! argument, or is fill.
+//! Functions that reorder arrays or change their shape. Each item of a result is copied from an argument, or is fill.
 #![tactic(auto)]
 
 mod axis_counts;

@@ -1,4 +1,4 @@
-//! The limits of arrays, in the types of the numbers that are held against them.
+//! The limits of arrays, in the integer types they are compared with.
 
 /// The most axes that an array may have.
 pub(crate) const MOST_AXES: u32 = arrays_core::MOST_AXES as u32;

@@ -1,4 +1,4 @@
-//! The lengths of axes that an argument asks for.
+//! Axis lengths given by an argument.
 
 ghost use Rattle.std.specs.Prelude.{◌≡◌, IfOk, IfErr, false};
 ghost use Rattle.arrays_core.specs.declared.item.Kind.TheVariants.{Limit};
@@ -10,8 +10,7 @@ use arrays_core::{Kind, Shape};
 use index_region::Seen;
 use smallvec::SmallVec;
 
-/// The magnitudes of the numbers of an argument, as the lengths of axes, or LIMIT where these are
-/// beyond the limits of arrays. It takes no memory.
+/// Returns the magnitudes of the numbers as axis lengths. Fails with LIMIT for too many axes, or one too long. Allocates nothing.
 pub(crate) fn magnitudes(counts: &Seen) -> Result<Shape, Kind>
     ensures is { IfOk result (λ axes. axes.items ≡ magnitudes counts.now) }
     ensures inline { IfOk result (λ axes. axes.capacity ≡ 4) }

@@ -9,7 +9,7 @@ ghost use Rattle.change_core.specs.Places.{first_of_box, last_of_box};
 use arrays_core::position;
 use index_region::{IndexBox, IndexList, Seen};
 
-/// The first index list of a box.
+/// Returns the first index list of a box.
 fn first_index(region: &[(u32, u32)]) -> IndexList
     requires { length region.now ≤ most_axes }
     ensures { result ≡ first_of_box region.now }
@@ -21,7 +21,7 @@ fn first_index(region: &[(u32, u32)]) -> IndexList
     index
 }
 
-/// The last index list of a box.
+/// Returns the last index list of a box.
 fn last_index(region: &[(u32, u32)]) -> IndexList
     requires { length region.now ≤ most_axes }
     ensures { result ≡ last_of_box region.now }
@@ -33,7 +33,7 @@ fn last_index(region: &[(u32, u32)]) -> IndexList
     index
 }
 
-/// The first and the last place of a box in the ravel of its array, counted from 1.
+/// Returns the first and the last place of a box in the ravel of its array, counted from 1.
 pub(crate) fn places_of(array: &Seen, region: &IndexBox) -> (u32, u32)
     requires { IsTrue (fits region.now array.now.shape) }
     ensures first { result.0 ≡ places_before array.now.shape (first_of_box region.now) + 1 }

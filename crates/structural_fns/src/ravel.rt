@@ -21,8 +21,8 @@ use std::alloc::Global;
 pub struct Ravel;
 
 impl Ravel {
-    /// Where the item at an index list of the result comes from, where the checks have passed: from the only argument. It takes no
-    /// memory. There are as many arguments as the function takes.
+    /// Returns the source of the item at an index list of the result, after the checks have passed. The argument is the only source.
+    /// Allocates nothing.
     pub fn source_of(&self, args: &[Seen], index: &[u32]) -> Source
         requires count { length args.now ≡ 1 }
         requires place { IsPlaceOf (of_one_argument ravel_form args.now) index.now }
@@ -32,7 +32,7 @@ impl Ravel {
         self.source(&args[0], index)
     }
 
-    /// Where the item at an index list of the result comes from, of this argument.
+    /// Returns the source of the item at an index list of the result.
     fn source(self, array: &Seen, index: &[u32]) -> Source
         requires { IsPlaceOf (ravel_form array.now) index.now }
         ensures is { source_value result ≡ ravel_source array.now index.now }
@@ -42,7 +42,7 @@ impl Ravel {
         Source::Place { arg: 0, at }
     }
 
-    /// The vector of the items. They are copied in one run.
+    /// Computes the whole result, in one run.
     pub fn apply(&self, alloc: Global, args: &[Seen]) -> Result<Array, ApplyFault>
         requires { length args.now ≡ 1 }
         ensures { IsAnswerTo (of_one_argument ravel_whole args.now) result }

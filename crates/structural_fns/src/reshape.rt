@@ -1,4 +1,4 @@
-//! Reshape: the ravel again and again, under another shape.
+//! Reshape: the items of an array in another shape, repeated as needed.
 
 ghost use Rattle.std.specs.Prelude.{◌≡◌, ◌≤◌, IsTrue, IfOk, length, ◌∷◌, [], ◌-◌};
 ghost use Rattle.std.proofs.Common.{rules};
@@ -21,7 +21,7 @@ use change_core::Announced;
 use index_region::{IndexBox, Intervals, Primitive, Seen, Source, item_from, limited};
 use std::alloc::{AllocError, Global};
 
-/// Where the item at an index list of a shape comes from.
+/// Returns the source of the item at an index list of a shape.
 fn source_in(shape: &Shape, array: &Seen, index: &[u32]) -> Source
     requires within { IsWithinLimits shape.now.items }
     requires inside { IsTrue (is_index_of shape.now.items index.now) }
@@ -37,7 +37,7 @@ fn source_in(shape: &Shape, array: &Seen, index: &[u32]) -> Source
     Source::Place { arg: 1, at }
 }
 
-/// The items of an array again and again under a shape that has as many places or more; fill where there is none.
+/// Repeats the items of an array over a shape with at least as many places. Uses fill if there are no items.
 fn recycled(alloc: Global, array: &Seen, shape: &Shape) -> Result<Array, AllocError>
     requires within { IsWithinLimits shape.now.items }
     requires more { length array.now.items ≤ size shape.now.items }
@@ -55,15 +55,13 @@ fn recycled(alloc: Global, array: &Seen, shape: &Shape) -> Result<Array, AllocEr
     items.into_array(shape)
 }
 
-/// Reshape, `A⍴B` (ISO/IEC 13751, "Reshape"): an array of shape A whose items are those of B in
-/// row-major order, again and again; fill where B has none. RANK where A is neither a scalar nor a
-/// vector; DOMAIN where it is not of numbers, or one is negative; LIMIT beyond the limits of arrays.
+/// Reshape, `A⍴B` (ISO/IEC 13751, "Reshape"): the items of B in row-major order, repeated as needed, in the shape A. Uses fill if B has no
+/// items. RANK if A is neither a scalar nor a vector, DOMAIN unless it has numbers from 0 on, LIMIT beyond the limits of arrays.
 #[derive(Clone, Copy, PartialEq, Eq, Debug)]
 pub struct Reshape;
 
 impl Reshape {
-    /// Where the item at an index list of the result comes from, where the checks have passed. It takes no memory. There are as
-    /// many arguments as the function takes.
+    /// Returns the source of the item at an index list of the result, after the checks have passed. Allocates nothing.
     pub fn source_of(&self, args: &[Seen], index: &[u32]) -> Source
         requires count { length args.now ≡ 2 }
         requires place { IsPlaceOf (of_two_arguments reshape_form args.now) index.now }
@@ -73,7 +71,7 @@ impl Reshape {
         self.source(&args[0], &args[1], index)
     }
 
-    /// Where the item at an index list of the result comes from, of these two arguments.
+    /// Returns the source of the item at an index list of the result.
     fn source(self, counts: &Seen, array: &Seen, index: &[u32]) -> Source
         requires { IsPlaceOf (reshape_form counts.now array.now) index.now }
         ensures is { source_value result ≡ reshape_source (magnitudes counts.now) array.now index.now }
@@ -85,7 +83,7 @@ impl Reshape {
         }
     }
 
-    /// The array of the shape that the left argument gives. Where no item is needed twice they are copied in one run.
+    /// Computes the whole result. Copies one run if no item is repeated.
     pub fn apply(&self, alloc: Global, args: &[Seen]) -> Result<Array, ApplyFault>
         requires { length args.now ≡ 2 }
         ensures { IsAnswerTo (of_two_arguments reshape_whole args.now) result }
@@ -131,8 +129,8 @@ impl Primitive for Reshape {
     }
 }
 
-/// The intervals that cover the places `first` to `last` of a shape, counted from 1 in row-major order, as far as there
-/// are such. It takes no memory.
+/// Returns the intervals of the least box with the places `first` to `last` of a shape, counted from 1 in row-major order. Ignores places
+/// beyond the end; returns None if all are. Allocates nothing.
 fn covered(alloc: Global, shape: &[u32], first: u32, last: u32) -> Option<Intervals>
     requires within { IsWithinLimits shape.now }
     requires low { 1 ≤ first }

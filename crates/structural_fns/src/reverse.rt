@@ -1,4 +1,4 @@
-//! Reverse: the places of an axis from the last to the first.
+//! Reverse: the places of an axis in reverse order.
 
 ghost use Rattle.std.specs.Prelude.{◌≡◌, ◌≤◌, ◌-◌, suc, IsTrue, length, All, set, get_or, ◌∷◌, []};
 ghost use Rattle.std.proofs.Common.{rules};
@@ -25,7 +25,7 @@ use index_region::{
 };
 use std::alloc::{AllocError, Global};
 
-/// The index list of the same place counted from the other end of an axis.
+/// Reverses an index list along an axis.
 fn reversed(alloc: Global, along: Along, axes: &[u32], index: &[u32]) -> Shape
     requires rank { length axes.now ≤ most_axes }
     requires axes_in { All (λ n. n ≤ longest_axis) axes.now }
@@ -43,16 +43,16 @@ fn reversed(alloc: Global, along: Along, axes: &[u32], index: &[u32]) -> Shape
     at
 }
 
-/// Reverse, `⌽B` and `⊖B` (ISO/IEC 13751, "Reverse"): place i along the axis is the place that is as
-/// far from the other end. A scalar is itself. AXIS where the axis is not one of the array's.
+/// Reverse, `⌽B` and `⊖B` (ISO/IEC 13751, "Reverse"): the places along the axis in reverse order. A scalar is unchanged. AXIS if the array
+/// has no such axis.
 #[derive(Clone, Copy, PartialEq, Eq, Debug)]
 pub struct Reverse {
-    /// The axis that is turned round.
+    /// The axis to reverse.
     pub along: Along,
 }
 
 impl Reverse {
-    /// The index list of the array whose item stands at an index list of the result. It takes no memory.
+    /// Returns the index list of the array for an index list of the result. Allocates nothing.
     fn place_of(self, array: &Seen, index: &[u32]) -> Shape
         requires { IsPlaceOf (reverse_form self.along array.now) index.now }
         ensures is { let axis = axis_at (length array.now.shape) self.along in
@@ -64,8 +64,8 @@ impl Reverse {
         reversed(*shape.allocator(), self.along, shape.as_slice(), index)
     }
 
-    /// Where the item at an index list of the result comes from, where the checks have passed: from the only argument. It takes no
-    /// memory. There are as many arguments as the function takes.
+    /// Returns the source of the item at an index list of the result, after the checks have passed. The argument is the only source.
+    /// Allocates nothing.
     pub fn source_of(&self, args: &[Seen], index: &[u32]) -> Source
         requires count { length args.now ≡ 1 }
         requires place { IsPlaceOf (of_one_argument (reverse_form self.now.along) args.now) index.now }
@@ -75,7 +75,7 @@ impl Reverse {
         self.source(&args[0], index)
     }
 
-    /// Where the item at an index list of the result comes from, of this argument.
+    /// Returns the source of the item at an index list of the result.
     fn source(self, array: &Seen, index: &[u32]) -> Source
         requires { IsPlaceOf (reverse_form self.along array.now) index.now }
         ensures is { source_value result ≡ reverse_source self.along array.now index.now }
@@ -85,7 +85,7 @@ impl Reverse {
         Source::Place { arg: 0, at }
     }
 
-    /// The array whose places along the axis stand the other way round.
+    /// Computes the whole result by rows.
     pub fn apply(&self, alloc: Global, args: &[Seen]) -> Result<Array, ApplyFault>
         requires { length args.now ≡ 1 }
         ensures { IsAnswerTo (of_one_argument (reverse_whole self.now.along) args.now) result }
@@ -139,7 +139,7 @@ impl RowPrimitive for Reverse {
     }
 }
 
-/// The intervals of a box, of which that of an axis is counted from its other end.
+/// Reverses the interval of a box on one axis.
 fn reversed_on(axes: &[u32], axis: usize, region: &IndexBox) -> Intervals
     requires { IsTrue (fits region.now axes.now) }
     ensures { result ≡ set region.now axis (reversed (places_along axes.now axis) (get_or region.now axis (0, 0))) }

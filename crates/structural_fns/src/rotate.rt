@@ -1,4 +1,4 @@
-//! Rotate: the places of an axis moved along it, and round its end.
+//! Rotate: moves the places of an axis cyclically.
 
 ghost use Rattle.std.specs.Prelude.{◌≡◌, ◌≤◌, ◌<◌, ◌≢◌, ◌++◌, ◌∷◌, [], IfOk, OnOk, Ok, Err, IfErr, IsTrue, Result, length, All, set, get_or, remove};
 ghost use Rattle.std.proofs.Common.{rules};
@@ -27,8 +27,8 @@ use index_region::{
 };
 use std::alloc::{AllocError, Global};
 
-/// The checks of the amounts: where there is not one alone, RANK where they have not one axis less, and
-/// LENGTH where there is not one for each line.
+/// Checks the amounts, unless there is just one. Fails with RANK unless they have one axis less, with LENGTH unless there is one for each
+/// line.
 fn check_lines(amounts: &Seen, axes: &[u32], axis: usize) -> Result<(), Kind>
     requires rank { length axes.now ≤ most_axes }
     requires there { 0 < length axes.now → axis < length axes.now }
@@ -49,7 +49,7 @@ fn check_lines(amounts: &Seen, axes: &[u32], axis: usize) -> Result<(), Kind>
     Ok(())
 }
 
-/// How far the line of an index list is rotated.
+/// Returns the amount for the line of an index list.
 fn amount_at(amounts: &Seen, axis: usize, index: &[u32]) -> i64
     requires rank { length index.now ≤ most_axes }
     requires there { length amounts.now.items ≢ 1 → axis < length index.now }
@@ -64,7 +64,7 @@ fn amount_at(amounts: &Seen, axis: usize, index: &[u32]) -> i64
     amounts.number(position(shape, line.as_slice()))
 }
 
-/// The place that comes to place i of an axis.
+/// Returns the place that moves to place `i` of an axis.
 fn rotated_place(axis: u32, amount: i64, i: u32) -> u32
     requires low { 1 ≤ i }
     requires high { i ≤ axis }
@@ -75,7 +75,7 @@ fn rotated_place(axis: u32, amount: i64, i: u32) -> u32
     place.rem_euclid(i128::from(axis)) as u32 + 1
 }
 
-/// The index list of the place that comes to an index list.
+/// Returns the index list that moves to an index list.
 fn rotated(alloc: Global, axes: &[u32], axis: usize, amount: i64, index: &[u32]) -> Shape
     requires rank { length axes.now ≤ most_axes }
     requires axes_in { All (λ n. n ≤ longest_axis) axes.now }
@@ -91,10 +91,9 @@ fn rotated(alloc: Global, axes: &[u32], axis: usize, amount: i64, index: &[u32])
     at
 }
 
-/// Rotate, `A⌽B` and `A⊖B` (ISO/IEC 13751, "Rotate"): place i along the axis is place i+a, counted round
-/// the end of the axis, where a is the one item of A, or A's item for the line. A scalar B is itself.
-/// AXIS where the axis is not one of B's; unless A has one item, RANK where it has not one axis less,
-/// and LENGTH where its shape is not B's without the axis; DOMAIN where it is not of numbers.
+/// Rotate, `A⌽B` and `A⊖B` (ISO/IEC 13751, "Rotate"): place i along the axis is place i+a, counted cyclically. The amount a is the one item
+/// of A, or A's item for the line. A scalar B is unchanged. AXIS if B has no such axis. Unless A has one item, RANK if it has not one axis
+/// less, LENGTH if its shape is not that of B without the axis. DOMAIN unless A has numbers.
 #[derive(Clone, Copy, PartialEq, Eq, Debug)]
 pub struct Rotate {
     /// The axis along which places move.
@@ -102,7 +101,7 @@ pub struct Rotate {
 }
 
 impl Rotate {
-    /// The index list of the array whose item stands at an index list of the result. It takes no memory.
+    /// Returns the index list of the array for an index list of the result. Allocates nothing.
     fn place_of(self, amounts: &Seen, array: &Seen, index: &[u32]) -> Shape
         requires { IsPlaceOf (rotate_form self.along amounts.now array.now) index.now }
         ensures is { let axis = axis_at (length array.now.shape) self.along in
@@ -117,8 +116,7 @@ impl Rotate {
         rotated(*shape.allocator(), axes, axis, amount, index)
     }
 
-    /// Where the item at an index list of the result comes from, where the checks have passed. It takes no memory. There are as
-    /// many arguments as the function takes.
+    /// Returns the source of the item at an index list of the result, after the checks have passed. Allocates nothing.
     pub fn source_of(&self, args: &[Seen], index: &[u32]) -> Source
         requires count { length args.now ≡ 2 }
         requires place { IsPlaceOf (of_two_arguments (rotate_form self.now.along) args.now) index.now }
@@ -128,7 +126,7 @@ impl Rotate {
         self.source(&args[0], &args[1], index)
     }
 
-    /// Where the item at an index list of the result comes from, of these two arguments.
+    /// Returns the source of the item at an index list of the result.
     fn source(self, amounts: &Seen, array: &Seen, index: &[u32]) -> Source
         requires { IsPlaceOf (rotate_form self.along amounts.now array.now) index.now }
         ensures is { source_value result ≡ rotate_source self.along amounts.now array.now index.now }
@@ -138,8 +136,7 @@ impl Rotate {
         Source::Place { arg: 1, at }
     }
 
-    /// Puts a row along the axis behind the items: a line from the place that comes first on, and what stands before
-    /// that.
+    /// Appends a row along the axis: its line in two runs.
     fn extend_turned(
         self,
         amounts: &Seen,
@@ -162,7 +159,7 @@ impl Rotate {
         array.extend_run(items, place - before, before)
     }
 
-    /// Puts a row across lines that have one amount behind the items: a row of the array.
+    /// Appends a row across the lines, which share one amount: a row of the array.
     fn extend_across(
         self,
         amounts: &Seen,
@@ -183,7 +180,7 @@ impl Rotate {
         array.extend_run(items, places_before(shape, at.as_slice()), count)
     }
 
-    /// Puts a row behind the items one by one: across lines, each may have an amount of its own.
+    /// Appends a row across the lines item by item, as each may have its own amount.
     fn push_row(
         self,
         amounts: &Seen,
@@ -205,7 +202,7 @@ impl Rotate {
         Ok(())
     }
 
-    /// The array whose lines along the axis are rotated.
+    /// Computes the whole result by rows.
     pub fn apply(&self, alloc: Global, args: &[Seen]) -> Result<Array, ApplyFault>
         requires { length args.now ≡ 2 }
         ensures { IsAnswerTo (of_two_arguments (rotate_whole self.now.along) args.now) result }

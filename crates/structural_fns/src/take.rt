@@ -1,4 +1,4 @@
-//! Take: a number of places of each axis, the first or the last, and fill beyond them.
+//! Take: the first or last places of each axis, with fill beyond them.
 
 ghost use Rattle.std.specs.Prelude.{◌≡◌, ◌≤◌, ◌<◌, ◌+◌, ◌^◌, ◌++◌, ◌∷◌, [], pos, unsigned_abs, IsTrue, IfOk, OnOk, Ok, All, length, get_or, nat_eq, nat_le, ◌&&◌};
 ghost use Rattle.std.proofs.Common.{rules};
@@ -30,7 +30,7 @@ use index_region::{
 use smallvec::SmallVec;
 use std::alloc::{AllocError, Global};
 
-/// Where a place of a taken axis stands on the axis; 0, and what lies after its end, is no place.
+/// Returns the place on an axis that place `i` of the result comes from. If it is 0 or beyond the end, there is none.
 fn taken_place(axis: u32, count: i64, i: u32) -> u32
     requires axis_within { axis ≤ longest_axis }
     requires count_within { unsigned_abs count ≤ longest_axis }
@@ -44,7 +44,7 @@ fn taken_place(axis: u32, count: i64, i: u32) -> u32
     }
 }
 
-/// The places of a taken index list on each axis.
+/// Returns the places on all axes that an index list of the result comes from.
 fn taken_places(counts: &Seen, axes: &[u32], index: &[u32]) -> Shape
     requires long { length counts.now.items ≡ length axes.now }
     requires axes_within { All (λ n. n ≤ longest_axis) axes.now }
@@ -61,14 +61,14 @@ fn taken_places(counts: &Seen, axes: &[u32], index: &[u32]) -> Shape
     places
 }
 
-/// There is one count, and it asks for no more places than a vector has.
+/// Tests whether there is one count, and the vector has as many places.
 fn has_places(counts: &Seen, vector: &Seen) -> bool
     ensures { result ≡ nat_eq (length counts.now.items) 1 && nat_le (unsigned_abs (get_or (numbers counts.now) 0 (pos 0))) (length vector.now.items) }
 {
     counts.places() == 1 && counts.number(1).unsigned_abs() <= u64::from(vector.places())
 }
 
-/// The places of a vector that are taken, where it has as many.
+/// Takes places of a vector in one run, if it has as many.
 fn taken_run(counts: &Seen, vector: &Seen, shape: &Shape) -> Result<Array, AllocError>
     requires form { take_form counts.now vector.now ≡ Ok (form_of shape.now.items vector.now.item_type) }
     requires one_axis { length vector.now.shape ≡ 1 }
@@ -79,16 +79,14 @@ fn taken_run(counts: &Seen, vector: &Seen, shape: &Shape) -> Result<Array, Alloc
     vector.part(first - 1, shape)
 }
 
-/// Take, `A↑B` (ISO/IEC 13751, "Take"): axis k has the magnitude of A[k]; a positive count keeps the
-/// first places, a negative one the last, and missing places are fill. A scalar B has as many axes of
-/// one place as A has counts. RANK where A is neither a scalar nor a vector, LENGTH where it has not a
-/// count for each axis, DOMAIN where it is not of numbers, LIMIT beyond the limits of arrays.
+/// Take, `A↑B` (ISO/IEC 13751, "Take"): axis k has the magnitude of A[k] as its length. A positive count takes the first places, a negative
+/// one the last; missing places are fill. A scalar B has an axis of length 1 for each count. RANK if A is neither a scalar nor a vector,
+/// LENGTH unless it has a count for each axis, DOMAIN unless it has numbers, LIMIT beyond the limits of arrays.
 #[derive(Clone, Copy, PartialEq, Eq, Debug)]
 pub struct Take;
 
 impl Take {
-    /// Where the item at an index list of the result comes from, where the checks have passed. It takes no memory. There are as
-    /// many arguments as the function takes.
+    /// Returns the source of the item at an index list of the result, after the checks have passed. Allocates nothing.
     pub fn source_of(&self, args: &[Seen], index: &[u32]) -> Source
         requires count { length args.now ≡ 2 }
         requires place { IsPlaceOf (of_two_arguments take_form args.now) index.now }
@@ -98,7 +96,7 @@ impl Take {
         self.source(&args[0], &args[1], index)
     }
 
-    /// Where the item at an index list of the result comes from, of these two arguments.
+    /// Returns the source of the item at an index list of the result.
     fn source(self, counts: &Seen, array: &Seen, index: &[u32]) -> Source
         requires { IsPlaceOf (take_form counts.now array.now) index.now }
         ensures is { source_value result ≡ take_source counts.now array.now index.now }
@@ -113,8 +111,8 @@ impl Take {
         Source::Place { arg: 1, at }
     }
 
-    /// Puts a part of a row behind the items: that of places on the last axis, after `before` others. It is a run of
-    /// the array's items, or fill where the array has no such row.
+    /// Appends the part of a row that lies on the last axis of the array: `kept` items after the first `before`. Copies a run, or appends
+    /// fill if the array has no such row.
     fn extend_kept(
         self,
         counts: &Seen,
@@ -142,7 +140,7 @@ impl Take {
         }
     }
 
-    /// The array of the places that are taken. Those of a vector that has as many are copied in one run.
+    /// Computes the whole result. Copies a vector in one run if it has as many places.
     pub fn apply(&self, alloc: Global, args: &[Seen]) -> Result<Array, ApplyFault>
         requires { length args.now ≡ 2 }
         ensures { IsAnswerTo (of_two_arguments take_whole args.now) result }
@@ -205,7 +203,7 @@ impl RowPrimitive for Take {
     }
 }
 
-/// Where take puts an interval of an axis of which so many places are taken, by a negative count the last ones.
+/// Maps an interval of an axis to the result, for this count.
 fn taken_interval(axis: u32, count: i64, places: u32, interval: (u32, u32)) -> (u32, u32)
     requires magnitude { places ≡ unsigned_abs count }
     requires order { interval.0 ≤ interval.1 }
@@ -222,7 +220,7 @@ fn taken_interval(axis: u32, count: i64, places: u32, interval: (u32, u32)) -> (
     )
 }
 
-/// Where take puts the intervals of a box. The shape of the result is given.
+/// Maps the intervals of a box to the result, given its shape.
 fn taken_box(counts: &Seen, axes: &[u32], shape: &[u32], intervals: &[(u32, u32)]) -> Intervals
     requires long { length counts.now.items ≡ length axes.now }
     requires rank { length axes.now ≤ most_axes }

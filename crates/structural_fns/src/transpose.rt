@@ -21,7 +21,7 @@ use index_region::{
 use smallvec::SmallVec;
 use std::alloc::{AllocError, Global};
 
-/// A list of at most four, from its last to its first. It takes no memory.
+/// Reverses a list of at most four. Allocates nothing.
 fn from_last(alloc: Global, list: &[u32]) -> Shape
     requires { length list.now ≤ most_axes }
     ensures is { result.items ≡ reverse list.now }
@@ -34,14 +34,13 @@ fn from_last(alloc: Global, list: &[u32]) -> Shape
     reversed
 }
 
-/// Transpose, `⍉B` (ISO/IEC 13751, "Monadic transpose"): the axes in reverse order. A scalar and a
-/// vector are themselves.
+/// Transpose, `⍉B` (ISO/IEC 13751, "Monadic transpose"): the axes in reverse order. Scalars and vectors are unchanged.
 #[derive(Clone, Copy, PartialEq, Eq, Debug)]
 pub struct Transpose;
 
 impl Transpose {
-    /// Where the item at an index list of the result comes from, where the checks have passed: from the only argument. It takes no
-    /// memory. There are as many arguments as the function takes.
+    /// Returns the source of the item at an index list of the result, after the checks have passed. The argument is the only source.
+    /// Allocates nothing.
     pub fn source_of(&self, args: &[Seen], index: &[u32]) -> Source
         requires count { length args.now ≡ 1 }
         requires place { IsPlaceOf (of_one_argument transpose_form args.now) index.now }
@@ -51,7 +50,7 @@ impl Transpose {
         self.source(&args[0], index)
     }
 
-    /// Where the item at an index list of the result comes from, of this argument.
+    /// Returns the source of the item at an index list of the result.
     fn source(self, array: &Seen, index: &[u32]) -> Source
         requires { IsPlaceOf (transpose_form array.now) index.now }
         ensures is { source_value result ≡ transpose_source array.now index.now }
@@ -61,7 +60,7 @@ impl Transpose {
         Source::Place { arg: 0, at }
     }
 
-    /// The array whose axes stand in reverse order.
+    /// Computes the whole result by rows.
     pub fn apply(&self, alloc: Global, args: &[Seen]) -> Result<Array, ApplyFault>
         requires { length args.now ≡ 1 }
         ensures { IsAnswerTo (of_one_argument transpose_whole args.now) result }
@@ -111,7 +110,7 @@ impl RowPrimitive for Transpose {
     }
 }
 
-/// The intervals of a box from its last to its first.
+/// Reverses the intervals of a box.
 fn intervals_from_last(region: &IndexBox) -> Intervals
     ensures { result ≡ reverse region.now }
 {

@@ -1,4 +1,4 @@
--- All that changes of a catenation lies in the boxes of its rule.
+-- The law of change for catenate.
 use Rattle.std.proofs.Common.{◌≡◌, ◌≤◌, ◌<◌, ◌+◌, ◌-◌, ℕ, zero, suc, Bool, true, false, ◌&&◌, nat_eq, nat_le, if◌then◌else◌, List, [], ◌∷◌, length, get_or, set, insert, remove, refl, sym, ap, ◌∙◌, subst, arith, Some}
 use Rattle.std.proofs.lemmas.Bool.{and_parts, and_from, leb-true, leb-false, le-leb, false≢true, cond-true, cond-false, false_from_ne_true, eqb-true}
 use Rattle.arrays_core.{specs.declared.item.Item.{Item}, specs.declared.item.Kind.TheVariants.{Axis, Rank, Length, Domain}, specs.Arrays.{ArrayValue}, specs.Shapes.{is_index_of}, proofs.Shapes.{as_long, head_at}, proofs.NextIndex.{drop_inside}}
@@ -7,7 +7,7 @@ use Rattle.index_region.{specs.Arguments.{is_scalar}, specs.Boxes.{Interval, is_
 use Rattle.change_core.{specs.Tightness.{IsTight, Covered, Each}, specs.Reaches.{is_moved}, specs.Sourced.{left_of, right_of, left_used, right_used, other}, proofs.Sourced.{two_sourced-tight}, proofs.UsedWays.{within-whole, within-set, across-covered}}
 use Rattle.structural_fns.{specs.Catenate.{joined_rank, joined_places, other_axes, ranks_join, axes_agree, types_join, joined_type, joined_shape, in_side, catenate_form, catenate_source, one_place, side_box, catenate_left_box, catenate_right_box, catenate_rule}, specs.Laws.JoinedAxes.{JoinedFacts, joined_facts}}
 
--- ---- neither checks nor types see more of the items than how many there are
+-- ---- checks and types depend on the number of items only
 
 types_blind : (c d : ArrayValue) (xs ys : List Item) → length xs ≡ length c.items → length ys ≡ length d.items → types_join (other c xs) (other d ys) ≡ types_join c d
 types_blind c d xs ys p q = rw (p, q) refl
@@ -44,7 +44,7 @@ within-set_whole (suc axis) s (n ∷ shape) (i ∷ index) place low high =
     let parts = and_parts (nat_le 1 i && nat_le i n) (is_index_of shape index) place in
     and_from _ _ parts.0 (within-set_whole axis s shape index parts.1 low high)
 
--- where place j of a side stands after the places before it, and is its only one where the side has not all axes
+-- place j of a side is the index on the axis less the places in front, and is the only place if the side lacks the axis
 pub record StandsInSide (side : ArrayValue) (rank axis before j : ℕ) (index : List ℕ) : Type 0 where
   pub place : before + j ≡ get_or index axis 0
   pub below : axis < length index
@@ -84,7 +84,7 @@ right_where : (P : List ℕ → Type 0) (test : Bool) (p q : List ℕ) → (test
 right_where P true p q h = tt
 right_where P false p q h = (h refl, tt)
 
--- a side that has not all axes has one place
+-- a side that lacks an axis has one place
 one_alone : (rank axis : ℕ) (side : ArrayValue) → nat_eq (length side.shape) rank ≡ false → joined_places rank axis side ≡ 1
 one_alone rank axis side h = cond-false _ _ _ h
 
@@ -114,7 +114,7 @@ stands_right rank axis a b shape index axes on sum t =
     let high = on.high in
     record { place = omega arith; below = on.below; only = λ n. let one = one_alone rank axis b n in omega arith; axes = axes }
 
--- the source, of a result of so many axes
+-- the source, for a result of this rank
 abbrev source_in : Along → ArrayValue → ArrayValue → List ℕ → ℕ → Source
 source_in along a b index rank =
     let axis = axis_at rank along in

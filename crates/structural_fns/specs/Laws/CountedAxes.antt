@@ -1,11 +1,11 @@
--- What the checks of take and drop have shown, and the axes that the counts are for.
+-- Consequences of the checks of take and drop, and the axes that the counts apply to.
 use Rattle.std.{proofs.Common.{◌≡◌, ◌≤◌, ℕ, zero, suc, Bool, true, false, if◌then◌else◌, nat_eq, List, [], length, replicate, refl, ap, ◌∙◌, Ok}, proofs.lemmas.Bool.{and_parts, eqb-true, leb-true}, proofs.lemmas.List.{length-map}}
 use Rattle.arrays_core.{specs.Arrays.{ArrayValue}, specs.Limits.{most_axes}, specs.Shapes.{is_index_of}}
 use Rattle.change_core.proofs.UsedWays.{within-whole}
 use Rattle.index_region.{specs.Arguments.{is_scalar, is_list, counts_as_numbers, number_of, numbers}, specs.Boxes.{Interval, fits, is_within, whole_of}, specs.Checks.{Form, is_within_limits}, proofs.Passing.{gives, limited_gives}}
 use Rattle.structural_fns.specs.AxisCounts.{counted_shape, counted_form, uncounted, counted_box}
 
--- what the checks have shown
+-- the facts that the checks establish
 pub record CountedFacts (asked : List ℕ) (a b : ArrayValue) (f : Form) : Type 0 where
   pub shaped : f.shape ≡ asked
   pub many : length (numbers a) ≡ length (counted_shape a b)
@@ -30,7 +30,7 @@ fits_ones : (n : ℕ) → fits (whole_of (replicate n 1)) (replicate n 1) ≡ tr
 fits_ones zero = refl
 fits_ones (suc n) = fits_ones n
 
--- the box lies on the axes that the counts are for
+-- the box lies on the axes that the counts apply to
 pub counted_fits : (a b : ArrayValue) (region : List Interval) → fits region b.shape ≡ true → fits (counted_box a b region) (counted_shape a b) ≡ true
 counted_fits a b region h = decide (is_scalar b)
   where
@@ -38,7 +38,7 @@ counted_fits a b region h = decide (is_scalar b)
     decide true = fits_ones (length a.items)
     decide false = h
 
--- an index list on these axes lies in the box there, where the one of the array itself lies in the box
+-- an index list on these axes lies in the box there if the one of the array lies in the box
 pub counted_within : (a b : ArrayValue) (region : List Interval) (at : List ℕ) → is_index_of (counted_shape a b) at ≡ true → is_within region (uncounted b at) ≡ true → is_within (counted_box a b region) at ≡ true
 counted_within a b region at = decide (is_scalar b)
   where

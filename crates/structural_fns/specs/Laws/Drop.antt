@@ -1,4 +1,4 @@
--- All that changes of a drop lies in the box of its rule.
+-- The law of change for drop.
 use Rattle.std.{proofs.Common.{◌≡◌, ◌≤◌, ◌-◌, ℕ, ℤ, pos, negsuc, unsigned_abs, true, List, [], ◌∷◌, length, refl, ap, ◌∙◌, arith, Ok}, proofs.lemmas.Bool.{and_parts, and_from, leb-true, le-leb, false≢true}}
 use Rattle.arrays_core.{specs.Arrays.{ArrayValue}, specs.Shapes.{is_index_of}}
 use Rattle.index_region.{specs.Arguments.{numbers}, specs.Boxes.{is_within}, specs.Checks.{Form}}
@@ -38,7 +38,7 @@ place_on : (n : ℕ) (count : ℤ) (i : ℕ) → 1 ≤ i → i ≤ n - unsigned_
 place_on n (pos count) i l u = (omega arith, omega arith)
 place_on n (negsuc count) i l u = (omega arith, omega arith)
 
--- what is left comes from places of the array
+-- the places of the result come from places of the array
 places_inside : (shape : List ℕ) (counts : List ℤ) (index : List ℕ) → length counts ≡ length shape → is_index_of (dropped_shape shape counts) index ≡ true → is_index_of shape (kept_places counts index) ≡ true
 places_inside [] [] [] h place = refl
 places_inside [] [] (i ∷ index) h place = absurd (false≢true place)

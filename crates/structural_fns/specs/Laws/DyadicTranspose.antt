@@ -1,4 +1,4 @@
--- All that changes of A⍉B lies in its box.
+-- The law of change for A⍉B.
 use Rattle.std.proofs.Common.{◌≡◌, ℕ, ◌-◌, List, [], ◌∷◌, map, get_or, refl, ap, subst, true}
 use Rattle.index_region.specs.Boxes.{is_within}
 use Rattle.change_core.{specs.Tightness.{Each, IsTight}, specs.Reaches.{is_moved}, proofs.Sourced.{selected_sourced-tight}, proofs.UsedWays.{permuted-covered}}

@@ -1,11 +1,11 @@
--- What the checks of catenate have shown of the axes.
+-- Consequences of the checks of catenate for the axes.
 use Rattle.std.{proofs.Common.{◌≡◌, ◌≤◌, ◌<◌, ◌+◌, ℕ, suc, true, ◌||◌, ◌&&◌, if◌then◌else◌, nat_le, List, length, get_or, ap, sym, ◌∙◌, subst, arith, Ok, inl, inr}, proofs.lemmas.Bool.{and_parts, or_cases, eqb-true, leb-true}, proofs.lemmas.List.Edits.{length-insert, get_or-insert_at}}
 use Rattle.arrays_core.specs.Arrays.{ArrayValue}
 use Rattle.function_names.{specs.declared.along.Along.{Along}, specs.Axes.{is_axis, axis_at}}
 use Rattle.index_region.{specs.Arguments.{is_scalar}, specs.Checks.{Form, is_within_limits}, proofs.Passing.{gives, limited_gives}, proofs.RowIndices.{axis_below}}
 use Rattle.structural_fns.{specs.Catenate.{joined_rank, joined_places, other_axes, ranks_join, axes_agree, types_join, joined_type, joined_shape, catenate_form, IsSide}, specs.Laws.SharedAxes.{shared_long}}
 
--- what the checks have shown
+-- the facts that the checks establish
 pub record JoinedFacts (along : Along) (a b : ArrayValue) (shape : List ℕ) : Type 0 where
   pub rank : joined_rank a b ≡ length shape
   pub few : length shape ≤ 4

@@ -1,4 +1,4 @@
--- Sources that are a place of the right argument only where a test passes, and fill else.
+-- Sources that are a place of the right argument if a test passes, and fill otherwise.
 use Rattle.std.proofs.Common.{◌≡◌, List, ℕ, [], Bool, true, false, if◌then◌else◌, refl}
 use Rattle.index_region.specs.Sources.{Place, Fill}
 use Rattle.change_core.{specs.Tightness.{Each}, specs.Sourced.{left_of, right_of}}

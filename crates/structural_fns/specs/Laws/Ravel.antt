@@ -1,4 +1,4 @@
--- All that changes of a ravel lies in the box of its rule.
+-- The law of change for ravel.
 use Rattle.std.{proofs.Common.{◌≡◌, ◌≤◌, ◌+◌, ◌-◌, ℕ, List, [], ◌∷◌, get_or, refl, ap, subst, arith, true, ◌&&◌, nat_le, Ok}, proofs.lemmas.Bool.{and_parts, and_from, leb-true, le-leb, false≢true}}
 use Rattle.arrays_core.{specs.Arrays.{ArrayValue}, specs.Shapes.{size, places_before, index_after, is_index_of}, proofs.Order.{places_before-index_after}}
 use Rattle.index_region.{specs.Boxes.{Interval, is_within}, specs.Checks.{Form}, proofs.Passing.{limited_gives}}

@@ -1,4 +1,4 @@
--- All that changes of a reshape lies in the box of its rule.
+-- The law of change for reshape.
 use Rattle.std.proofs.Common.{◌≡◌, ◌%◌, List, ℕ, refl, ap, subst, true, ◌&&◌, Ok}
 use Rattle.arrays_core.{specs.Arrays.{ArrayValue}, specs.Shapes.{size, places_before, index_after}}
 use Rattle.index_region.{specs.Arguments.{is_list, has_items, counts_as_numbers, numbers, none_negative}, specs.Boxes.{is_within}, specs.Checks.{Form}, proofs.Passing.{gives, limited_gives}}

@@ -1,4 +1,4 @@
--- All that changes of ⌽B lies in its box.
+-- The law of change for ⌽B.
 use Rattle.std.proofs.Common.{length, refl, arith}
 use Rattle.function_names.{specs.declared.along.Along.{Along}, specs.Axes.{axis_at}}
 use Rattle.index_region.specs.Axes.{places_along}

@@ -1,4 +1,4 @@
--- All that changes of A⌽B lies in its boxes.
+-- The law of change for A⌽B.
 use Rattle.std.proofs.Common.{◌≡◌, ℕ, zero, suc, ◌≤◌, ◌<◌, true, false, eqb, ◌&&◌, nat_le, List, [], ◌∷◌, length, get_or, set, insert, remove, map, refl, sym, subst, ◌∙◌, arith, inl, inr, Ok, Result, if◌then◌else◌}
 use Rattle.std.proofs.lemmas.Bool.{and_parts, and_from, leb-true, le-leb, eqb-true, eqb-false, cases_Bool, cond-true, cond-false, false≢true}
 use Rattle.arrays_core.{specs.declared.item.Item.{Item}, specs.declared.item.Kind.{Kind}, specs.Shapes.{size, is_index_of}, specs.Arrays.{ArrayValue, item_if_there}, proofs.Shapes.{as_long}}
@@ -27,11 +27,11 @@ on_axis_of (n ∷ shape) (i ∷ index) (suc axis) d e place l =
 placed : (along : Along) (a b : ArrayValue) (f : Form) (index : List ℕ) → rotate_form along a b ≡ Ok f → is_index_of f.shape index ≡ true → IsPlaceOf (rotate_form along a b) index
 placed along a b f index e place = subst (λ (r : Result Form Kind). IsPlaceOf r index) (sym e) place
 
--- the checks see no items but how many there are
+-- the checks depend on the number of items only
 rotate_blind : (along : Along) (c d : ArrayValue) (xs ys : List Item) → length xs ≡ length c.items → rotate_form along (other c xs) (other d ys) ≡ rotate_form along c d
 rotate_blind along c d xs ys p = rw p refl
 
--- what an item reads of B lies on its own line
+-- an item reads B on its own line
 rotate_covered : (along : Along) (a b : ArrayValue) (f : Form) → rotate_form along a b ≡ Ok f → Covered b.shape f.shape (right_used (rotate_source along a b) (rotate_box along b))
 rotate_covered along a b f e region index fit place =
     let axis = axis_at (length b.shape) along in
@@ -42,7 +42,7 @@ rotate_covered along a b f e region index fit place =
       tt,
     )
 
--- where there are several amounts, each belongs to a line
+-- several amounts belong to one line each
 record HasLines (axis : ℕ) (a b : ArrayValue) (index : List ℕ) : Type 0 where
   below : axis < length b.shape
   inside : is_index_of b.shape index ≡ true
@@ -60,7 +60,7 @@ lines_of along a b index h many =
       line = subst (λ (s : List ℕ). is_index_of s (remove index axis) ≡ true) (sym (facts.lines many)) (removed_inside b.shape index axis below facts.inside);
     }
 
--- the amount that is read of several is that of the line
+-- of several amounts, the one of the line is read
 read_line : (shape line : List ℕ) → is_index_of shape line ≡ true → (if eqb (size shape) 1 then map (λ _. 1) shape else line) ≡ line
 read_line shape line place = elim (cases_Bool (eqb (size shape) 1)) [
   | inl one ↦ cond-true _ _ _ one ∙ only_index shape line (eqb-true _ _ one) place
@@ -91,7 +91,7 @@ amounts_covered along a b f e region index fit place = (inside, tt)
       | inr many ↦ subst (λ (r : List Interval). is_within r index ≡ true) (sym (cond-false _ _ _ many)) (lines_within (eqb-false (length a.items) 1 many) h)
     ]
 
--- an item is the same where its amount and the place that it comes from are read alike, if A has an item a place
+-- an item is the same if its amount and its source are read alike and A has one item for each place
 rotate_settled : (along : Along) (c d : ArrayValue) (xs ys : List Item) (f : Form) (index : List ℕ) → length c.items ≡ size c.shape → rotate_form along c d ≡ Ok f → is_index_of f.shape index ≡ true
     → map (item_if_there (other c xs)) ((amounts_use along f.shape c d).reads index) ≡ map (item_if_there c) ((amounts_use along f.shape c d).reads index)
     → map (item_if_there (other d ys)) ((right_used (rotate_source along c d) (rotate_box along d)).reads index) ≡ map (item_if_there d) ((right_used (rotate_source along c d) (rotate_box along d)).reads index)

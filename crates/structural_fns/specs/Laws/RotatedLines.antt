@@ -1,11 +1,11 @@
--- What the checks of rotate have shown of the lines.
+-- Consequences of the checks of rotate for the lines.
 use Rattle.std.{proofs.Common.{◌≡◌, ℕ, zero, suc, ◌<◌, Bool, true, ◌&&◌, ◌||◌, nat_eq, nat_le, List, [], ◌∷◌, length, remove, bytes_eq, inl, inr, arith}, proofs.lemmas.Bool.{and_parts, and_from, or_cases, eqb-true}, proofs.lemmas.Slice.Eq.{bytes_eq-Decides}}
 use Rattle.arrays_core.{specs.Arrays.{ArrayValue}, specs.Shapes.{is_index_of}, proofs.Shapes.{head_of}}
 use Rattle.function_names.{specs.declared.along.Along.{Along}, specs.Axes.{is_axis, axis_at}}
 use Rattle.index_region.{specs.Arguments.{has_one_item, counts_as_numbers}, specs.Answers.{IsPlaceOf}, proofs.Passing.{passed, place_inside}}
 use Rattle.structural_fns.specs.Rotate.{rotate_form}
 
--- an index list of a shape lies, without one of its axes, in the shape without it
+-- an index list without one of its axes lies in the shape without that axis
 pub removed_inside : (shape index : List ℕ) (k : ℕ) → k < length shape → is_index_of shape index ≡ true → is_index_of (remove shape k) (remove index k) ≡ true
 removed_inside [] index k h inside = absurd (omega arith)
 removed_inside (n ∷ shape) [] k h inside = cc
@@ -14,7 +14,7 @@ removed_inside (n ∷ shape) (i ∷ index) (suc k) h inside =
     let parts = and_parts (nat_le 1 i && nat_le i n) (is_index_of shape index) inside in
     and_from _ _ parts.0 (removed_inside shape index k (omega arith) parts.1)
 
--- what the checks of a rotation tell
+-- the facts that the checks establish
 pub record RotationFacts (axis : ℕ) (a b : ArrayValue) (index : List ℕ) : Type 0 where
   pub inside : is_index_of b.shape index ≡ true
   pub there : (length a.items ≡ 1 → ⊥) → suc (length a.shape) ≡ length b.shape

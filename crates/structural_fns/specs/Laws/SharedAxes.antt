@@ -1,4 +1,4 @@
--- The axes that the sides of catenate share.
+-- The axes that the two sides of catenate share.
 use Rattle.std.{proofs.Common.{◌≡◌, ℕ, suc, ◌+◌, ◌<◌, ◌≤◌, Bool, true, false, ◌&&◌, ◌||◌, if◌then◌else◌, nat_eq, nat_le, List, length, remove, refl, sym, ◌∙◌, inl, inr, arith}, proofs.lemmas.Bool.{and_parts, or_cases, eqb-true, eqb-false, leb-true, true≢false}, proofs.lemmas.List.Edits.{length-remove}}
 use Rattle.arrays_core.specs.Arrays.{ArrayValue}
 use Rattle.index_region.specs.Arguments.{is_scalar}
@@ -32,7 +32,7 @@ other_by true shape rank axis e h low high =
     omega arith
 other_by false shape rank axis e h low high = let differ = eqb-false (length shape) rank e in omega arith
 
--- the other axes are one less than the result's
+-- there is one other axis less than the result has axes
 pub shared_long : (a b : ArrayValue) (axis : ℕ) → axis < joined_rank a b → ranks_join a b ≡ true
     → length (other_axes (joined_rank a b) axis (if is_scalar a then b else a)) + 1 ≡ joined_rank a b
 shared_long a b axis h ranks =

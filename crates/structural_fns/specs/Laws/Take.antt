@@ -1,4 +1,4 @@
--- All that changes of a take lies in the box of its rule.
+-- The law of change for take.
 use Rattle.std.proofs.Common.{◌≡◌, ℕ, ℤ, pos, negsuc, unsigned_abs, true, List, [], ◌∷◌, length, map, refl, ap, ◌∙◌, arith, Ok}
 use Rattle.arrays_core.{specs.Arrays.{ArrayValue}, specs.Shapes.{is_index_of}}
 use Rattle.index_region.{specs.Arguments.{numbers}, specs.Boxes.{is_within}, specs.Checks.{Form}}

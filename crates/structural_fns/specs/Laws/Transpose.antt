@@ -1,4 +1,4 @@
--- All that changes of ⍉B lies in its box.
+-- The law of change for ⍉B.
 use Rattle.std.{proofs.Common.{◌≡◌, ℕ, List, [], ◌∷◌, reverse, refl, ap, sym, ◌∙◌, true}, proofs.lemmas.Bool.{and_parts, and_from, false≢true}, proofs.lemmas.List.{reverse-reverse}}
 use Rattle.index_region.specs.Boxes.{Interval, is_within}
 use Rattle.change_core.{specs.Tightness.{IsTight}, proofs.Sourced.{one_sourced-tight}}
@@ -14,7 +14,7 @@ within-aux (s ∷ region) others (i ∷ index) rest h k =
     let parts = and_parts _ _ h in
     within-aux region (s ∷ others) index (i ∷ rest) parts.1 (and_from _ _ parts.0 k)
 
--- an index list in reverse order lies in a box where the index list lies in the box in reverse order
+-- the reversed index list lies in the box if the index list lies in the reversed box
 within-reverse : (region : List Interval) (index : List ℕ) → is_within region (reverse index) ≡ true → is_within (reverse region) index ≡ true
 within-reverse region index h =
     ap (λ (at : List ℕ). is_within (reverse region) at) (sym (reverse-reverse index)) ∙ within-aux region [] (reverse index) [] h refl

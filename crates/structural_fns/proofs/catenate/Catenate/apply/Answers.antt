@@ -4,11 +4,11 @@ use Rattle.index_region.{specs.ArgumentLists.{of_two_arguments}, proofs.Argument
 use Rattle.structural_fns.{specs.Catenate.{joined_rank, catenate_form, catenate_item, catenate_whole}, proofs.JoinedRuns.{AreJoined, joined_runs}, proofs.catenate.Catenate.apply.Goals.{In_ok-shape}}
 use Rattle.structural_fns.proofs.catenate.Catenate.apply.Goals as goal
 
--- the arguments are two
+-- there are two arguments
 two : (c : In_ok-shape) → c.args.args.now ≡ c.index-args-0.result ∷ c.index-args-1.result ∷ []
 two c = two_arguments c.args.args.now c.index-args-0.result c.index-args-1.result c.requires c.index-args-0.is c.index-args-1.is
 
--- the items of the sides one after another
+-- the items of both sides in sequence
 runs : (c : In_ok-shape) → AreJoined c.args.self.now.along c.index-args-0.result c.index-args-1.result c.in_ok-shape.shape.items
 runs c =
     let along = c.args.self.now.along in

@@ -2,7 +2,7 @@ use Rattle.{std.proofs.Common.{◌∙◌, ap, arith}, function_names.specs.Axes.
 use Rattle.structural_fns.{proofs.SidePlaces.{JoinFacts, join_facts}, proofs.catenate.Catenate.source.Goals.{After-axis_at-axis}}
 use Rattle.structural_fns.proofs.catenate.Catenate.source.Goals as goal
 
--- the index list has a place on the axis, and that gives one of a side
+-- the index on the axis is a place of one of the sides
 facts : (c : After-axis_at-axis) → JoinFacts c.joined_rank-rank.result c.axis_at-axis.result c.args.left.now c.args.right.now c.args.index.now
 facts c =
     let rank = c.joined_rank-rank.ensures.is in

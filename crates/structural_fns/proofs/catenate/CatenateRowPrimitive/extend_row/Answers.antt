@@ -3,11 +3,11 @@ use Rattle.{function_names.specs.Axes.{axis_at}, index_region.proofs.Passing.{tw
 use Rattle.structural_fns.{specs.Catenate.{joined_places}, proofs.JoinedRows.{IsJoinedRow, axis_below, places_within, left_inside, right_inside, left_is_typed, right_is_typed, row_of_both, row_of_left, row_of_right}, proofs.catenate.CatenateRowPrimitive.extend_row.Goals.{After-joined_places-places}}
 use Rattle.structural_fns.proofs.catenate.CatenateRowPrimitive.extend_row.Goals as goal
 
--- the arguments are two
+-- there are two arguments
 two : (c : After-joined_places-places) → c.args.args.now ≡ c.index-args-0.result ∷ c.index-args-1.result ∷ []
 two c = two_arguments c.args.args.now c.index-args-0.result c.index-args-1.result c.requires.arguments c.index-args-0.is c.index-args-1.is
 
--- the row of the result that is written
+-- the row to append
 joined : (c : After-joined_places-places)
     → IsJoinedRow c.args.self.now.along c.index-args-0.result c.index-args-1.result c.args.row.now c.args.count c.args.items.now.item_type c.axis_at-axis.result c.joined_places-places.result
 joined c =

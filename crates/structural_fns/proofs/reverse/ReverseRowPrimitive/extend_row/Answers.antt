@@ -4,11 +4,11 @@ use Rattle.function_names.specs.Axes.{axis_at}
 use Rattle.structural_fns.{specs.Reverse.{reverse_item}, proofs.ReversedRows.{ReversedRow, at_index, below_last, last_item, last_low, other_item, other_fits}, proofs.reverse.ReverseRowPrimitive.extend_row.Goals.{After-axis_at}}
 use Rattle.structural_fns.proofs.reverse.ReverseRowPrimitive.extend_row.Goals as goal
 
--- the arguments are one
+-- there is one argument
 one : (c : After-axis_at) → c.args.args.now ≡ c.index-args-0.result ∷ []
 one c = one_argument c.args.args.now c.index-args-0.result c.requires.arguments c.index-args-0.is
 
--- the row that is written
+-- the row to append
 known : (c : After-axis_at) → ReversedRow c.args.self.now.along c.index-args-0.result c.args.row.now c.args.count c.args.items.now.item_type
 known c = record { row_in = rw (one c) at c.requires.row }
 
@@ -16,7 +16,7 @@ known c = record { row_in = rw (one c) at c.requires.row }
 ranked : (c : After-axis_at) → c.axis_at.result ≡ axis_at (length c.index-args-0.result.shape) c.args.self.now.along
 ranked c = c.axis_at.ensures.is ∙ ap (λ n. axis_at n c.args.self.now.along) (c.len.ensures.value ∙ ap length c.shape-shape.ensures.is)
 
--- the place of the array whose item comes first
+-- the first place of the array
 first_place : (c : After-axis_at) → c.places_before-place.result ≡ places_before c.index-args-0.result.shape (at_index _ _ _ _ _ (known c) 1)
 first_place c = rw (c.shape-shape.ensures.is, c.as_slice-2.ensures, c.place_of-at.ensures.is, c.as_slice.ensures, c.index_in_row-first.ensures.is) at c.places_before-place.ensures.is
 

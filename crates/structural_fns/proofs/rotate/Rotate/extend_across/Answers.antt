@@ -3,7 +3,7 @@ use Rattle.arrays_core.{specs.Items.{fill}, specs.Shapes.{places_before}, proofs
 use Rattle.structural_fns.{specs.Rotate.{rotate_item}, proofs.RotatedRows.{passed_row, at_index, other_item, other_fits}, proofs.rotate.Rotate.extend_across.Goals.{After-places_before}}
 use Rattle.structural_fns.proofs.rotate.Rotate.extend_across.Goals as goal
 
--- the place of the array whose item comes first
+-- the first place of the array
 first_place : (c : After-places_before)
     → c.places_before.result ≡ places_before c.args.array.now.shape (at_index c.args.self.along c.args.amounts.now c.args.array.now c.args.row.now c.args.count c.args.items.now.item_type c.requires.row 1)
 first_place c = rw (c.shape-shape.ensures.is, c.as_slice-2.ensures, c.place_of-at.ensures.is, c.as_slice.ensures, c.index_in_row-first.ensures.is) at c.places_before.ensures.is

@@ -3,7 +3,7 @@ use Rattle.arrays_core.{specs.Items.{fill}, proofs.Rows.{row_put_more, with_row_
 use Rattle.structural_fns.{specs.Rotate.{rotate_item}, proofs.RotatedRows.{TurnedLine, passed_row, turned_line}, proofs.rotate.Rotate.extend_turned.Goals.{After-deref}}
 use Rattle.structural_fns.proofs.rotate.Rotate.extend_turned.Goals as goal
 
--- the line that is written
+-- the row to append
 line : (c : After-deref) → TurnedLine c.args.self.along c.args.amounts.now c.args.array.now c.args.row.now c.args.count c.places_before-place.result (get_or c.deref.result.now (length c.args.row.now) 0)
 line c =
     turned_line c.args.self.along c.args.amounts.now c.args.array.now c.args.row.now c.args.count c.args.items.now.item_type c.requires.row c.requires.last _ c.deref.result.now

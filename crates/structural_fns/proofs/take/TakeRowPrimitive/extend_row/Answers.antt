@@ -3,11 +3,11 @@ use Rattle.{arrays_core.{specs.Building.{listed}, specs.Items.{fill}}, index_reg
 use Rattle.structural_fns.{specs.AxisCounts.{counted_shape}, proofs.Counting.{count_read}, proofs.TakenRows.{TakenRow, taken_row, fill_row, row_of_first, row_of_last, last_on_axis}, proofs.take.TakeRowPrimitive.extend_row.Goals.{After-min-kept, After-number}}
 use Rattle.structural_fns.proofs.take.TakeRowPrimitive.extend_row.Goals as goal
 
--- the arguments are two
+-- there are two arguments
 two : (c : After-min-kept) → c.args.args.now ≡ c.index-args-0.result ∷ c.index-args-1.result ∷ []
 two c = two_arguments c.args.args.now c.index-args-0.result c.index-args-1.result c.requires.arguments c.index-args-0.is c.index-args-1.is
 
--- the row that is written
+-- the row to append
 known : (c : After-min-kept) → TakenRow c.index-args-0.result c.index-args-1.result c.args.row.now c.args.count c.args.items.now.item_type
 known c = taken_row _ _ _ _ _ (rw (two c) at c.requires.row)
 
