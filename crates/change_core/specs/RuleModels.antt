@@ -13,8 +13,8 @@ pub record Use : Type 0 where
 abbrev pub Growth : Type 0
 Growth = List ArrayValue → List Bool → Bool
 
--- the model of an array function: its selectors (arguments whose items decide which items of the others are read), checks, items, uses of
--- the arguments given the shape of the result, and growth
+-- the model of an array function: its checks, items, uses of the arguments, and growth. The items of a selector decide which items of the
+-- other arguments are read
 pub record RuleModel : Type 0 where
   pub selectors : List Bool
   pub form : List ArrayValue → Result Form Kind

@@ -15,8 +15,8 @@ alike = record { reads = λ index. index ∷ []; box = λ region. Some region }
 abbrev pub everywhere : List ℕ → (List ℕ → List (List ℕ)) → Use
 everywhere shape reads = record { reads = reads; box = λ _. Some (whole_of shape) }
 
--- an axis of the result: its length, the place on the argument's axis from which each place comes (fill if there is none), and the image of
--- an interval of that axis
+-- an axis of the result: its length, the source of each place on the argument's axis, and the image of an interval of that axis. A place
+-- without a source is fill
 pub record Axis : Type 0 where
   pub len : ℕ
   pub source : ℕ → ℕ

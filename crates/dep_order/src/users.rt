@@ -12,7 +12,7 @@ use std::hash::Hash;
 /// For each node that is referred to, the list of the nodes that refer to it. Most lists are short.
 pub type Users<N> = IndexMap<N, Vec<N>>;
 
-/// Fills `found` with a node and all nodes that reach it by chains of references. Each key stands once, after all its users, with value
+/// Fills `found` with a node and all nodes that reach it by chains of references. Each key occurs once, after all its users, with value
 /// `None`. No chain of references to the node may have more than `height` references. Clears the map first and reuses its memory; allocates
 /// only if that is too small.
 pub fn affected<N: Eq + Hash + Copy, V: Drop>(

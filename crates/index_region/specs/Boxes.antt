@@ -69,8 +69,8 @@ join_boxes None b = b
 join_boxes (Some a) None = Some a
 join_boxes (Some a) (Some b) = Some (hull_of a b)
 
--- the cover of two index lists: axes in front of the first on which they differ have the common index, that axis runs from one index to the
--- other, later axes are whole
+-- the cover of two index lists: axes in front of the first on which they differ have the common index. That axis runs from one index to the
+-- other. Later axes are whole
 abbrev pub cover_between : List ℕ → List ℕ → List ℕ → List Interval
 cover_between (n ∷ axes) (i ∷ first) (j ∷ last) = (i, j) ∷ (if nat_eq i j then cover_between axes first last else whole_of axes)
 cover_between _ _ _ = []

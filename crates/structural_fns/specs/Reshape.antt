@@ -4,7 +4,7 @@ use Rattle.arrays_core.{specs.declared.item.Item.{Item}, specs.declared.item.Kin
 use Rattle.index_region.{specs.Checks.{check, Form, limited, whole}, specs.Arguments.{is_list, has_items, counts_as_numbers, numbers, none_negative}, specs.Sources.{Place, Fill, Source, item_from}}
 use Rattle.change_core.{specs.Places.{by_place}, specs.RuleModels.{RuleModel}, specs.Sourced.{Spread, two_sourced}}
 
--- the axis lengths that an array of numbers gives, regardless of signs
+-- the numbers of an array as axis lengths, without their signs
 abbrev pub magnitudes : ArrayValue → List ℕ
 magnitudes a = map unsigned_abs (numbers a)
 

@@ -8,8 +8,8 @@ ghost use Rattle.structural_fns.specs.AxisCounts.{counted_shape, counted_form, u
 use arrays_core::{Kind, Shape, shape_of};
 use index_region::{IndexBox, Intervals, Seen};
 
-/// Checks the counts. Fails with RANK unless they are a scalar or a vector, with LENGTH unless there is one for each axis (a scalar takes
-/// any number), with DOMAIN unless they are numbers.
+/// Checks the counts. Fails with RANK unless they are a scalar or a vector. Fails with LENGTH unless there is one for each axis; a scalar
+/// takes any number. Fails with DOMAIN unless they are numbers.
 pub(crate) fn check_axis_counts(counts: &Seen, array: &Seen) -> Result<(), Kind>
     ensures passed { IfOk result (λ _. (shape : List ℕ) → counted_form shape counts.now array.now ≡ limited shape array.now.item_type) }
     ensures failed { IfErr result (λ kind. (shape : List ℕ) → counted_form shape counts.now array.now ≡ Err kind) }

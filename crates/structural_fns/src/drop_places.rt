@@ -88,7 +88,7 @@ fn kept_run(counts: &Seen, vector: &Seen, shape: &Shape) -> Result<Array, AllocE
 
 /// Drop, `A↓B` (ISO/IEC 13751, "Drop"): a positive count leaves out the first places of its axis, a negative one the last. No length is
 /// below 0. A scalar B has an axis of length 1 for each count. RANK if A is neither a scalar nor a vector, LENGTH unless it has a count for
-/// each axis, DOMAIN unless it has numbers, LIMIT beyond the limits of arrays.
+/// each axis. DOMAIN unless it has numbers, LIMIT beyond the limits of arrays.
 #[derive(Clone, Copy, PartialEq, Eq, Debug)]
 pub struct DropPlaces;
 

@@ -81,7 +81,7 @@ fn taken_run(counts: &Seen, vector: &Seen, shape: &Shape) -> Result<Array, Alloc
 
 /// Take, `A↑B` (ISO/IEC 13751, "Take"): axis k has the magnitude of A[k] as its length. A positive count takes the first places, a negative
 /// one the last; missing places are fill. A scalar B has an axis of length 1 for each count. RANK if A is neither a scalar nor a vector,
-/// LENGTH unless it has a count for each axis, DOMAIN unless it has numbers, LIMIT beyond the limits of arrays.
+/// LENGTH unless it has a count for each axis. DOMAIN unless it has numbers, LIMIT beyond the limits of arrays.
 #[derive(Clone, Copy, PartialEq, Eq, Debug)]
 pub struct Take;
 

@@ -44,7 +44,7 @@ within-set_whole (suc axis) s (n ∷ shape) (i ∷ index) place low high =
     let parts = and_parts (nat_le 1 i && nat_le i n) (is_index_of shape index) place in
     and_from _ _ parts.0 (within-set_whole axis s shape index parts.1 low high)
 
--- place j of a side is the index on the axis less the places in front, and is the only place if the side lacks the axis
+-- place j of a side, with the places in front added, is the index on the axis; a side that lacks the axis has only place 1
 pub record StandsInSide (side : ArrayValue) (rank axis before j : ℕ) (index : List ℕ) : Type 0 where
   pub place : before + j ≡ get_or index axis 0
   pub below : axis < length index
