@@ -7,7 +7,7 @@ use Rattle.index_region.{specs.Boxes.{Interval, fits, join_boxes, met, unless_em
 use Rattle.change_core.{specs.RuleModels.{Passes}, specs.Reaches.{Fits, AllFit, changed_by, as_reach, reach_by, reach_of}, proofs.Regions.{met_fit, fit_some}}
 use Rattle.scalar_fns.{specs.EachMonadic.{each_monadic_form, each_monadic_rule}, specs.EachDyadic.{KeepsPlaces, each_dyadic_form, each_dyadic_rule, extended_use}, specs.Growth.{is_extended_to}, specs.ScalarExtension.{common, for_shape}, specs.Laws.EachDyadicGrowth.{common_left, common_right, common_same}}
 
--- a borrowed box stands for a changed one
+-- a borrowed box represents the changed box
 pub some_as : (lent : Option (Bor (List Interval))) (box : Option (List Interval)) → MatchOption lent (box ≡ None) (λ region. box ≡ Some region.now) → is_some lent ≡ is_some box
 some_as None box e = sym (ap is_some e)
 some_as (Some region) box e = sym (ap is_some e)

@@ -49,7 +49,7 @@ catenate_cases : AllSame (
     catenate_whole First table (vector (7 ∷ 8 ∷ 9 ∷ [])) ⇒ is (nums (3 ∷ 3 ∷ []) (1 ∷ 2 ∷ 3 ∷ 4 ∷ 5 ∷ 6 ∷ 7 ∷ 8 ∷ 9 ∷ [])) ∷
     catenate_whole (Axis (pos 2)) (scalar 0) table ⇒ is (nums (2 ∷ 4 ∷ []) (0 ∷ 1 ∷ 2 ∷ 3 ∷ 0 ∷ 4 ∷ 5 ∷ 6 ∷ [])) ∷  -- catenate column
     catenate_whole (Axis (pos 1)) (scalar 1) (scalar 2) ⇒ is (nums (2 ∷ []) (1 ∷ 2 ∷ [])) ∷  -- catenate scalars
-    -- the side that has items gives the type, also where the result has none: (0 0⍴0),'a'
+    -- the side that has items determines the type, even if the result has none: (0 0⍴0),'a'
     catenate_whole Last no_numbers (chars [] (97 ∷ [])) ⇒ is (chars (1 ∷ []) (97 ∷ [])) ∷
     catenate_whole Last (nums (0 ∷ 0 ∷ []) []) (chars [] (97 ∷ [])) ⇒ is (chars (0 ∷ 1 ∷ []) []) ∷  -- catenate no items
     catenate_whole Last no_text no_numbers ⇒ is no_text ∷  -- catenate no types
@@ -150,7 +150,7 @@ transpose_diagonal = refl
 transpose_by_2_1 : transpose_by_whole (nums (2 ∷ []) (2 ∷ 1 ∷ [])) table ≡ is (nums (3 ∷ 2 ∷ []) (1 ∷ 4 ∷ 2 ∷ 5 ∷ 3 ∷ 6 ∷ []))
 transpose_by_2_1 = refl
 
--- 2 1 2⍉2 2 3⍴⍳12: the first and the last axis meet
+-- 2 1 2⍉2 2 3⍴⍳12: the first and the last axis become one
 transpose_that_meet : transpose_by_whole (vector (2 ∷ 1 ∷ 2 ∷ [])) (nums (2 ∷ 2 ∷ 3 ∷ []) (1 ∷ 2 ∷ 3 ∷ 4 ∷ 5 ∷ 6 ∷ 7 ∷ 8 ∷ 9 ∷ 10 ∷ 11 ∷ 12 ∷ []))
     ≡ is (nums (2 ∷ 2 ∷ []) (1 ∷ 8 ∷ 4 ∷ 11 ∷ []))
 transpose_that_meet = refl

@@ -9,7 +9,7 @@ use Rattle.index_region.{specs.Answers.{IsRowIn}, specs.Arguments.{is_scalar, ha
 use Rattle.structural_fns.{specs.Catenate.{joined_rank, joined_places, other_axes, ranks_join, axes_agree, types_join, joined_type, joined_shape, in_side, in_side_of_row, catenate_form, catenate_item}, specs.Laws.SharedAxes.{shared_long}, proofs.Sides.{right_typed}, proofs.SidePlaces.{JoinFacts, join_facts}}
 use Rattle.structural_fns.proofs.SteppedRows.{listed_same, step_of_two}
 
--- all places of a row come from one place of a side, or from places one after another
+-- the places of a row all come from one place of a side, or from consecutive places
 record Stays (at : ℕ → List ℕ) : Type 0 where
   is : (x y : ℕ) → at x ≡ at y
 

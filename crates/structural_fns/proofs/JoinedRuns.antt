@@ -1,4 +1,4 @@
--- Catenate along the first axis, where the items of each side are a run of the result's.
+-- Catenate along the first axis if the items of each side are a run of the result.
 use Rattle.std.{proofs.Common.{◌≡◌, ℕ, zero, suc, ◌+◌, ◌-◌, ◌*◌, ◌/◌, ◌%◌, ◌<◌, ◌≤◌, Bool, true, false, ◌||◌, if◌then◌else◌, nat_eq, List, [], ◌∷◌, ◌++◌, length, get_or, Ok, refl, sym, ap, subst, ◌∙◌, inl, inr, arith}, specs.Prelude.{bytes_eq}, proofs.lemmas.Bool.{le-leb, lt-leb, cases_lt}}
 use Rattle.std.{proofs.lemmas.Bool.Decides.{nat_tests}, proofs.lemmas.Slice.Eq.{bytes_eq-Decides}, proofs.lemmas.Nat.{div_below}, proofs.Math.Nat.{mul-add-div_right, mul-add-mod_self_right, mod-eq_of_lt}, proofs.lemmas.List.{get_or_append_left, get_or-append_right, get_or_default, length-append}}
 use Rattle.arrays_core.{specs.declared.item.Item.{Item}, specs.declared.item.ItemType.{ItemType}, specs.declared.item.Kind.TheVariants.{Axis as AxisKind, Rank, Length, Domain}, specs.Items.{fill, and_then}, specs.Shapes.{size, index_after}, specs.Arrays.{ArrayValue, IsArray, collect, with_items}}
@@ -6,7 +6,7 @@ use Rattle.{arrays_core.proofs.Order.{given_in_order}, function_names.{specs.dec
 use Rattle.index_region.{specs.Arguments.{is_scalar}, specs.Checks.{form_of}, proofs.Passing.{gives}}
 use Rattle.structural_fns.{specs.Catenate.{joined_rank, joined_places, other_axes, ranks_join, axes_agree, joined_type, joined_shape, types_join, in_side, catenate_item, catenate_form, catenate_whole}, proofs.Runs.{item_after, limited_is, positive}, specs.Laws.SharedAxes.{shared_long}}
 
--- ---- a side whose items are taken once, in row-major order, beside the other axes of the result
+-- ---- a side with each item used once, in row-major order, and the other axes of the result
 
 pub record IsWhole (rank : ℕ) (others : List ℕ) (s : ArrayValue) : Type 0 where
   pub sized : joined_places rank 0 s * size others ≡ size s.shape
@@ -109,7 +109,7 @@ module _ (along : Along) (a b : ArrayValue) (others : List ℕ) (first : axis_at
       get_or_default b.items j (fill b.item_type) (fill (joined_type a b)) (omega arith) ∙ sym (get_or-append_right a.items b.items (length a.items) k (fill (joined_type a b)) refl past) in
       rw (first, lt-leb (k / t + 1) m (omega arith), place, remainder, right.placed (k / t + 1) j there, item_after b j there) (ap (λ x. Ok x) found)
 
-  -- both runs, one after the other
+  -- both runs in sequence
   runs_collected : IsWhole (joined_rank a b) others a → IsWhole (joined_rank a b) others b → length a.items ≡ size a.shape → length b.items ≡ size b.shape
       → (more : ℕ) → length a.items + length b.items ≡ size (more ∷ others)
       → collect (joined_type a b) (more ∷ others) (catenate_item along a b) ≡ Ok (record { item_type = joined_type a b; shape = more ∷ others; items = a.items ++ b.items })

@@ -6,7 +6,7 @@ use Rattle.arrays_core.{proofs.Shapes.{places_below, head_of}, proofs.Rows.{row_
 use Rattle.index_region.{specs.Checks.{Form}, specs.Answers.{IsRowIn}, proofs.Passing.{row_inside, place_of_row}, proofs.Placed.{left_placed, right_placed}}
 use Rattle.structural_fns.{specs.Transpose.{transpose_form, transpose_item}, specs.DyadicTranspose.{axes_to, gathered, transpose_by_form, transpose_by_item}, proofs.SourcePlaces.{transpose_inside, gathered_inside}}
 
--- lists of the same values
+-- functions that agree on a range have the same values
 range_same : {A : Type 0} (f g : ℕ → A) (a n : ℕ) → ((i : ℕ) → a ≤ i → i < a + n → f i ≡ g i) → map f (range_with_len a n) ≡ map g (range_with_len a n)
 range_same f g a zero h = refl
 range_same f g a (suc n) h =
@@ -87,7 +87,7 @@ pub place_stepped : (shape row : List ℕ) (i : ℕ) → length shape ≡ length
 place_stepped [] row i e low = absurd (omega arith)
 place_stepped (n ∷ shape) row i e low = rw (last_first row i, last_first row 1) (omega arith)
 
--- an axis less
+-- one axis less
 pub fewer_axes : (shape index : List ℕ) → is_index_of shape index ≡ true → 0 < length shape → IsWithinLimits shape → IsWithinLimits (drop 1 shape)
 fewer_axes [] index h some w = absurd (omega arith)
 fewer_axes (n ∷ shape) [] h some w = absurd (false≢true h)
@@ -150,7 +150,7 @@ gathered_steps (n ∷ shape) (j ∷ axes) row i =
     (λ e. let same = eqb-true (j - 1) (length row) e in (get_or_push row i 0 (j - 1) (sym same), get_or_push row 1 0 (j - 1) (sym same)))
     (λ e. before_end row i 1 (j - 1) (eqb-false (j - 1) (length row) e))
 
--- the first two places of a row give its step
+-- the step of a row is the distance of its first two places
 pub first_before : (shape axes row : List ℕ) (i : ℕ) → places_before shape (gathered axes (row ++ 1 ∷ [])) ≤ places_before shape (gathered axes (row ++ i ∷ []))
 first_before shape axes row i = let there = gathered_steps shape axes row i in omega arith
 

@@ -57,7 +57,7 @@ places_of_row (n ∷ shape) (count ∷ counts) (j ∷ row) s c =
     let rest = places_of_row shape counts row (omega arith) (omega arith) in
     record { long = ap suc rest.long; is = λ i. ap (λ xs. taken_place n count j ∷ xs) (rest.is i) }
 
--- ---- the item at a place, or fill where there is none
+-- ---- the item at a place, or fill if there is none
 
 size_of_ones : (n : ℕ) → size (replicate n 1) ≡ 1
 size_of_ones zero = refl
@@ -90,7 +90,7 @@ pub fill_taken : (a b : ArrayValue) (index : List ℕ) → is_index_of (counted_
     → take_item a b index ≡ Ok (fill b.item_type)
 fill_taken a b index h = ap (λ w. item_from a b b.item_type (cond w (Place 1 (uncounted b (taken_places (counted_shape a b) (numbers a) index))) Fill)) h
 
--- a place that a source names lies in the array
+-- the place of a source lies in the array
 record SourceThere (inside : Bool) (at wanted : List ℕ) : Type 0 where
   there : inside ≡ true
   is : at ≡ wanted
@@ -115,7 +115,7 @@ next_on_axis : (n : ℕ) (z : ℤ) (before kept j : ℕ) → j < kept → 1 ≤ 
 next_on_axis n (pos c) before kept j h low high = record { is = omega arith; low = omega arith; high = omega arith }
 next_on_axis n (negsuc c) before kept j h low high = record { is = omega arith; low = omega arith; high = omega arith }
 
--- a part of a row whose items stand one after another in the array
+-- a part of a row with consecutive items of the array
 pub record KeptRow (a b : ArrayValue) (row : List ℕ) (before kept place : ℕ) : Type 0 where
   pub inside : 0 < kept → IsArray b → place + kept ≤ length b.items
   pub item : (j : ℕ) → j < kept → take_item a b (row ++ (before + (0 + j + 1)) ∷ []) ≡ Ok (get_or b.items (place + j) (fill b.item_type))

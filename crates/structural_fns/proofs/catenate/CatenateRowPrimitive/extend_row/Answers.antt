@@ -18,7 +18,7 @@ joined c =
       row_in = rw (two c) at c.requires.row;
     }
 
--- a row that does not go along the axis has a place of it
+-- a row across the axis has one place on it
 on_axis : (c : After-joined_places-places) → c.axis_at-axis.result ≢ length c.args.row.now → c.axis_at-axis.result < length c.args.row.now
 on_axis c differ = let low = axis_below (joined c) in omega arith
 

@@ -5,7 +5,7 @@ use Rattle.structural_fns.proofs.take.Take.extend_kept.Goals as goal
 pub overflow_add-before : goal.overflow_add-before
 overflow_add-before c = omega (arith, c.requires.room, c.requires.some)
 
--- the items that are kept stand from here on
+-- the taken items begin at this place
 kept_here : (c : After-places_before) → KeptRow c.args.counts.now c.args.array.now c.args.row.now c.args.before c.args.kept c.places_before.result
 kept_here c =
     let long = taken_long c.args.counts.now c.args.array.now c.args.row.now (c.args.before + 1) c.requires.place in
