@@ -5,7 +5,7 @@ use Rattle.item_fns.specs.Numbers.{number_or_limit}
 use Rattle.index_region.{specs.Arguments.{has_one_item}, specs.Axes.{places_along}}
 use Rattle.search_fns.specs.Decode.{decode_item}
 
--- a is a list that has a radix for each digit of b, or there is one of either
+-- a is a scalar or a vector, with a radix for each digit of b, or either has one
 pub record HaveRadices (a b : ArrayValue) : Type 0 where
   pub list : length a.shape ≤ 1
   pub agree : IsTrue (has_one_item a || (nat_eq (places_along b.shape 0) 1 || nat_eq (length a.items) (places_along b.shape 0)))
@@ -19,11 +19,11 @@ pub record StaysWithin (number radix digit : ℤ) : Type 0 where
   pub product : FitsSigned w64 (number *ℤ radix)
   pub sum : FitsSigned w64 (number *ℤ radix +ℤ digit)
 
--- each number is the one before with the digit at its place
+-- each number is the one before, with the digit at its place appended
 pub record HaveOneMore (radix : ℤ) (digits before numbers : List ℤ) : Type 0 where
   pub each : (place : ℕ) → place < length digits → with_one_more (get_or before place (pos 0)) radix (get_or digits place (pos 0)) ≡ Ok (get_or numbers place (pos 0))
 
--- one of them leaves 64 bits
+-- a number leaves 64 bits
 pub record LeavesNumbers (radix : ℤ) (digits before : List ℤ) : Type 0 where
   pub place : ℕ
   pub below : place < length digits
@@ -33,7 +33,7 @@ pub record LeavesNumbers (radix : ℤ) (digits before : List ℤ) : Type 0 where
 pub record AreDecoded (a b : ArrayValue) (numbers : List ℤ) : Type 0 where
   pub each : (place : ℕ) → place < length numbers → decode_item a b (index_after (drop 1 b.shape) place) ≡ Ok (Num (get_or numbers place (pos 0)))
 
--- one of them leaves 64 bits
+-- a number leaves 64 bits
 pub record HasLimit (a b : ArrayValue) : Type 0 where
   pub place : ℕ
   pub below : place < size (drop 1 b.shape)

@@ -3,7 +3,7 @@ use Rattle.std.specs.Prelude.{◌≡◌, ℕ, ◌<◌, pos, List, [], ◌∷◌,
 use Rattle.arrays_core.{specs.declared.item.Item.TheVariants.{Num}, specs.declared.item.ItemType.TheVariants.{Nums}, specs.Arrays.{ArrayValue, item_of}}
 use Rattle.index_region.specs.Boxes.{Interval, box_size, walk_at}
 
--- a vector of the numbers of an array in a box, in row-major order
+-- the vector of the numbers of an array in a box, in row-major order
 pub record AreColumns (b : ArrayValue) (region : List Interval) (v : ArrayValue) : Type 0 where
   pub typed : v.item_type ≡ Nums
   pub shaped : v.shape ≡ box_size region ∷ []

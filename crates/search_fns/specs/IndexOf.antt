@@ -5,7 +5,7 @@ use Rattle.index_region.specs.Checks.{Form, check, limited, whole}
 use Rattle.change_core.{specs.RuleModels.{RuleModel}, specs.Sourced.{two_rule}, specs.Ways.{alike, everywhere}}
 use Rattle.search_fns.specs.SameItem.{same_item}
 
--- RANK where a is no vector; then numbers in the shape of b
+-- RANK where a is not a vector; then numbers in the shape of b
 abbrev pub index_of_form : ArrayValue → ArrayValue → Result Form Kind
 index_of_form a b = check (nat_eq (length a.shape) 1) Rank (limited b.shape Nums)
 
@@ -17,7 +17,7 @@ index_of_item a b index = Ok (Num (pos (suc (position_or_len (same_item (item_of
 abbrev pub index_of_whole : ArrayValue → ArrayValue → Result ArrayValue Kind
 index_of_whole a b = whole (index_of_form a b) (index_of_item a b)
 
--- What a change of an argument of index of, A⍳B, changes of the result.
+-- The change rule of index of, A⍳B.
 
 -- each item of b is looked up in all of a
 abbrev pub index_of_rule : RuleModel

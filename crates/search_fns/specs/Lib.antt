@@ -1,4 +1,4 @@
--- What public contracts mean.
+-- The meaning of public contracts.
 pub mod SameItem
 pub mod IndexOf
 pub mod Member
@@ -6,7 +6,7 @@ pub mod Encode
 pub mod EncodedRows
 pub mod Decode
 pub mod DecodedRows
--- What changes of results.
+-- Changes of results.
 pub mod Digits
--- Proofs that impls give with their functions: all that changes lies in the boxes.
+-- Laws that impls give with their functions: every change lies in the boxes.
 pub mod Laws

@@ -18,7 +18,7 @@ member_item a b index = Ok (Num (truth (list_any (same_item (item_of a index)) b
 abbrev pub member_whole : ArrayValue → ArrayValue → Result ArrayValue Kind
 member_whole a b = whole (member_form a b) (member_item a b)
 
--- What a change of an argument of membership, A∊B, changes of the result.
+-- The change rule of membership, A∊B.
 
 -- each item of a is looked up in all of b
 abbrev pub member_rule : RuleModel

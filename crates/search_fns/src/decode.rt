@@ -1,4 +1,4 @@
-//! Decode: the numbers of digits.
+//! Decode: numbers from their digits.
 
 ghost use Rattle.std.specs.Prelude.{◌≡◌, ◌≢◌, ◌≤◌, ◌+ℤ◌, ◌*ℤ◌, pos, IsTrue, nat_eq, ◌||◌, if◌then◌else◌, drop, length, map, replicate, Ok, Err, IfErr, OnOk};
 ghost use Rattle.std.proofs.Common.{rules};
@@ -29,17 +29,16 @@ use index_region::{IndexBox, Intervals, Primitive, Seen, apply, limited};
 use selection_fns::places_along;
 use std::alloc::{AllocError, Global};
 
-/// Decode, `A⊥B` (ISO/IEC 13751, "Base value"): the axes of B but the first, along which stand the
-/// digits of a number, the most significant first. The number so far, at first 0, is multiplied by the
-/// radix of the next digit, and the digit is added; without digits it is 0. One item of A is the radix
-/// of each digit, and a scalar B or a first axis of length 1 is the digit at each radix. RANK where
-/// A is neither a scalar nor a vector, LENGTH where there are not as many radices as digits, DOMAIN where
-/// A or B is not of numbers, LIMIT beyond the limits of arrays, and where a product or a sum is beyond 64
-/// bits.
+/// Decode, `A⊥B` (ISO/IEC 13751, "Base value"): the numbers whose digits stand along the first axis of B, the most
+/// significant first. The result has the other axes of B. A number starts at 0; for each digit it is multiplied by the
+/// radix, and the digit is added. Without digits it is 0. A single item of A is the radix of every digit. A scalar B,
+/// or a first axis of length 1, is the digit at every radix. RANK where A is neither a scalar nor a vector; LENGTH
+/// where the numbers of radices and digits differ and neither is 1; DOMAIN where A or B is not of numbers; LIMIT beyond
+/// the limits of arrays, and where a product or a sum is beyond 64 bits.
 #[derive(Clone, Copy, PartialEq, Eq, Debug)]
 pub struct Decode;
 
-/// How many digits each number has.
+/// Returns the number of digits of each number.
 fn digit_count(radices: &Seen, array: &Seen) -> u32
     ensures { result ≡ digit_count radices.now array.now }
 {
@@ -50,7 +49,7 @@ fn digit_count(radices: &Seen, array: &Seen) -> u32
     }
 }
 
-/// The radix of a digit, counted from 1.
+/// Returns the radix of a digit, counted from 1.
 fn radix_at(radices: &Seen, k: u32) -> i64
     requires list { length radices.now.shape ≤ 1 }
     requires low { 1 ≤ k }
@@ -64,7 +63,7 @@ fn radix_at(radices: &Seen, k: u32) -> i64
     }
 }
 
-/// The index of a digit on an axis: on an axis of length 1 that is 1 for each digit.
+/// Returns the index of a digit on an axis; 1 where the axis has length 1.
 fn index_along(axis: u32, k: u32) -> u32
     requires low { 1 ≤ k }
     requires high { axis ≢ 1 → k ≤ axis }
@@ -75,7 +74,7 @@ fn index_along(axis: u32, k: u32) -> u32
     if axis == 1 { 1 } else { k }
 }
 
-/// A digit, counted from 1, of the number at an index list.
+/// Returns a digit, counted from 1, of the number at an index list.
 fn digit_at(array: &Seen, index: &[u32], k: u32) -> i64
     requires inside { IsTrue (is_index_of (drop 1 array.now.shape) index.now) }
     requires low { 1 ≤ k }
@@ -92,7 +91,7 @@ fn digit_at(array: &Seen, index: &[u32], k: u32) -> i64
     number_at(array, at.as_slice())
 }
 
-/// The check of the lengths: LENGTH where radices are not as many as digits, and neither is one.
+/// Checks the lengths: LENGTH where the numbers of radices and digits differ, and neither is 1.
 fn check_length(radices: &Seen, array: &Seen) -> Result<(), Kind>
     ensures { result ≡ if has_one_item radices.now || (nat_eq (places_along array.now.shape 0) 1 || nat_eq (length radices.now.items) (places_along array.now.shape 0)) then Ok tt else Err Length }
 {
@@ -103,7 +102,7 @@ fn check_length(radices: &Seen, array: &Seen) -> Result<(), Kind>
     Ok(())
 }
 
-/// The number so far with one more digit, counted from 1: times its radix, plus the digit.
+/// Appends a digit, counted from 1, to a value: times its radix, plus the digit.
 fn with_digit(radices: &Seen, array: &Seen, index: &[u32], value: i64, k: u32) -> Result<i64, Kind>
     requires place { IsPlaceOf (decode_form radices.now array.now) index.now }
     requires low { 1 ≤ k }
@@ -113,7 +112,7 @@ fn with_digit(radices: &Seen, array: &Seen, index: &[u32], value: i64, k: u32) -
     one_more(value, radix_at(radices, k), digit_at(array, index, k))
 }
 
-/// The number at an index list of the result.
+/// Returns the number at an index list of the result.
 fn decoded_at(radices: &Seen, array: &Seen, index: &[u32]) -> Result<i64, Kind>
     requires { IsPlaceOf (decode_form radices.now array.now) index.now }
     ensures { number_item result ≡ decode_item radices.now array.now index.now }
@@ -126,7 +125,7 @@ fn decoded_at(radices: &Seen, array: &Seen, index: &[u32]) -> Result<i64, Kind>
     Ok(value)
 }
 
-/// Gives numbers that are 0 all their digits, a row of B after another. LIMIT where one leaves 64 bits.
+/// Adds all digits to numbers that are 0, one row of B after another. LIMIT where a number leaves 64 bits.
 fn add_rows(numbers: &mut [i64], radices: &Seen, array: &Seen, digits: &[i64]) -> Result<(), Kind>
     requires radices { HaveRadices radices.now array.now }
     requires digits { array.now.items ≡ map (λ z. Num z) digits.now }
@@ -147,7 +146,7 @@ fn add_rows(numbers: &mut [i64], radices: &Seen, array: &Seen, digits: &[i64]) -
     Ok(())
 }
 
-/// The numbers of the digits of B as an array, made a row of B after another.
+/// Returns the numbers of the digits of B as an array, computed one row of B after another.
 fn decoded_rows(
     alloc: Global,
     radices: &Seen,
@@ -167,8 +166,8 @@ fn decoded_rows(
 }
 
 impl Decode {
-    /// The number of each list of digits of B, made a row of B after another where its numbers lie in one
-    /// piece.
+    /// Returns the number of each list of digits of B. Works row by row where the numbers of B are contiguous, else
+    /// item by item.
     pub fn apply(&self, alloc: Global, args: &[Seen]) -> Result<Array, ApplyFault>
         requires { length args.now ≡ 2 }
         ensures { IsAnswerTo (of_two_arguments decode_whole args.now) result }

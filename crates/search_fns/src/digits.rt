@@ -15,8 +15,8 @@ use arrays_core::{ApplyFault, Array, ItemType, shape_of};
 use index_region::{IndexBox, Seen};
 use std::alloc::Global;
 
-/// The numbers of an array that lie in a box, as a vector. The intervals of that box are those of `region` without its first one. None where
-/// the array is of characters, or where there is no memory.
+/// Returns the numbers of an array in a box, as a vector. The box is `region` without its first interval. None where
+/// the array is of characters, or an allocation fails.
 fn column_numbers(alloc: Global, array: &Seen, region: &IndexBox, columns: u32) -> Option<Array>
     requires axes { 0 < length region.now }
     requires row { columns ≡ box_size (drop 1 region.now) }
@@ -41,7 +41,7 @@ fn column_numbers(alloc: Global, array: &Seen, region: &IndexBox, columns: u32) 
     Some(numbers)
 }
 
-/// The digits of some numbers.
+/// Returns the digits of numbers.
 fn encoded(alloc: Global, radices: &Array, numbers: &Array) -> Result<Array, ApplyFault>
     ensures { IsAnswerTo (encode_whole radices.now numbers.now) result }
 {
@@ -49,7 +49,8 @@ fn encoded(alloc: Global, radices: &Array, numbers: &Array) -> Result<Array, App
     Encode.apply(alloc, &args)
 }
 
-/// The digits of the numbers in a box of the result, by a vector of radices. None where one is beyond 64 bits, or there is no memory.
+/// Returns the digits in a box of the result, by a vector of radices. None where the array is of characters, a quotient
+/// is beyond 64 bits, or an allocation fails.
 pub(crate) fn digits_at_once(
     alloc: Global,
     radices: &Seen,

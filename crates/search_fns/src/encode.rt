@@ -22,16 +22,15 @@ use index_region::{IndexBox, Intervals, Primitive, Seen, apply, limited};
 use item_fns::{Scalar2, floor_quotient, two_numbers};
 use std::alloc::Global;
 
-/// Encode, `A⊤B` (ISO/IEC 13751, "Representation"): the axes of A, and then those of B. Along the axis
-/// of A stand the digits of a number of B by the radices A, each the residue by its radix of what the
-/// radices after it leave: the number is divided by each of them, from the last one on, and rounded
-/// down; a radix 0 leaves 0. A scalar A is the one radix. RANK where A is neither a scalar nor a vector,
-/// DOMAIN where A or B is not of numbers, LIMIT beyond the limits of arrays, and where a quotient is
-/// beyond 64 bits.
+/// Encode, `A⊤B` (ISO/IEC 13751, "Representation"): the digits of the numbers of B by the radices A. The result has the
+/// axes of A and then those of B, with the digits along the axis of A. A number is divided by each radix from the last
+/// one on, and rounded down; a radix 0 leaves 0. Each digit is the residue by its radix of the rest that the later
+/// radices leave. A scalar A is the only radix. RANK where A is neither a scalar nor a vector; DOMAIN where A or B is
+/// not of numbers; LIMIT beyond the limits of arrays, and where a quotient is beyond 64 bits.
 #[derive(Clone, Copy, PartialEq, Eq, Debug)]
 pub struct Encode;
 
-/// What a radix leaves to the radices before it.
+/// Returns the rest that a radix leaves to the radices before it.
 pub(crate) fn carried(radix: i64, number: i64) -> Result<i64, Kind>
     ensures { result ≡ carried radix number }
 {
@@ -41,8 +40,8 @@ pub(crate) fn carried(radix: i64, number: i64) -> Result<i64, Kind>
     floor_quotient(number, radix)
 }
 
-/// The digit of a number at a place of the radices, counted from 1. Where 0 is left, each radix before
-/// it leaves 0 too, so a number above 0 is divided at most 63 times by radices above 1.
+/// Returns the digit of a number by a radix, counted from 1. Stops dividing at 0, as every earlier digit is then 0. A
+/// positive number takes at most 63 divisions by radices of 2 or more.
 fn digit(radices: &Seen, place: u32, number: i64) -> Result<i64, Kind>
     requires low { 1 ≤ place }
     requires high { place ≤ length radices.now.items }
@@ -58,7 +57,7 @@ fn digit(radices: &Seen, place: u32, number: i64) -> Result<i64, Kind>
     two_numbers(Scalar2::Residue, radices.number(place), rest)
 }
 
-/// The digit at an index list of the result.
+/// Returns the digit at an index list of the result.
 fn digit_at(radices: &Seen, array: &Seen, index: &[u32]) -> Result<i64, Kind>
     requires { IsPlaceOf (encode_form radices.now array.now) index.now }
     ensures { number_item result ≡ encode_item radices.now array.now index.now }
@@ -71,8 +70,8 @@ fn digit_at(radices: &Seen, array: &Seen, index: &[u32]) -> Result<i64, Kind>
 }
 
 impl Encode {
-    /// The digits of each number of B, in a pass over the radices. Where that has an error, the first one is looked for
-    /// digit by digit.
+    /// Returns the digits of each number of B, in one pass over the radices. On an error it computes the digits again
+    /// one by one, to find the first error.
     pub fn apply(&self, alloc: Global, args: &[Seen]) -> Result<Array, ApplyFault>
         requires { length args.now ≡ 2 }
         ensures { IsAnswerTo (of_two_arguments encode_whole args.now) result }

@@ -14,7 +14,7 @@ use item_fns::residue;
 use selection_fns::numbers_of;
 use std::alloc::Global;
 
-/// Puts the digits of some numbers by a radix in a row, which has so many others before it.
+/// Writes the digits of numbers by a radix into the row that begins at `before`.
 fn put_row(digits: &mut [i64], before: usize, radix: i64, rests: &[i64])
     requires { before + length rests.now ≤ length digits.old }
     ensures { HasRow radix rests.now before digits.old digits.new }
@@ -24,7 +24,7 @@ fn put_row(digits: &mut [i64], before: usize, radix: i64, rests: &[i64])
     }
 }
 
-/// The digit of a number by a radix, from what the radix leaves of it to the radices before it.
+/// Returns the digit of a number by a radix, from the rest `left` that the radix leaves.
 fn digit_beside(radix: i64, number: i64, left: i64) -> i64
     requires { carried radix number ≡ Ok left }
     ensures { result ≡ residue radix number }
@@ -32,8 +32,8 @@ fn digit_beside(radix: i64, number: i64, left: i64) -> i64
     number.wrapping_sub(radix.wrapping_mul(left))
 }
 
-/// Puts the digits of some numbers by a radix in a row, which has so many others before it, and in the place of each
-/// number what the radix leaves of it to the radices before it.
+/// Writes the digits of numbers by a radix into the row that begins at `before`. Replaces each number with the rest
+/// that the radix leaves.
 fn put_row_and_carry(
     digits: &mut [i64],
     before: usize,
@@ -53,8 +53,8 @@ fn put_row_and_carry(
     Ok(())
 }
 
-/// Puts the digits of numbers in their rows, that of the last radix first. In the place of each number stays what the
-/// radices behind the first leave of it.
+/// Writes the digits of numbers row by row, from the last radix to the first. Replaces each number with the rest that
+/// all radices but the first leave.
 fn put_rows(radices: &[i64], rests: &mut [i64], digits: &mut [i64]) -> Result<(), Kind>
     requires { length digits.old ≡ length radices.now * length rests.old }
     ensures { OnOk result (AreDigits radices.now rests.old digits.new) }
@@ -70,8 +70,8 @@ fn put_rows(radices: &[i64], rests: &mut [i64], digits: &mut [i64]) -> Result<()
     Ok(())
 }
 
-/// The digits of the numbers of an array by each radix, a row for each, where no number has an error; else some error of
-/// a number. It takes time in proportion to the digits.
+/// Returns the digits of the numbers of an array, a row for each radix. Fails with the error of one of the numbers, not
+/// always the first. Takes time linear in the number of digits.
 pub(crate) fn encoded_rows(
     alloc: Global,
     radices: &Seen,

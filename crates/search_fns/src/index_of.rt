@@ -18,13 +18,12 @@ use index_region::{IndexBox, Intervals, Primitive, Seen, limited};
 use selection_fns::{is_small, items_of_whole};
 use std::alloc::{AllocError, Global};
 
-/// Index of, `A⍳B` (ISO/IEC 13751, "Index of"): numbers in the shape of B, for each of its items the
-/// first place of A that holds it, or one more than the length of A. A character is no number. RANK
-/// where A is not a vector.
+/// Index of, `A⍳B` (ISO/IEC 13751, "Index of"): for each item of B the first place of A that holds it, or one more than
+/// the length of A. The result has the shape of B. A number never equals a character. RANK where A is not a vector.
 #[derive(Clone, Copy, PartialEq, Eq, Debug)]
 pub struct IndexOf;
 
-/// Items are equal: of one type, and the same number or character.
+/// Returns whether two items have the same type and value.
 fn is_same(left: Item, right: Item) -> bool
     ensures { result ≡ same_item left right }
 {
@@ -36,7 +35,7 @@ fn is_same(left: Item, right: Item) -> bool
     }
 }
 
-/// The first place of an item in an array, counted from 1, or one more than there are places.
+/// Returns the first place of an item in an array, counted from 1, or one more than the number of places. Scans the array.
 pub(crate) fn first_place(array: &Seen, item: Item) -> u32
     ensures { result ≡ suc (position_or_len (same_item item) array.now.items) }
 {
@@ -49,7 +48,7 @@ pub(crate) fn first_place(array: &Seen, item: Item) -> u32
     places + 1
 }
 
-/// No item of an array is an item of an array of the other type.
+/// Returns the result for arrays of different types: no item is found.
 fn no_places(alloc: Global, array: &Seen, sought: &Seen) -> Result<Vec<i64>, AllocError>
     requires { array.now.item_type ≢ sought.now.item_type }
     ensures { IfOk result (λ v. v.items ≡ map (λ x. pos (suc (position_or_len (same_item x) array.now.items))) sought.now.items) }
@@ -57,7 +56,7 @@ fn no_places(alloc: Global, array: &Seen, sought: &Seen) -> Result<Vec<i64>, All
     all_of(alloc, i64::from(array.places() + 1), sought.places())
 }
 
-/// The first place in an array of each item that is sought. Each of the two is read once.
+/// Returns the first place in an array of each sought item. Reads each of the two once.
 fn first_places_in_array(
     alloc: Global,
     array: &Array,
@@ -65,7 +64,7 @@ fn first_places_in_array(
 ) -> Result<Vec<i64>, AllocError>
     ensures { IfOk result (λ v. v.items ≡ map (λ x. pos (suc (position_or_len (same_item x) array.now.items))) sought.now.items) }
 {
-    // The shape says that there are no more places than an array may have.
+    // `shape` shows that the array has at most `most_places` places.
     let _within_limits = array.shape();
     if let (Some(items), Some(numbers)) = (array.numbers(), sought.numbers()) {
         return first_places(alloc, items, numbers);
@@ -76,13 +75,12 @@ fn first_places_in_array(
     no_places(alloc, &Seen::plain(array), &Seen::plain(sought))
 }
 
-/// The first place in an array, as it is seen, of each item that is sought. Where one of the two has a patch or a tail, both
-/// are copied first.
+/// Returns the first place in an array of each sought item. Copies both arrays first where one has a patch or a tail.
 fn first_places_in(alloc: Global, array: &Seen, sought: &Seen) -> Result<Vec<i64>, AllocError>
     ensures is { IfOk result (λ v. v.items ≡ map (λ x. pos (suc (position_or_len (same_item x) array.now.items))) sought.now.items) }
     ensures long { length sought.now.items ≡ size sought.now.shape }
 {
-    // The number of places says that there is one item for each place of the shape.
+    // `places` shows that there is one item for each place of the shape.
     let _one_item_a_place = sought.places();
     if let (Some(array), Some(sought)) = (array.array(), sought.array()) {
         return first_places_in_array(alloc, array, sought);
@@ -93,7 +91,7 @@ fn first_places_in(alloc: Global, array: &Seen, sought: &Seen) -> Result<Vec<i64
 }
 
 impl IndexOf {
-    /// The first place of each item of B in A.
+    /// Returns the first place in A of each item of B.
     pub fn apply(&self, alloc: Global, args: &[Seen]) -> Result<Array, ApplyFault>
         requires { length args.now ≡ 2 }
         ensures { IsAnswerTo (of_two_arguments index_of_whole args.now) result }

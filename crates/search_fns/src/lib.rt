@@ -1,4 +1,4 @@
-//! Functions that look items up, and those that split numbers into digits and put them together.
+//! Functions that look up items, and functions that split numbers into digits and join them.
 #![tactic(auto)]
 
 mod decode;

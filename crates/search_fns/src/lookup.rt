@@ -1,5 +1,4 @@
-//! Lists of items that are looked up in a list. The first place of each item is kept in a map, so that
-//! each item is looked up in a time that does not grow with the list.
+//! Lookups of many items in a list. A hash map holds the first place of each item, so a lookup does not scan the list.
 
 ghost use Rattle.std.specs.Prelude.{◌≡◌, ◌≤◌, suc, pos, IfOk, length, map, replicate};
 ghost use Rattle.std.specs.List.{list_any, position_from, position_or_len};
@@ -12,7 +11,7 @@ use std::alloc::{AllocError, Global};
 use std::collections::HashMap;
 use std::hash::Hash;
 
-/// A table with the first place of each item, counted from 0.
+/// Builds a map from each item to its first place, counted from 0.
 fn first_place_table<T: Eq + Hash + Copy + Drop>(
     alloc: Global,
     items: &[T],
@@ -26,7 +25,7 @@ fn first_place_table<T: Eq + Hash + Copy + Drop>(
     Ok(places)
 }
 
-/// How many places come before the first place of an item, or how many there are.
+/// Returns the number of places before the first place of an item, or the length of the list.
 #[inline]
 fn before_first_place<T: Eq + Hash + Copy + Drop>(
     items: &[T],
@@ -43,8 +42,7 @@ fn before_first_place<T: Eq + Hash + Copy + Drop>(
     }
 }
 
-/// The first place of each of the items that are sought, counted from 1, or one more than there are
-/// places.
+/// Returns the first place of each sought item, counted from 1, or one more than the length of the list.
 pub(crate) fn first_places<T: Eq + Hash + Copy + Drop>(
     alloc: Global,
     items: &[T],
@@ -62,7 +60,7 @@ pub(crate) fn first_places<T: Eq + Hash + Copy + Drop>(
     Ok(found)
 }
 
-/// An item is one of the items.
+/// Returns whether an item is in the list.
 #[inline]
 fn is_found<T: Eq + Hash + Copy + Drop>(items: &[T], places: &HashMap<T, usize>, item: T) -> bool
     requires { (q : T) → get T.eq places.now q ≡ position_from (T.eq q) 0 items.now }
@@ -71,7 +69,7 @@ fn is_found<T: Eq + Hash + Copy + Drop>(items: &[T], places: &HashMap<T, usize>,
     places.contains_key(&item)
 }
 
-/// 1 for each of the items that are sought where it is one of the items, else 0.
+/// Returns 1 for each sought item that is in the list, else 0.
 pub(crate) fn members_of<T: Eq + Hash + Copy + Drop>(
     alloc: Global,
     items: &[T],
@@ -88,7 +86,7 @@ pub(crate) fn members_of<T: Eq + Hash + Copy + Drop>(
     Ok(found)
 }
 
-/// A list of one number, `count` times.
+/// Returns a list of one number, `count` times.
 pub(crate) fn all_of(alloc: Global, number: i64, count: u32) -> Result<Vec<i64>, AllocError>
     ensures { IfOk result (λ v. v.items ≡ replicate count number) }
 {

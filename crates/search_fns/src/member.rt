@@ -21,29 +21,29 @@ use item_fns::truth;
 use selection_fns::{is_small, items_of_whole};
 use std::alloc::{AllocError, Global};
 
-/// Membership, `A∊B` (ISO/IEC 13751, "Member of"): numbers in the shape of A, 1 for each of its items
-/// that is an item of B, else 0. A character is no number. It has no error.
+/// Membership, `A∊B` (ISO/IEC 13751, "Member of"): 1 for each item of A that is an item of B, else 0. The result has
+/// the shape of A. A number never equals a character. It has no error.
 #[derive(Clone, Copy, PartialEq, Eq, Debug)]
 pub struct Member;
 
-/// An item is one of the items of an array.
+/// Returns whether an item is an item of an array. Scans the array.
 fn is_member(array: &Seen, item: Item) -> bool
     ensures { result ≡ list_any (same_item item) array.now.items }
 {
     first_place(array, item) <= array.places()
 }
 
-/// No item of an array is an item of an array of the other type.
+/// Returns the result for arrays of different types: all 0.
 fn no_members(alloc: Global, array: &Seen, sought: &Seen) -> Result<Vec<i64>, AllocError>
     requires { array.now.item_type ≢ sought.now.item_type }
     ensures { IfOk result (λ v. v.items ≡ map (λ x. truth (list_any (same_item x) array.now.items)) sought.now.items) }
 {
-    // The number of places says that each item is of the type of its array.
+    // `places` shows that each item has the type of its array.
     let _one_type = array.places();
     all_of(alloc, 0, sought.places())
 }
 
-/// Whether each item that is sought is one of an array. Each of the two is read once.
+/// Returns for each sought item whether an array has it, as 1 or 0. Reads each of the two once.
 fn are_members_of_array(
     alloc: Global,
     array: &Array,
@@ -60,13 +60,13 @@ fn are_members_of_array(
     no_members(alloc, &Seen::plain(array), &Seen::plain(sought))
 }
 
-/// Whether each item that is sought is one of an array, as both are seen. Where one of the two has a patch or a tail, both are
-/// copied first.
+/// Returns for each sought item whether an array has it, as 1 or 0. Copies both arrays first where one has a patch or a
+/// tail.
 fn are_members(alloc: Global, array: &Seen, sought: &Seen) -> Result<Vec<i64>, AllocError>
     ensures is { IfOk result (λ v. v.items ≡ map (λ x. truth (list_any (same_item x) array.now.items)) sought.now.items) }
     ensures long { length sought.now.items ≡ size sought.now.shape }
 {
-    // The number of places says that there is one item for each place of the shape.
+    // `places` shows that there is one item for each place of the shape.
     let _one_item_a_place = sought.places();
     if let (Some(array), Some(sought)) = (array.array(), sought.array()) {
         return are_members_of_array(alloc, array, sought);
@@ -77,7 +77,7 @@ fn are_members(alloc: Global, array: &Seen, sought: &Seen) -> Result<Vec<i64>, A
 }
 
 impl Member {
-    /// 1 for each item of A that is an item of B, else 0.
+    /// Returns 1 for each item of A that is an item of B, else 0.
     pub fn apply(&self, alloc: Global, args: &[Seen]) -> Result<Array, ApplyFault>
         requires { length args.now ≡ 2 }
         ensures { IsAnswerTo (of_two_arguments member_whole args.now) result }

@@ -1,4 +1,4 @@
-//! Numbers that each take one more digit.
+//! Numbers with one more digit.
 
 ghost use Rattle.std.specs.Prelude.{◌≡◌, true, IfErr, OnOk, length};
 ghost use Rattle.arrays_core.specs.declared.item.Kind.TheVariants.{Limit};
@@ -7,14 +7,13 @@ ghost use Rattle.search_fns.specs.DecodedRows.{with_one_more, StaysWithin, HaveO
 use arrays_core::Kind;
 use item_fns::kernels::{Plus, Times, TwoNumbers};
 
-/// How far from 0 a number and a digit may be where the machine's product and sum serve.
+/// The greatest magnitude of a number and a digit for which machine arithmetic cannot overflow: 2 to the power 40.
 const NEAR: u64 = 1_099_511_627_776;
 
-/// How far from 0 the radix may be where the machine's product and sum serve.
+/// The greatest magnitude of a radix for which machine arithmetic cannot overflow: 2 to the power 21.
 const NEAR_RADIX: u64 = 2_097_152;
 
-/// A number, its radix and a digit are so near to 0 that the number with the digit is known to be within
-/// 64 bits.
+/// Returns whether a number, its radix and a digit are small enough that the product and the sum stay within 64 bits.
 #[inline]
 #[tactic(auto, using(crate::proofs::NearNumbers::stays))]
 fn stays_within(number: i64, radix: i64, digit: i64) -> bool
@@ -29,7 +28,7 @@ fn stays_within(number: i64, radix: i64, digit: i64) -> bool
     digit.unsigned_abs() <= NEAR
 }
 
-/// A number with one more digit: times its radix, plus the digit. LIMIT where one of them leaves 64 bits.
+/// Returns a number times its radix, plus the digit. LIMIT where the product or the sum leaves 64 bits.
 #[inline]
 #[tactic(auto, using(crate::proofs::NearNumbers::stays_held))]
 pub(crate) fn one_more(number: i64, radix: i64, digit: i64) -> Result<i64, Kind>
@@ -42,7 +41,7 @@ pub(crate) fn one_more(number: i64, radix: i64, digit: i64) -> Result<i64, Kind>
     Plus.at(product, digit)
 }
 
-/// Gives each number the digit at its place. LIMIT where one leaves 64 bits.
+/// Appends to each number the digit at its place. LIMIT where a number leaves 64 bits.
 pub(crate) fn add_digits(numbers: &mut [i64], radix: i64, digits: &[i64]) -> Result<(), Kind>
     requires { length digits.now ≡ length numbers.old }
     ensures long { length numbers.new ≡ length numbers.old }

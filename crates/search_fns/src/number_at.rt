@@ -8,7 +8,7 @@ ghost use Rattle.index_region.specs.Arguments.{number_of};
 use arrays_core::{Item, position};
 use index_region::Seen;
 
-/// The number at an index list; 0 for a character.
+/// Returns the number at an index list; 0 for a character.
 pub(crate) fn number_at(array: &Seen, index: &[u32]) -> i64
     requires { IsTrue (is_index_of array.now.shape index.now) }
     ensures { result ≡ number_of (item_of array.now index.now) }

@@ -5,11 +5,11 @@ use Rattle.index_region.{specs.Checks.{Form, check, limited, whole}, specs.Sourc
 use Rattle.change_core.{specs.RuleModels.{Use, RuleModel}, specs.Places.{lies_in}, specs.Sourced.{Spread, left_used}}
 use Rattle.selection_fns.specs.Growth.{index_grows}
 
--- the indices on one axis, or nothing: the whole axis
+-- the indices on one axis; None for the whole axis
 abbrev pub Position : Type 0
 Position = Option ArrayValue
 
--- a position that is written is of numbers
+-- a written position is of numbers, or has no items
 abbrev pub are_numbers : Position → Bool
 are_numbers (Some p) = counts_as_numbers p
 are_numbers None = true
@@ -27,17 +27,17 @@ is_on n None = true
 abbrev pub are_on : List ℕ → List Position → Bool
 are_on shape positions = list_all (λ p. is_on p.0 p.1) (zip shape positions)
 
--- the axes that a position gives to the result: its own, or the one that it stands for
+-- the axes of the result that a position gives: its own, or the axis that it takes whole
 abbrev pub position_axes : ℕ → Position → List ℕ
 position_axes n (Some p) = p.shape
 position_axes n None = n ∷ []
 
--- the axes that all positions give, joined
+-- the axes of all positions, joined
 abbrev pub indexed_shape : List ℕ → List Position → List ℕ
 indexed_shape (n ∷ shape) (position ∷ positions) = position_axes n position ++ indexed_shape shape positions
 indexed_shape shape positions = []
 
--- the checks of the positions before what is left of them
+-- the checks of the positions, and then the rest
 abbrev pub positions_checked : ArrayValue → List Position → Result Form Kind → Result Form Kind
 positions_checked a positions rest =
     check (not (is_scalar a) && nat_eq (length positions) (length a.shape)) Rank
@@ -48,7 +48,7 @@ positions_checked a positions rest =
 abbrev pub index_form : ArrayValue → List Position → Result Form Kind
 index_form a positions = positions_checked a positions (limited (indexed_shape a.shape positions) a.item_type)
 
--- the index list of the indexed array: each position takes its own part of the index list, and gives the index on its axis
+-- the index list in the indexed array: each position takes its own part of the index list of the result, and gives the index on its axis
 abbrev pub source_index : List Position → List ℕ → List ℕ
 source_index [] index = []
 source_index (None ∷ positions) index = get_or index 0 0 ∷ source_index positions (drop 1 index)
@@ -59,7 +59,7 @@ source_index (Some p ∷ positions) index =
 abbrev pub index_source : List Position → List ℕ → Source
 index_source positions index = Place 0 (source_index positions index)
 
--- the item there
+-- the item at that place
 abbrev pub index_item : ArrayValue → List Position → List ℕ → Result Item Kind
 index_item a positions index = item_from a a a.item_type (index_source positions index)
 
@@ -67,26 +67,26 @@ index_item a positions index = item_from a a a.item_type (index_source positions
 abbrev pub index_whole : ArrayValue → List Position → Result ArrayValue Kind
 index_whole a positions = whole (index_form a positions) (index_item a positions)
 
--- ---- lists of arguments: the indexed array, and then the positions that are written
+-- ---- argument lists: the indexed array, and then the written positions
 
--- the positions, where it is known which are written
+-- the positions, by which of them are written
 abbrev pub written_positions : List Bool → List ArrayValue → List Position
 written_positions (true ∷ written) (p ∷ args) = Some p ∷ written_positions written args
 written_positions (false ∷ written) args = None ∷ written_positions written args
 written_positions written args = []
 
--- how many positions are written
+-- the number of written positions
 abbrev pub count_written : List Bool → ℕ
 count_written [] = 0
 count_written (true ∷ written) = suc (count_written written)
 count_written (false ∷ written) = count_written written
 
--- a function of the array and its positions, given the list of arguments; no call has an empty list, which is LENGTH here
+-- applies a function of the array and its positions to an argument list; an empty list, which no call has, is LENGTH
 abbrev pub of_array_and_positions : {A : Type 0} → List Bool → (ArrayValue → List Position → Result A Kind) → List ArrayValue → Result A Kind
 of_array_and_positions written f [] = Err Length
 of_array_and_positions written f (a ∷ args) = f a (written_positions written args)
 
--- What a change of an argument of indexed reference, A[I;..], changes of the result.
+-- The change rule of indexed reference, A[I;..].
 
 -- the place of an axis that an index names
 abbrev pub place_named : Item → ℕ
@@ -96,36 +96,36 @@ place_named item = unsigned_abs (number_of item)
 abbrev pub point : List ℕ → List Interval
 point index = map (λ i. (i, i)) index
 
--- the least box of those of the first n places of a shape that pass a test, if there is one
+-- the least box of the places that pass a test, among the first n places of a shape
 abbrev pub least_box : List ℕ → (List ℕ → Bool) → ℕ → Option (List Interval)
 least_box shape test zero = None
 least_box shape test (suc n) =
     if test (index_after shape n) then join_boxes (Some (point (index_after shape n))) (least_box shape test n) else least_box shape test n
 
--- two boxes, the axes of one before those of the other; none where there is none of one
+-- two boxes joined, the axes of one before those of the other; None if either is None
 abbrev pub beside : Option (List Interval) → Option (List Interval) → Option (List Interval)
 beside None b = None
 beside (Some a) None = None
 beside (Some a) (Some b) = Some (a ++ b)
 
--- the least box of the places of an index that name a place of the interval
+-- the least box of the places of a position whose indices name a place of the interval
 abbrev pub position_box : ArrayValue → Interval → Option (List Interval)
 position_box p s = least_box p.shape (λ part. lies_in s (place_named (item_of p part))) (size p.shape)
 
--- by the indexed array: of an empty position its interval, of an index the least box of the places that name one there
+-- the box for the indexed array: an empty position contributes its interval, a written one the least box of its places that name a changed one
 abbrev pub indexed_box : List Position → Spread
 indexed_box (None ∷ positions) (s ∷ region) = beside (Some (s ∷ [])) (indexed_box positions region)
 indexed_box (Some p ∷ positions) (s ∷ region) = beside (position_box p s) (indexed_box positions region)
 indexed_box positions region = Some []
 
--- so many axes of the result, after some others, are the argument's; all other axes are whole
+-- the axes of the argument are `rank` axes of the result, after `before` others; all other axes are whole
 abbrev pub axes_used : List ℕ → ℕ → ℕ → Use
 axes_used shape before rank = record {
   reads = λ index. take rank (drop before index) ∷ [];
   box = λ region. Some (whole_of (take before shape) ++ (region ++ whole_of (drop (before + rank) shape)));
 }
 
--- each position that is written has its axes of the result, after those of the positions before it
+-- each written position has its axes of the result, after those of the positions before it
 abbrev pub position_uses : List ℕ → ℕ → List Position → List Use
 position_uses shape before [] = []
 position_uses shape before (None ∷ positions) = position_uses shape (before + 1) positions
@@ -143,7 +143,7 @@ unselected [] = []
 unselected (true ∷ written) = false ∷ unselected written
 unselected (false ∷ written) = unselected written
 
--- the indexed array, and then the positions that are written
+-- the rule: the indexed array, and then the written positions
 abbrev pub index_rule : List Bool → RuleModel
 index_rule written = record {
   selectors = false ∷ unselected written;

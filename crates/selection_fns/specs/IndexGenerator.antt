@@ -12,7 +12,7 @@ generator_form n =
     (check (counts_as_numbers n && none_negative (numbers n)) Domain
     (limited (map unsigned_abs (numbers n)) Nums)))
 
--- each place holds its own index
+-- the item at each place is its index
 abbrev pub generator_item : ArrayValue → List ℕ → Result Item Kind
 generator_item n index = Ok (Num (pos (get_or index 0 0)))
 
@@ -20,7 +20,7 @@ generator_item n index = Ok (Num (pos (get_or index 0 0)))
 abbrev pub generator_whole : ArrayValue → Result ArrayValue Kind
 generator_whole n = whole (generator_form n) (generator_item n)
 
--- What a change of the argument of the index generator, ⍳N, changes of the result: all of it, its shape too.
+-- The change rule of the index generator, ⍳N: a change may change all of the result, and its shape.
 
 -- the number is a selector
 abbrev pub generator_rule : RuleModel

@@ -1,14 +1,14 @@
--- Places of the items of an indexed reference, each given by how many come before it in the indexed array.
+-- The places of the items of an indexed reference, each as the number of items before it in the indexed array.
 use Rattle.std.{specs.Prelude.{◌≡◌, ℕ, ◌+◌, IsTrue, List, [], ◌∷◌, ◌++◌, map, length, get_or}, specs.List.{range_with_len}}
 use Rattle.arrays_core.specs.Shapes.{size, is_index_of, places_before}
 use Rattle.selection_fns.{specs.declared.index_places.Row.{Row}, specs.declared.index_places.Row.TheVariants.{Run, Listed}, specs.declared.index_places.Places.{Places}, specs.Index.{Position, indexed_shape, source_index}}
 
--- each number of one list and each of another, added
+-- each number of one list plus each number of another
 abbrev pub sums : List ℕ → List ℕ → List ℕ
 sums [] ys = []
 sums (x ∷ xs) ys = map (λ y. x + y) ys ++ sums xs ys
 
--- how far the places of a row lie from its first
+-- the offsets of the places of a row from its head
 abbrev pub row_places : Row → List ℕ
 row_places (Run count) = range_with_len 0 count
 row_places (Listed places) = places.items
@@ -17,7 +17,7 @@ row_places (Listed places) = places.items
 abbrev pub all_places : Places → List ℕ
 all_places p = sums p.heads.items (row_places p.row)
 
--- the places that the items of an indexed reference come from, in row-major order of the result
+-- the places of the items of an indexed reference, in row-major order of the result
 pub record ArePlacesOf (axes : List ℕ) (positions : List Position) (places : List ℕ) : Type 0 where
   pub as_many : length places ≡ size (indexed_shape axes positions)
   pub is : (index : List ℕ) → IsTrue (is_index_of (indexed_shape axes positions) index)

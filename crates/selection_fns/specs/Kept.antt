@@ -2,7 +2,7 @@
 use Rattle.std.specs.Prelude.{◌≡◌, ℕ, ◌+◌, ◌<◌, ℤ, pos, unsigned_abs, List, map, length, get_or, sum}
 use Rattle.selection_fns.specs.Replicate.{maker}
 
--- the numbers of a list at the places that the copies are of, each place by how many come before it
+-- the numbers at the places of the copies; `before` holds these places, counted from 0
 pub record AreKept (counts numbers kept : List ℤ) : Type 0 where
   pub before : List ℕ
   pub are : kept ≡ map (λ k. get_or numbers k (pos 0)) before

@@ -1,4 +1,4 @@
--- Proofs that impls give with their functions. No contract cites them.
+-- Laws that impls give with their functions. No contract cites them.
 pub mod Shape
 pub mod IndexGenerator
 pub mod Replicate

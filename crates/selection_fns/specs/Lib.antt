@@ -1,14 +1,14 @@
--- What public contracts mean.
+-- The meaning of public contracts.
 pub mod Shape
 pub mod IndexGenerator
 pub mod Replicate
 pub mod Index
--- What finds the places of a result.
+-- The places of a result.
 pub mod IndexPlaces
 pub mod Kept
--- What changes of results.
+-- Changes of results.
 pub mod Growth
 pub mod PositionAxes
 pub mod WholeBox
--- Proofs that impls give with their functions: all that changes lies in the boxes, and what grows.
+-- Laws that impls give with their functions: every change lies in the boxes, and growth is announced.
 pub mod Laws

@@ -16,7 +16,7 @@ shape_item b index = Ok (Num (pos (get_or b.shape (get_or index 0 0 - 1) 0)))
 abbrev pub shape_whole : ArrayValue → Result ArrayValue Kind
 shape_whole b = whole (shape_form b) (shape_item b)
 
--- What a change of the argument of shape, ⍴B, changes of the result: nothing.
+-- The change rule of shape, ⍴B: a change of items changes nothing.
 
 -- no item is read
 abbrev pub shape_rule : RuleModel

@@ -3,7 +3,7 @@ use Rattle.std.specs.Prelude.{◌≡◌, ℕ, ◌<◌, List, length, get_or, Som
 use Rattle.arrays_core.{specs.Arrays.{ArrayValue, item_if_there}, specs.Items.{fill}}
 use Rattle.index_region.specs.Boxes.{Interval, box_size, walk_at}
 
--- these are the items of an array in a box, in row-major order
+-- the items of an array in a box, in row-major order
 pub record IsPicked (whole : ArrayValue) (region : List Interval) (a : ArrayValue) : Type 0 where
   pub typed : a.item_type ≡ whole.item_type
   pub long : length a.items ≡ box_size region

@@ -1,4 +1,4 @@
-//! Indexed reference: the items at indices, one position an axis.
+//! Indexed reference: the items at given indices, one position for each axis.
 
 ghost use Rattle.std.specs.Prelude.{◌≡◌, ◌<◌, ◌≤◌, ◌+◌, ◌-◌, ◌++◌, ◌∷◌, [], ℕ, IsTrue, IfOk, IfErr, IfSome, OnOk, Result, Ok, Err, suc, length, get_or, drop, pos, unsigned_abs, List};
 ghost use Rattle.std.specs.List.{list_all};
@@ -22,10 +22,10 @@ use index_region::{Primitive, RowPrimitive, Seen, Source, apply_rows, item_from,
 use smallvec::SmallVec;
 use std::alloc::{AllocError, Global};
 
-/// A row of so many items is made at once.
+/// The least length of a row that `apply` appends in one piece.
 const LONG_ROW: u32 = 256;
 
-/// The positions are of numbers, where they have items.
+/// Returns whether each written position has numbers, or no items.
 fn are_numbers(written: &[bool], positions: &[Seen]) -> bool
     requires few { length written.now ≤ most_axes }
     requires long { length positions.now ≡ count_written written.now }
@@ -43,7 +43,7 @@ fn are_numbers(written: &[bool], positions: &[Seen]) -> bool
     are_numbers(&written[1..], &positions[1..])
 }
 
-/// The index is on an axis.
+/// Returns whether the index is on an axis.
 #[inline]
 fn is_within(index: i64, axis: u32) -> bool
     ensures { result ≡ is_on_axis axis index }
@@ -51,14 +51,14 @@ fn is_within(index: i64, axis: u32) -> bool
     1 <= index && index <= i64::from(axis)
 }
 
-/// All indices are on an axis.
+/// Returns whether all indices are on an axis.
 fn are_all_on(indices: &[i64], axis: u32) -> bool
     ensures { result ≡ list_all (is_on_axis axis) indices.now }
 {
     indices.iter().all(|index| is_within(*index, axis))
 }
 
-/// The indices of a position are on an axis.
+/// Returns whether all indices of a position are on an axis.
 fn is_on(position: &Seen, axis: u32) -> bool
     ensures { result ≡ list_all (is_on_axis axis) (numbers position.now) }
 {
@@ -73,7 +73,7 @@ fn is_on(position: &Seen, axis: u32) -> bool
     true
 }
 
-/// The indices of each position are on its axis; an empty position is on any.
+/// Returns whether the indices of each position are on its axis; an empty position always is.
 fn are_on(axes: &[u32], written: &[bool], positions: &[Seen]) -> bool
     requires few { length written.now ≤ most_axes }
     requires one_an_axis { length written.now ≡ length axes.now }
@@ -92,8 +92,8 @@ fn are_on(axes: &[u32], written: &[bool], positions: &[Seen]) -> bool
     are_on(&axes[1..], &written[1..], &positions[1..])
 }
 
-/// The checks of the positions: RANK where they are not as many as the axes, or there is no axis, DOMAIN
-/// where one is not of numbers, INDEX where an index is not on its axis.
+/// Checks the positions. RANK where their number differs from the rank, or A is a scalar; DOMAIN where one is not of
+/// numbers; INDEX where an index is not on its axis.
 fn check_positions(array: &Seen, written: &[bool], positions: &[Seen]) -> Result<(), Kind>
     requires long { length positions.now ≡ count_written written.now }
     ensures passed { IfOk result (λ _. (rest : Result Form AKind) → positions_checked array.now (written_positions written.now positions.now) rest ≡ rest) }
@@ -116,7 +116,7 @@ fn check_positions(array: &Seen, written: &[bool], positions: &[Seen]) -> Result
     Ok(())
 }
 
-/// Puts more axes at the end of a shape; LIMIT where there are then more than an array may have.
+/// Appends axes to a shape. LIMIT where the rank is then too high for an array.
 fn append_within(shape: &mut Shape, axes: &[u32]) -> Result<(), Kind>
     requires { shape.old.capacity ≡ 4 }
     ensures items { IfOk result (λ _. shape.new.items ≡ shape.old.items ++ axes.now) }
@@ -130,8 +130,7 @@ fn append_within(shape: &mut Shape, axes: &[u32]) -> Result<(), Kind>
     Ok(())
 }
 
-/// Puts the axes that each position gives at the end of a shape; LIMIT where there are then more than
-/// an array may have.
+/// Appends the axes of the result that each position gives. LIMIT where the rank is then too high for an array.
 fn append_positions(
     shape: &mut Shape,
     axes: &[u32],
@@ -156,7 +155,7 @@ fn append_positions(
     append_positions(shape, &axes[1..], &written[1..], &positions[1..])
 }
 
-/// The index that a position has at an index list of its own.
+/// Returns the index that a position holds at `at`.
 fn index_in(position: &Seen, at: &[u32], axis: u32) -> u32
     requires inside { IsTrue (is_index_of position.now.shape at.now) }
     requires on { IsTrue (list_all (is_on_axis axis) (numbers position.now)) }
@@ -168,8 +167,8 @@ fn index_in(position: &Seen, at: &[u32], axis: u32) -> u32
     }
 }
 
-/// Puts the index on each axis of the array at the end of a list: each position takes its own part of
-/// the index list of the result.
+/// Appends the index on each axis of the array. Each position takes its own part of `index`, an index list of the
+/// result.
 fn append_source_index(
     at: &mut Shape,
     axes: &[u32],
@@ -204,8 +203,8 @@ fn append_source_index(
     append_source_index(at, &axes[1..], &written[1..], &positions[1..], others);
 }
 
-/// The indices that a row of the result takes from the last position, one after another, where this has axes of its own
-/// and its indices lie in one piece. The end of the row is an index list of all its axes but the last.
+/// Returns the indices of the last position that a row of the result uses. None where that position is a scalar, or its numbers are not contiguous.
+/// `row` holds the indices of the row on all axes of the result but the last.
 fn indices_in_row<'p>(indices: &'p Seen, row: &[u32], count: u32) -> Option<&'p [i64]>
     requires some { 0 < count }
     requires rank { length indices.now.shape ≤ length row.now + 1 }
@@ -228,11 +227,11 @@ fn indices_in_row<'p>(indices: &'p Seen, row: &[u32], count: u32) -> Option<&'p 
     Some(&numbers[before..before + count as usize])
 }
 
-/// Indexed reference, `A[I;..]` (ISO/IEC 13751, "Indexed Reference"): the items of A at the indices of
-/// each position, one position an axis; its shape is that of the positions joined. A position that is
-/// not written stands for its whole axis. The arguments are A and the written positions. RANK where
-/// positions are not as many as axes, or A is a scalar; DOMAIN where a position is not of numbers;
-/// INDEX where an index is below 1 or above its axis; LIMIT beyond the limits of arrays.
+/// Indexed reference, `A[I;..]` (ISO/IEC 13751, "Indexed Reference"): the items of A at the indices of each position,
+/// one position for each axis. The shape is the shapes of the positions, joined. An empty position takes its whole
+/// axis. The arguments are A and the written positions. RANK where the number of positions differs from the rank, or A
+/// is a scalar; DOMAIN where a position is not of numbers; INDEX where an index is below 1 or above its axis; LIMIT
+/// beyond the limits of arrays.
 #[derive(Drop, Clone, Copy)]
 pub struct Index<'w> {
     /// For each axis of the array, whether its position is written.
@@ -240,7 +239,7 @@ pub struct Index<'w> {
 }
 
 impl<'w> Index<'w> {
-    /// The index list of the array itself, of one of the result. It takes no memory.
+    /// Returns the index list in the array for an index list of the result. Allocates nothing.
     fn index_of(&self, array: &Seen, positions: &[Seen], index: &[u32]) -> Shape
         requires count { length positions.now ≡ count_written self.now.written.now }
         requires place { IsPlaceOf (index_form array.now (written_positions self.now.written.now positions.now)) index.now }
@@ -254,8 +253,8 @@ impl<'w> Index<'w> {
         at
     }
 
-    /// Where the item at an index list of the result comes from, where the checks have passed: from the indexed array. It takes no
-    /// memory. The arguments are that array and the written positions.
+    /// Returns the source of the item at an index list of the result: a place of the indexed array. Requires that the
+    /// checks pass. Allocates nothing. The arguments are the array and the written positions.
     pub fn source_of(&self, args: &[Seen], index: &[u32]) -> Source
         requires count { length args.now ≡ suc (count_written self.now.written.now) }
         requires place { IsPlaceOf (of_array_and_positions self.now.written.now index_form args.now) index.now }
@@ -265,7 +264,7 @@ impl<'w> Index<'w> {
         self.source(&args[0], &args[1..], index)
     }
 
-    /// Where the item at an index list of the result comes from, of this array and these positions.
+    /// Returns the source of the item at an index list of the result.
     fn source(&self, array: &Seen, positions: &[Seen], index: &[u32]) -> Source
         requires count { length positions.now ≡ count_written self.now.written.now }
         requires place { IsPlaceOf (index_form array.now (written_positions self.now.written.now positions.now)) index.now }
@@ -276,7 +275,7 @@ impl<'w> Index<'w> {
         Source::Place { arg: 0, at }
     }
 
-    /// How many places of the array come before that row of it from which a row of the result begins.
+    /// Returns the number of items of the array before the row that holds the first item of a row of the result.
     fn places_before_row(&self, array: &Seen, positions: &[Seen], row: &[u32]) -> u32
         requires count { length positions.now ≡ count_written self.now.written.now }
         requires rank { length row.now < most_axes }
@@ -292,7 +291,7 @@ impl<'w> Index<'w> {
         position(axes, at.as_slice()) - at[at.len() - 1]
     }
 
-    /// Puts a row behind the items, one by one.
+    /// Appends a row, one item after another.
     fn push_row(
         &self,
         array: &Seen,
@@ -315,7 +314,7 @@ impl<'w> Index<'w> {
         Ok(())
     }
 
-    /// The last position gives the result a long last axis.
+    /// Returns whether the result has a long last axis, given by the last position.
     fn has_long_rows(&self, array: &Seen, positions: &[Seen]) -> bool {
         let axes = match (self.written.last(), positions.last()) {
             (Some(true), Some(position)) => position.shape(),
@@ -324,7 +323,7 @@ impl<'w> Index<'w> {
         axes.last().is_some_and(|axis| *axis >= LONG_ROW)
     }
 
-    /// The array of the items at the indices. Long rows are made one after another; of others the places are found first.
+    /// Returns the items at the indices. Appends long rows one by one; for short rows it computes the places of all items first.
     pub fn apply(&self, alloc: Global, args: &[Seen]) -> Result<Array, ApplyFault>
         requires { length args.now ≡ suc (count_written self.now.written.now) }
         ensures { IsAnswerTo (of_array_and_positions self.now.written.now index_whole args.now) result }
@@ -336,7 +335,7 @@ impl<'w> Index<'w> {
         self.at_places(alloc, array, positions)
     }
 
-    /// The checks of the positions, and the shape and the type of the result.
+    /// Checks the positions, and returns the shape and the type of the result.
     fn form(&self, array: &Seen, positions: &[Seen]) -> Result<(Shape, ItemType), Kind>
         requires { length positions.now ≡ count_written self.now.written.now }
         ensures { IsFormAnswerTo (index_form array.now (written_positions self.now.written.now positions.now)) result }
@@ -348,7 +347,7 @@ impl<'w> Index<'w> {
         limited(shape, array.item_type())
     }
 
-    /// The array of the items at the indices, whose places are found first.
+    /// Returns the items at the indices. Computes the places of all items first.
     fn at_places(
         &self,
         alloc: Global,

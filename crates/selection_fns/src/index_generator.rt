@@ -16,7 +16,7 @@ use change_core::Announced;
 use index_region::{IndexBox, Intervals, Primitive, Seen, limited};
 use std::alloc::{AllocError, Global};
 
-/// The numbers from 1 to `count`.
+/// Returns the numbers from 1 to `count`.
 fn first_numbers(alloc: Global, count: u32) -> Result<Vec<i64>, AllocError>
     requires { count ≤ longest_axis }
     ensures { IfOk result (λ numbers. numbers.items ≡ map pos (range_with_len 1 count)) }
@@ -28,14 +28,14 @@ fn first_numbers(alloc: Global, count: u32) -> Result<Vec<i64>, AllocError>
     Ok(numbers)
 }
 
-/// Index generator, `⍳N` (ISO/IEC 13751, "Index Generator"): the vector of 1 to N. RANK where N is
-/// neither a scalar nor a vector, LENGTH where it has not one item, DOMAIN where that is not a number,
-/// or is negative, LIMIT beyond the limits of arrays.
+/// Index generator, `⍳N` (ISO/IEC 13751, "Index Generator"): the vector of 1 to N. RANK where N is neither a scalar nor
+/// a vector; LENGTH where it does not have one item; DOMAIN where the item is not a number or is negative; LIMIT beyond
+/// the limits of arrays.
 #[derive(Clone, Copy, PartialEq, Eq, Debug)]
 pub struct IndexGenerator;
 
 impl IndexGenerator {
-    /// The vector of 1 to N.
+    /// Returns the vector of 1 to N.
     pub fn apply(&self, alloc: Global, args: &[Seen]) -> Result<Array, ApplyFault>
         requires { length args.now ≡ 1 }
         ensures { IsAnswerTo (of_one_argument generator_whole args.now) result }

@@ -1,4 +1,4 @@
-//! Places of the items of an indexed reference, each given by how many come before it in the indexed array.
+//! The places of the items of an indexed reference, each as the number of items before it in the indexed array.
 
 ghost use Rattle.std.specs.Prelude.{◌≡◌, ◌<◌, ◌≤◌, ◌+◌, ◌-◌, ◌*◌, ◌^◌, ◌++◌, ◌∷◌, [], ℕ, IsTrue, IfOk, IfSome, OnOk, map, length, get_or, pos, unsigned_abs, vec_len, vec_capacity};
 ghost use Rattle.std.specs.List.{list_all, range_with_len};
@@ -17,11 +17,11 @@ use arrays_core::{Array, ArrayBuilder, Shape, room_of, size};
 use index_region::Seen;
 use std::alloc::{AllocError, Global};
 
-/// A row of fewer places is put together with those beside it.
+/// Shorter rows are combined with their neighbours.
 const LEAST_ROW: usize = 16;
 
-/// Puts places behind others, each so many further, in a list that has room for them. The list is handed in and back, so that
-/// no place waits until it is written how long the list is.
+/// Appends each place plus `by`, within the capacity of the list. The list is passed by value, so that its length stays
+/// in a register while the loop writes.
 fn with_moved(list: Vec<u32>, by: u32, places: &[u32]) -> Vec<u32>
     requires fit { (k : ℕ) → k < length places.now → by + get_or places.now k 0 < 2 ^ 32 }
     requires room { vec_len list + length places.now ≤ vec_capacity list }
@@ -36,7 +36,7 @@ fn with_moved(list: Vec<u32>, by: u32, places: &[u32]) -> Vec<u32>
     list
 }
 
-/// Puts each number of one list and each of two others, added, behind others, in a list that has room for them: a pair at a time.
+/// Appends each number of the first list plus each of the two numbers of the second, within the capacity of the list.
 fn with_pairs(list: Vec<u32>, first: &[u32], second: &[u32]) -> Vec<u32>
     requires two { length second.now ≡ 2 }
     requires fit { (i j : ℕ) → i < length first.now → j < length second.now → get_or first.now i 0 + get_or second.now j 0 < 2 ^ 32 }
@@ -52,7 +52,7 @@ fn with_pairs(list: Vec<u32>, first: &[u32], second: &[u32]) -> Vec<u32>
     list
 }
 
-/// Each number of one list and each of another, added.
+/// Returns each number of the first list plus each number of the second.
 fn sums(alloc: Global, first: &[u32], second: &[u32]) -> Result<Vec<u32>, AllocError>
     requires few { length first.now * length second.now ≤ most_places }
     requires fit { (i j : ℕ) → i < length first.now → j < length second.now → get_or first.now i 0 + get_or second.now j 0 < 2 ^ 32 }
@@ -71,7 +71,7 @@ fn sums(alloc: Global, first: &[u32], second: &[u32]) -> Result<Vec<u32>, AllocE
     Ok(list)
 }
 
-/// How far the places of a whole axis lie from its first, where they are `step` places apart.
+/// Returns the offsets of all places of an axis from its first place; neighbours are `step` places apart.
 fn axis_offsets(alloc: Global, axis: u32, step: u32) -> Result<Vec<u32>, AllocError>
     requires { axis * step ≤ most_places }
     ensures { IfOk result (λ list. list.items ≡ listed axis (λ k. k * step)) }
@@ -83,7 +83,7 @@ fn axis_offsets(alloc: Global, axis: u32, step: u32) -> Result<Vec<u32>, AllocEr
     Ok(list)
 }
 
-/// How far the places of indices on an axis lie from its first, where they are `step` places apart.
+/// Returns the offsets of the places that indices name, from the first place of the axis; neighbours are `step` places apart.
 fn index_offsets(
     alloc: Global,
     indices: &[i64],
@@ -101,8 +101,8 @@ fn index_offsets(
     Ok(list)
 }
 
-/// Puts numbers behind others, in a list that has room for them: those at places, where place 0 stands behind `head` numbers. The
-/// list is handed in and back, so that no number waits until it is written how long the list is.
+/// Appends the numbers at `head` plus each place, within the capacity of the list. The list is passed by value, so that
+/// its length stays in a register while the loop writes.
 fn with_numbers_at(list: Vec<i64>, numbers: &[i64], head: u32, places: &[u32]) -> Vec<i64>
     requires inside { (k : ℕ) → k < length places.now → head + get_or places.now k 0 < length numbers.now }
     requires room { vec_len list + length places.now ≤ vec_capacity list }
@@ -118,7 +118,7 @@ fn with_numbers_at(list: Vec<i64>, numbers: &[i64], head: u32, places: &[u32]) -
     list
 }
 
-/// The numbers at rows of places, each row as far from its head as the others.
+/// Returns the numbers at rows of places. Each row has the same offsets from its head.
 fn numbers_at(
     alloc: Global,
     numbers: &[i64],
@@ -136,17 +136,17 @@ fn numbers_at(
     Ok(list)
 }
 
-/// How far the places of a row lie from its first.
+/// A row: the offsets of its places from its head.
 #[derive(Drop)]
 pub(crate) enum Row {
-    /// So many, one after another.
+    /// A run of this length from the head.
     Run(u32),
-    /// These.
+    /// Any offsets.
     Listed(Vec<u32>),
 }
 
 impl Row {
-    /// Puts the items of an array that stand there behind others, where the row begins at `head`.
+    /// Appends the items of an array at the places of the row that begins at `head`.
     fn extend(&self, array: &Seen, head: u32, items: &mut ArrayBuilder) -> Result<(), AllocError>
         requires typed { array.now.item_type ≡ items.old.item_type }
         requires begins { head < length array.now.items }
@@ -161,7 +161,7 @@ impl Row {
     }
 }
 
-/// Rows of places, each as far from its head as the others.
+/// Rows of places; each row has the same offsets from its head.
 #[derive(Drop)]
 pub(crate) struct Places {
     heads: Vec<u32>,
@@ -169,7 +169,7 @@ pub(crate) struct Places {
 }
 
 impl Places {
-    /// The first place alone.
+    /// Returns place 0 alone.
     fn first(alloc: Global) -> Result<Places, AllocError>
         ensures { IfOk result (λ p. all_places p ≡ 0 ∷ []) }
     {
@@ -179,7 +179,7 @@ impl Places {
         Ok(Places { heads, row })
     }
 
-    /// So many places from the first on.
+    /// Returns the places from 0 up to `count`, without it.
     fn run(alloc: Global, count: u32) -> Result<Places, AllocError>
         ensures { IfOk result (λ p. all_places p ≡ range_with_len 0 count) }
     {
@@ -188,8 +188,8 @@ impl Places {
         Ok(Places { heads, row })
     }
 
-    /// These places, each so far as the offsets say, one offset after another. Of one place the offsets are the row themselves, where they
-    /// are many enough for one.
+    /// Returns the places plus each offset, one offset after another. For a single place the offsets become the row, if
+    /// they are long enough for one.
     fn moved(self, alloc: Global, offsets: Vec<u32>) -> Result<Places, AllocError>
         requires some { 0 < length (all_places self) }
         requires few { length offsets.items * length (all_places self) ≤ most_places }
@@ -219,7 +219,7 @@ impl Places {
         }
     }
 
-    /// The numbers at the places, where rows are listed and the numbers of the array lie in one piece.
+    /// Returns the numbers at the places. None where the row is a run, or the numbers of the array are not contiguous.
     fn numbers(&self, alloc: Global, array: &Seen) -> Result<Option<Vec<i64>>, AllocError>
         requires few { length (all_places self.now) ≤ most_places }
         requires inside { (k : ℕ) → k < length (all_places self.now) → get_or (all_places self.now) k 0 < length array.now.items }
@@ -236,7 +236,7 @@ impl Places {
         Ok(Some(numbers_at(alloc, numbers, &self.heads, row)?))
     }
 
-    /// The items of an array at the places, as an array of a shape that has as many.
+    /// Returns the items of an array at the places, as an array of the given shape.
     pub(crate) fn items(
         &self,
         alloc: Global,
@@ -262,7 +262,7 @@ impl Places {
         items.into_array(shape)
     }
 
-    /// Puts the items of an array at the places behind others.
+    /// Appends the items of an array at the places.
     fn extend(&self, array: &Seen, items: &mut ArrayBuilder) -> Result<(), AllocError>
         requires typed { array.now.item_type ≡ items.old.item_type }
         requires some { 0 < length (all_places self.now) }
@@ -277,7 +277,7 @@ impl Places {
     }
 }
 
-/// How far the places of the indices of a position lie from that of index 1, where they are `step` places apart.
+/// Returns the offsets of the places that the indices of a position name, from the place of index 1; neighbours are `step` places apart.
 fn position_offsets(
     alloc: Global,
     position: &Seen,
@@ -294,7 +294,7 @@ fn position_offsets(
     }
 }
 
-/// The places of the axes' items at the indices of each position, of which there are some.
+/// Returns the places of all items of the result, of which there is at least one.
 pub(crate) fn places_of(
     alloc: Global,
     axes: &[u32],

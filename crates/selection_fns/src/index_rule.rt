@@ -1,4 +1,4 @@
-//! Indexed reference as a change rule.
+//! The change rule of indexed reference.
 
 ghost use Rattle.std.specs.Prelude.{◌≡◌, ◌≤◌, ◌<◌, IfSome, Some, length, false, not, unsigned_abs};
 ghost use Rattle.std.specs.List.{list_all};
@@ -18,7 +18,7 @@ use change_core::Announced;
 use index_region::{IndexBox, Intervals, Seen};
 use std::alloc::Global;
 
-/// The least box that holds a box, where there is one, and one more place.
+/// Returns the least box that holds a box, if there is one, and one more place.
 fn with_place(found: Option<IndexBox>, place: IndexBox) -> IndexBox
     requires { IfSome found (λ b. length b ≡ length place) }
     ensures is { Some result ≡ join_boxes (Some place) found }
@@ -30,7 +30,7 @@ fn with_place(found: Option<IndexBox>, place: IndexBox) -> IndexBox
     }
 }
 
-/// An index names a place of an interval.
+/// Returns whether an index names a place of an interval.
 fn names_place_of(interval: (u32, u32), index: i64) -> bool
     ensures { result ≡ lies_in interval (unsigned_abs index) }
 {
@@ -39,7 +39,7 @@ fn names_place_of(interval: (u32, u32), index: i64) -> bool
     u64::from(first) <= place && place <= u64::from(last)
 }
 
-/// The least box of the places of a position whose indices name a place of an interval.
+/// Returns the least box of the places of a position whose indices name a place of an interval; None where there are none.
 fn places_naming(position: &Seen, interval: (u32, u32)) -> Option<IndexBox>
     ensures is { result ≡ position_box position.now interval }
     ensures long { IfSome result (λ b. length b ≡ length position.now.shape) }
@@ -55,8 +55,8 @@ fn places_naming(position: &Seen, interval: (u32, u32)) -> Option<IndexBox>
     found
 }
 
-/// The box of the result for a box of the indexed array: of an empty position its interval, of an index the least box of
-/// the places that name one there.
+/// Returns the box of the result that a box of the indexed array may change. An empty position contributes its
+/// interval, a written one the least box of its places that name a changed one.
 fn indexed_box(written: &[bool], positions: &[Seen], intervals: &[(u32, u32)]) -> Option<Intervals>
     requires long { length positions.now ≡ count_written written.now }
     requires one_an_axis { length intervals.now ≡ length written.now }
@@ -77,7 +77,7 @@ fn indexed_box(written: &[bool], positions: &[Seen], intervals: &[(u32, u32)]) -
     Some(own.intervals().copy().and_all(others.as_slice()))
 }
 
-/// How many axes of the result stand before those of a written position.
+/// Returns the number of axes of the result before those of a written position.
 fn axes_before(written: &[bool], positions: &[Seen], which: usize) -> usize
     requires long { length positions.now ≡ count_written written.now }
     requires few { count_axes (written_positions written.now positions.now) ≤ most_axes }
@@ -96,7 +96,7 @@ fn axes_before(written: &[bool], positions: &[Seen], which: usize) -> usize
     positions[0].shape().len() + axes_before(&written[1..], &positions[1..], which - 1)
 }
 
-/// The box of the result for a box of a written position: its axes, and all other axes whole.
+/// Returns the box of the result that a box of a written position may change: `region` on the axes of that position, all other axes whole.
 fn position_box(
     written: &[bool],
     positions: &[Seen],
@@ -119,14 +119,14 @@ fn position_box(
         .and_whole(&shape[after..])
 }
 
-/// None is marked.
+/// Returns whether no mark is set.
 fn none_marked(marks: &[bool]) -> bool
     ensures { result ≡ list_all (λ m. not m) marks.now }
 {
     marks.iter().all(|mark| !*mark)
 }
 
-/// The first argument is marked, and no other.
+/// Returns whether the first argument alone is marked.
 fn first_alone(marks: &[bool]) -> bool
     ensures { result ≡ first_alone marks.now }
 {
@@ -136,7 +136,7 @@ fn first_alone(marks: &[bool]) -> bool
     }
 }
 
-/// The first position is empty.
+/// Returns whether the first position is empty.
 fn first_empty(written: &[bool]) -> bool
     ensures { result ≡ first_empty written.now }
 {

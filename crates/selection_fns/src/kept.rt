@@ -7,8 +7,8 @@ ghost use Rattle.selection_fns.specs.Kept.{AreKept};
 use arrays_core::room_of;
 use std::alloc::{AllocError, Global};
 
-/// The numbers whose counts are 1, where each count is 0 or 1, and so many are 1. Each number is put behind those that are kept
-/// before it is known whether it stays, so that the machine need not guess; one whose count is 0 is taken away again.
+/// Returns the numbers whose count is 1; each count is 0 or 1, and `total` of them are 1. Pushes each number, and pops
+/// it again where its count is 0. The push has no branch to predict, and the scan stops after `total` numbers.
 pub(crate) fn kept_numbers(
     alloc: Global,
     counts: &[i64],

@@ -1,4 +1,4 @@
-//! Functions that choose places: index and replicate, and shape and index generator, which tell or number places.
+//! Functions that select places: index and replicate, with shape and index generator.
 #![tactic(auto)]
 
 mod axes;

@@ -7,7 +7,7 @@ ghost use Rattle.index_region.specs.Arguments.{numbers};
 use index_region::Seen;
 use std::alloc::{AllocError, Global};
 
-/// The numbers of an array in row-major order.
+/// Returns the numbers of an array in row-major order.
 pub fn numbers_of(alloc: Global, array: &Seen) -> Result<Vec<i64>, AllocError>
     ensures is { IfOk result (λ v. v.items ≡ numbers array.now) }
     ensures sound { IsArray array.now }

@@ -1,4 +1,4 @@
-//! Replicate: the places of an axis, each as often as its count.
+//! Replicate: each place of an axis, as many times as its count.
 
 ghost use Rattle.std.specs.Prelude.{◌≡◌, ◌<◌, ◌≤◌, ◌+◌, ◌-◌, ◌*◌, ◌++◌, ℕ, All, Ok, Some, IsTrue, OnOk, IfOk, IfErr, Result, Err, unsigned_abs, not, IfSome, length, map, max, sum, insert, remove, replicate, set, get_or, ◌∷◌, []};
 ghost use Rattle.std.specs.List.{list_all};
@@ -26,7 +26,7 @@ use arrays_core::{
 use index_region::{Along, Primitive, Seen, Source, item_from, limited};
 use std::alloc::{AllocError, Global};
 
-/// No copy, or one.
+/// Returns whether a count is 0 or 1.
 #[inline]
 fn is_bit(count: i64) -> bool
     ensures { result ≡ is_bit count }
@@ -34,7 +34,7 @@ fn is_bit(count: i64) -> bool
     0 <= count && count <= 1
 }
 
-/// How many counts are 1, where each is 0 or 1.
+/// Returns the number of counts that are 1, if each is 0 or 1.
 fn mask_total(counts: &[i64]) -> Option<u32>
     requires { length counts.now ≤ most_places }
     ensures { IfSome result (IsMask counts.now) }
@@ -48,7 +48,7 @@ fn mask_total(counts: &[i64]) -> Option<u32>
     are_bits.then_some(ones as u32)
 }
 
-/// The copies of counts that lie in one piece, where each is 0 or 1.
+/// Returns the number of counts that are 1, if each is 0 or 1 and they are contiguous in memory.
 fn mask_of(counts: &Seen) -> Option<u32>
     ensures { IfSome result (IsMask (numbers counts.now)) }
 {
@@ -58,7 +58,7 @@ fn mask_of(counts: &Seen) -> Option<u32>
     mask_total(list)
 }
 
-/// A count is negative: none is where each is 0 or 1.
+/// Returns whether a count is negative. With a mask none is, so nothing is scanned.
 fn has_negative(counts: &Seen, mask: Option<u32>) -> bool
     requires { IfSome mask (IsMask (numbers counts.now)) }
     ensures { result ≡ not (none_negative (numbers counts.now)) }
@@ -66,9 +66,8 @@ fn has_negative(counts: &Seen, mask: Option<u32>) -> bool
     mask.is_none() && counts.has_negative()
 }
 
-/// The checks of the counts for an axis: RANK where they are neither a scalar nor a vector, LENGTH where
-/// they are not as many as the places and neither is one, DOMAIN where they are not numbers, or one is
-/// negative.
+/// Checks the counts for an axis. RANK where they are neither a scalar nor a vector; LENGTH where their number differs
+/// from the length of the axis and neither is 1; DOMAIN where they are not numbers, or one is negative.
 fn check_counts(counts: &Seen, places: u32, mask: Option<u32>) -> Result<(), Kind>
     requires { IfSome mask (IsMask (numbers counts.now)) }
     ensures passed { IfOk result (λ _. (rest : Result Form AKind) → counts_checked counts.now places rest ≡ rest) }
@@ -89,8 +88,7 @@ fn check_counts(counts: &Seen, places: u32, mask: Option<u32>) -> Result<(), Kin
     Ok(())
 }
 
-/// How many copies there are of places that each have one count; LIMIT where they are more than an axis
-/// may have.
+/// Returns the number of copies where all places have one count. LIMIT where it exceeds the greatest length of an axis.
 fn repeated(count: u64, places: u32) -> Result<u32, Kind>
     requires { places ≤ longest_axis }
     ensures total { IfOk result (λ total. total ≡ places * count) }
@@ -109,7 +107,7 @@ fn repeated(count: u64, places: u32) -> Result<u32, Kind>
     Ok(total as u32)
 }
 
-/// The sum of a list of counts; LIMIT where it is more than the places that an axis may have.
+/// Returns the sum of contiguous counts. LIMIT where it exceeds the greatest length of an axis.
 fn summed_list(counts: &[i64]) -> Result<u32, Kind>
     ensures total { IfOk result (λ total. total ≡ sum (map unsigned_abs counts.now)) }
     ensures beyond { IfErr result (λ kind. (kind ≡ Limit) × (longest_axis < sum (map unsigned_abs counts.now))) }
@@ -128,7 +126,7 @@ fn summed_list(counts: &[i64]) -> Result<u32, Kind>
     Ok(total as u32)
 }
 
-/// The sum of the counts; LIMIT where it is more than the places that an axis may have.
+/// Returns the sum of the counts. LIMIT where it exceeds the greatest length of an axis.
 fn summed(counts: &Seen) -> Result<u32, Kind>
     ensures total { IfOk result (λ total. total ≡ sum (map unsigned_abs (numbers counts.now))) }
     ensures beyond { IfErr result (λ kind. (kind ≡ Limit) × (longest_axis < sum (map unsigned_abs (numbers counts.now)))) }
@@ -150,7 +148,7 @@ fn summed(counts: &Seen) -> Result<u32, Kind>
     Ok(total as u32)
 }
 
-/// How many copies there are; LIMIT where they are more than an axis may have.
+/// Returns the number of copies. LIMIT where it exceeds the greatest length of an axis.
 fn copies(counts: &Seen, places: u32, mask: Option<u32>) -> Result<u32, Kind>
     requires few { places ≤ longest_axis }
     requires mask { IfSome mask (IsMask (numbers counts.now)) }
@@ -166,7 +164,7 @@ fn copies(counts: &Seen, places: u32, mask: Option<u32>) -> Result<u32, Kind>
     }
 }
 
-/// The shape with another number of places along one axis; that of a scalar is a vector's.
+/// Returns the shape with another length on one axis; a scalar becomes a vector.
 fn replicated_shape(alloc: Global, axes: &[u32], axis: usize, places: u32) -> Shape
     requires rank { length axes.now ≤ most_axes }
     requires there { axis < max 1 (length axes.now) }
@@ -181,7 +179,7 @@ fn replicated_shape(alloc: Global, axes: &[u32], axis: usize, places: u32) -> Sh
     shape
 }
 
-/// The place that a copy is of, where each place has a count of its own.
+/// Returns the place of a copy, where each place has its own count.
 fn maker(counts: &Seen, copy: u32) -> u32
     requires low { 1 ≤ copy }
     requires high { copy ≤ sum (map unsigned_abs (numbers counts.now)) }
@@ -198,7 +196,7 @@ fn maker(counts: &Seen, copy: u32) -> u32
     counts.places() + 1
 }
 
-/// The place that a copy is of, where all places have one count.
+/// Returns the place of a copy, where all places have one count.
 fn maker_of_each(count: u64, places: u32, copy: u32) -> u32
     requires low { 1 ≤ copy }
     requires high { copy ≤ places * count }
@@ -207,7 +205,7 @@ fn maker_of_each(count: u64, places: u32, copy: u32) -> u32
     (u64::from(copy - 1) / count) as u32 + 1
 }
 
-/// The place that a copy is of; on an axis of one place each is a copy of that.
+/// Returns the place of a copy. On an axis of length 1 that is always 1.
 fn copied_place(counts: &Seen, places: u32, copy: u32) -> u32
     requires low { 1 ≤ copy }
     requires high { copy ≤ sum (times counts.now places) }
@@ -223,7 +221,7 @@ fn copied_place(counts: &Seen, places: u32, copy: u32) -> u32
     }
 }
 
-/// Puts copies of a number at the end of a list.
+/// Appends copies of a number.
 fn append_copies(list: &mut Vec<u32>, count: u32, number: u32) -> Result<(), AllocError>
     requires { length list.old.items + count ≤ longest_axis }
     ensures { OnOk result (list.new.items ≡ list.old.items ++ replicate count number) }
@@ -236,7 +234,7 @@ fn append_copies(list: &mut Vec<u32>, count: u32, number: u32) -> Result<(), All
     Ok(())
 }
 
-/// How many places come before that of each copy, where all places have one count.
+/// Returns the place of each copy, counted from 0, where all places have one count.
 fn before_copies_of_one_count(
     alloc: Global,
     count: u64,
@@ -255,7 +253,7 @@ fn before_copies_of_one_count(
     Ok(before)
 }
 
-/// How many places come before that of each copy, where places have counts of any size.
+/// Returns the place of each copy, counted from 0, where the counts have any size.
 fn before_copies_of_counts(
     alloc: Global,
     counts: &[i64],
@@ -278,8 +276,8 @@ fn before_copies_of_counts(
     Ok(before)
 }
 
-/// How many places come before that of each copy, where each place has one copy or none. Each place is written where the
-/// next copy stands, and its count says whether it stays there.
+/// Returns the place of each copy, counted from 0, where each count is 0 or 1. Writes each place at the next slot
+/// without a branch; a count of 1 moves to the slot after it.
 fn before_copies_of_mask(alloc: Global, counts: &[i64], total: u32) -> Result<Vec<u32>, AllocError>
     requires mask { IsTrue (list_all is_bit counts.now) }
     requires total { total ≡ sum (map unsigned_abs counts.now) }
@@ -298,7 +296,7 @@ fn before_copies_of_mask(alloc: Global, counts: &[i64], total: u32) -> Result<Ve
     Ok(before)
 }
 
-/// How many places come before that of each copy, where each place has a count of its own.
+/// Returns the place of each copy, counted from 0, where each place has its own count.
 fn before_copies_of_list(
     alloc: Global,
     counts: &[i64],
@@ -319,7 +317,7 @@ fn before_copies_of_list(
     }
 }
 
-/// How many places come before that of each copy.
+/// Returns the place of each copy, counted from 0.
 fn before_each_copy(
     alloc: Global,
     counts: &Seen,
@@ -348,7 +346,7 @@ fn before_each_copy(
     }
 }
 
-/// The index list of the array itself, of one of the result.
+/// Returns the index list in the array for an index list of the result.
 fn copied_index(alloc: Global, counts: &Seen, axes: &[u32], axis: usize, index: &[u32]) -> Shape
     requires rank { length axes.now ≤ most_axes }
     requires there { axis < length axes.now }
@@ -361,7 +359,7 @@ fn copied_index(alloc: Global, counts: &Seen, axes: &[u32], axis: usize, index: 
     at
 }
 
-/// The index list of the place that a copy is of.
+/// Returns the index list in the array for an index list of the result, by the list of the places of all copies.
 fn index_of_copy(alloc: Global, axis: usize, before: &[u32], index: &[u32]) -> Shape
     requires rank { length index.now ≤ most_axes }
     requires there { axis < length index.now }
@@ -376,11 +374,11 @@ fn index_of_copy(alloc: Global, axis: usize, before: &[u32], index: &[u32]) -> S
     at
 }
 
-/// Replicate, `A/B` and `A⌿B` (ISO/IEC 13751, "Replicate"): each place of B along the axis as often as
-/// its count in A. A scalar B is a vector of one item; A of one item counts for each place; an axis of
-/// one place extends to the counts. AXIS where the axis is not one of the array's, RANK where A is
-/// neither a scalar nor a vector, LENGTH where counts are not as many as places and neither is one,
-/// DOMAIN where A is not of numbers, or one is negative, LIMIT beyond the limits of arrays.
+/// Replicate, `A/B` and `A⌿B` (ISO/IEC 13751, "Replicate"): each place of B along the axis, as many times as its count
+/// in A. A scalar B is a vector of one item. A single count applies to all places. An axis of length 1 extends to the
+/// counts. AXIS where the array does not have the axis; RANK where A is neither a scalar nor a vector; LENGTH where the
+/// number of counts differs from the length of the axis and neither is 1; DOMAIN where A is not of numbers, or one is
+/// negative; LIMIT beyond the limits of arrays.
 #[derive(Clone, Copy, PartialEq, Eq, Debug)]
 pub struct Replicate {
     /// The axis whose places are copied.
@@ -388,8 +386,8 @@ pub struct Replicate {
 }
 
 impl Replicate {
-    /// Where the item at an index list of the result comes from, where the checks have passed. It takes no memory. There are as
-    /// many arguments as the function takes.
+    /// Returns the source of the item at an index list of the result: a place of the second argument. Requires that the
+    /// checks pass. Allocates nothing.
     pub fn source_of(&self, args: &[Seen], index: &[u32]) -> Source
         requires count { length args.now ≡ 2 }
         requires place { IsPlaceOf (of_two_arguments (replicate_form self.now.along) args.now) index.now }
@@ -399,7 +397,7 @@ impl Replicate {
         self.source(&args[0], &args[1], index)
     }
 
-    /// Where the item at an index list of the result comes from, of these two arguments.
+    /// Returns the source of the item at an index list of the result.
     fn source(self, counts: &Seen, array: &Seen, index: &[u32]) -> Source
         requires { IsPlaceOf (replicate_form self.along counts.now array.now) index.now }
         ensures is { source_value result ≡ replicate_source self.along counts.now array.now index.now }
@@ -416,14 +414,14 @@ impl Replicate {
         Source::Place { arg: 1, at }
     }
 
-    /// The checks, and the shape and the type of the result.
+    /// Checks the arguments, and returns the shape and the type of the result.
     fn form(self, counts: &Seen, array: &Seen) -> Result<(Shape, ItemType), Kind>
         ensures { IsFormAnswerTo (replicate_form self.along counts.now array.now) result }
     {
         self.checked(counts, array, mask_of(counts))
     }
 
-    /// The checks, and the shape and the type of the result, where it is known how many counts are 1, if each is 0 or 1.
+    /// Checks the arguments, and returns the shape and the type of the result. `mask` is the number of counts that are 1, if each is 0 or 1.
     fn checked(
         self,
         counts: &Seen,
@@ -446,8 +444,8 @@ impl Replicate {
         limited(shape, array.item_type())
     }
 
-    /// The array of the copies. What a mask keeps of a vector of numbers is written as it is found. Else the place of each copy
-    /// is found once; those of a vector are picked one after another, and those of other arrays row by row.
+    /// Returns the copies. Applies a mask over a vector of numbers in one pass. Otherwise computes the place of each
+    /// copy first; it then copies a vector item by item, and other arrays row by row.
     pub fn apply(&self, alloc: Global, args: &[Seen]) -> Result<Array, ApplyFault>
         requires { length args.now ≡ 2 }
         ensures { IsAnswerTo (of_two_arguments (replicate_whole self.now.along) args.now) result }
@@ -455,7 +453,7 @@ impl Replicate {
         self.copied(alloc, &args[0], &args[1])
     }
 
-    /// The array of the numbers of a vector that a mask keeps, where these and the mask lie in one piece.
+    /// Returns the numbers of a vector that a mask keeps. None unless the counts are a mask, and counts and numbers are contiguous.
     fn kept(
         self,
         counts: &Seen,
@@ -485,7 +483,7 @@ impl Replicate {
         Ok(Some(Array::from_numbers(shape, kept)?))
     }
 
-    /// The array of the copies of an array's places.
+    /// Returns the copies of the places of an array.
     fn copied(self, alloc: Global, counts: &Seen, array: &Seen) -> Result<Array, ApplyFault>
         ensures { IsAnswerTo (replicate_whole self.along counts.now array.now) result }
     {
@@ -513,8 +511,7 @@ impl Replicate {
     }
 }
 
-/// The function that gives the items and rows of the copies of an array's places, where the checks have passed, and how many places come before
-/// that of each.
+/// Computes items and rows of the copies, after the checks. `before` holds the place of each copy, counted from 0.
 #[derive(Drop)]
 struct CopyFunction<'a, 'b, 'c> {
     replicate: Replicate,
@@ -530,7 +527,7 @@ struct CopyFunction<'a, 'b, 'c> {
 }
 
 impl<'a, 'b, 'c> CopyFunction<'a, 'b, 'c> {
-    /// The index list of the array itself, of one of the result.
+    /// Returns the index list in the array for an index list of the result.
     fn index_of(&self, index: &[u32]) -> Shape
         requires { IsTrue (is_index_of self.now.shape.now.items index.now) }
         ensures is { Place 1 result.items ≡ replicate_source self.now.replicate.along self.now.counts.now self.now.array.now index.now }

@@ -1,4 +1,4 @@
-//! Replicate as a change rule.
+//! The change rule of replicate.
 
 ghost use Rattle.std.specs.Prelude.{◌≡◌, ◌≢◌, ◌≤◌, ◌*◌, IsTrue, Some, length, map, sum, take, replicate, unsigned_abs};
 ghost use Rattle.std.proofs.Common.{rules};
@@ -17,7 +17,7 @@ use change_core::Announced;
 use index_region::{Along, IndexBox, Intervals, Seen};
 use std::alloc::Global;
 
-/// How many copies there are of the first places of an axis, where all places have one count.
+/// Returns the number of copies of the first places of an axis, where all places have one count.
 fn copies_of_one_count(count: u64, places: u32, first: u32) -> u32
     requires within { first ≤ places }
     requires few { places * count ≤ longest_axis }
@@ -26,7 +26,7 @@ fn copies_of_one_count(count: u64, places: u32, first: u32) -> u32
     (u64::from(first) * count) as u32
 }
 
-/// How many copies there are of the first places of an axis, where each place has a count of its own.
+/// Returns the number of copies of the first places of an axis, where each place has its own count.
 fn copies_of_counts(counts: &Seen, first: u32) -> u32
     requires within { first ≤ length counts.now.items }
     requires few { sum (map unsigned_abs (numbers counts.now)) ≤ longest_axis }
@@ -39,7 +39,7 @@ fn copies_of_counts(counts: &Seen, first: u32) -> u32
     copies
 }
 
-/// How many copies there are of the first places of an axis.
+/// Returns the number of copies of the first places of an axis.
 fn copies_before(counts: &Seen, places: u32, first: u32) -> u32
     requires within { first ≤ places }
     requires one_a_place { length counts.now.items ≢ 1 → length counts.now.items ≡ places }
@@ -53,7 +53,7 @@ fn copies_before(counts: &Seen, places: u32, first: u32) -> u32
     }
 }
 
-/// The copies of the places of an interval, of all that there are; where one place is extended to the counts, all copies.
+/// Returns the interval of the copies of the places of an interval; on an axis of length 1, all copies.
 fn copied_interval(counts: &Seen, places: u32, copies: u32, interval: (u32, u32)) -> (u32, u32)
     requires low { 1 ≤ interval.0 }
     requires order { interval.0 ≤ interval.1 }
@@ -72,7 +72,7 @@ fn copied_interval(counts: &Seen, places: u32, copies: u32, interval: (u32, u32)
     )
 }
 
-/// The copies of the places of a box.
+/// Returns the box of the copies of the places of a box.
 fn copied_box(
     along: Along,
     counts: &Seen,

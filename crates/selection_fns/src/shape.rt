@@ -1,4 +1,4 @@
-//! Shape: the lengths of an array's axes.
+//! Shape: the axis lengths of an array.
 
 ghost use Rattle.std.specs.Prelude.{◌≡◌, length};
 ghost use Rattle.std.proofs.Common.{rules};
@@ -13,13 +13,12 @@ use change_core::Announced;
 use index_region::{IndexBox, Intervals, Primitive, Seen, apply, limited};
 use std::alloc::Global;
 
-/// Shape, `⍴B` (ISO/IEC 13751, "Shape"): the lengths of the axes as a vector of numbers. It has no
-/// error.
+/// Shape, `⍴B` (ISO/IEC 13751, "Shape"): the lengths of the axes as a vector of numbers. It has no error.
 #[derive(Clone, Copy, PartialEq, Eq, Debug)]
 pub struct ShapeOf;
 
 impl ShapeOf {
-    /// The vector of the lengths of the axes.
+    /// Returns the vector of the axis lengths.
     pub fn apply(&self, alloc: Global, args: &[Seen]) -> Result<Array, ApplyFault>
         requires { length args.now ≡ 1 }
         ensures { IsAnswerTo (of_one_argument shape_whole args.now) result }

@@ -1,4 +1,4 @@
-//! The items in a box of a result that is worked out whole, where that is shorter than one item after another.
+//! The items of a box, taken from the whole result where that costs less than item by item.
 
 ghost use Rattle.std.specs.Prelude.{◌≡◌, ◌<◌, ◌≤◌, IfSome, IsTrue, Ok};
 ghost use Rattle.arrays_core.specs.Arrays.{IsAnswerTo};
@@ -13,10 +13,10 @@ use arrays_core::{ApplyFault, Array, ItemType, shape_of};
 use index_region::{IndexBox, Primitive, Seen};
 use std::alloc::Global;
 
-/// So many items are worked out one by one.
+/// The greatest size of a box whose items are computed one by one.
 const FEW_ITEMS: usize = 8;
 
-/// The items of an array in a box, as a vector. None where the box does not lie in the array, or there is no memory.
+/// Returns the items of an array in a box, as a vector. None where the box does not lie in the array, or an allocation fails.
 fn picked(alloc: Global, whole: &Array, region: &IndexBox) -> Option<Array>
     requires some { 0 < box_size region.now }
     requires few { box_size region.now ≤ most_places }
@@ -36,14 +36,14 @@ fn picked(alloc: Global, whole: &Array, region: &IndexBox) -> Option<Array>
     Some(items)
 }
 
-/// Whether a box has so few places that their items are better worked out one by one.
+/// Returns whether a box is so small that its items are better computed one by one.
 pub fn is_small(region: &IndexBox) -> bool
     requires { box_size region.now ≤ most_places }
 {
     region.size() <= FEW_ITEMS
 }
 
-/// The items in a box of a result, from its whole. None where that has an error, and where there is no memory.
+/// Returns the items in a box of a result, from the whole result. None where the whole is an error, or an allocation fails.
 pub fn items_of_whole<P: Primitive>(
     _primitive: &P,
     alloc: Global,

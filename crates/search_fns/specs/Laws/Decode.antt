@@ -7,7 +7,7 @@ use Rattle.index_region.{specs.Arguments.{counts_as_numbers, has_one_item, is_li
 use Rattle.change_core.{specs.Tightness.{Covered, Each, IsTight}, specs.Sourced.{other}, specs.Ways.{everywhere}, proofs.Sourced.{two_arrays_tight}, proofs.UsedWays.{each_all, each_map, everywhere-covered}, proofs.ReadAlike.{item_same}}
 use Rattle.search_fns.{specs.Decode.{decode_form, decode_item, decoded, digit_at, digit_count, radix_at, decode_rule, digits_use}, specs.Laws.Reads.{all_read_alike, one_read, with_axes}}
 
--- what the checks have shown
+-- the consequences of the checks
 record DecodeFacts (a b : ArrayValue) (f : Form) : Type 0 where
   shaped : f.shape ≡ drop 1 b.shape
   counted : (k : ℕ) → k ≤ digit_count a b → places_along b.shape 0 ≢ 1 → k ≤ places_along b.shape 0
@@ -35,14 +35,14 @@ decode_facts a b f e =
       counted = λ k within many. as_many (length a.items) n k lengths.test within many;
     }
 
--- the place of a digit on the first axis is one of the axis
+-- the place of a digit lies on the first axis
 place_on : (n k : ℕ) → 1 ≤ k → (n ≢ 1 → k ≤ n) → (1 ≤ (if nat_eq n 1 then 1 else k)) × ((if nat_eq n 1 then 1 else k) ≤ n)
 place_on n k low high = elim (cases_Bool (nat_eq n 1)) [
   | inl t ↦ let one = eqb-true n 1 t in subst (λ (j : ℕ). (1 ≤ j) × (j ≤ n)) (sym (cond-true _ _ _ t)) (omega arith, omega arith)
   | inr f ↦ subst (λ (j : ℕ). (1 ≤ j) × (j ≤ n)) (sym (cond-false _ _ _ f)) (low, high (eqb-false n 1 f))
 ]
 
--- what is read of a line along the first axis
+-- the items that are read of a line along the first axis
 line_read : (a : ArrayValue) (index : List ℕ) (n j : ℕ) → 1 ≤ j → j ≤ n → get_or (map (item_if_there a) (map (λ k. k ∷ index) (range_with_len 1 n))) (j - 1) None ≡ item_if_there a (j ∷ index)
 line_read a index n j low high =
     let long = length-map (range_with_len 1 n) (λ (k : ℕ). k ∷ index) in

@@ -7,7 +7,7 @@ use Rattle.index_region.{specs.Arguments.{counts_as_numbers, is_list, number_of,
 use Rattle.change_core.{specs.Tightness.{Covered, IsTight}, specs.Sourced.{other}, specs.Ways.{back}, proofs.Sourced.{two_arrays_tight}, proofs.UsedWays.{back-onto, each_map, each_range, index-drop, onto_covered, within-whole}, proofs.ReadAlike.{item_same}}
 use Rattle.search_fns.{specs.Encode.{carried_through, digit, encode_form, encode_item, radix_place, encode_rule, radices_box, radices_read}, specs.Laws.Reads.{all_read_alike, one_read, place_read, with_axes}}
 
--- what the checks have shown
+-- the consequences of the checks
 pub record EncodeFacts (a b : ArrayValue) (f : Form) : Type 0 where
   pub list : length a.shape ≤ 1
   pub shaped : f.shape ≡ a.shape ++ b.shape
@@ -19,7 +19,7 @@ encode_facts a b f e =
     let typed = gives (counts_as_numbers a && counts_as_numbers b) _ _ f ranks.is in
     record { list = leb-true (length a.shape) 1 ranks.test; shaped = ap (λ (g : Form). g.shape) (limited_gives (a.shape ++ b.shape) Nums f typed.is); typed = ap (λ (g : Form). g.item_type) (limited_gives (a.shape ++ b.shape) Nums f typed.is) }
 
--- a digit hangs on its own radix and those after it
+-- a digit depends on its own radix and the later ones
 digit_same : (xs ys : List Item) (d : Item) (k : ℕ) (z : ℤ) → length xs ≡ length ys → 1 ≤ k → k ≤ length ys → ((j : ℕ) → k ≤ j + 1 → j < length ys → get_or xs j d ≡ get_or ys j d)
     → digit (map number_of xs) k z ≡ digit (map number_of ys) k z
 digit_same xs ys d k z long low high same =

@@ -11,7 +11,7 @@ with_axes t shape items = record { item_type = t; shape = shape; items = items }
 some_same : {A : Type 0} (x y : A) → Some x ≡ Some y → x ≡ y
 some_same x y h = cc
 
--- what is read of one place
+-- where reads of one place agree, so do the items
 pub one_read : {A : Type 0} (x y : A) → x ∷ [] ≡ y ∷ [] → x ≡ y
 one_read x y h = cc
 
@@ -23,7 +23,7 @@ read_at a k h =
     ∙ cond-true _ _ _ (index_after-within a.shape k h)
     ∙ ap (λ (m : ℕ). Some (get_or a.items m (fill a.item_type))) (places_before-index_after a.shape k h)
 
--- all items of an array
+-- where reads of all places agree, so do all items
 pub all_read_alike : (a : ArrayValue) (xs : List Item) → length a.items ≡ size a.shape → length xs ≡ length a.items
     → map (item_if_there (other a xs)) (indices a.shape) ≡ map (item_if_there a) (indices a.shape) → xs ≡ a.items
 all_read_alike a xs sized long read =
@@ -31,7 +31,7 @@ all_read_alike a xs sized long read =
     let below : k < size a.shape = omega arith in
     some_same _ _ (sym (read_at (other a xs) k below) ∙ ap (λ (r : List (Option Item)). get_or r k None) read ∙ read_at a k below))
 
--- what is read of a vector at places from one on
+-- where reads of a vector from a place on agree, so do the items there
 pub place_read : (t : ItemType) (n : ℕ) (xs ys : List Item) (k j : ℕ) → 1 ≤ k → k ≤ j + 1 → j < n
     → map (λ (place : List ℕ). item_if_there (with_axes t (n ∷ []) xs) place) (map (λ i. i ∷ []) (range_with_len k (n + 1 - k)))
     ≡ map (λ (place : List ℕ). item_if_there (with_axes t (n ∷ []) ys) place) (map (λ i. i ∷ []) (range_with_len k (n + 1 - k)))

@@ -1,11 +1,11 @@
--- What the checks of replicate have shown, and where its copies stand.
+-- The consequences of the checks of replicate, and the places of its copies.
 use Rattle.std.{proofs.Common.{◌≡◌, ℕ, zero, suc, ◌<◌, ◌≤◌, true, ◌&&◌, ◌||◌, nat_eq, Ok, List, [], ◌∷◌, length, get_or, set, insert, remove, refl, ap, arith}, specs.Prelude.{max}}
 use Rattle.arrays_core.{specs.declared.item.ItemType.{ItemType}, specs.Arrays.{ArrayValue}, specs.Shapes.{is_index_of}, proofs.Shapes.{as_long, head_of}}
 use Rattle.function_names.{specs.declared.along.Along.{Along}, specs.Axes.{is_axis, axis_at}}
 use Rattle.index_region.{specs.Checks.{form_of, Form}, specs.Axes.{places_along}, specs.Arguments.{is_list, has_one_item, counts_as_numbers, none_negative, numbers}, proofs.Passing.{gives, limited_gives}, proofs.RowIndices.{axis_below}}
 use Rattle.selection_fns.specs.Replicate.{replicated_shape, replicate_form}
 
--- an index list of a shape with one axis exchanged
+-- an index list of a shape with one axis replaced
 pub record IsCopied (axes : List ℕ) (k places : ℕ) (index : List ℕ) : Type 0 where
   pub long : length index ≡ length axes
   pub low : 1 ≤ get_or index k 0
@@ -25,13 +25,13 @@ is_copied (n ∷ axes) (suc k) places (i ∷ index) h inside =
     let rest = is_copied axes k places index (omega arith) head.rest in
     record { long = let long = rest.long in omega arith; low = rest.low; high = rest.high }
 
--- a shape with one axis exchanged is that of the exchange
+-- to set an axis of a shape is to replace it
 pub exchanged : (axes : List ℕ) (k places : ℕ) → k < length axes → set axes k places ≡ insert (remove axes k) k places
 exchanged [] k places h = absurd (omega arith)
 exchanged (n ∷ axes) zero places h = refl
 exchanged (n ∷ axes) (suc k) places h = ap (λ rest. n ∷ rest) (exchanged axes k places (omega arith))
 
--- where replicate gives a form, the array has that axis, and the form is the shape of the copies
+-- where replicate has a form, the array has the axis, and the form has the shape of the copies
 pub record ReplicateGives (along : Along) (a b : ArrayValue) (shape : List ℕ) (item_type : ItemType) : Type 0 where
   pub axis : is_axis (max 1 (length b.shape)) along ≡ true
   pub shaped : shape ≡ replicated_shape a b.shape (axis_at (max 1 (length b.shape)) along)
@@ -50,7 +50,7 @@ replicate_gives along a b shape item_type form =
     let asked = limited_gives (replicated_shape a b.shape axis) b.item_type (form_of shape item_type) counted.is in
     record { axis = axes.test; shaped = ap (λ (f : Form). f.shape) asked; typed = ap (λ (f : Form). f.item_type) asked }
 
--- the axis of the copies has as many places as there are
+-- the replaced axis has the new length
 pub record IsExchanged (shape : List ℕ) (k places : ℕ) : Type 0 where
   pub there : k < length (insert (remove shape k) k places)
   pub is : get_or (insert (remove shape k) k places) k 0 ≡ places

@@ -73,7 +73,7 @@ positions_covered (true ∷ written) (p ∷ args) before shape =
 
 -- ---- the checks
 
--- what the checks have shown
+-- the consequences of the checks
 record IndexFacts (a : ArrayValue) (positions : List Position) (f : Form) : Type 0 where
   one_an_axis : length positions ≡ length a.shape
   is : f ≡ form_of (indexed_shape a.shape positions) a.item_type
@@ -85,7 +85,7 @@ index_facts a positions f e =
     let on = gives (are_on a.shape positions) _ _ f typed.is in
     record { one_an_axis = eqb-true _ _ (and_parts _ _ ranks.test).1; is = limited_gives (indexed_shape a.shape positions) a.item_type f on.is }
 
--- where the checks of the items pass, the others alone settle the form
+-- where all checks pass, the form is the limited joined shape
 passed_form : (a : ArrayValue) (positions : List Position) → IsOk (index_form a positions) → index_form a positions ≡ limited (indexed_shape a.shape positions) a.item_type
 passed_form a positions h = by (not (is_scalar a) && nat_eq (length positions) (length a.shape)) (list_all are_numbers positions) (are_on a.shape positions) (limited (indexed_shape a.shape positions) a.item_type) h
   where

@@ -5,7 +5,7 @@ use Rattle.change_core.{specs.Tightness.{AllCovered, Each, IsTight, frames, item
 use Rattle.index_region.{specs.ArgumentLists.{of_one_argument}, specs.Checks.{Form}}
 use Rattle.selection_fns.specs.IndexGenerator.{generator_form, generator_item, generator_rule}
 
--- the number itself is the same where what a selector shows is
+-- the number is the same where the selector shows the same
 pub generator_tight : IsTight generator_rule
 generator_tight = record { settled = settled; determined = determined; covered = covered }
   where

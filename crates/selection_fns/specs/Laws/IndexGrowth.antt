@@ -26,7 +26,7 @@ form_passed a positions f e =
     let on = gives (are_on a.shape positions) _ _ f typed.is in
     (eqb-true _ _ (and_parts _ _ ranks.test).1, limited_gives (indexed_shape a.shape positions) a.item_type f on.is)
 
--- the shape of a result whose first axis is that of the array
+-- the shape of a result whose first axis is the first axis of the array
 longer_indexed : (s : List ℕ) (positions : List Position) → 0 < length s → indexed_shape (one_longer s) (None ∷ positions) ≡ one_longer (indexed_shape s (None ∷ positions))
 longer_indexed [] positions h = absurd (omega arith)
 longer_indexed (n ∷ s) positions h = refl
@@ -35,7 +35,7 @@ some_indexed : (s : List ℕ) (positions : List Position) → 0 < length s → 0
 some_indexed [] positions h = absurd (omega arith)
 some_indexed (n ∷ s) positions h = omega arith
 
--- a place whose first index lies on the old axis is a place of the array that grew where it was one of the old one
+-- for a first index on the old axis: the grown array and the old array have the same places
 same_place : (s : List ℕ) (i : ℕ) (at : List ℕ) → 0 < length s → 1 ≤ i → i ≤ get_or s 0 0 → is_index_of (one_longer s) (i ∷ at) ≡ is_index_of s (i ∷ at)
 same_place [] i at h low high = absurd (omega arith)
 same_place (n ∷ s) i at h low high =
@@ -52,7 +52,7 @@ first_on (n ∷ s) positions (i ∷ index) h place =
     let first = and_parts _ _ (and_parts _ _ place).0 in
     (leb-true 1 i first.0, leb-true i n first.1)
 
--- what stands at such a place, or fill, is the same
+-- the item at such a place, or fill, is the same
 there_kept : (old new : ArrayValue) (i : ℕ) (at : List ℕ) → IsGrown old new → IsArray old → 1 ≤ i → i ≤ get_or old.shape 0 0 → item_if_there old (i ∷ at) ≡ item_if_there new (i ∷ at)
 there_kept old new i at h sound low high =
     let same : is_index_of new.shape (i ∷ at) ≡ is_index_of old.shape (i ∷ at) = ap (λ (s : List ℕ). is_index_of s (i ∷ at)) (shape_grown old new h) ∙ same_place old.shape i at h.fits.some_axis low high in

@@ -1,4 +1,4 @@
--- The least box of the places that pass a test has each of them.
+-- The least box of the places that pass a test contains each of them.
 use Rattle.std.{proofs.Common.{◌≡◌, ℕ, zero, suc, ◌<◌, List, [], ◌∷◌, ◌++◌, length, take, drop, refl, ap, ◌∙◌, sym, subst, arith, true, Bool, Option, Some, None, inl, inr}, proofs.lemmas.Bool.{and_parts, and_from, le-leb, false≢true, cases_Bool, cond-true, cond-false, cases_order}}
 use Rattle.arrays_core.{specs.Shapes.{size, is_index_of, index_after, places_before}, proofs.Shapes.{places_below}, proofs.Order.{index_after-places_before}}
 use Rattle.index_region.{specs.Boxes.{Interval, is_within, join_boxes}, proofs.Boxes.{length-hull, length-index_after, within-hull_left, within-hull_right}}
@@ -13,7 +13,7 @@ pub length-point : (index : List ℕ) → length (point index) ≡ length index
 length-point [] = refl
 length-point (i ∷ index) = let k = length-point index in omega (arith, k)
 
--- how many axes a box has, if there is one
+-- the rank of a box, if there is one
 abbrev pub HasRank : ℕ → Option (List Interval) → Type 0
 HasRank rank None = Unit {0}
 HasRank rank (Some region) = length region ≡ rank

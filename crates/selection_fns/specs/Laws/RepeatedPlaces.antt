@@ -1,4 +1,4 @@
--- The places that replicate copies, one after another.
+-- The places that replicate copies, in order.
 use Rattle.std.{proofs.Common.{◌≡◌, ℕ, suc, ◌+◌, ◌-◌, ◌<◌, ◌≤◌, Bool, true, false, nat_le, if◌then◌else◌, List, [], ◌∷◌, ◌++◌, get_or, replicate, refl, ap, sym, ◌∙◌, arith}, specs.Prelude.{sum}, proofs.lemmas.Bool.Decides.{nat_tests}}
 use Rattle.std.{proofs.lemmas.List.{map-id, length-replicate, get_or-replicate, get_or_append_left, get_or-append_right}, proofs.lemmas.List.Sums.{sum-map, sum_by-cons}}
 use Rattle.selection_fns.specs.Replicate.{places_repeated, maker}
@@ -9,7 +9,7 @@ sum_front x xs =
     let rest = sum-map (λ n. n) xs in
     sym (ap sum (map-id (x ∷ xs))) ∙ all ∙ sum_by-cons (λ n. n) x xs ∙ ap (λ n. x + n) (sym rest ∙ ap sum (map-id xs))
 
--- which of the counts, from 1, makes copy i
+-- the place of copy i, by a walk over the counts
 abbrev pub walk : List ℕ → ℕ → ℕ
 walk [] i = 1
 walk (count ∷ counts) i = if nat_le i count then 1 else suc (walk counts (i - count))
