@@ -11,7 +11,7 @@ line_in_block count step block column below =
     let m = mod-mul-add block step column below in
     λ i. record { count = count; step = step; slot = d i * (count * step) + m i; node = d i * (nodes_in_line count * step) + m i }
 
--- a block before another one ends where that begins, or before
+-- a block ends at or before the first slot of any later one
 pub units_before : (unit a b : ℕ) → a < b → a * unit + unit ≤ b * unit
 units_before unit a b less =
     let sum : (a + 1) * unit ≡ a * unit + unit = grind arith in
@@ -28,7 +28,7 @@ module _ (count step slots : ℕ) (are : AreLines count step slots) where
     pub have_slots : slots < 2 ^ 62 → HaveSlots (block_at count step block) slots
     have_slots few = record { few = short_lines count step slots _ are.apart block_ends few; apart = are.apart; fit = few; end = block_ends }
 
-    -- so do its nodes, which each line has in equal number
+    -- the nodes of a block end within the list; each line has equally many
     pub nodes_ends : (unit nodes : ℕ) → nodes ≡ slots / count * unit → block * (unit * step) + unit * step ≤ nodes
     nodes_ends unit nodes sized =
         omega (arith, units_before (unit * step) block (blocks count step slots are) (omega (arith, h, block_count)), nodes_are count step slots are unit nodes sized)
@@ -39,26 +39,26 @@ module _ (count step slots : ℕ) (are : AreLines count step slots) where
       end = nodes_ends (nodes_in_line count) nodes sized;
     }
 
--- the node of a line before a block lies before those of the block
+-- the node of a line before a block lies before the nodes of the block
 node_before : (count step line block meeting : ℕ) → 0 < step → line < block * step → 1 ≤ meeting → meeting < count
     → nth_node (line_at count step line) meeting < block * (nodes_in_line count * step)
 node_before count step line block meeting apart low one below =
     let ends = units_before (nodes_in_line count * step) (line / step) block (div_below line step block apart low) in
     omega (arith, units_before step (meeting - 1) (nodes_in_line count) (omega (arith, one, below)), ends, mod_below line step apart)
 
--- the first node of each line, if every line has this count of nodes
+-- the first node of a line, if every line has this count of nodes
 pub line_node_first : (unit line : ℕ) → line / 1 * (unit * 1) + line % 1 ≡ line * unit
 line_node_first unit line =
     let whole : line / 1 ≡ line = omega arith in
     let none : line % 1 ≡ 0 = omega arith in
     (λ i. whole i * (unit * 1) + none i) ∙ grind arith
 
--- and end
+-- the end of the nodes of a line
 pub line_nodes_end : (count line : ℕ) → nodes_end (line_at count 1 line) ≡ (line + 1) * nodes_in_line count
 line_nodes_end count line = ap (λ n. n + nodes_in_line count * 1) (line_node_first (nodes_in_line count) line) ∙ grind arith
 
 module _ {P : Type 0} (blank : P) (tells : P → List ℤ → Type 0) where
-  -- the nodes of one more block of lines
+  -- the nodes of one more block of lines are correct
   pub block_kept : (count step : ℕ) (slots : List ℤ) (now after : List P) (block : ℕ) → 0 < step
       → ((column : ℕ) → column < step → ArePartsKept tells count (slot_of (line_of (block_at count step block) column) slots) (node_of blank (line_of (block_at count step block) column) after))
       → ((p : ℕ) → (p < block * (nodes_in_line count * step) ⊎ block * (nodes_in_line count * step) + nodes_in_line count * step ≤ p) → get_or after p blank ≡ get_or now p blank)
@@ -77,7 +77,7 @@ module _ {P : Type 0} (blank : P) (tells : P → List ℤ → Type 0) where
         subst (λ l. ArePartsKept tells count (slot_of l slots) (node_of blank l after)) (sym lies) (here column below)
   ]
 
-  -- and of one more line whose numbers are neighbours
+  -- the nodes of one more contiguous line are correct
   pub line_kept : (count : ℕ) (slots : List ℤ) (now after : List P) (line : ℕ) → ArePartsKept tells count (slot_of (line_at count 1 line) slots) (node_of blank (line_at count 1 line) after)
       → ((p : ℕ) → p < line * nodes_in_line count → get_or after p blank ≡ get_or now p blank)
       → ((other : ℕ) → other < line → ArePartsKept tells count (slot_of (line_at count 1 other) slots) (node_of blank (line_at count 1 other) now))

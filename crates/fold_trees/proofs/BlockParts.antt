@@ -1,4 +1,4 @@
--- What is kept of the parts of each line of a block, from the last parts to the first.
+-- The nodes of each line of a block, from the last parts to the first.
 use Rattle.std.{proofs.Common.{◌≡◌, ◌≢◌, ◌∙◌, ℕ, zero, suc, ◌+◌, ◌-◌, ◌*◌, ◌/◌, ◌%◌, ◌^◌, ◌<◌, ◌≤◌, ◌⊎◌, min, List, get_or, ap, sym, subst, arith, inl, inr, ℤ}, proofs.lemmas.Nat.{pow_pos, mod-mul-add}, proofs.lemmas.Bool.{cases_lt}}
 use Rattle.fold_trees.{specs.declared.line.Line.{Line}, specs.LineTrees.{nth_node, slot_of, node_of, segment, ArePartsKeptIn}, specs.LineBlocks.{line_of, nodes_end, ArePartsKeptBehind, ArePartsKeptFrom}, proofs.Halves.{half_up, half_grows, half_doubled, half_or_same, half_times, meetings_apart, meeting_some}}
 use Rattle.fold_trees.{proofs.BlockRows.{row_away, nodes_within}, proofs.LineNodes.{told_at}}
@@ -59,7 +59,7 @@ rows_outside blank first meeting nodes after low high others p away = others p (
 -- ---- from one place to the one before it
 
 module _ {P : Type 0} (blank : P) (tells : P → List ℤ → Type 0) (from : ℕ) (first : Line) (slots : List ℤ) (nodes : List P) where
-  -- no wider part that begins there has a second half, or none does begin there
+  -- no wider part begins there, or none that does has a second half
   pub end_from : (half at : ℕ) → half ≡ 2 ^ at → (first.count ≤ from + half ⊎ from % (2 * half) ≢ 0) → ArePartsKeptBehind blank tells from half first slots nodes
       → ArePartsKeptFrom blank tells from first slots nodes
   end_from half at half_is last kept column below level place low inside = elim (cases_lt from (place * (2 * 2 ^ level))) [
@@ -103,7 +103,7 @@ kept_in_still tells from width count x m n same kept level place low high inside
 
 -- ---- the two halves of a part whose halves have nodes
 
--- a half that is not the least one is twice as wide as another
+-- a half of more than one number is twice as wide as another
 pub quarter : (half at : ℕ) → half ≡ 2 ^ at → half ≢ 1 → (low : ℕ) × (half ≡ 2 * 2 ^ low)
 quarter half zero is other = absurd (other is)
 quarter half (suc low) is other = (low, is ∙ half_up low)

@@ -2,9 +2,9 @@
 use Rattle.std.{proofs.Common.{◌≡◌, ◌≢◌, ◌∙◌, ℕ, ◌+◌, ◌-◌, ◌*◌, ◌<◌, ◌≤◌, ◌⊎◌, List, length, get_or, set, ap, sym, subst, arith, inl, inr}, proofs.lemmas.Nat.{mul-le}, proofs.lemmas.Bool.{cases_lt, cases_eq}, proofs.lemmas.List.{get_or-set_same, get_or-set_other, get_or_read}}
 use Rattle.fold_trees.{specs.declared.line.Line.{Line}, specs.LineTrees.{slot_at, nth_node, node_of, IsIn}, specs.LineBlocks.{line_of, HaveSlots, nodes_end, HaveNodes}}
 
--- ---- where they lie
+-- ---- the slots of rows
 
--- so many rows of a step
+-- a row of `step` items ends within all rows
 pub rows_end : (row rows step : ℕ) → row < rows → row * step + step ≤ rows * step
 rows_end row rows step below =
     let sum : (row + 1) * step ≡ row * step + step = grind arith in
@@ -14,18 +14,18 @@ rows_end row rows step below =
 pub slot_row : (first : Line) (slots place : ℕ) → HaveSlots first slots → place < first.count → slot_at first place + first.step ≤ slots
 slot_row first slots place has below = omega (arith, rows_end place first.count first.step below, has.end)
 
--- those of one line
+-- the slot of a place of one line
 pub line_slot : (first : Line) (column place : ℕ) → slot_at (line_of first column) place ≡ slot_at first place + column
 line_slot first column place = omega arith
 
 pub line_node : (first : Line) (column k : ℕ) → nth_node (line_of first column) k ≡ nth_node first k + column
 line_node first column k = omega arith
 
--- next row
+-- the slot of a place some rows later
 pub next_slot : (first : Line) (place more : ℕ) → slot_at first (place + more) ≡ slot_at first place + more * first.step
 next_slot first place more = let e : (place + more) * first.step ≡ place * first.step + more * first.step = grind arith in omega (arith, e)
 
--- the nodes of a meeting
+-- the nodes of a row lie in the list
 pub nodes_within : (first : Line) (meeting : ℕ) → 1 ≤ meeting → meeting < first.count → nth_node first meeting + first.step ≤ nodes_end first
 nodes_within first meeting low high = omega (arith, rows_end (meeting - 1) (first.count - 1) first.step (omega (arith, low, high)))
 
@@ -47,7 +47,7 @@ line_in first slots nodes column has have below = record {
   };
 }
 
--- nodes of other rows are outside a row
+-- nodes of other rows lie outside a row
 pub row_away : (first : Line) (column k m : ℕ) → column < first.step → 1 ≤ k → 1 ≤ m → k ≢ m
     → nth_node (line_of first column) k < nth_node first m ⊎ nth_node first m + first.step ≤ nth_node (line_of first column) k
 row_away first column k m below some one other =
@@ -59,7 +59,7 @@ row_away first column k m below some one other =
           inr (omega (arith, rows_end (m - 1) (k - 1) first.step (omega (arith, behind, other, one)), at))
     ]
 
--- in the same row and others, those of the lines from a column on are outside its first nodes
+-- in any row, the nodes of later columns lie outside the columns already written
 pub column_away : (first : Line) (column k a b : ℕ) → column < first.step → k ≤ column
     → nth_node (line_of first column) a < nth_node first b ⊎ nth_node first b + k ≤ nth_node (line_of first column) a
 column_away first column k a b below high =
@@ -73,7 +73,7 @@ column_away first column k a b below high =
 -- ---- one line after another
 
 module _ {P : Type 0} (blank : P) where
-  -- a node of a row is told, and those before it in the row still are
+  -- the node at a column of a row is correct, and so are those before it
   pub told_on : (Told : ℕ → P → Type 0) (at : ℕ → ℕ) (base : ℕ) → ((column : ℕ) → at column ≡ base + column) → (nodes : List P) (k here : ℕ) (s : P) → here ≡ base + k
       → here < length nodes → ((column : ℕ) → column < k → Told column (get_or nodes (at column) blank)) → Told k s
       → (column : ℕ) → column < k + 1 → Told column (get_or (set nodes here s) (at column) blank)
@@ -87,7 +87,7 @@ module _ {P : Type 0} (blank : P) where
         (told column (omega (arith, below, other)))
   ]
 
-  -- and the others stay
+  -- the other nodes stay
   pub others_on : (nodes before : List P) (base k here : ℕ) (s : P) → here ≡ base + k
       → ((p : ℕ) → (p < base ⊎ base + k ≤ p) → get_or nodes p blank ≡ get_or before p blank)
       → (p : ℕ) → (p < base ⊎ base + (k + 1) ≤ p) → get_or (set nodes here s) p blank ≡ get_or before p blank
@@ -101,14 +101,14 @@ module _ {P : Type 0} (blank : P) where
         | inr high ↦ inr (omega (arith, high))
       ])
 
-  -- so do the nodes of the next line in all rows
+  -- the nodes of the next line are the old ones in all rows
   pub still : (first : Line) (k b : ℕ) (nodes before : List P) → k < first.step
       → ((p : ℕ) → (p < nth_node first b ⊎ nth_node first b + k ≤ p) → get_or nodes p blank ≡ get_or before p blank)
       → (a base : ℕ) → base ≡ nth_node first a → get_or nodes (base + k) blank ≡ get_or before (nth_node (line_of first k) a) blank
   still first k b nodes before below others a base is =
       ap (λ p. get_or nodes p blank) (ap (λ n. n + k) is ∙ sym (line_node first k a)) ∙ others (nth_node (line_of first k) a) (column_away first k k a b below (omega arith))
 
--- what is read there is what lay there before
+-- a node that is read there is the old one
 pub read_before : {P : Type 0} (blank : P) (first : Line) (k b : ℕ) (nodes before : List P) → HaveNodes first (length before) → length nodes ≡ length before
     → k < first.step → ((p : ℕ) → (p < nth_node first b ⊎ nth_node first b + k ≤ p) → get_or nodes p blank ≡ get_or before p blank)
     → (a base : ℕ) (v : P) → 1 ≤ a → a < first.count → base ≡ nth_node first a → v ≡ get_or nodes (base + k) v → v ≡ node_of blank (line_of first k) before a

@@ -1,4 +1,4 @@
--- The least and the greatest of numbers of 64 bits, and of one more.
+-- The least and the greatest of 64-bit numbers, and of one more.
 use Rattle.std.{proofs.Common.{◌≡◌, refl, sym, arith, Bool, true, false, ◌&&◌, ℤ, ◌≤ℤ◌}, specs.Int.{int_max, int_min}, proofs.lemmas.Int.{ints, clamps}, proofs.lemmas.Bool.{and_from, and_parts}}
 use Rattle.item_fns.{specs.Numbers.{is_number}, proofs.Within.{in_64_bits, is_in_64_bits}}
 
@@ -8,7 +8,7 @@ same_test true false f g = sym (f refl)
 same_test false true f g = g refl
 same_test false false f g = refl
 
--- with one more product all are within 64 bits where those before are, and it is
+-- with one more product all are within 64 bits if and only if the earlier ones are, and the new one is
 pub one_more : (low high z : ℤ) → low ≤ℤ high → (is_number (int_min low z) && is_number (int_max high z)) ≡ ((is_number low && is_number high) && is_number z)
 one_more low high z h = same_test _ _ there back
   where

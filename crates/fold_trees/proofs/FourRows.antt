@@ -1,8 +1,8 @@
--- The nodes of four numbers of a line of a block are set.
+-- The nodes of four numbers of a line of a block are written.
 use Rattle.std.{proofs.Common.{◌≡◌, ◌≢◌, ◌∙◌, ℕ, ℤ, List, ◌+◌, ◌-◌, ◌*◌, ◌<◌, ◌≤◌, ◌⊎◌, length, get_or, set, ap, sym, subst, arith, inl, inr}, proofs.lemmas.Bool.{cases_eq}, proofs.lemmas.List.{length-set, get_or-set_same, get_or-set_other}, proofs.lemmas.Nat.{same_from_place}}
 use Rattle.fold_trees.{specs.declared.line.Line.{Line}, specs.LineTrees.{nth_node, slot_of, segment, node_of, AreFourKept}, specs.LineBlocks.{line_of}, proofs.BlockRows.{line_node}}
 
--- the node of a row that follows by a number of rows
+-- the node some rows later
 pub later_row : (first : Line) (from more : ℕ) → nth_node first (from + (more + 1)) ≡ nth_node first (from + 1) + more * first.step
 later_row first from more =
     let here = ap (λ n. n * first.step) (let e : from + 1 - 1 ≡ from = omega arith in e) in
@@ -36,7 +36,7 @@ module _ {P : Type 0} (blank : P) (first : Line) (from k here : ℕ) (nodes : Li
         | inr high ↦ omega (arith, high, later_row first from 2, within.1, e)
       ]
 
-  -- those of this line
+  -- the node of this line is the new one
   first_set : node_of blank (line_of first k) with_four (from + 1) ≡ a
   first_set =
       ap (λ p. get_or with_four p blank) (line_node first k (from + 1) ∙ sym here_is)
@@ -56,7 +56,7 @@ module _ {P : Type 0} (blank : P) (first : Line) (from k here : ℕ) (nodes : Li
       ∙ get_or-set_same (set (set nodes here a) (here + first.step) b) (here + 2 * first.step) d blank
       (omega (arith, fits, length-set nodes here a, length-set (set nodes here a) (here + first.step) b))
 
-  -- and of another one
+  -- the node of another line is a different one
   apart : (column m more q : ℕ) → column < first.step → column ≢ k → q ≡ here + more * first.step → nth_node (line_of first column) m ≢ q
   apart column m more q inside other is e =
       let less = ap (λ n. n * first.step) (let e : from + 1 - 1 ≡ from = omega arith in e) in

@@ -29,9 +29,9 @@ module _ {P : Type 0} (tells : P → List ℤ → Type 0) (from count : ℕ) (x 
           let no : ⊥ = omega (arith, pow_pos more, power, low, high) in
           absurd no
 
--- ---- behind those that a line whose numbers are neighbours has before
+-- ---- appended to the nodes of a contiguous line
 
--- where they are kept and the nodes before stay
+-- the earlier nodes stay correct, and the new ones are
 pub four_more : {P : Type 0} (tells : P → List ℤ → Type 0) (from count : ℕ) (x : ℕ → ℤ) (m n : ℕ → P) → from % 4 ≡ 0 → from + 4 ≤ count → ((meeting : ℕ) → 1 ≤ meeting → meeting < from + 1 → n meeting ≡ m meeting)
     → AreFourKept tells x n from → ArePartsKeptIn tells 0 from count x m → ArePartsKeptUpTo tells (from + 4) 4 count x n
 four_more tells from count x m n four full same told kept level place which inside = elim (cases_lt from (place * (2 * 2 ^ level) + 2 * 2 ^ level)) [
@@ -59,17 +59,17 @@ four_more tells from count x m n four full same told kept level place which insi
       | inr here ↦ omega (arith, here.0, here.1)
     ]
 
--- ---- before those of each line of a block
+-- ---- written in front of the nodes of each line of a block
 
 module _ {P : Type 0} (blank : P) (tells : P → List ℤ → Type 0) (from : ℕ) (first : Line) (slots : List ℤ) (nodes : List P) (four : from % 4 ≡ 0) (kept : ArePartsKeptFrom blank tells (from + 4) first slots nodes) where
-  -- a part that begins at a place before the fourth one behind, which is wider than two, begins here
+  -- a part wider than two that begins fewer than four places further begins here
   narrow : (level place : ℕ) → place * (2 * 2 ^ suc level) < from + 4 → from ≤ place * (2 * 2 ^ suc level) → place * (2 * 2 ^ suc level) ≡ from
   narrow level place below low =
       let power : 2 ^ suc level ≡ 2 * 2 ^ level = grind arith in
       let e : place * (2 * 2 ^ suc level) ≡ 4 * (place * 2 ^ level) = ap (λ u. place * (2 * u)) power ∙ grind arith in
       omega (arith, e, below, low, four)
 
-  -- else they are kept, and the nodes behind stay
+  -- other parts stay correct, and the later nodes stay
   pub four_before : (after : List P) → from + 4 ≤ first.count
       → ((p : ℕ) → (p < nth_node first (from + 1) ⊎ nth_node first (from + 3) + first.step ≤ p) → get_or after p blank ≡ get_or nodes p blank)
       → ((column : ℕ) → column < first.step → AreFourKept tells (slot_of (line_of first column) slots) (node_of blank (line_of first column) after) from)

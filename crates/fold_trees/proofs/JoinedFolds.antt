@@ -1,9 +1,9 @@
--- The fold of a list and of a later one after it, by an associative function.
+-- The fold of a list and a later one, by an associative function.
 use Rattle.std.proofs.Common.{◌≡◌, ◌<◌, List, [], ◌∷◌, ◌++◌, length, refl, ap, ◌∙◌, arith, ℤ, Result, Ok, Err}
 use Rattle.{arrays_core.{specs.declared.item.Kind.{Kind}, specs.Items.{and_then}}, item_fns.specs.Folds.{folded, IsAssociative}}
 
 module _ (f : ℤ → ℤ → Result ℤ Kind) (law : IsAssociative f) where
-  -- what the folds of both give
+  -- the function of the folds of both, or the error of one
   abbrev pub both : Result ℤ Kind → Result ℤ Kind → Result ℤ Kind
   both earlier later = and_then later (λ b. and_then earlier (λ a. f a b))
 

@@ -1,4 +1,4 @@
--- The products of endings join as their lists do, and so does what is kept of them.
+-- Suffix products join as their lists do, and so do their parts.
 use Rattle.std.{proofs.Common.{◌≡◌, ap, sym, subst, ◌∙◌, arith, inl, inr, List, [], ◌∷◌, ◌++◌, ◌^◌, ◌≤◌, ℤ, pos, ◌*ℤ◌, ◌⊎◌}, specs.Int.{int_min, int_max}, proofs.lemmas.Int.{ints, clamps, by_lt_z}}
 use Rattle.item_fns.proofs.Products.{times_assoc}
 use Rattle.fold_trees.{specs.declared.product.Product.{Product}, specs.Products.{Products, products_of_none, before, products_of, joined_products, AreOrdered, AreFar, kept_products, TellsProducts}, proofs.Multiples.{between, bounds_times, stretched}}
@@ -6,7 +6,7 @@ use Rattle.fold_trees.{specs.declared.product.Product.{Product}, specs.Products.
 pub products_eq : (a b : Products) → a.total ≡ b.total → a.least ≡ b.least → a.greatest ≡ b.greatest → a ≡ b
 products_eq a b e f g = λ i. record { total = e i; least = f i; greatest = g i }
 
--- a part tells the products that it keeps
+-- a part stands for the values that it stores
 pub tells_same : (s : Product) (m : Products) → AreOrdered m → (kept_products s).total ≡ m.total → (kept_products s).least ≡ m.least → (kept_products s).greatest ≡ m.greatest
     → s.below ≤ 2 ^ 63 → s.above ≤ 2 ^ 63 → TellsProducts s m
 tells_same s m ordered e f g below above =
@@ -52,7 +52,7 @@ pub products_append : (xs ys : List ℤ) → products_of (xs ++ ys) ≡ joined_p
 products_append [] ys = sym (none_join (products_of ys) (ordered_of ys))
 products_append (z ∷ xs) ys = ap (before z) (products_append xs ys) ∙ before_join z (products_of xs) (products_of ys) (ordered_of xs)
 
--- ---- products that are too far from 0 stay so, unless they are made 0
+-- ---- products that are too far from 0 stay too far, unless multiplied by 0
 
 pub far_behind : (a b : Products) → AreFar b → AreFar (joined_products a b)
 far_behind a b h =
@@ -77,7 +77,7 @@ is_zero_or_not : (z : ℤ) → (z ≡ pos 0) ⊎ (z ≡ pos 0 → ⊥)
 is_zero_or_not z = by_lt_z z (pos 0) (λ h. inr (λ e. omega (arith, ints)))
     (λ h. by_lt_z (pos 0) z (λ k. inr (λ e. omega (arith, ints))) (λ k. inl (omega (arith, ints))))
 
--- what tells the join of what two tell, tells that of their products
+-- a part of the join of two stored values is a part of the join of the lists
 pub tells_join : (a b s : Product) (m n : Products) → TellsProducts a m → TellsProducts b n → TellsProducts s (joined_products (kept_products a) (kept_products b)) → TellsProducts s (joined_products m n)
 tells_join a b s m n h k j = record {
   ordered = ordered_join m n h.ordered k.ordered;
@@ -112,7 +112,7 @@ tells_join a b s m n h k j = record {
       | inr both ↦ both.1
     ]
 
--- what is far behind a list is kept as it is
+-- a far part also stands for any list that ends with its own
 told_far : (b : Product) → (b.below ≡ 2 ^ 63) × (b.above ≡ 2 ^ 63) → AreFar (kept_products b)
 told_far b h =
     record { as_they_are = omega (arith, ints, clamps); negated = omega (arith, ints, clamps) }

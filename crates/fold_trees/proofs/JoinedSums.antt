@@ -1,4 +1,4 @@
--- The sums of endings join as their lists do, and so does what is kept of them.
+-- Suffix sums join as their lists do, and so do their parts.
 use Rattle.std.{proofs.Common.{◌≡◌, ap, sym, subst, ◌∙◌, arith, inl, inr, List, [], ◌∷◌, ◌++◌, ℤ}, proofs.lemmas.Int.{ints, clamps}}
 use Rattle.fold_trees.{specs.declared.summary.Summary.{Summary}, specs.Sums.{Sums, sums_of_none, sums_of, single, join, IsOrdered, told_sums, IsFar, IsSummaryOf}}
 
@@ -34,14 +34,14 @@ ordered_single z = record {
 pub ordered_none : IsOrdered sums_of_none
 ordered_none = record { least_total = omega (arith, ints); total_greatest = omega (arith, ints); least_zero = omega (arith, ints); zero_greatest = omega (arith, ints) }
 
--- sums that are too far apart stay so
+-- a range that is too wide stays too wide
 pub far_before : (a b : Sums) → IsFar a → IsFar (join a b)
 far_before a b h = omega (arith, ints, clamps)
 
 pub far_behind : (a b : Sums) → IsFar b → IsFar (join a b)
 far_behind a b h = omega (arith, ints, clamps)
 
--- what tells the join of what two tell, tells that of their sums
+-- a part of the join of two stored values is a part of the join of the lists
 pub tells_join : (a b s : Summary) (m n : Sums) → IsSummaryOf a m → IsSummaryOf b n → IsSummaryOf s (join (told_sums a) (told_sums b)) → IsSummaryOf s (join m n)
 tells_join a b s m n h k j = record {
   ordered = ordered_join m n h.ordered k.ordered;
@@ -64,13 +64,13 @@ tells_join a b s m n h k j = record {
       | inr both ↦ both.1
     ]
 
--- ---- those of a list
+-- ---- the sums of a list
 
 pub ordered_of : (xs : List ℤ) → IsOrdered (sums_of xs)
 ordered_of [] = ordered_none
 ordered_of (z ∷ rest) = ordered_join (single z) (sums_of rest) (ordered_single z) (ordered_of rest)
 
--- those of one list after another
+-- the sums of two lists joined
 pub sums_append : (xs ys : List ℤ) → sums_of (xs ++ ys) ≡ join (sums_of xs) (sums_of ys)
 sums_append [] ys = sym (none_join (sums_of ys) (ordered_of ys))
 sums_append (z ∷ rest) ys = ap (join (single z)) (sums_append rest ys) ∙ sym (join_assoc (single z) (sums_of rest) (sums_of ys))

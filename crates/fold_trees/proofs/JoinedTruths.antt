@@ -1,10 +1,10 @@
--- The fold of a list of truth values and of a later one after it.
+-- The fold of a list of truth values and a later one.
 use Rattle.std.{proofs.Common.{◌≡◌, ◌<◌, List, [], ◌∷◌, ◌++◌, length, refl, ap, sym, ◌∙◌, arith, inl, inr, ℤ, pos, Bool, Result, Ok, Err, ◌⊎◌}, specs.Prelude.{IfOk, IfErr}, proofs.lemmas.List.{length-append}}
 use Rattle.arrays_core.{specs.declared.item.Kind.{Kind}, specs.declared.item.Kind.TheVariants.{Domain}, specs.Items.{and_then}}
 use Rattle.item_fns.{specs.Numbers.{as_truth, truth, on_truths, logical}, specs.Folds.{folded, IsAssociative}, proofs.Associative.{is_truth, domain_truth}}
 use Rattle.fold_trees.{specs.Parts.{truth_value}, proofs.JoinedFolds.{both, joined}}
 
--- the fold of a list is this number, or the truth value that it is
+-- the fold of a list is this number, or its truth value
 abbrev pub IsSo : Result ℤ Kind → ℤ → Type 0
 IsSo r a = (r ≡ Ok a) ⊎ (r ≡ truth_value a)
 
@@ -59,7 +59,7 @@ module _ (g : Bool → Bool → Bool) (law : IsAssociative (logical g)) where
   kept (Ok p) (Err k) r h i good bad = no_truth r k bad (i k refl)
   kept (Err k) q r h i good bad = no_truth r k bad (h k refl)
 
-  -- it is the one number of a list, or the fold of more numbers, as `IsTruthFold`
+  -- z is the single number of a list, or the fold of several, as in `IsTruthFold`
   abbrev pub IsTruthKept : ℤ → List ℤ → Type 0
   IsTruthKept z xs = (xs ≡ z ∷ []) ⊎ ((1 < length xs) × (folded (logical g) xs ≡ truth_value z))
 
@@ -75,7 +75,7 @@ module _ (g : Bool → Bool → Bool) (law : IsAssociative (logical g)) where
     | inr more ↦ inr more.1
   ]
 
-  -- what is given for two numbers, or no truth value in place of an error, is kept of both
+  -- the result for two parts, with an error replaced, is the part of both
   pub joined_truths : (xs ys : List ℤ) (a b r : ℤ) {left right result : ℤ} → left ≡ a → right ≡ b → r ≡ result
       → IfOk (logical g left right) (λ z. result ≡ z) → IfErr (logical g left right) (λ k. result ≡ pos 2)
       → IsTruthKept a xs → IsTruthKept b ys → IsTruthKept r (xs ++ ys)

@@ -1,9 +1,9 @@
--- What is kept of the parts of a line, from the first parts to the last.
+-- The nodes of a line, from the first parts to the last.
 use Rattle.std.{proofs.Common.{◌≡◌, ◌≢◌, ◌∙◌, ℕ, zero, suc, ◌+◌, ◌-◌, ◌*◌, ◌/◌, ◌%◌, ◌^◌, ◌<◌, ◌≤◌, ◌⊎◌, ◌++◌, min, List, length, set, ap, sym, subst, arith, inl, inr, ℤ}, proofs.lemmas.Nat.{pow_pos, mod-mul-add, div-add-mod'}, proofs.lemmas.Bool.{cases_lt}}
 use Rattle.fold_trees.{specs.declared.line.Line.{Line}, specs.LineTrees.{slot_at, nth_node, node_of, segment, IsKept, ArePartsKeptIn, ArePartsKeptBeside, ArePartsKeptUpTo}, proofs.Segments.{segment_split}, proofs.Halves.{half_up, half_grows, half_or_same, half_times, meetings_apart, meeting_some}}
 use Rattle.fold_trees.proofs.LineNodes.{node_here, node_other, told_at}
 
--- ---- where the slots and the nodes of a line lie whose numbers are neighbours
+-- ---- the slots and the nodes of a contiguous line
 
 pub near_slot : (l : Line) (place : ℕ) → l.step ≡ 1 → slot_at l place ≡ l.slot + place
 near_slot l place near = ap (λ s. l.slot + place * s) near ∙ omega arith
@@ -95,7 +95,7 @@ module _ {P : Type 0} (blank : P) (tells : P → List ℤ → Type 0) (l : Line)
     ]
 
 module _ {P : Type 0} (tells : P → List ℤ → Type 0) where
-  -- where no wider part ends there
+  -- where no wider part ends there, all parts within are correct
   pub kept_within : (end half low count : ℕ) (x : ℕ → ℤ) (node : ℕ → P) → half ≡ 2 * 2 ^ low → end % (2 * half) ≢ 0 → ArePartsKeptUpTo tells end half count x node → ArePartsKeptIn tells 0 end count x node
   kept_within end half low count x node half_is uneven kept level place first last inside = elim (cases_lt (place * (2 * 2 ^ level) + 2 * 2 ^ level) end) [
     | inl before ↦ kept level place (inl before) inside
@@ -122,7 +122,7 @@ module _ {P : Type 0} (tells : P → List ℤ → Type 0) where
 
   -- ---- the next part of two numbers
 
-  -- it is kept, and the nodes of the parts before stay
+  -- the next node is correct, and the nodes of earlier parts stay
   pub least_more : (from count : ℕ) (x : ℕ → ℤ) (m n : ℕ → P) → from % 2 ≡ 0 → from + 2 ≤ count
       → ((meeting : ℕ) → 1 ≤ meeting → meeting < from + 1 → n meeting ≡ m meeting) → tells (n (from + 1)) (segment x from 2)
       → ArePartsKeptIn tells 0 from count x m → ArePartsKeptUpTo tells (from + 2) 2 count x n
@@ -145,7 +145,7 @@ module _ {P : Type 0} (tells : P → List ℤ → Type 0) where
           let no : ⊥ = omega (arith, half_up more, pow_pos more, few) in
           absurd no
 
-  -- once the last part of two numbers before the last number is done, all are kept that this number is not in; further nodes change nothing
+  -- after the last pair before the last number, all parts without that number are correct; further nodes change nothing
   pub kept_beside_last : (done count : ℕ) (x : ℕ → ℤ) (m n : ℕ → P) → 0 < count → done % 2 ≡ 0 → count - 1 < done + 2
       → ((meeting : ℕ) → 1 ≤ meeting → meeting < done → n meeting ≡ m meeting) → ArePartsKeptIn tells 0 done count x m → ArePartsKeptBeside tells (count - 1) count x n
   kept_beside_last done count x m n some whole last same kept level place which inside = elim which [

@@ -1,15 +1,15 @@
--- What is kept of the parts of a line, while it is joined anew.
+-- The nodes of a line, while the parts of a place are rewritten.
 use Rattle.std.{proofs.Common.{◌≡◌, ◌≢◌, ◌∙◌, ℕ, ◌+◌, ◌-◌, ◌*◌, ◌/◌, ◌%◌, ◌^◌, ◌<◌, ◌≤◌, ◌⊎◌, min, List, length, get_or, set, ap, sym, subst, arith, inl, inr, ℤ}, proofs.lemmas.Nat.{pow_pos}, proofs.lemmas.Bool.{cases_lt, cases_eq}, proofs.lemmas.List.{get_or-set_same, get_or-set_other}}
 use Rattle.fold_trees.{specs.declared.line.Line.{Line}, specs.LineTrees.{nth_node, node_of, segment, numbers_of_block, IsKept, ArePartsKept, ArePartsKeptIn, ArePartsKeptBeside, other_half}, proofs.LineParts.{IsClimb, climb_up, odd_block, even_block}, proofs.Segments.{segment_same}}
 use Rattle.fold_trees.proofs.Halves.{steps_apart, half_grows, half_doubled, half_below, meetings_apart, meeting_some}
 
--- for the parts that a place is not in, and for those that are not wider than this
+-- the nodes of the parts without the place, and of all parts up to a width, are correct
 abbrev pub AreKeptTo : {P : Type 0} → (P → List ℤ → Type 0) → (width at count : ℕ) → (ℕ → ℤ) → (ℕ → P) → Type 0
 AreKeptTo tells width at count x node = (level place : ℕ) → (2 * 2 ^ level ≤ width ⊎ (at < place * (2 * 2 ^ level) ⊎ place * (2 * 2 ^ level) + 2 * 2 ^ level ≤ at))
     → IsKept tells count x node (place * (2 * 2 ^ level)) (2 ^ level)
 
 module _ {P : Type 0} (blank : P) (l : Line) (nodes : List P) where
-  -- another node
+  -- a node that was set is the new one
   pub node_here : (k : ℕ) (s : P) → nth_node l k < length nodes → get_or (set nodes (nth_node l k) s) (nth_node l k) blank ≡ s
   node_here k s h = get_or-set_same nodes (nth_node l k) s blank h
 
@@ -20,19 +20,19 @@ module _ {P : Type 0} (blank : P) (l : Line) (nodes : List P) where
 
 -- ---- a step up from a place
 
--- what is kept after a step: that of the wider part where the two halves of it meet, or nothing new where there is no second half
+-- after a step the node of the wider part is the new one; without a second half nothing changes
 abbrev pub IsStepUp : {P : Type 0} → (l : Line) (nodes after : List P) (block width : ℕ) → P → Type 0
 IsStepUp l nodes after block width s =
     (after ≡ set nodes (nth_node l ((block / 2 * 2 + 1) * width)) s × nth_node l ((block / 2 * 2 + 1) * width) < length nodes × (block / 2 * 2 + 1) * width < l.count)
     ⊎ (after ≡ nodes × block % 2 ≡ 0 × l.count ≤ block * width + width)
 
--- the halves meet at no first place
+-- the halves never meet at place 0
 pub some_meeting : (block width level : ℕ) → width ≡ 2 ^ level → 1 ≤ (block / 2 * 2 + 1) * width
 some_meeting block width level is =
     let all : (block / 2 * 2 + 1) * width ≡ 2 * (block / 2 * width) + width = grind arith in
     omega (arith, all, pow_pos level, is)
 
--- another node takes the place of one, or none does
+-- a step replaces at most one node of the line
 pub others_stay : {P : Type 0} (blank : P) (l : Line) (nodes after before : List P) (block width : ℕ) (s : P) → IsStepUp l nodes after block width s → 1 ≤ (block / 2 * 2 + 1) * width
     → ((p : ℕ) → ((meeting : ℕ) → 1 ≤ meeting → meeting < l.count → p ≢ nth_node l meeting) → get_or nodes p blank ≡ get_or before p blank)
     → (p : ℕ) → ((meeting : ℕ) → 1 ≤ meeting → meeting < l.count → p ≢ nth_node l meeting) → get_or after p blank ≡ get_or before p blank
@@ -94,7 +94,7 @@ module _ {P : Type 0} (blank : P) (tells : P → List ℤ → Type 0) (l : Line)
       meets : meeting ≡ place * (2 * unit) + unit
       meets = (λ i. (sym f i * 2 + 1) * w i) ∙ grind arith
 
-  -- a part of the same width elsewhere has not the place
+  -- another part of the same width does not contain the place
   elsewhere : (level place : ℕ) → level ≡ top → place ≢ block / 2 → at < place * (2 * 2 ^ level) ⊎ place * (2 * 2 ^ level) + 2 * 2 ^ level ≤ at
   elsewhere level place e other = elim (cases_lt place (block / 2)) [
     | inl less ↦
@@ -121,7 +121,7 @@ module _ {P : Type 0} (blank : P) (tells : P → List ℤ → Type 0) (l : Line)
       start : block / 2 * (2 * width) ≡ block / 2 * (2 * unit)
       start = ap (λ k. block / 2 * (2 * k)) w
 
-  -- a part that is not wider than the step's, and of another width, is not wider than its half
+  -- a part at most as wide as the step, and of another width, is at most as wide as its half
   narrower : (level : ℕ) → level ≢ top → 2 * 2 ^ level ≤ 2 * width → 2 * 2 ^ level ≤ width
   narrower level differ few = elim (cases_lt level top) [
     | inl less ↦ omega (arith, half_doubled level top less, width_is)
@@ -152,7 +152,7 @@ module _ {P : Type 0} (blank : P) (tells : P → List ℤ → Type 0) (l : Line)
   ]
 
 module _ {P : Type 0} (tells : P → List ℤ → Type 0) where
-  -- the node of a part that the line holds whole tells its numbers
+  -- the node of a part that lies wholly on the line stands for its numbers
   pub told_at : (count half low : ℕ) (x : ℕ → ℤ) (node : ℕ → P) → half ≡ 2 * 2 ^ low → (start place : ℕ) → start ≡ place * (2 * 2 ^ low) → start + half ≤ count
       → IsKept tells count x node (place * (2 * 2 ^ low)) (2 ^ low) → tells (node (start + half / 2)) (segment x start half)
   told_at count half low x node half_is start place is ends this =
@@ -160,19 +160,19 @@ module _ {P : Type 0} (tells : P → List ℤ → Type 0) where
       subst (λ m. tells (node m) (segment x start half)) (omega (arith, is, half_is))
       (subst (tells (node (place * (2 * 2 ^ low) + 2 ^ low))) (λ i. segment x (sym is i) (long i)) (this (omega (arith, is, half_is, ends, pow_pos low))))
 
-  -- before the way up
+  -- before the first step
   pub kept_first : (at count : ℕ) (x : ℕ → ℤ) (node : ℕ → P) → ArePartsKeptBeside tells at count x node → AreKeptTo tells 1 at count x node
   kept_first at count x node kept level place where_it_is = kept level place (elim where_it_is [
     | inl few ↦ let no : ⊥ = omega (arith, few, half_grows 0 level (omega arith), pow_pos 0) in absurd no
     | inr beside ↦ beside
   ])
 
-  -- at the end of the way up all is kept
+  -- after the last step all nodes are correct
   pub all_kept : (width at count top : ℕ) (x : ℕ → ℤ) (node : ℕ → P) → width ≡ 2 ^ top → count ≤ width → AreKeptTo tells width at count x node → ArePartsKept tells count x node
   all_kept width at count top x node is wide kept level place inside =
       kept level place (inl (omega (arith, half_doubled level top (half_below level top (omega (arith, is, wide, inside))), is))) inside
 
-  -- the parts of the other half have not the place
+  -- the parts of the other half do not contain the place
   pub kept_beside : (width at block count : ℕ) (x : ℕ → ℤ) (node : ℕ → P) → IsClimb at block width → AreKeptTo tells width at count x node
       → ArePartsKeptIn tells (other_half block * width) width count x node
   kept_beside width at block count x node climb kept level place low high = kept level place (inr beside)
@@ -183,7 +183,7 @@ module _ {P : Type 0} (tells : P → List ℤ → Type 0) where
         | inr odd ↦ let is : block % 2 ≡ 1 = omega (arith, odd) in let a = odd_block block width is in inr (omega (arith, a.0, a.1, high, climb.low))
       ]
 
-  -- what is kept beside a place, where another number lies there
+  -- with another number at a place, the nodes of the parts without it stay correct
   pub kept_replaced : (at count : ℕ) (x y : ℕ → ℤ) (node : ℕ → P) → ((i : ℕ) → i < count → i ≢ at → y i ≡ x i) → ArePartsKept tells count x node
       → ArePartsKeptBeside tells at count y node
   kept_replaced at count x y node stays kept level place beside inside =
@@ -197,7 +197,7 @@ module _ {P : Type 0} (tells : P → List ℤ → Type 0) where
       sym (stays i (omega (arith, low, high)) apart)) in
       subst (tells (node (from + half))) same (kept level place inside)
 
-  -- where the numbers and the nodes of a line stay, what is kept of its parts does
+  -- where the numbers and the nodes of a line stay, the nodes stay correct
   pub kept_alike : (count : ℕ) (x y : ℕ → ℤ) (m n : ℕ → P) → ((i : ℕ) → i < count → y i ≡ x i)
       → ((meeting : ℕ) → 1 ≤ meeting → meeting < count → n meeting ≡ m meeting) → ArePartsKept tells count x m → ArePartsKept tells count y n
   kept_alike count x y m n same nodes kept level place inside =

@@ -1,10 +1,10 @@
--- Parts of a line of numbers: where they begin, and the way up from a place.
+-- The parts of a line of numbers, and the steps from a place to the whole line.
 use Rattle.std.{proofs.Common.{◌≡◌, ◌≢◌, ◌∙◌, ℕ, ℤ, zero, suc, ◌+◌, ◌-◌, ◌*◌, ◌/◌, ◌%◌, ◌^◌, ◌<◌, ◌≤◌, ◌++◌, ◌∷◌, [], List, ◌⊎◌, min, refl, ap, sym, subst, arith, inl, inr}, specs.Int.{IsNextPowerOfTwo}, proofs.lemmas.Bool.{cases_lt, cases_eq, eq-eqb, ne_eqb, cond-true, cond-false}}
 use Rattle.fold_trees.{specs.LineTrees.{IsPart, other_half, AreSameIn, replaced, segment, numbers_of_block}, proofs.Halves.{half_up, half_grows, half_doubled, half_below, half_times}, proofs.Segments.{segment_split}}
 
--- ---- where a part begins
+-- ---- the beginning of a part
 
--- the least part that has so many numbers, where they are the first of a part
+-- the least part with this many numbers, at the beginning of a part
 pub record IsLeast (from width long p : ℕ) : Type 0 where
   pub level : ℕ
   pub place : ℕ
@@ -33,7 +33,7 @@ half_level (suc less) p is some = let double : 2 ^ suc less ≡ 2 * 2 ^ less = g
 
 -- ---- a part and the one twice as wide
 
--- where it begins
+-- the beginning of the wider part
 pub odd_block : (block width : ℕ) → block % 2 ≡ 1 → (block * width ≡ 2 * (block / 2 * width) + width) × (other_half block * width ≡ 2 * (block / 2 * width)) × (block / 2 * (2 * width) ≡ 2 * (block / 2 * width))
 odd_block block width odd =
     let half = block / 2 in
@@ -83,9 +83,9 @@ module _ (count : ℕ) (x : ℕ → ℤ) (block width : ℕ) where
       let all : min width (count - block * width) ≡ min (2 * width) (count - start) = omega (arith, at.0, at.2, some, last) in
       λ i. segment x (first i) (all i)
 
--- ---- the way up from a place
+-- ---- the steps from a place to the whole line
 
--- so far up: the block of the place
+-- the block of the place at this step
 pub record IsClimb (place block width : ℕ) : Type 0 where
   pub level : ℕ
   pub width_is : width ≡ 2 ^ level
@@ -110,7 +110,7 @@ pub level_up : (place block width : ℕ) (climb : IsClimb place block width) →
 unfolding climb_up
 level_up place block width climb = refl
 
--- at its end the block is the whole line
+-- at the last step the block is the whole line
 pub climb_end : (count place block width : ℕ) → IsClimb place block width → place < count → count ≤ width → block ≡ 0
 climb_end count place zero width climb h wide = refl
 climb_end count place (suc block) width climb h wide =
@@ -118,11 +118,11 @@ climb_end count place (suc block) width climb h wide =
     let no : ⊥ = omega (arith, more, climb.low, h, wide) in
     absurd no
 
--- as many levels as the count less one has binary digits
+-- there are at most as many levels as the count less one has binary digits
 pub levels_within : (level digits count : ℕ) → 2 ^ level < 2 * count → count - 1 < 2 ^ digits → level ≤ digits
 levels_within level digits count few enough = omega (arith, half_below level (suc digits) (omega (arith, few, enough, half_up digits)))
 
--- the block of a place alone
+-- the block of the place alone
 pub told_place : {P : Type 0} (tells : P → List ℤ → Type 0) (count place : ℕ) (x : ℕ → ℤ) (s : P) (z : ℤ) → place < count → z ≡ x place → tells s (z ∷ [])
     → tells s (numbers_of_block count x place 1)
 told_place tells count place x s z inside is told =
@@ -130,7 +130,7 @@ told_place tells count place x s z inside is told =
     let one : min 1 (count - place * 1) ≡ 1 = omega (arith, inside) in
     subst (tells s) (ap (λ y. y ∷ []) is ∙ sym (λ i. segment x (start i) (one i))) told
 
--- at the end of the way the block has all numbers
+-- at the last step the block has all numbers
 pub told_all : {P : Type 0} (tells : P → List ℤ → Type 0) (count place block width : ℕ) (x : ℕ → ℤ) (s : P) → IsClimb place block width → place < count → count ≤ width
     → tells s (numbers_of_block count x block width) → tells s (segment x 0 count)
 told_all tells count place block width x s climb inside wide told =
@@ -138,7 +138,7 @@ told_all tells count place block width x s climb inside wide told =
     let all : min width (count - block * width) ≡ count = omega (arith, start, wide) in
     subst (tells s) (λ i. segment x (start i) (all i)) told
 
--- a block that no join made has one place, or the line ends with it
+-- a block without a join has one place, or the line ends with it
 pub alone_up : (count place block width : ℕ) → (block * width ≡ place) × (width ≡ 1 ⊎ count ≤ place + 1) → (block % 2 ≡ 0) × (count ≤ block * width + width)
     → (block / 2 * (2 * width) ≡ place) × (2 * width ≡ 1 ⊎ count ≤ place + 1)
 alone_up count place block width nothing alone =

@@ -1,12 +1,12 @@
--- Where the slots and the nodes of different lines lie.
+-- The slots and the nodes of different lines.
 use Rattle.std.{proofs.Common.{◌≡◌, ◌≢◌, ◌∙◌, ℕ, ◌+◌, ◌-◌, ◌*◌, ◌/◌, ◌%◌, ◌^◌, ◌<◌, ◌≤◌, sym, ap, arith}, proofs.lemmas.Nat.{div-add-mod', div-mul-add, same_from_place, mul-add-lt, div_below, mod_below, mul-le}}
 use Rattle.fold_trees.{specs.LineTrees.{nth_node, HasSlots, IsIn, nodes_in_line}, specs.PartTrees.{AreLines}, specs.LineBlocks.{line_at}}
 
--- the spot of a place of a line among lines that have so many each
+-- the spot of a place of a line, among lines with `unit` places each
 abbrev pub spot : (unit step line place : ℕ) → ℕ
 spot unit step line place = line / step * (unit * step) + line % step + place * step
 
--- as a place in a grid
+-- the spot as a place of a grid
 pub spot_is : (unit step line place : ℕ) → spot unit step line place ≡ (line / step * unit + place) * step + line % step
 spot_is unit step line place = grind arith
 
@@ -30,7 +30,7 @@ short_lines count step slots before apart ends few =
     omega (arith, ends, mul-le count 1 count step (omega arith) (omega (arith, apart)), few)
 
 module _ (count step slots : ℕ) (are : AreLines count step slots) where
-  -- how many blocks of as many lines as the step there are
+  -- the number of blocks of lines
   pub blocks : ℕ
   blocks = slots / (count * step)
 
@@ -44,7 +44,7 @@ module _ (count step slots : ℕ) (are : AreLines count step slots) where
   pub all_slots : slots ≡ slots / count * count
   all_slots = slots_are ∙ grind arith ∙ ap (λ n. n * count) (sym lines_are)
 
-  -- nodes, of which each line has so many
+  -- the number of nodes, as each line has `unit` of them
   pub nodes_are : (unit nodes : ℕ) → nodes ≡ slots / count * unit → nodes ≡ blocks * (unit * step)
   nodes_are unit nodes sized = sized ∙ ap (λ n. n * unit) lines_are ∙ grind arith
 
@@ -84,11 +84,11 @@ module _ (count step slots : ℕ) (are : AreLines count step slots) (line : ℕ)
     nodes = record { fit = omega (arith, few, fewer_nodes count step slots are (nodes_in_line count) nodes (omega arith) sized); node = node_within };
   }
 
--- a slot of one line is none of another
+-- slots of different lines are different
 pub slots_apart : (count step a b i j : ℕ) → 0 < step → i < count → j < count → a ≢ b → spot count step a i ≢ spot count step b j
 slots_apart count step a b i j some p q apart e = apart (same_line count step a b i j some p q e)
 
--- and a node of one line none of another
+-- nodes of different lines are different
 pub nodes_apart : (count step a b m n : ℕ) → 0 < step → 1 ≤ m → m < count → 1 ≤ n → n < count → a ≢ b
     → nth_node (line_at count step a) m ≢ nth_node (line_at count step b) n
 nodes_apart count step a b m n some low high low2 high2 apart e =

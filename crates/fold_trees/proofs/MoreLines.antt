@@ -1,8 +1,8 @@
--- Lines behind others.
+-- Lines after others.
 use Rattle.std.{proofs.Common.{◌≡◌, ◌∙◌, ℕ, ◌+◌, ◌*◌, ◌/◌, ◌%◌, ◌^◌, ◌<◌, ◌≤◌, sym, ap, arith}, proofs.lemmas.Nat.{div-add-mod', div-mul-add, mod-mul-add, mod_below, mul-le}}
 use Rattle.fold_trees.{specs.PartTrees.{AreLines}, proofs.LinePlaces.{some_places}, proofs.LineSpots.{spot, blocks, slots_are, lines_are, all_slots}}
 
--- the spots of a line behind whole blocks
+-- the spot of a line after whole blocks
 pub spot_behind : (unit step blocks line place : ℕ) → 0 < step → spot unit step (blocks * step + line) place ≡ blocks * (unit * step) + spot unit step line place
 spot_behind unit step blocks line place some =
     let low = mod_below line step some in
@@ -26,7 +26,7 @@ module _ (count step slots more : ℕ) (old : AreLines count step slots) (new : 
       ap (λ n. n / count) (omega (arith, sum, all_slots count step slots old, all_slots count step more new))
       ∙ div-mul-add (slots / count + more / count) count 0 old.some
 
--- the spots of a later line, where each line has this count
+-- the spot of a later line, where each line has this count
 pub spot_after : (count step slots : ℕ) → AreLines count step slots → (unit line place : ℕ)
     → spot unit step (slots / count + line) place ≡ slots / count * unit + spot unit step line place
 spot_after count step slots are unit line place =
@@ -35,7 +35,7 @@ spot_after count step slots are unit line place =
     ∙ spot_behind unit step (blocks count step slots are) line place are.apart
     ∙ ap (λ n. n + spot unit step line place) ((grind arith) ∙ ap (λ n. n * unit) (sym lines))
 
--- ---- how many slots and nodes there are in all
+-- ---- the numbers of slots and nodes
 
 -- bounds on the slots and nodes of all lines
 pub record AreFew (lines count unit : ℕ) : Type 0 where

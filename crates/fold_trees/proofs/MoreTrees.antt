@@ -1,4 +1,4 @@
--- The trees of lines behind others.
+-- The trees of lines after others.
 use Rattle.std.{proofs.Common.{◌≡◌, ◌∙◌, ℕ, ◌+◌, ◌-◌, ◌*◌, ◌/◌, ◌%◌, ◌<◌, ℤ, pos, List, ◌++◌, length, get_or, sym, ap, subst, arith, inl, inr}, proofs.lemmas.Bool.{cases_lt}, proofs.lemmas.List.{length-append, get_or_append_left, get_or-append-add}}
 use Rattle.fold_trees.{specs.LineTrees.{slot_at, nth_node, slot_of, node_of, ArePartsKept, nodes_in_line}, specs.LineBlocks.{line_at}, specs.PartTrees.{AreLines, AreLineTrees}, proofs.LineNodes.{kept_alike}, proofs.LineSpots.{spot, all_slots, slot_within, node_within}}
 use Rattle.fold_trees.proofs.MoreLines.{spot_after, whole_behind, lines_behind}
@@ -11,7 +11,7 @@ module _ {P : Type 0} (blank : P) (tells : P → List ℤ → Type 0) (count ste
   abbrev old_lines : ℕ
   old_lines = length slots / count
 
-  -- where the slots and the nodes of the later lines lie
+  -- the slots and the nodes of the later lines
   slot_behind : (line place : ℕ) → slot_at (line_at count step (old_lines + line)) place ≡ length slots + slot_at (line_at count step line) place
   slot_behind line place =
       spot_after count step (length slots) there count line place ∙ ap (λ n. n + spot count step line place) (sym (all_slots count step (length slots) there))
@@ -21,7 +21,7 @@ module _ {P : Type 0} (blank : P) (tells : P → List ℤ → Type 0) (count ste
       let unit = nodes_in_line count in
       spot_after count step (length slots) there unit line (meeting - 1) ∙ ap (λ n. n + spot unit step line (meeting - 1)) (sym old.sized)
 
-  -- the nodes of both
+  -- the nodes of both are correct
   first_kept : (line : ℕ) → line < old_lines
       → ArePartsKept tells count (slot_of (line_at count step line) (slots ++ more)) (node_of blank (line_at count step line) (nodes ++ more_nodes))
   first_kept line h =

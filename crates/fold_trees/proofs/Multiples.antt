@@ -2,7 +2,7 @@
 use borrow.Author.Differences.{up, down}
 use Rattle.std.{proofs.Common.{◌≡◌, refl, ◌∙◌, ℕ, zero, suc, ◌+◌, ◌≤◌, arith, inl, inr, ◌⊎◌, ℤ, pos, negsuc, neg_ℤ, ◌*ℤ◌, ◌≤ℤ◌}, specs.Int.{int_min, int_max}, proofs.Math.Nat.{mul-le-mul_right}, proofs.lemmas.Int.{ints, clamps, by_lt_z}}
 
--- as many times as the difference from 0
+-- a positive factor keeps the order of two numbers, a negative one reverses it
 up_by : (a b : ℤ) (n : ℕ) → a ≤ℤ b → (a *ℤ pos n) ≤ℤ (b *ℤ pos n)
 up_by a b n h =
     let sides : up a + down b ≤ up b + down a = omega (arith, ints) in
@@ -13,7 +13,7 @@ down_by a b n h =
     let sides : up a + down b ≤ up b + down a = omega (arith, ints) in
     omega (arith, mul-le-mul_right (suc n) sides, ints)
 
--- a number between two, many times
+-- a multiple of a number between two lies between their multiples
 pub between : (a z b t : ℤ) → a ≤ℤ z → z ≤ℤ b → (int_min (a *ℤ t) (b *ℤ t) ≤ℤ (z *ℤ t)) × ((z *ℤ t) ≤ℤ int_max (a *ℤ t) (b *ℤ t))
 between a z b (pos n) h k =
     let low = up_by a z n h in
@@ -24,7 +24,7 @@ between a z b (negsuc n) h k =
     let high = down_by z b n k in
     (omega (arith, ints, clamps), omega (arith, ints, clamps))
 
--- the least and the greatest of two bounds and a third number, many times
+-- the range of the multiples, for a range that was extended by z
 pub record AreBoundsTimes (low high a b z t : ℤ) : Type 0 where
   pub least : int_min (low *ℤ t) (high *ℤ t) ≡ int_min (int_min (a *ℤ t) (b *ℤ t)) (z *ℤ t)
   pub greatest : int_max (low *ℤ t) (high *ℤ t) ≡ int_max (int_max (a *ℤ t) (b *ℤ t)) (z *ℤ t)
@@ -59,7 +59,7 @@ bounds_times a b z t h = elim (either_way a z) [
         → AreBoundsTimes (int_min a z) (int_max b z) a b z t
     at low high e f l g = record { least = (λ i. int_min (e i *ℤ t) (f i *ℤ t)) ∙ l; greatest = (λ i. int_max (e i *ℤ t) (f i *ℤ t)) ∙ g }
 
--- a number that is not 0 brings none nearer to 0: two numbers around 0 go further out, or so with the other sign
+-- a factor other than 0 widens a range around 0, and reverses it if negative
 pub stretched : (a b t : ℤ) → (t ≡ pos 0 → ⊥) → a ≤ℤ pos 0 → pos 0 ≤ℤ b
     → ((a *ℤ t) ≤ℤ a × b ≤ℤ (b *ℤ t)) ⊎ ((b *ℤ t) ≤ℤ neg_ℤ b × neg_ℤ a ≤ℤ (a *ℤ t))
 stretched a b (pos zero) some h k = absurd (some refl)

@@ -1,4 +1,4 @@
--- What is kept of products is near 0, so that 128 bits hold what two of them are together.
+-- Stored products are near enough to 0 that 128 bits hold the join of two.
 use Rattle.std.{proofs.Common.{◌^◌, ◌≤◌, arith, ℤ, pos, neg_ℤ, ◌*ℤ◌, ◌≤ℤ◌, SFits, unsigned_abs}, specs.Int.{w64, w128}, proofs.Math.Nat.{mul-le-mul}, proofs.lemmas.Int.{ints, clamps, unsigned_abs-mul, fits_signed_from_abs}}
 use Rattle.fold_trees.{specs.declared.product.Product.{Product}, specs.Products.{Products, joined_products, kept_products, TellsProducts}}
 
@@ -27,7 +27,7 @@ join_within a b h k =
     let other = near_times a.greatest b.total h.greatest k.total in
     record { low = omega (arith, ints, clamps); high = omega (arith, ints, clamps) }
 
--- what is nearer keeps their join within 62 bits
+-- for nearer ones 62 bits hold the join
 narrow_times : (x y : ℤ) → unsigned_abs x ≤ 2147483647 → unsigned_abs y ≤ 2147483647 → unsigned_abs (x *ℤ y) ≤ 4611686014132420609
 narrow_times x y h k = let size = unsigned_abs-mul x y in let most = mul-le-mul h k in omega arith
 

@@ -1,4 +1,4 @@
--- Where the nodes of a part lie that ends at a place, and of its halves, on a line whose numbers are neighbours.
+-- The nodes of a part that ends at a place, and of its halves, on a contiguous line.
 use Rattle.std.{proofs.Common.{◌≡◌, ℕ, ◌+◌, ◌-◌, ◌*◌, ◌/◌, ◌^◌, arith}, proofs.lemmas.Nat.{pow_pos}}
 use Rattle.fold_trees.{specs.declared.line.Line.{Line}, specs.LineTrees.{nth_node}, proofs.LineEnds.{near_node}}
 

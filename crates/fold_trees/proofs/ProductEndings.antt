@@ -1,11 +1,11 @@
--- The products of the endings of a list tell its product from the right.
+-- The suffix products of a list determine its product from the right.
 use Rattle.std.{proofs.Common.{◌≡◌, ◌<◌, length, List, [], ◌∷◌, refl, ap, sym, ◌∙◌, arith, Bool, true, false, ◌&&◌, if◌then◌else◌, ℤ, ◌*ℤ◌, Ok, Err}, specs.List.{All}, proofs.lemmas.Int.{ints, clamps}, proofs.lemmas.List.Elements.{All-head, All-tail}, proofs.lemmas.Bool.{and_from, cond-true}}
 use Rattle.arrays_core.{specs.declared.item.Kind.TheVariants.{Limit}, specs.Items.{and_then}}
 use Rattle.function_names.specs.declared.scalar.Scalar2.TheVariants.{Times}
 use Rattle.item_fns.{specs.Numbers.{dyadic_on_numbers, number_or_limit, is_number}, specs.Folds.{folded}, proofs.Within.{Within, in_64_bits, is_in_64_bits}}
 use Rattle.fold_trees.{specs.Products.{Products, products_of_none, before, products_of, product_told}, proofs.JoinedProducts.{ordered_of}, proofs.Bounds.{one_more}}
 
--- ---- what is told
+-- ---- the result
 
 pub told_within : (s : Products) → Within s.least → Within s.greatest → product_told s ≡ Ok s.total
 told_within s h k = cond-true _ (Ok s.total) (Err Limit) (and_from _ _ (is_in_64_bits s.least h) (is_in_64_bits s.greatest k))

@@ -1,4 +1,4 @@
--- The sums of the endings of a list tell its sum from the right.
+-- The suffix sums of a list determine its sum from the right.
 use Rattle.std.{proofs.Common.{◌≡◌, ◌<◌, length, List, [], ◌∷◌, refl, ap, sym, ◌∙◌, arith, Bool, true, false, ◌&&◌, if◌then◌else◌, ℤ, ◌+ℤ◌, Ok, Err}, specs.Int.{int_max, int_min}, specs.List.{All}, proofs.lemmas.Int.{ints, clamps}, proofs.lemmas.List.Elements.{All-head, All-tail}}
 use Rattle.{std.proofs.lemmas.Bool.{and_from, cond-true}, arrays_core.{specs.declared.item.Kind.TheVariants.{Limit}, specs.Items.{and_then}}}
 use Rattle.function_names.specs.declared.scalar.Scalar2.TheVariants.{Plus}

@@ -5,11 +5,11 @@ use Rattle.item_fns.{specs.Folds.{folded}, specs.Items.{number_item}, specs.Numb
 use Rattle.fold_trees.{specs.declared.line.Line.{Line}, specs.ArrayLines.{TreesValue, line_through, numbers_through, with_number}, specs.PartTrees.{AreLines}, proofs.LineParts.{replaced_here, replaced_other}, proofs.LinePlaces.{place_spot, spot_place}, specs.LineTrees.{slot_at, slot_of, replaced, segment}}
 use Rattle.fold_trees.{specs.FoldTrees.{IsReductionBy}, proofs.Segments.{segment_same, listed_segment, long_segment}, specs.LineBlocks.{line_at}}
 
--- the fold of some numbers is their reduction
+-- the fold of numbers is their reduction
 pub reduction_of : (f : Scalar2) (zs : List ℤ) (r : Result ℤ Kind) → 0 < length zs → r ≡ folded (dyadic_on_numbers f) zs → IsReductionBy f zs r
 reduction_of f zs r some is = ap number_item is ∙ sym (number_items_folded f zs some)
 
--- the numbers of the line that a place is on, where the one at this place is another
+-- the numbers of the line of a place, with another number there
 pub line_with : (count step : ℕ) (numbers : List ℤ) (place : ℕ) (z : ℤ) → AreLines count step (length numbers) → place < length numbers
     → numbers_through (with_number (record { count = count; step = step; numbers = numbers }) place z) place
     ≡ segment (replaced (slot_of (line_at count step (line_through count step place)) numbers) (place / step % count) z) 0 count
@@ -40,7 +40,7 @@ line_with count step numbers place z are inside = sym (listed_segment y 0 count)
           ∙ sym (replaced_other x at z i other)
     ]
 
--- the fold of a part that tells the line of a place with another number is the reduction of this line
+-- the fold of a part of the line of a place with another number is the reduction of this line
 pub reduction_with : {P : Type 0} (tells : P → List ℤ → Type 0) (f : Scalar2) (t : TreesValue) (place : ℕ) (z : ℤ) (tree : Line) (numbers : List ℤ) (s : P) (r : Result ℤ Kind)
     → AreLines t.count t.step (length t.numbers) → place < length t.numbers → 1 < t.count → tree ≡ line_at t.count t.step (line_through t.count t.step place) → numbers ≡ t.numbers
     → to_z w64 (of_z w64 z) ≡ z → tells s (segment (replaced (slot_of tree numbers) (place / t.step % t.count) (to_z w64 (of_z w64 z))) 0 tree.count)

@@ -1,14 +1,14 @@
--- Lines that lie between one another take one more number each, one line after another.
+-- Interleaved lines take one more number each, one line after another.
 use Rattle.std.{proofs.Common.{◌≡◌, ◌≢◌, ◌∙◌, ℕ, ◌+◌, ◌<◌, ◌≤◌, ℤ, List, length, get_or, refl, sym, subst, arith, inl, inr}, proofs.lemmas.Bool.{cases_eq}}
 use Rattle.fold_trees.{specs.declared.line.Line.{Line}, specs.LineTrees.{slot_of, nth_node, node_of, ArePartsKept}, proofs.LineSpots.{nodes_apart}, proofs.LineNodes.{kept_alike}, specs.LineBlocks.{line_at}}
 
--- one line has taken its last number; nodes of no place of it stay
+-- one line has its last number; nodes of other lines stay
 pub record IsTaken {P : Type 0} (blank : P) (tells : P → List ℤ → Type 0) (l : Line) (numbers : List ℤ) (nodes after : List P) : Type 0 where
   pub kept : ArePartsKept tells l.count (slot_of l numbers) (node_of blank l after)
   pub other_nodes : (p : ℕ) → ((meeting : ℕ) → 1 ≤ meeting → meeting < l.count → p ≢ nth_node l meeting) → get_or after p blank ≡ get_or nodes p blank
   pub node_count : length after ≡ length nodes
 
--- the lines before one have taken theirs, the others have not yet
+-- the lines before this one have their last number, the others do not
 pub record AreTakenTo {P : Type 0} (blank : P) (tells : P → List ℤ → Type 0) (count step : ℕ) (numbers : List ℤ) (nodes now : List P) (line : ℕ) : Type 0 where
   pub kept : (k : ℕ) → k < line → ArePartsKept tells count (slot_of (line_at count step k) numbers) (node_of blank (line_at count step k) now)
   pub rest : (k m : ℕ) → line ≤ k → 1 ≤ m → m < count → node_of blank (line_at count step k) now m ≡ node_of blank (line_at count step k) nodes m

@@ -1,4 +1,4 @@
--- A number is put at a place of all lines.
+-- A number is written at a place of all lines.
 use Rattle.std.{proofs.Common.{◌≡◌, ◌≢◌, ◌∙◌, ℕ, ◌*◌, ◌/◌, ◌%◌, ◌<◌, ◌≤◌, ℤ, pos, List, length, get_or, set, sym, ap, subst, arith, inl, inr}, proofs.lemmas.Bool.{cases_eq}, proofs.lemmas.List.{ext_get_or, length-set, get_or-set_same, get_or-set_other}, proofs.lemmas.Nat.{mod_below}}
 use Rattle.fold_trees.{specs.ArrayLines.{line_through}, specs.PartTrees.{AreLines, AreLineTrees}, proofs.LineParts.{replaced_here, replaced_other}, proofs.LinePlaces.{place_spot}, specs.declared.line.Line.{Line}, specs.LineTrees.{slot_at, slot_of, replaced, HasSlots, nth_node, node_of, ArePartsKept, nodes_in_line}}
 use Rattle.fold_trees.{proofs.LineSpots.{nodes_apart, slots_apart}, proofs.Halves.{steps_apart}, proofs.LineNodes.{kept_alike}, specs.LineBlocks.{line_at}}
@@ -21,7 +21,7 @@ number_set l numbers place z has inside i = elim (cases_eq i place) [
   | inr other ↦ put_other l numbers has place z i other ∙ sym (replaced_other (slot_of l numbers) place z i other)
 ]
 
--- a number is put at a place of a line, and what is kept of its parts is joined anew; other numbers, and nodes of no place of it, stay
+-- a number is written at a place of a line, and the nodes of its parts are correct; other numbers, and nodes of other lines, stay
 pub record IsWritten {P : Type 0} (blank : P) (tells : P → List ℤ → Type 0) (l : Line) (place : ℕ) (z : ℤ) (numbers after : List ℤ)
     (nodes nodes_after : List P) : Type 0 where
   pub numbers_are : (i : ℕ) → i < l.count → slot_of l after i ≡ replaced (slot_of l numbers) place z i
@@ -34,7 +34,7 @@ pub record IsWritten {P : Type 0} (blank : P) (tells : P → List ℤ → Type 0
 module _ {P : Type 0} (blank : P) (tells : P → List ℤ → Type 0) (count step : ℕ) (numbers after : List ℤ) (nodes nodes_after : List P) (place : ℕ) (z : ℤ)
     (trees : AreLineTrees blank tells count step numbers nodes) (inside : place < length numbers)
     (new : IsWritten blank tells (line_at count step (line_through count step place)) (place / step % count) z numbers after nodes nodes_after) where
-  -- where the place lies
+  -- the line of the place
   abbrev line : ℕ
   line = line_through count step place
 
@@ -61,7 +61,7 @@ module _ {P : Type 0} (blank : P) (tells : P → List ℤ → Type 0) (count ste
         | inr apart ↦ new.other_slots k (λ e. apart (e ∙ there)) ∙ sym (get_or-set_other numbers place k z (pos 0) apart)
       ]
 
-  -- and what is kept of their parts
+  -- the nodes of all lines
   pub written_trees : AreLineTrees blank tells count step after nodes_after
   written_trees = record {
     lines = subst (AreLines count step) (sym new.slot_count) trees.lines;

@@ -16,11 +16,11 @@ line_count t = length t.numbers / t.count
 abbrev pub numbers_of_line : TreesValue → (line : ℕ) → List ℤ
 numbers_of_line t line = strided (pos 0) t.numbers (line_start t.step t.count line) t.step t.count
 
--- the line that a place of the numbers is on
+-- the line of a place
 abbrev pub line_through : (count step place : ℕ) → ℕ
 line_through count step place = place / (count * step) * step + place % step
 
--- the numbers of the line that a place is on
+-- the numbers of the line of a place
 abbrev pub numbers_through : TreesValue → (place : ℕ) → List ℤ
 numbers_through t place = numbers_of_line t (line_through t.count t.step place)
 
@@ -28,7 +28,7 @@ numbers_through t place = numbers_of_line t (line_through t.count t.step place)
 abbrev pub with_number : TreesValue → (place : ℕ) → ℤ → TreesValue
 with_number t place number = record { count = t.count; step = t.step; numbers = set t.numbers place number }
 
--- all lines with the numbers of further ones behind them
+-- all lines, and further ones after them
 abbrev pub with_lines : TreesValue → List ℤ → TreesValue
 with_lines t numbers = record { count = t.count; step = t.step; numbers = t.numbers ++ numbers }
 
@@ -41,7 +41,7 @@ pub record NewTreesValue : Type 0 where
   pub old_lines : ℕ
   pub numbers : List ℤ
 
--- they come behind these
+-- the new lines fit after these
 pub record FitBehind (t : TreesValue) (more : NewTreesValue) : Type 0 where
   pub count : more.count ≡ t.count
   pub step : more.step ≡ t.step

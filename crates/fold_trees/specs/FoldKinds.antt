@@ -1,11 +1,11 @@
--- The trees of the lines of an array, a kind for each function.
+-- The trees of the lines of an array, by function.
 use Rattle.function_names.specs.declared.scalar.Scalar2.TheVariants.{Plus, Times, Maximum, Minimum, And, Or}
 use Rattle.fold_trees.{specs.FoldTrees.{FoldsValue, NewFoldsValue, NextFoldsValue}, specs.declared.fold_trees.Trees.{Trees}, specs.declared.fold_trees.Lines.{Lines}, specs.declared.fold_trees.Places.{Places}}
 use Rattle.fold_trees.specs.declared.fold_trees.Trees.TheVariants as trees
 use Rattle.fold_trees.specs.declared.fold_trees.Lines.TheVariants as lines
 use Rattle.fold_trees.specs.declared.fold_trees.Places.TheVariants as places
 
--- what they are trees of
+-- the function and the lines of the trees
 abbrev pub folds_of : Trees → FoldsValue
 folds_of (trees.Sum t) = record { function = Plus; lines = t }
 folds_of (trees.Product t) = record { function = Times; lines = t }

@@ -1,8 +1,8 @@
--- What public contracts mean.
+-- The meaning of public contracts.
 pub mod FoldTrees
 pub mod ArrayLines
 pub mod Joined
--- What proofs and bodies use.
+-- Definitions for proofs and bodies.
 pub mod FoldKinds
 pub mod Parts
 pub mod Sums

@@ -1,4 +1,4 @@
--- The places of a line of numbers, and the nodes of its parts.
+-- The slots of a line of numbers, and the nodes of its parts.
 use Rattle.std.specs.Prelude.{◌≡◌, ℕ, zero, suc, ◌+◌, ◌-◌, ◌*◌, ◌/◌, ◌%◌, ◌^◌, ◌<◌, ◌≤◌, min, nat_eq, ℤ, pos, List, [], ◌∷◌, length, get_or, if◌then◌else◌, ◌⊎◌}
 use Rattle.fold_trees.specs.declared.line.Line.{Line}
 
@@ -6,7 +6,7 @@ use Rattle.fold_trees.specs.declared.line.Line.{Line}
 abbrev pub slot_at : Line → ℕ → ℕ
 slot_at l place = l.slot + place * l.step
 
--- a node of the line, counted from 1
+-- the slot of a node, counted from 1
 abbrev pub nth_node : Line → ℕ → ℕ
 nth_node l k = l.node + (k - 1) * l.step
 
@@ -21,22 +21,22 @@ pub record HasSlots (l : Line) (slots : ℕ) : Type 0 where
   pub fit : slots < 2 ^ 64
   pub slot : (place : ℕ) → place < l.count → slot_at l place < slots
 
--- a part has a power of two as its width, and begins at a multiple of that
+-- the width of a part is a power of two, and a part begins at a multiple of its width
 pub record IsPart (from width : ℕ) : Type 0 where
   pub level : ℕ
   pub place : ℕ
   pub width_is : width ≡ 2 ^ level
   pub from_is : from ≡ place * 2 ^ level
 
--- the other half of the part twice as wide, parts of one width counted from 0
+-- the other half of the part twice as wide; parts of one width are counted from 0
 abbrev pub other_half : ℕ → ℕ
 other_half block = if nat_eq (block % 2) 0 then block + 1 else block - 1
 
--- the numbers of a part are the same
+-- two lines agree on the numbers of a part
 abbrev pub AreSameIn : (from width : ℕ) → (x y : ℕ → ℤ) → Type 0
 AreSameIn from width x y = (i : ℕ) → from ≤ i → i < from + width → x i ≡ y i
 
--- the numbers where the one at a place is another
+-- the numbers with another one at a place
 abbrev pub replaced : (ℕ → ℤ) → (place : ℕ) → ℤ → ℕ → ℤ
 replaced x place number i = if nat_eq i place then number else x i
 
@@ -59,7 +59,7 @@ pub record HasNodes (l : Line) (nodes : ℕ) : Type 0 where
   pub fit : nodes < 2 ^ 64
   pub node : (meeting : ℕ) → 1 ≤ meeting → meeting < l.count → nth_node l meeting < nodes
 
--- the lists of its slots and of its nodes are
+-- lists of these counts of slots and nodes hold the line
 pub record IsIn (l : Line) (slot_count node_count : ℕ) : Type 0 where
   pub slots : HasSlots l slot_count
   pub nodes : HasNodes l node_count
@@ -71,48 +71,48 @@ abbrev pub segment : (ℕ → ℤ) → (from count : ℕ) → List ℤ
 segment x from zero = []
 segment x from (suc count) = x from ∷ segment x (from + 1) count
 
--- the numbers of the part at a block that has this width, or ends with the line
+-- the numbers of the part with this width at a block; the part may end with the line
 abbrev pub numbers_of_block : (count : ℕ) → (ℕ → ℤ) → (block width : ℕ) → List ℤ
 numbers_of_block count x block width = segment x (block * width) (min width (count - block * width))
 
--- the node of a part tells the numbers of the part
+-- the node of a part is correct: it stands for the numbers of the part
 abbrev pub IsKept : {P : Type 0} → (P → List ℤ → Type 0) → (count : ℕ) → (ℕ → ℤ) → (ℕ → P) → (from half : ℕ) → Type 0
 IsKept tells count x node from half = from + half < count → tells (node (from + half)) (segment x from (min (2 * half) (count - from)))
 
--- for all parts that have a node
+-- all nodes are correct
 abbrev pub ArePartsKept : {P : Type 0} → (P → List ℤ → Type 0) → (count : ℕ) → (ℕ → ℤ) → (ℕ → P) → Type 0
 ArePartsKept tells count x node = (level place : ℕ) → IsKept tells count x node (place * (2 * 2 ^ level)) (2 ^ level)
 
--- for those within a part
+-- the nodes within a part are correct
 abbrev pub ArePartsKeptIn : {P : Type 0} → (P → List ℤ → Type 0) → (from width count : ℕ) → (ℕ → ℤ) → (ℕ → P) → Type 0
 ArePartsKeptIn tells from width count x node = (level place : ℕ) → from ≤ place * (2 * 2 ^ level) → place * (2 * 2 ^ level) + 2 * 2 ^ level ≤ from + width
     → IsKept tells count x node (place * (2 * 2 ^ level)) (2 ^ level)
 
--- for those that a place is not in
+-- the nodes of the parts that do not contain a place are correct
 abbrev pub ArePartsKeptBeside : {P : Type 0} → (P → List ℤ → Type 0) → (at count : ℕ) → (ℕ → ℤ) → (ℕ → P) → Type 0
 ArePartsKeptBeside tells at count x node = (level place : ℕ) → (at < place * (2 * 2 ^ level) ⊎ place * (2 * 2 ^ level) + 2 * 2 ^ level ≤ at)
     → IsKept tells count x node (place * (2 * 2 ^ level)) (2 ^ level)
 
--- for those that end before a place, and for those that end there and are no wider than this
+-- the nodes of the parts that end before a place, and of those that end there up to a width, are correct
 abbrev pub ArePartsKeptUpTo : {P : Type 0} → (P → List ℤ → Type 0) → (end width count : ℕ) → (ℕ → ℤ) → (ℕ → P) → Type 0
 ArePartsKeptUpTo tells end width count x node = (level place : ℕ)
     → (place * (2 * 2 ^ level) + 2 * 2 ^ level < end ⊎ place * (2 * 2 ^ level) + 2 * 2 ^ level ≡ end × 2 * 2 ^ level ≤ width)
     → IsKept tells count x node (place * (2 * 2 ^ level)) (2 ^ level)
 
--- of four numbers from a place on: of the first two, of all and of the last two
+-- the nodes of four numbers from a place on: of the first two, of all, of the last two
 pub record AreFourKept {P : Type 0} (tells : P → List ℤ → Type 0) (x : ℕ → ℤ) (node : ℕ → P) (from : ℕ) : Type 0 where
   pub first : tells (node (from + 1)) (segment x from 2)
   pub all : tells (node (from + 2)) (segment x from 4)
   pub last : tells (node (from + 3)) (segment x (from + 2) 2)
 
--- ---- what is joined where the number at a place is another
+-- ---- the parts joined for another number at a place
 
 -- the block that holds a place at a level, by its index among blocks of one width
 abbrev pub block_up : (place level : ℕ) → ℕ
 block_up place zero = place
 block_up place (suc level) = block_up place level / 2
 
--- parts tell the numbers of the blocks of a place, one part for each width, from two numbers to all
+-- one part for each width, from two numbers to all, stands for the block that contains the place
 pub record AreJoined {P : Type 0} (tells : P → List ℤ → Type 0) (count : ℕ) (x : ℕ → ℤ) (place : ℕ) (parts : List P) : Type 0 where
   pub each : (level : ℕ) (blank : P) → level < length parts → tells (get_or parts level blank) (numbers_of_block count x (block_up place (suc level)) (2 ^ suc level))
   pub enough : count ≤ 2 ^ length parts

@@ -15,18 +15,18 @@ pub record AreLineTrees {P : Type 0} (blank : P) (tells : P → List ℤ → Typ
   pub sized : length nodes ≡ length numbers / count * nodes_in_line count
   pub kept : AreAllKept blank tells count step numbers nodes
 
--- where the two lists lie in pieces of memory of these capacities, each with room for the next power of two as many
+-- the trees, with the capacities of their two lists: each has room for the next power of two of its length
 pub record ArePartTrees {P : Type 0} (blank : P) (tells : P → List ℤ → Type 0) (count step : ℕ) (numbers : List ℤ) (nodes : List P) (slot_capacity node_capacity : ℕ) : Type 0 where
   pub trees : AreLineTrees blank tells count step numbers nodes
   pub slot_room : IsRoomy (length numbers) slot_capacity
   pub node_room : IsRoomy (length nodes) node_capacity
 
--- one line of all numbers that there are; where there are none it would have one
+-- a single line of all numbers; its length is 1 where there are none
 pub record IsOneLine (t : TreesValue) : Type 0 where
   pub near : t.step ≡ 1
   pub long : t.count ≡ max 1 (length t.numbers)
 
--- parts are those of the line that a place is on, one for each width, where the number at this place is another
+-- the parts, one for each width, are those of the line of a place with another number there
 abbrev pub AreJoinedFor : {P : Type 0} → (P → List ℤ → Type 0) → TreesValue → (place : ℕ) → ℤ → List P → Type 0
 AreJoinedFor tells t place number parts =
     let at = place / t.step % t.count in
@@ -34,8 +34,7 @@ AreJoinedFor tells t place number parts =
 
 -- ---- further lines
 
--- two empty lists of these capacities, where the numbers or the nodes of the old lines and of these need more room than the old lines
--- have
+-- two empty lists of these capacities, for the numbers and nodes of old and new lines where the old memory is too small
 pub record AreRooms {P : Type 0} (old_lines : ℕ) (more : TreesValue) (slots : List ℤ) (nodes : List P) (slot_capacity node_capacity : ℕ) : Type 0 where
   pub no_slots : slots ≡ []
   pub no_nodes : nodes ≡ []
@@ -45,8 +44,8 @@ pub record AreRooms {P : Type 0} (old_lines : ℕ) (more : TreesValue) (slots : 
 
 -- ---- one more place of each line
 
--- the nodes that one more number adds to lines of this length, and two empty lists of these capacities, where the numbers or the nodes of
--- the longer lines need more room than the old lines have
+-- the nodes that one more number adds to each line; and two empty lists of these capacities, for the longer lines where
+-- the old memory is too small
 pub record AreNextPartRooms {P : Type 0} (count : ℕ) (numbers slots : List ℤ) (more nodes : List P) (slot_capacity node_capacity : ℕ) : Type 0 where
   pub more_nodes : length more ≡ length numbers
   pub no_slots : slots ≡ []

@@ -1,4 +1,4 @@
-//! What is kept of lists whose greatest or least number is asked for.
+//! The parts of folds by `⌈` and `⌊`: the greatest or the least number.
 
 ghost use Rattle.std.specs.Prelude.{pos};
 ghost use Rattle.function_names.specs.declared.scalar.Scalar2.TheVariants.{Maximum, Minimum};
@@ -7,7 +7,7 @@ ghost use Rattle.fold_trees.specs.Parts.{IsFold};
 use crate::part::Part;
 use arrays_core::Kind;
 
-/// The greatest of some numbers.
+/// The greatest number of a list.
 #[derive(Clone, Copy)]
 pub(crate) struct Greatest {
     number: i64,
@@ -35,7 +35,7 @@ impl Part for Greatest {
     }
 }
 
-/// The least of some numbers.
+/// The least number of a list.
 #[derive(Clone, Copy)]
 pub(crate) struct Least {
     number: i64,

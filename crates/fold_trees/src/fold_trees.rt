@@ -1,4 +1,4 @@
-//! The trees of the lines of an array that are folded by one of several functions.
+//! The trees of the lines of an array, for each function that has trees.
 
 ghost use Rattle.std.specs.Prelude.{◌≡◌, ◌+◌, ◌-◌, ◌*◌, ◌%◌, ◌^◌, ◌<◌, ◌==◌, ◌++◌, ◌∷◌, [], true, length, IfOk, OnOk};
 ghost use Rattle.fold_trees.specs.FoldTrees.{IsWithinDigitsOf, has_trees, AreFoldedBehind, AreFoldedNext, IsReductionBy};
@@ -17,7 +17,7 @@ use std::alloc::{AllocError, Global};
 use std::cell::Cell;
 use std::marker::Model;
 
-/// Whether folds by a function can be kept as trees: what is kept of two parts tells what is to be kept of both together.
+/// Returns whether folds by a function can be stored as trees: the parts of two adjacent lists join into the part of both.
 pub fn has_trees(function: Scalar2) -> bool
     ensures { result ≡ has_trees function }
 {
@@ -32,7 +32,7 @@ pub fn has_trees(function: Scalar2) -> bool
     }
 }
 
-/// The trees of each function.
+/// The trees, by function.
 #[derive(Drop)]
 enum Trees {
     Sum(PartTrees<Summary>),
@@ -43,7 +43,7 @@ enum Trees {
     AnyTrue(PartTrees<AnyTrue>),
 }
 
-/// Those of further lines.
+/// The trees of further lines, by function.
 #[derive(Drop)]
 enum Lines {
     Sum(NewParts<Summary>),
@@ -54,7 +54,7 @@ enum Lines {
     AnyTrue(NewParts<AnyTrue>),
 }
 
-/// One more place of each line.
+/// One more place of each line, by function.
 #[derive(Drop)]
 enum Places {
     Sum(NextParts<Summary>),
@@ -65,12 +65,12 @@ enum Places {
     AnyTrue(NextParts<AnyTrue>),
 }
 
-/// The lines of an array along one axis that are folded by a function, as trees, so that the fold of a line of which one number is
-/// another is found in as many steps as the length of the line has binary digits.
+/// The lines of an array along one axis, each as a tree of the parts of its fold by a function. With one number
+/// replaced, the fold of a line of n numbers takes at most ⌈log2 n⌉ joins.
 #[derive(Drop)]
 pub struct FoldTrees {
     trees: Trees,
-    /// The line that `remember_failing` was given last.
+    /// The last argument of `remember_failing`.
     failing: Cell<usize>,
 }
 
@@ -85,7 +85,7 @@ impl Model for FoldTrees {
 }
 
 impl FoldTrees {
-    /// The trees of lines of so many numbers, whose neighbours lie so far apart. AllocError where memory for them is refused.
+    /// Builds the trees of lines of `count` numbers; neighbours on a line are `step` places apart. AllocError if an allocation fails.
     pub fn build(
         alloc: Global,
         function: Scalar2,
@@ -114,7 +114,7 @@ impl FoldTrees {
         })
     }
 
-    /// The function by which the lines are folded.
+    /// Returns the function that folds the lines.
     pub fn function(&self) -> Scalar2
         ensures is { result ≡ self.now.function }
         ensures one { has_trees result ≡ true }
@@ -129,7 +129,7 @@ impl FoldTrees {
         }
     }
 
-    /// How many lines there are.
+    /// Returns the number of lines.
     pub fn len(&self) -> usize
         ensures { result ≡ line_count self.now.lines }
     {
@@ -143,14 +143,14 @@ impl FoldTrees {
         }
     }
 
-    /// Whether there are no lines.
+    /// Returns whether there are no lines.
     pub fn is_empty(&self) -> bool
         ensures { result ≡ (line_count self.now.lines == 0) }
     {
         self.len() == 0
     }
 
-    /// The fold of the numbers of a line, lines counted from 0, from the last to the first, or the error that it meets.
+    /// Returns the fold of a line from the last number to the first, or its error. Lines are counted from 0.
     pub fn result(&self, line: usize) -> Result<i64, Kind>
         requires { line < line_count self.now.lines }
         ensures { IsReductionBy self.now.function (numbers_of_line self.now.lines line) result }
@@ -165,19 +165,19 @@ impl FoldTrees {
         }
     }
 
-    /// Returns the line that was remembered last, lines counted from 0; the first where none was. No contract speaks of it: the line may not fail
-    /// any more, and may not be there.
+    /// Returns the last argument of `remember_failing`, or 0 if it was not called. No contract covers it: that line may
+    /// no longer fail, or no longer exist.
     pub fn failing_line(&self) -> usize {
         self.failing.get()
     }
 
-    /// Remembers a line whose fold fails, as the one to look at first.
+    /// Remembers a line whose fold fails, as the first one to check.
     pub fn remember_failing(&self, line: usize) {
         self.failing.set(line);
     }
 
-    /// The fold of the numbers of a line and of one more behind them, from the last to the first, or the error that it meets. It takes one
-    /// join of parts. Lines are counted from 0.
+    /// Returns the fold of a line with one more number at its end, from the last number to the first, or its error.
+    /// Takes one join. Lines are counted from 0.
     pub fn result_behind(&self, line: usize, number: i64) -> Result<i64, Kind>
         requires { line < line_count self.now.lines }
         ensures { IsReductionBy self.now.function (numbers_of_line self.now.lines line ++ number ∷ []) result }
@@ -192,9 +192,8 @@ impl FoldTrees {
         }
     }
 
-    /// The fold of the line that a place is on, from its last number to its first, where the number at this place is another, or the
-    /// error that it meets, and how many parts were joined for it: at most as many as the length of a line less one has binary digits.
-    /// Places are counted from 0.
+    /// Returns the fold of the line of a place with another number there, or its error, and the number of joins. A line
+    /// of n numbers takes at most ⌈log2 n⌉ joins. Places are counted from 0.
     pub fn result_with(&self, place: usize, number: i64) -> (Result<i64, Kind>, u32)
         requires { place < length self.now.lines.numbers }
         ensures result { IsReductionBy self.now.function (numbers_through (with_number self.now.lines place number) place) result.0 }
@@ -211,8 +210,8 @@ impl FoldTrees {
         }
     }
 
-    /// Does what `result_with` does, and keeps the fold and the parts that it joins, in place of those that were kept, for `set_joined`. It takes
-    /// memory only for more parts than were kept at any time; AllocError where that is refused.
+    /// Computes the same as `result_with`, and stores the fold and the joined parts for `set_joined`. Reuses the memory
+    /// of `joined`, and allocates only beyond its capacity. AllocError if that fails.
     pub fn join(&self, place: usize, number: i64, joined: &mut Joined) -> Result<(), AllocError>
         requires { place < length self.now.lines.numbers }
         ensures joined { OnOk result (IsJoinedFor self.now joined.new) }
@@ -227,8 +226,8 @@ impl FoldTrees {
         Ok(())
     }
 
-    /// Does what `result_with` does, and puts the parts that it joins in the list of the function. AllocError where memory for more of them is
-    /// refused.
+    /// Computes the same as `result_with`, and stores the joined parts in the list of the function. AllocError if an
+    /// allocation fails.
     fn join_parts(
         &self,
         place: usize,
@@ -251,7 +250,7 @@ impl FoldTrees {
         }
     }
 
-    /// Puts the number at the place for which it was joined, and writes the parts that were joined for it. It joins nothing, and takes no memory.
+    /// Replaces the number that was joined, and writes its parts as nodes. Joins and allocates nothing.
     pub fn set_joined(&mut self, joined: &Joined)
         requires { IsJoinedFor self.old joined.now }
         ensures { self.new ≡ record { function = self.old.function; lines = with_number self.old.lines joined.now.place joined.now.number } }
@@ -269,7 +268,7 @@ impl FoldTrees {
         }
     }
 
-    /// Puts another number at a place of all lines, places counted from 0. It takes no memory.
+    /// Replaces the number at a place, counted from 0. Allocates nothing.
     pub fn set(&mut self, place: usize, number: i64)
         requires { place < length self.old.lines.numbers }
         ensures { self.new ≡ record { function = self.old.function; lines = with_number self.old.lines place number } }
@@ -284,7 +283,7 @@ impl FoldTrees {
         }
     }
 
-    /// Takes one more number for each line, behind its last one. It takes no memory.
+    /// Appends one number to each line. Allocates nothing.
     pub fn lengthen(&mut self, more: NextFolds)
         requires { AreFoldedNext self.old more }
         ensures { self.new ≡ record { function = self.old.function; lines = with_places self.old.lines more.places.numbers } }
@@ -300,7 +299,7 @@ impl FoldTrees {
         }
     }
 
-    /// Takes the trees of further lines behind the others. It takes no memory.
+    /// Appends further lines. Allocates nothing.
     pub fn grow(&mut self, more: NewFolds)
         requires { AreFoldedBehind self.old more }
         ensures { self.new ≡ record { function = self.old.function; lines = with_lines self.old.lines more.lines.numbers } }
@@ -317,8 +316,8 @@ impl FoldTrees {
     }
 }
 
-/// The trees of the lines that an array grows by. They bring the room that those of all lines may need, so that `FoldTrees::grow` takes
-/// no memory.
+/// The trees of the lines that an array grows by, with the memory that all lines may need. `FoldTrees::grow` then
+/// allocates nothing.
 #[derive(Drop)]
 pub struct NewFolds {
     lines: Lines,
@@ -335,8 +334,8 @@ impl Model for NewFolds {
 }
 
 impl NewFolds {
-    /// The trees of lines of so many numbers, whose neighbours lie so far apart, which come behind so many old ones.
-    /// AllocError where memory for them, or for the room, is refused.
+    /// Builds the trees of lines of `count` numbers, `step` places apart, to follow `old` lines. AllocError if an
+    /// allocation fails.
     pub fn build(
         alloc: Global,
         function: Scalar2,
@@ -367,8 +366,8 @@ impl NewFolds {
     }
 }
 
-/// The numbers of one more place of each line, where all lines lie between one another. They bring the room that the longer
-/// lines may need, so that `FoldTrees::lengthen` takes no memory.
+/// One more number for each of several interleaved lines, with the memory that the longer lines may need.
+/// `FoldTrees::lengthen` then allocates nothing.
 #[derive(Drop)]
 pub struct NextFolds {
     places: Places,
@@ -385,8 +384,8 @@ impl Model for NextFolds {
 }
 
 impl NextFolds {
-    /// The numbers of one more place of each of as many lines as there are numbers, which have so many numbers each until then. AllocError
-    /// where memory for them, or for the room, is refused.
+    /// Builds one more place of interleaved lines of `count` numbers, with one number for each line. AllocError if an
+    /// allocation fails.
     pub fn build(
         alloc: Global,
         function: Scalar2,

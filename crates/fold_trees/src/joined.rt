@@ -1,4 +1,4 @@
-//! What was joined for another number at a place of the lines of an array.
+//! The parts that were joined for another number at a place.
 
 ghost use Rattle.std.specs.Prelude.{◌≡◌, ◌↔◌, IsTrue};
 
@@ -9,7 +9,7 @@ use crate::truths::{AllTrue, AnyTrue};
 use arrays_core::Kind;
 use std::alloc::Global;
 
-/// The parts of each width of a line, from two numbers to all, in the list of the function that folds it. The other lists are empty.
+/// The joined parts of a line, one for each width from two numbers to all. They are in the list of the function; the other lists are empty.
 #[derive(Drop)]
 pub(crate) struct JoinedParts {
     pub(crate) sums: Vec<Summary>,
@@ -20,8 +20,8 @@ pub(crate) struct JoinedParts {
     pub(crate) any_true: Vec<AnyTrue>,
 }
 
-/// The fold of a line with another number at a place, and the parts that were joined for it, which `FoldTrees::set_joined` writes as nodes.
-/// `FoldTrees::join` reuses the memory of the parts.
+/// The fold of a line with another number at a place, and the parts joined for it. `FoldTrees::set_joined` writes them
+/// as nodes; `FoldTrees::join` reuses their memory.
 #[derive(Drop)]
 pub struct Joined {
     pub(crate) place: usize,
@@ -32,7 +32,7 @@ pub struct Joined {
 }
 
 impl Joined {
-    /// Returns a value for `FoldTrees::join` to fill. It takes no memory.
+    /// Returns an empty value for `FoldTrees::join` to fill. Allocates nothing.
     pub fn new(alloc: Global) -> Joined {
         Joined {
             place: 0,
@@ -50,14 +50,14 @@ impl Joined {
         }
     }
 
-    /// Returns whether it was joined for this number at this place, places counted from 0.
+    /// Returns whether the parts were joined for this number at this place. Places are counted from 0.
     pub fn is_for(&self, place: usize, number: i64) -> bool
         ensures { IsTrue result ↔ (place ≡ self.now.place) × (number ≡ self.now.number) }
     {
         place == self.place && number == self.number
     }
 
-    /// Returns the fold, or the error that it meets, and how many parts were joined for it.
+    /// Returns the fold, or its error, and the number of joins.
     pub fn result(&self) -> (Result<i64, Kind>, u32)
         ensures { result ≡ (self.now.total, self.now.joins) }
     {

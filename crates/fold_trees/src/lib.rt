@@ -1,4 +1,4 @@
-//! Folds of lines of which one number at a time is replaced, by trees of what is kept of their parts.
+//! Folds of lines in which single numbers are replaced, as trees of parts.
 #![tactic(auto)]
 
 mod extremes;

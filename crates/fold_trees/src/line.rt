@@ -1,20 +1,20 @@
-//! The places of a line of numbers, and of its nodes, in the lists of all lines.
+//! The slots and nodes of a line in the lists of all lines.
 
 ghost use Rattle.std.specs.Prelude.{◌≡◌, ◌+◌, ◌^◌, ◌<◌, ◌≤◌};
 ghost use Rattle.fold_trees.specs.ArrayLines.{line_through};
 ghost use Rattle.fold_trees.specs.LineTrees.{slot_at, nth_node};
 ghost use Rattle.fold_trees.specs.LineBlocks.{line_of};
 
-/// The places of a line's numbers in a list of slots, and of its nodes in a list of nodes.
+/// The slots of a line's numbers in the list of numbers, and of its nodes in the list of nodes.
 #[derive(Clone, Copy)]
 pub(crate) struct Line {
-    /// The count of its numbers.
+    /// The number of its numbers.
     pub(crate) count: usize,
     /// The distance from one number to the next in the list, and from node to node.
     pub(crate) step: usize,
-    /// The slot of the first.
+    /// The slot of the first number.
     pub(crate) slot: usize,
-    /// The first node.
+    /// The slot of the first node.
     pub(crate) node: usize,
 }
 
@@ -27,7 +27,7 @@ impl Line {
         self.slot + place * self.step
     }
 
-    /// Returns the place of a node, counted from 1.
+    /// Returns the slot of a node, counted from 1.
     pub(crate) fn nth_node(&self, node: usize) -> usize
         requires some { 1 ≤ node }
         requires fit { nth_node self.now node < 2 ^ 64 }
@@ -51,7 +51,7 @@ impl Line {
     }
 }
 
-/// The line that a place of all numbers is on, lines and places counted from 0.
+/// Returns the line of a place. Lines and places are counted from 0.
 pub(crate) fn line_through(count: usize, step: usize, place: usize) -> usize
     requires some { 0 < count }
     requires apart { 0 < step }

@@ -1,4 +1,4 @@
-//! Makes the nodes of all lines of a block, from the last part to the first.
+//! Writes the nodes of all lines of a block, from the last part to the first.
 
 ghost use Rattle.std.specs.Prelude.{◌≡◌, get_or, ℕ, ◌+◌, ◌-◌, ◌*◌, ◌/◌, ◌%◌, ◌^◌, ◌<◌, ◌≤◌, ◌++◌, min, ℤ, List, length, ◌⊎◌};
 ghost use Rattle.fold_trees.specs.LineTrees.{nth_node, slot_of, segment, node_of, ArePartsKept, AreFourKept};
@@ -8,7 +8,7 @@ use crate::line::Line;
 use crate::line_tree::LineTree;
 use crate::part::Part;
 
-/// Joins the four numbers from a place on, two by two and all, for each line of a block.
+/// Writes the nodes of four numbers from a place on (first two, all, last two), for each line of a block.
 fn fours_row<P: Part>(numbers: &[i64], nodes: &mut [P], first: Line, from: usize)
     requires slots { HaveSlots first (length numbers.now) }
     requires nodes { HaveNodes first (length nodes.old) }
@@ -31,7 +31,7 @@ fn fours_row<P: Part>(numbers: &[i64], nodes: &mut [P], first: Line, from: usize
     }
 }
 
-/// Joins the nodes of the two halves of the part that begins at a place, where both are of two numbers and more, for each line of a block.
+/// Writes the node of the part that begins at a place, from the nodes of its halves, for each line of a block. Each half has at least two numbers.
 fn halves_row<P: Part>(nodes: &mut [P], first: Line, from: usize, half: usize)
     requires nodes { HaveNodes first (length nodes.old) }
     requires wide { 2 ≤ half }
@@ -51,7 +51,8 @@ fn halves_row<P: Part>(nodes: &mut [P], first: Line, from: usize, half: usize)
     }
 }
 
-/// Writes the node of the part that begins at a place and whose first half has this width, for each line of a block. The part may end with the line.
+/// Writes the node of the part that begins at a place and whose first half has this width, for each line of a block.
+/// The part may end with the line.
 #[inline(never)]
 fn last_row<P: Part>(numbers: &[i64], nodes: &mut [P], first: Line, from: usize, half: usize)
     requires slots { HaveSlots first (length numbers.now) }
@@ -98,8 +99,8 @@ fn join_row<P: Part>(numbers: &[i64], nodes: &mut [P], first: Line, from: usize,
     }
 }
 
-/// Writes the nodes of the four numbers that begin at a place, for each line of a block. The nodes of later parts exist. Returns the width of the widest
-/// part written: 4, or 2 if the line has fewer numbers.
+/// Writes the nodes of the four numbers that begin at a place, for each line of a block. The nodes of later parts
+/// exist. Returns the width of the widest part written: 4, or 2 if fewer than four numbers are left.
 fn begin_from<P: Part>(numbers: &[i64], nodes: &mut [P], first: Line, from: usize) -> usize
     requires slots { HaveSlots first (length numbers.now) }
     requires nodes { HaveNodes first (length nodes.old) }

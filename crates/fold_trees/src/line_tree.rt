@@ -1,4 +1,4 @@
-//! The tree of one line, in lists that hold the numbers and nodes of all lines.
+//! The tree of one line, in the lists that hold the numbers and nodes of all lines.
 
 ghost use Rattle.std.specs.Prelude.{◌≡◌, ◌≢◌, pos, get_or, ℕ, ◌+◌, ◌-◌, ◌*◌, ◌/◌, ◌%◌, ◌^◌, ◌<◌, ◌≤◌, min, ℤ, List, [], length, IfOk, IfSome};
 ghost use Rattle.fold_trees.specs.FoldTrees.{IsWithinDigitsOf};
@@ -33,7 +33,7 @@ impl<'a, P: Part> LineTree<'a, P> {
         self.nodes[self.line.nth_node(from + half)]
     }
 
-    /// Returns the part of all numbers.
+    /// Returns the part of the whole line.
     pub(crate) fn whole(&self) -> P
         requires inside { IsIn self.now.line (length self.now.numbers.now) (length self.now.nodes.now) }
         requires some { 0 < self.now.line.count }
@@ -43,8 +43,8 @@ impl<'a, P: Part> LineTree<'a, P> {
         self.part(0, self.line.count.next_power_of_two())
     }
 
-    /// Returns the part twice as wide as a block, made from the part of the block, and the count of joins: 0 if the line ends with the
-    /// block, else 1.
+    /// Returns the part twice as wide as a block, from the part of the block, and the number of joins: 0 if the line
+    /// ends with the block, else 1.
     fn widened(&self, block: usize, width: usize, kept: &P) -> (P, u32)
         requires inside { IsIn self.now.line (length self.now.numbers.now) (length self.now.nodes.now) }
         requires from { block * width < self.now.line.count }
@@ -68,8 +68,8 @@ impl<'a, P: Part> LineTree<'a, P> {
         (kept.join(&self.part(from + width, width)), 1)
     }
 
-    /// Returns the part of all numbers with another number at a place, and the count of joins: at most as many as the count less one has
-    /// binary digits.
+    /// Returns the part of the whole line with another number at a place, and the number of joins: at most ⌈log2 n⌉ for
+    /// n numbers.
     pub(crate) fn with(&self, place: usize, number: i64) -> (P, u32)
         requires inside { IsIn self.now.line (length self.now.numbers.now) (length self.now.nodes.now) }
         requires place { place < self.now.line.count }
@@ -92,8 +92,8 @@ impl<'a, P: Part> LineTree<'a, P> {
         (kept, joins)
     }
 
-    /// Joins as `with` does, and appends the part of each width, from two numbers to all. It allocates only beyond the capacity of the
-    /// list; AllocError if that is refused.
+    /// Joins as `with` does, and appends the part of each width, from two numbers to all. Allocates only beyond the
+    /// capacity of the list. AllocError if that fails.
     pub(crate) fn join_up(
         &self,
         place: usize,
@@ -126,7 +126,7 @@ impl<'a, P: Part> LineTree<'a, P> {
     }
 }
 
-/// Makes the nodes of all parts that hold a place again.
+/// Rewrites the nodes of all parts that contain a place.
 pub(crate) fn renew<P: Part>(numbers: &[i64], nodes: &mut [P], line: Line, place: usize)
     requires inside { IsIn line (length numbers.now) (length nodes.old) }
     requires place { place < line.count }
@@ -154,7 +154,7 @@ pub(crate) fn renew<P: Part>(numbers: &[i64], nodes: &mut [P], line: Line, place
     }
 }
 
-/// Writes the parts that `join_up` joined for a place of a line as nodes. It joins nothing.
+/// Writes the parts that `join_up` appended for a place as nodes. Joins nothing.
 fn put_parts<P: Part>(nodes: &mut [P], line: Line, place: usize, parts: &[P])
     requires few { line.count < 2 ^ 62 }
     requires apart { 0 < line.step }
@@ -180,8 +180,8 @@ fn put_parts<P: Part>(nodes: &mut [P], line: Line, place: usize, parts: &[P])
     }
 }
 
-/// Puts another number at a place of a line, and writes the parts that the place is in as nodes: those that `join_up` joined for this
-/// number, or else joined here.
+/// Replaces the number at a place, and writes the nodes of all parts that contain it. Uses the parts that `join_up`
+/// appended for this number, or else joins them here.
 pub(crate) fn write<P: Part>(
     numbers: &mut [i64],
     nodes: &mut [P],
@@ -208,8 +208,8 @@ pub(crate) fn write<P: Part>(
     }
 }
 
-/// Joins the last number of a line to its tree, and makes the nodes of all parts that hold it again. The nodes are those of the line
-/// without it.
+/// Adds the last number of a line to its tree, and writes the nodes of all parts that contain it. The nodes given are
+/// those of the line without it.
 pub(crate) fn take_last<P: Part>(numbers: &[i64], nodes: &mut [P], line: Line)
     requires inside { IsIn line (length numbers.now) (length nodes.old) }
     requires more { 1 < line.count }

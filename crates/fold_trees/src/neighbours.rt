@@ -1,4 +1,4 @@
-//! Makes the nodes of a contiguous line, from the first part to the last.
+//! Appends the nodes of a contiguous line, from the first part to the last.
 
 ghost use Rattle.std.specs.Prelude.{◌≡◌, get_or, ℕ, ◌+◌, ◌-◌, ◌*◌, ◌/◌, ◌%◌, ◌^◌, ◌<◌, ◌≤◌, ◌++◌, ◌∷◌, [], ℤ, length, vec_len, vec_capacity};
 ghost use Rattle.fold_trees.specs.LineTrees.{nth_node, slot_of, HasSlots, segment, node_of, ArePartsKept, ArePartsKeptIn, ArePartsKeptUpTo};
@@ -8,8 +8,8 @@ use crate::line::Line;
 use crate::line_tree::renew;
 use crate::part::Part;
 
-/// Writes the nodes of all parts of a contiguous line that end at a place, from the narrowest to the widest. The nodes up to a width, and of parts that
-/// end earlier, exist.
+/// Writes the nodes of all parts that end at a place of a contiguous line, from narrow to wide. The nodes up to
+/// `width`, and of parts that end earlier, exist.
 fn close_parts<P: Part>(nodes: &mut [P], line: Line, end: usize, width: usize)
     requires few { line.count < 2 ^ 62 }
     requires near { line.step ≡ 1 }
@@ -42,8 +42,8 @@ fn two_from<P: Part>(numbers: &[i64], line: Line, from: usize) -> P
     P::two(numbers[at], numbers[at + 1])
 }
 
-/// Appends the node of the next two numbers of a contiguous line and a placeholder for a wider part, and writes the nodes of all wider parts that end
-/// with the two. It allocates nothing.
+/// Appends the node of the next two numbers of a contiguous line, and a placeholder for a wider part. Writes the nodes
+/// of all wider parts that end here. Allocates nothing.
 fn push_pair<P: Part>(numbers: &[i64], nodes: &mut Vec<P>, line: Line, from: usize)
     requires slots { HasSlots line (length numbers.now) }
     requires near { line.step ≡ 1 }
@@ -63,8 +63,8 @@ fn push_pair<P: Part>(numbers: &[i64], nodes: &mut Vec<P>, line: Line, from: usi
     close_parts(nodes, line, from + 2, 2);
 }
 
-/// Appends the nodes of the next four numbers of a contiguous line (the first two, all four, the last two) and a placeholder for a wider part, and writes
-/// the nodes of all wider parts that end with the four. It allocates nothing.
+/// Appends the nodes of the next four numbers of a contiguous line (first two, all, last two), and a placeholder for a
+/// wider part. Writes the nodes of all wider parts that end here. Allocates nothing.
 fn push_four<P: Part>(numbers: &[i64], nodes: &mut Vec<P>, line: Line, from: usize)
     requires slots { HasSlots line (length numbers.now) }
     requires near { line.step ≡ 1 }
@@ -87,7 +87,7 @@ fn push_four<P: Part>(numbers: &[i64], nodes: &mut Vec<P>, line: Line, from: usi
     close_parts(nodes, line, from + 4, 4);
 }
 
-/// Appends the nodes of a contiguous line, up to the last pair before its last number. It allocates nothing.
+/// Appends the nodes of a contiguous line up to the last pair before its last number. Allocates nothing.
 fn push_fours<P: Part>(numbers: &[i64], nodes: &mut Vec<P>, line: Line)
     requires slots { HasSlots line (length numbers.now) }
     requires near { line.step ≡ 1 }
@@ -108,7 +108,7 @@ fn push_fours<P: Part>(numbers: &[i64], nodes: &mut Vec<P>, line: Line)
     }
 }
 
-/// Appends all nodes of a contiguous line, from the first part to the last. It allocates nothing.
+/// Appends all nodes of a contiguous line, from the first part to the last. Allocates nothing.
 pub(crate) fn push_line<P: Part>(numbers: &[i64], nodes: &mut Vec<P>, line: Line)
     requires slots { HasSlots line (length numbers.now) }
     requires near { line.step ≡ 1 }

@@ -17,7 +17,7 @@ use arrays_core::{Kind, copied, put_behind, repeated, room_between, room_of, roo
 use std::alloc::{AllocError, Global};
 use std::marker::Model;
 
-/// The most parts that one replaced number joins: the binary digits of the most numbers of an array.
+/// The greatest number of parts joined for one replaced number: the base-2 logarithm of the greatest size of an array.
 const MOST_PARTS: usize = 20;
 
 /// Returns the places of a line, by its index from 0.
@@ -87,7 +87,7 @@ fn fill_all<P: Part>(numbers: &[i64], nodes: &mut [P], count: usize, step: usize
     }
 }
 
-/// Makes the nodes of contiguous lines. AllocError if memory for them is refused.
+/// Builds the nodes of contiguous lines. AllocError if an allocation fails.
 fn nodes_of_lines<P: Part>(
     alloc: Global,
     numbers: &[i64],
@@ -106,7 +106,7 @@ fn nodes_of_lines<P: Part>(
     Ok(nodes)
 }
 
-/// Makes the nodes of interleaved lines. AllocError if memory for them is refused.
+/// Builds the nodes of interleaved lines. AllocError if an allocation fails.
 fn nodes_of_blocks<P: Part>(
     alloc: Global,
     numbers: &[i64],
@@ -124,8 +124,8 @@ fn nodes_of_blocks<P: Part>(
     Ok(nodes)
 }
 
-/// Joins the last number of each interleaved line to its tree. The count includes these numbers; the nodes are those of the lines without
-/// them.
+/// Adds the last number of each interleaved line to its tree. `count` includes these numbers; the nodes are those of
+/// the lines without them.
 fn take_places<P: Part>(numbers: &[i64], nodes: &mut [P], count: usize, step: usize)
     requires more { 1 < count }
     requires apart { 0 < step }
@@ -140,9 +140,9 @@ fn take_places<P: Part>(numbers: &[i64], nodes: &mut [P], count: usize, step: us
     }
 }
 
-/// All lines of an array along one axis, with a tree of parts for each. One number is replaced in at most as many joins as the length of
-/// its line has binary digits. The numbers and the nodes of all lines are two lists, each with a capacity of the next power of two of its
-/// length.
+/// All lines of an array along one axis, with a tree of parts for each. Replacing a number of a line of n numbers takes
+/// at most ⌈log2 n⌉ joins. The numbers and the nodes are two lists; the capacity of each is the next power of two of
+/// its length.
 #[derive(Drop)]
 pub(crate) struct PartTrees<P: Part> {
     count: usize,
@@ -164,7 +164,7 @@ impl<P: Part> Model for PartTrees<P> {
 }
 
 impl<P: Part> PartTrees<P> {
-    /// The trees of lines of so many numbers, whose neighbours lie so far apart. AllocError where memory for them is refused.
+    /// Builds the trees of lines of `count` numbers; neighbours on a line are `step` places apart. AllocError if an allocation fails.
     pub(crate) fn build(
         alloc: Global,
         numbers: &[i64],
@@ -190,21 +190,21 @@ impl<P: Part> PartTrees<P> {
         })
     }
 
-    /// How many numbers all lines have.
+    /// Returns the number of places of all lines.
     pub(crate) fn places(&self) -> usize
         ensures { result ≡ length self.now.numbers }
     {
         self.numbers.len()
     }
 
-    /// How many lines there are.
+    /// Returns the number of lines.
     pub(crate) fn len(&self) -> usize
         ensures { result ≡ line_count self.now }
     {
         self.numbers.len() / self.count
     }
 
-    /// The fold of the numbers of a line, lines counted from 0, from the last to the first, or the error that it meets.
+    /// Returns the fold of a line from the last number to the first, or its error. Lines are counted from 0.
     pub(crate) fn result(&self, line: usize) -> Result<i64, Kind>
         requires { line < line_count self.now }
         ensures { IsReductionBy P.function (numbers_of_line self.now line) result }
@@ -216,8 +216,8 @@ impl<P: Part> PartTrees<P> {
         tree.whole().fold()
     }
 
-    /// The fold of the numbers of a line and of one more behind them, from the last to the first, or the error that it meets. It takes one
-    /// join of parts.
+    /// Returns the fold of a line with one more number at its end, from the last number to the first, or its error.
+    /// Takes one join.
     pub(crate) fn result_behind(&self, line: usize, number: i64) -> Result<i64, Kind>
         requires { line < line_count self.now }
         ensures { IsReductionBy P.function (numbers_of_line self.now line ++ number ∷ []) result }
@@ -226,9 +226,8 @@ impl<P: Part> PartTrees<P> {
         tree.whole().join(&P::of(number)).fold()
     }
 
-    /// The fold of the line that a place is on, from its last number to its first, where the number at this place is another, or the
-    /// error that it meets, and how many parts were joined for it: at most as many as the length of a line less one has binary digits.
-    /// Places are counted from 0.
+    /// Returns the fold of the line of a place with another number there, or its error, and the number of joins. A line
+    /// of n numbers takes at most ⌈log2 n⌉ joins. Places are counted from 0.
     pub(crate) fn result_with(&self, place: usize, number: i64) -> (Result<i64, Kind>, u32)
         requires { place < length self.now.numbers }
         ensures result { IsReductionBy P.function (numbers_through (with_number self.now place number) place) result.0 }
@@ -244,8 +243,8 @@ impl<P: Part> PartTrees<P> {
         (all.fold(), joins)
     }
 
-    /// Does what `result_with` does, and replaces the items of a list by the parts that it joins. It takes memory only beyond the capacity of
-    /// the list; AllocError where that is refused.
+    /// Computes the same as `result_with`, and replaces the list with the joined parts. Allocates only beyond its
+    /// capacity. AllocError if that fails.
     pub(crate) fn join(
         &self,
         place: usize,
@@ -269,8 +268,8 @@ impl<P: Part> PartTrees<P> {
         Ok((all.fold(), joins))
     }
 
-    /// Puts another number at a place of all lines, places counted from 0, with the parts that `join` joined for it, or else joins them here.
-    /// It takes no memory.
+    /// Replaces the number at a place, counted from 0. Writes the parts that `join` joined for it, or else joins them
+    /// here. Allocates nothing.
     pub(crate) fn set(&mut self, place: usize, number: i64, joined: Option<&[P]>)
         requires place { place < length self.old.numbers }
         requires joined { IfSome joined (λ parts. AreJoinedFor P.tells self.old place number parts.now) }
@@ -289,7 +288,7 @@ impl<P: Part> PartTrees<P> {
         );
     }
 
-    /// Takes one more number for each line, behind its last one. It takes no memory.
+    /// Appends one number to each line. Allocates nothing.
     pub(crate) fn lengthen(&mut self, more: NextParts<P>)
         requires { FitNext self.old more }
         ensures { self.new ≡ with_places self.old more.numbers }
@@ -300,7 +299,7 @@ impl<P: Part> PartTrees<P> {
         take_places(&self.numbers, &mut self.nodes, self.count, self.step);
     }
 
-    /// Takes the trees of further lines behind the others. It takes no memory.
+    /// Appends further lines. Allocates nothing.
     pub(crate) fn grow(&mut self, more: NewParts<P>)
         requires { FitBehind self.old more }
         ensures { self.new ≡ with_lines self.old more.numbers }
@@ -311,8 +310,8 @@ impl<P: Part> PartTrees<P> {
     }
 }
 
-/// The trees of the lines that an array grows by. They bring the room that those of all lines may need, so that `PartTrees::grow` takes no
-/// memory.
+/// The trees of the lines that an array grows by, with the memory that all lines may need. `PartTrees::grow` then
+/// allocates nothing.
 #[derive(Drop)]
 pub(crate) struct NewParts<P: Part> {
     trees: PartTrees<P>,
@@ -334,8 +333,8 @@ impl<P: Part> Model for NewParts<P> {
 }
 
 impl<P: Part> NewParts<P> {
-    /// The trees of lines of so many numbers, whose neighbours lie so far apart, which come behind so many old ones.
-    /// AllocError where memory for them, or for the room, is refused.
+    /// Builds the trees of lines of `count` numbers, `step` places apart, to follow `old_lines` lines. AllocError if an
+    /// allocation fails.
     pub(crate) fn build(
         alloc: Global,
         numbers: &[i64],
@@ -363,8 +362,8 @@ impl<P: Part> NewParts<P> {
     }
 }
 
-/// The numbers of one more place of each line, where all lines lie between one another. They bring the room that the longer
-/// lines may need, so that `PartTrees::lengthen` takes no memory.
+/// One more number for each of several interleaved lines, with the memory that the longer lines may need.
+/// `PartTrees::lengthen` then allocates nothing.
 #[derive(Drop)]
 pub(crate) struct NextParts<P: Part> {
     count: usize,
@@ -387,8 +386,8 @@ impl<P: Part> Model for NextParts<P> {
 }
 
 impl<P: Part> NextParts<P> {
-    /// The numbers of one more place of each of as many lines as there are numbers, which have so many numbers each until then. AllocError
-    /// where memory for them, or for the room, is refused.
+    /// Builds one more place of interleaved lines of `count` numbers, with one number for each line. AllocError if an
+    /// allocation fails.
     pub(crate) fn build(
         alloc: Global,
         numbers: &[i64],

@@ -1,4 +1,4 @@
-//! What is kept of lists of numbers of which the product is asked for.
+//! The parts of folds by `×`.
 
 ghost use Rattle.std.specs.Prelude.{◌≡◌, ◌^◌, ◌<◌, ◌≤◌, true, unsigned_abs, pos, ◌≤ℤ◌, neg_ℤ};
 ghost use Rattle.function_names.specs.declared.scalar.Scalar2.TheVariants.{Times};
@@ -7,16 +7,16 @@ ghost use Rattle.fold_trees.specs.Products.{Products, AreOrdered, IsKeptOf, Tell
 use crate::part::Part;
 use arrays_core::Kind;
 
-/// How far from 0 a number of 64 bits is at most.
+/// The greatest magnitude of a 64-bit number.
 const FARTHEST: i128 = 1 << 63;
 
-/// Numbers that are nearer to 0 than this have a product within 64 bits, with room to spare.
+/// The product of two numbers of smaller magnitude is below 2 to the power 62.
 const NEAR: u64 = 1 << 31;
 
-/// How far 0 and the products of the endings of a list of numbers go below 0 and above it, and how far its total is above the least
-/// of them. The ending of no numbers is one of them, and its product is 1. Where they are not all within 64 bits, and would not be
-/// with the other sign either, the product of no longer list is within 64 bits all along, unless later numbers make 0 of all these:
-/// then the first two fields are both 2 to the power 63, and tell no more.
+/// The range of the suffix products of a list, as magnitudes below and above 0, and the distance of the total above the
+/// least. The range includes 0, and 1 for the empty suffix. A range is far if it exceeds 64 bits, and with the other
+/// sign as well. A longer list then fails, unless its later numbers multiply to 0. All fields of a far part are 2 to
+/// the power 63, and mean nothing else.
 #[derive(Clone, Copy)]
 pub(crate) struct Product {
     below: u64,
@@ -25,7 +25,7 @@ pub(crate) struct Product {
 }
 
 impl Product {
-    /// That of a list with this total, and with this least and greatest of 0 and the products of its endings.
+    /// Returns the part of a list with this total and this range.
     fn of_products(total: i128, least: i128, greatest: i128) -> Product
         requires ordered { AreOrdered (record { total = total; least = least; greatest = greatest }) }
         requires low { neg_ℤ (pos (2 ^ 126)) ≤ℤ least }
@@ -46,28 +46,28 @@ impl Product {
         }
     }
 
-    /// The total that it tells.
+    /// Returns the total of the list.
     fn total(&self) -> i128
         ensures { result ≡ (kept_products self.now).total }
     {
         i128::from(self.total) - i128::from(self.below)
     }
 
-    /// The least product that it tells.
+    /// Returns the least of 0 and the suffix products.
     fn least(&self) -> i128
         ensures { result ≡ (kept_products self.now).least }
     {
         -i128::from(self.below)
     }
 
-    /// The greatest product that it tells.
+    /// Returns the greatest of 0 and the suffix products.
     fn greatest(&self) -> i128
         ensures { result ≡ (kept_products self.now).greatest }
     {
         i128::from(self.above)
     }
 
-    /// That of one number.
+    /// Returns the part of one number.
     fn single(number: i64) -> Product
         ensures { TellsProducts result (before number products_of_none) }
     {
@@ -87,21 +87,21 @@ impl Product {
         }
     }
 
-    /// Whether all that it tells is near 0.
+    /// Returns whether the whole range is near 0.
     fn is_near(&self) -> bool
         ensures { result ≡ true → (self.now.below < 2 ^ 31) × (self.now.above < 2 ^ 31) }
     {
         self.below < NEAR && self.above < NEAR
     }
 
-    /// Whether it tells no more than that the product of no longer list is within 64 bits, unless it is 0.
+    /// Returns whether the range is far.
     fn is_far(&self) -> bool
         ensures { result ≡ true → (self.now.below ≡ 2 ^ 63) × (self.now.above ≡ 2 ^ 63) }
     {
         self.below == 1 << 63 && self.above == 1 << 63
     }
 
-    /// The total that it tells, which is near 0.
+    /// Returns the total, which is near 0.
     fn near_total(&self) -> i64
         requires sound { AreOrdered (kept_products self.now) }
         requires near { (self.now.below < 2 ^ 31) × (self.now.above < 2 ^ 31) }
@@ -111,7 +111,7 @@ impl Product {
         self.total as i64 - self.below as i64
     }
 
-    /// The least product that it tells, which is near 0.
+    /// Returns the least of 0 and the suffix products, which is near 0.
     fn near_least(&self) -> i64
         requires { (self.now.below < 2 ^ 31) × (self.now.above < 2 ^ 31) }
         ensures is { result ≡ (kept_products self.now).least }
@@ -120,7 +120,7 @@ impl Product {
         -(self.below as i64)
     }
 
-    /// The greatest product that it tells, which is near 0.
+    /// Returns the greatest of 0 and the suffix products, which is near 0.
     fn near_greatest(&self) -> i64
         requires { (self.now.below < 2 ^ 31) × (self.now.above < 2 ^ 31) }
         ensures is { result ≡ (kept_products self.now).greatest }
@@ -129,7 +129,7 @@ impl Product {
         self.above as i64
     }
 
-    /// That of a list with this total, and with this least and greatest of 0 and the products of its endings, all of 62 bits.
+    /// Returns the part of a list with this total and this range, all of magnitude below 2 to the power 62.
     fn of_narrow(total: i64, least: i64, greatest: i64) -> Product
         requires ordered { AreOrdered (record { total = total; least = least; greatest = greatest }) }
         requires low { neg_ℤ (pos 4611686014132420609) ≤ℤ least }
@@ -143,7 +143,7 @@ impl Product {
         }
     }
 
-    /// That of a list and of a later one after it, which tell what is near 0, worked out in 64 bits.
+    /// Returns the part of this list and a later one, both near 0. Computes in 64 bits.
     fn join_near(&self, later: &Product) -> Product
         requires here { (products : Products) × TellsProducts self.now products }
         requires near { (self.now.below < 2 ^ 31) × (self.now.above < 2 ^ 31) }
@@ -159,7 +159,7 @@ impl Product {
         Product::of_narrow(self.near_total() * factor, least, greatest)
     }
 
-    /// That of a list and of a later one after it, whatever they tell, worked out in 128 bits.
+    /// Returns the part of this list and any later one. Computes in 128 bits.
     #[inline(never)]
     fn join_wide(&self, later: &Product) -> Product
         requires here { (products : Products) × TellsProducts self.now products }
@@ -174,7 +174,7 @@ impl Product {
         Product::of_products(self.total() * factor, least, greatest)
     }
 
-    /// That of a list and of a later one after it. Where the later one is far, so are both.
+    /// Returns the part of this list and a later one. If the later one is far, so is the result.
     fn followed_by(&self, later: &Product) -> Product
         requires here { (products : Products) × TellsProducts self.now products }
         requires later { (products : Products) × TellsProducts later.now products }
@@ -186,7 +186,7 @@ impl Product {
         if self.is_near() && later.is_near() {
             return self.join_near(later);
         }
-        // Taken apart, so that a near one need not lie in memory as this one does.
+        // Copied by fields, so that the near case can stay in registers.
         let Product {
             below,
             above,
@@ -199,8 +199,7 @@ impl Product {
         }
     }
 
-    /// The product of the list from its last number to its first, or LIMIT where that leaves 64 bits on its way: where the product of an
-    /// ending does.
+    /// Returns the product from the last number to the first. LIMIT where a suffix product leaves 64 bits.
     fn product(&self) -> Result<i64, Kind>
         requires { (products : Products) × TellsProducts self.now products }
         ensures { (products : Products) → TellsProducts self.now products → result ≡ product_told products }

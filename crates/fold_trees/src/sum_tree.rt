@@ -1,4 +1,4 @@
-//! The sum of a list of which one number at a time is replaced.
+//! The sum of a list in which single numbers are replaced.
 
 ghost use Rattle.std.specs.Prelude.{◌≡◌, ◌-◌, ◌<◌, ◌==◌, ◌++◌, ◌∷◌, [], length, IfOk, slice_set};
 ghost use Rattle.function_names.specs.declared.scalar.Scalar2.TheVariants.{Plus};
@@ -10,8 +10,8 @@ use arrays_core::Kind;
 use std::alloc::{AllocError, Global};
 use std::marker::Model;
 
-/// The sum of a list of numbers, by a tree of its parts, so that one number can be replaced in as many joins of parts as the length has
-/// binary digits. It takes 32 bytes a number: the number, and 24 for a part of two numbers or more.
+/// The sum of a list of numbers, as a tree of parts. Replacing one of n numbers takes at most ⌈log2 n⌉ joins. A number
+/// takes 32 bytes: 8 for itself, and 24 for a part of two numbers or more.
 #[derive(Drop)]
 pub struct SumTree {
     trees: PartTrees<Summary>,
@@ -29,7 +29,7 @@ impl Model for SumTree {
 }
 
 impl SumTree {
-    /// Returns the tree of a list of numbers. AllocError where memory for it is refused.
+    /// Builds the tree of a list of numbers. AllocError if an allocation fails.
     pub fn build(alloc: Global, numbers: &[i64]) -> Result<SumTree, AllocError>
         ensures { IfOk result (λ t. t ≡ numbers.now) }
     {
@@ -37,7 +37,7 @@ impl SumTree {
         Ok(SumTree { trees })
     }
 
-    /// Returns how many numbers there are.
+    /// Returns the number of numbers.
     pub fn len(&self) -> usize
         ensures { result ≡ length self.now }
     {
@@ -51,8 +51,8 @@ impl SumTree {
         self.len() == 0
     }
 
-    /// Returns the reduction of the numbers by `+`: their sum from the last to the first, or LIMIT where that leaves 64 bits at some step;
-    /// 0 where there are none.
+    /// Returns the reduction of the numbers by `+`, from the last to the first; 0 where there are none. LIMIT where a
+    /// partial sum leaves 64 bits.
     pub fn result(&self) -> Result<i64, Kind>
         ensures { IsReductionBy Plus self.now result }
     {
@@ -62,7 +62,7 @@ impl SumTree {
         self.trees.result(0)
     }
 
-    /// Returns the reduction by `+` of the numbers and one more behind them. It joins two parts at most.
+    /// Returns the reduction by `+` of the numbers and one more at the end. Takes at most one join.
     pub fn result_behind(&self, number: i64) -> Result<i64, Kind>
         ensures { IsReductionBy Plus (self.now ++ number ∷ []) result }
     {
@@ -72,8 +72,8 @@ impl SumTree {
         self.trees.result_behind(0, number)
     }
 
-    /// Returns the reduction by `+` of the numbers with the one at a place replaced, places counted from 0, and how many parts were joined
-    /// for it: at most as many as the length less one has binary digits, and at least one where there are two numbers.
+    /// Returns the reduction by `+` with another number at a place, counted from 0, and the number of joins. For n
+    /// numbers that is at most ⌈log2 n⌉, and at least 1 if n is 2 or more.
     pub fn result_with(&self, place: usize, number: i64) -> (Result<i64, Kind>, u32)
         requires { place < length self.now }
         ensures result { IsReductionBy Plus (slice_set self.now place number) result.0 }
@@ -83,7 +83,7 @@ impl SumTree {
         self.trees.result_with(place, number)
     }
 
-    /// Replaces the number at a place, places counted from 0. It takes no memory.
+    /// Replaces the number at a place, counted from 0. Allocates nothing.
     pub fn set(&mut self, place: usize, number: i64)
         requires { place < length self.old }
         ensures { self.new ≡ slice_set self.old place number }

@@ -1,4 +1,4 @@
-//! What is kept of lists of numbers of which the sum is asked for.
+//! The parts of folds by `+`.
 
 ghost use Rattle.std.specs.Prelude.{◌≡◌, ◌^◌, ◌<◌, true, unsigned_abs, pos, ◌≤ℤ◌, neg_ℤ, ◌∷◌, []};
 ghost use Rattle.function_names.specs.declared.scalar.Scalar2.TheVariants.{Plus};
@@ -7,16 +7,16 @@ ghost use Rattle.fold_trees.specs.Sums.{Sums, IsOrdered, IsSummaryOf, IsSumKept,
 use crate::part::Part;
 use arrays_core::Kind;
 
-/// The bits of a number are lost from there on.
+/// The width of a range from which on it fits no 64-bit number.
 const ALL: i128 = 1 << 64;
 
-/// Sums that are nearer to 0 than this are added within 64 bits.
+/// Sums of smaller magnitude are added within 64 bits.
 const NEAR: u64 = 1 << 61;
 
-/// How far the sums of the endings of a list of numbers go below 0 and above it, and how far its total is above the
-/// least of them. The ending of no numbers is one of them, and its sum is 0. Where the least and the greatest are 2 to the
-/// power 64 apart or more, no list that has these numbers in it sums up within 64 bits, whatever comes after them: then the
-/// first two fields are together as great, and tell no more.
+/// The range of the suffix sums of a list, as magnitudes below and above 0, and the distance of the total above the
+/// least. The empty suffix has sum 0. Later numbers shift all suffix sums alike, so the width of the range stays. At a
+/// width of 2 to the power 64 every longer list leaves 64 bits. Such a range is far: its stored width is at least 2 to
+/// the power 64, and the fields mean nothing else.
 #[derive(Clone, Copy)]
 pub(crate) struct Summary {
     below: u64,
@@ -25,7 +25,7 @@ pub(crate) struct Summary {
 }
 
 impl Summary {
-    /// That of one number.
+    /// Returns the part of one number.
     fn single(number: i64) -> Summary
         ensures { IsSummaryOf result (sums_of (number ∷ [])) }
     {
@@ -45,14 +45,14 @@ impl Summary {
         }
     }
 
-    /// That of two numbers.
+    /// Returns the part of two numbers.
     fn pair(left: i64, right: i64) -> Summary
         ensures { IsSummaryOf result (sums_of (left ∷ right ∷ [])) }
     {
         if left.unsigned_abs() < NEAR && right.unsigned_abs() < NEAR {
             return Summary::near_pair(left, right);
         }
-        // Taken apart, so that a near one, which is made far oftener, need not lie in memory as this one does.
+        // Copied by fields, so that the frequent near case can stay in registers.
         let Summary {
             below,
             above,
@@ -65,7 +65,7 @@ impl Summary {
         }
     }
 
-    /// That of two numbers that are near 0.
+    /// Returns the part of two numbers near 0.
     fn near_pair(left: i64, right: i64) -> Summary
         requires left { unsigned_abs left < 2 ^ 61 }
         requires right { unsigned_abs right < 2 ^ 61 }
@@ -75,7 +75,7 @@ impl Summary {
         Summary::of_narrow(total, total.min(right).min(0), total.max(right).max(0))
     }
 
-    /// That of two numbers that may be far from 0.
+    /// Returns the part of any two numbers.
     #[cold]
     #[inline(never)]
     fn far_pair(left: i64, right: i64) -> Summary
@@ -84,7 +84,7 @@ impl Summary {
         Summary::single(left).followed_by(&Summary::single(right))
     }
 
-    /// That of a list with this total, and with this least and greatest sum of an ending, where they are within 64 bits.
+    /// Returns the part of a list with this total and this range of suffix sums, all within 64 bits.
     fn of_narrow(total: i64, least: i64, greatest: i64) -> Summary
         requires { IsOrdered (record { total = total; least = least; greatest = greatest }) }
         ensures { IsSummaryOf result (record { total = total; least = least; greatest = greatest }) }
@@ -96,7 +96,7 @@ impl Summary {
         }
     }
 
-    /// That of a list with this total, and with this least and greatest sum of an ending.
+    /// Returns the part of a list with this total and this range of suffix sums.
     fn of_sums(total: i128, least: i128, greatest: i128) -> Summary
         requires ordered { IsOrdered (record { total = total; least = least; greatest = greatest }) }
         requires low { neg_ℤ (pos 73786976294838206464) ≤ℤ least }
@@ -117,7 +117,7 @@ impl Summary {
         }
     }
 
-    /// The total that it tells.
+    /// Returns the total of the list.
     fn total(&self) -> i128
         ensures is { result ≡ (told_sums self.now).total }
         ensures low { neg_ℤ (pos 18446744073709551616) ≤ℤ result }
@@ -126,7 +126,7 @@ impl Summary {
         i128::from(self.total) - i128::from(self.below)
     }
 
-    /// The least sum of an ending that it tells.
+    /// Returns the least suffix sum.
     fn least(&self) -> i128
         ensures is { result ≡ (told_sums self.now).least }
         ensures low { neg_ℤ (pos 18446744073709551616) ≤ℤ result }
@@ -135,7 +135,7 @@ impl Summary {
         -i128::from(self.below)
     }
 
-    /// The greatest sum of an ending that it tells.
+    /// Returns the greatest suffix sum.
     fn greatest(&self) -> i128
         ensures is { result ≡ (told_sums self.now).greatest }
         ensures low { pos 0 ≤ℤ result }
@@ -144,7 +144,7 @@ impl Summary {
         i128::from(self.above)
     }
 
-    /// That of a list and of a later one after it. Where the sums of one of them are too far apart, those of both are.
+    /// Returns the part of this list and a later one. If either is far, so is the result.
     fn followed_by(&self, later: &Summary) -> Summary
         requires here { (sums : Sums) × IsSummaryOf self.now sums }
         requires later { (sums : Sums) × IsSummaryOf later.now sums }
@@ -153,7 +153,7 @@ impl Summary {
         if self.is_near() && later.is_near() {
             return self.join_near(later);
         }
-        // Taken apart, so that a near one, which is made far oftener, need not lie in memory as this one does.
+        // Copied by fields, so that the frequent near case can stay in registers.
         let Summary {
             below,
             above,
@@ -166,7 +166,7 @@ impl Summary {
         }
     }
 
-    /// It and a later one as one, where their sums may be far from 0: worked out in 128 bits.
+    /// Returns the part of this list and any later one. Computes in 128 bits.
     #[cold]
     #[inline(never)]
     fn join_far(&self, later: &Summary) -> Summary
@@ -180,14 +180,14 @@ impl Summary {
         Summary::of_sums(self.total() + shift, least, greatest)
     }
 
-    /// Whether the sums that it tells are near.
+    /// Returns whether the whole range is near 0.
     fn is_near(&self) -> bool
         ensures { result ≡ true → (self.now.below < 2 ^ 61) × (self.now.above < 2 ^ 61) }
     {
         self.below < NEAR && self.above < NEAR
     }
 
-    /// That of a list and of a later one after it whose sums are near, worked out in 64 bits.
+    /// Returns the part of this list and a later one, both near 0. Computes in 64 bits.
     fn join_near(&self, later: &Summary) -> Summary
         requires sound { IsOrdered (told_sums self.now) }
         requires near { (self.now.below < 2 ^ 61) × (self.now.above < 2 ^ 61) }
@@ -206,8 +206,7 @@ impl Summary {
         }
     }
 
-    /// The sum of the list from its last number to its first, or LIMIT where that leaves 64 bits on its way: where the sum of an
-    /// ending does.
+    /// Returns the sum from the last number to the first. LIMIT where a suffix sum leaves 64 bits.
     fn sum(&self) -> Result<i64, Kind>
         requires { (sums : Sums) × IsSummaryOf self.now sums }
         ensures { (sums : Sums) → IsSummaryOf self.now sums → result ≡ sum_told sums }

@@ -1,4 +1,4 @@
-//! What is kept of lists of truth values of which it is asked whether all are true, or any.
+//! The parts of folds by `∧` and `∨`.
 
 ghost use Rattle.std.specs.Prelude.{◌≡◌, pos, IfOk, IfErr};
 ghost use Rattle.function_names.specs.declared.scalar.Scalar2.TheVariants.{And as Both, Or as Either};
@@ -8,10 +8,10 @@ use crate::part::Part;
 use arrays_core::Kind;
 use item_fns::kernels::{And, Or, TwoNumbers};
 
-/// A number that is no truth value.
+/// A number that is not a truth value.
 const NO_TRUTH: i64 = 2;
 
-/// What a function gives for two numbers, or a number that is no truth value in place of its error.
+/// Returns the result of a function of two numbers, or `NO_TRUTH` where it fails.
 fn joined<S: TwoNumbers>(step: &S, left: i64, right: i64) -> i64
     ensures truth { IfOk (S.gives step.now left right) (λ z. result ≡ z) }
     ensures none { IfErr (S.gives step.now left right) (λ kind. result ≡ pos 2) }
@@ -19,7 +19,7 @@ fn joined<S: TwoNumbers>(step: &S, left: i64, right: i64) -> i64
     step.at(left, right).unwrap_or(NO_TRUTH)
 }
 
-/// The number where it is a truth value, or DOMAIN.
+/// Returns the number. DOMAIN where it is not a truth value.
 fn checked(number: i64) -> Result<i64, Kind>
     ensures { result ≡ truth_value number }
 {
@@ -29,8 +29,8 @@ fn checked(number: i64) -> Result<i64, Kind>
     }
 }
 
-/// Whether all of some numbers are true: one number as it is, and of more numbers what ∧ gives, or a number that is no truth value
-/// where one of them is none.
+/// Whether all numbers of a list are true: a single number unchanged, else the fold by `∧`. `NO_TRUTH` where a number
+/// of several is not a truth value.
 #[derive(Clone, Copy)]
 pub(crate) struct AllTrue {
     truth: i64,
@@ -58,8 +58,8 @@ impl Part for AllTrue {
     }
 }
 
-/// Whether any of some numbers is true: one number as it is, and of more numbers what ∨ gives, or a number that is no truth value
-/// where one of them is none.
+/// Whether any number of a list is true: a single number unchanged, else the fold by `∨`. `NO_TRUTH` where a number of
+/// several is not a truth value.
 #[derive(Clone, Copy)]
 pub(crate) struct AnyTrue {
     truth: i64,

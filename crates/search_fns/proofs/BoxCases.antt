@@ -1,4 +1,4 @@
--- Worked boxes, computed: what changes of a result where boxes of the arguments changed.
+-- Worked boxes, computed: the places of a result that a box of an argument changes.
 use Rattle.std.proofs.Common.{[], ◌∷◌, refl, None}
 use Rattle.arrays_core.{specs.Arrays.{ArrayValue}, proofs.CaseWords.{◌⇒◌, AllSame, nums, scalar, no_numbers, no_text}}
 use Rattle.change_core.{specs.declared.reach.Reach.TheVariants.{Anew, Inside, Unmoved}, specs.Reaches.{reach_of}}

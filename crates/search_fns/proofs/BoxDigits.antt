@@ -1,4 +1,4 @@
--- The digits in a box, taken from those of its numbers by the radices from its first one on.
+-- The digits in a box, from its numbers and from the radices that begin with its first one.
 use Rattle.std.{proofs.Common.{◌≡◌, ℕ, ◌+◌, ◌-◌, ◌*◌, ◌/◌, ◌%◌, ◌<◌, ◌≤◌, IsTrue, ℤ, pos, List, [], ◌∷◌, ◌++◌, length, get_or, slice_index_or, map, take, drop, Result, Ok, Err, refl, ap, sym, ◌∙◌, arith}, specs.List.{range_with_len}, proofs.lemmas.Bool.{and_parts, leb-true, false≢true}}
 use Rattle.std.{proofs.lemmas.List.{length-map, length-take, length-drop, get_or-take, get_or-drop, drop-drop, drop-map, get_or-map as get_or-map_inside, take_all}, proofs.lemmas.List.FromFn.{length-map-range_with_len, get_or-map-range_with_len}, proofs.lemmas.Nat.{div-mul-add, mod_below}}
 use Rattle.std.proofs.Math.Nat.{mul-le-mul_right}
@@ -49,19 +49,19 @@ digit_box (n ∷ []) rest items read (s ∷ region) vector many fit same =
       some = some_place region rest parts.1;
     }
 
--- so many columns as there are places in a row
+-- the number of columns is the number of places in a row
 pub columns_in : (s : Interval) (region : List Interval) → s.0 ≤ s.1 → 0 < box_size region → box_size (s ∷ region) / (s.1 + 1 - s.0) ≡ box_size region
 columns_in s region order some = ap (λ n. n / (s.1 + 1 - s.0)) (omega arith) ∙ div-mul-add (box_size region) (s.1 + 1 - s.0) 0 (omega arith)
 
 -- ---- the digits
 
--- radices that are left out before the first one change no digit behind them
+-- dropping earlier radices changes no digit by a later one
 shifted : (zs : List ℤ) (q k : ℕ) (z : ℤ) → 1 ≤ k → digit (drop q zs) k z ≡ digit zs (q + k) z
 shifted zs q k z low =
     let place : q + (k - 1) ≡ q + k - 1 = omega arith in
     λ i. and_then (carried_through ((drop-drop k q zs) i) z) (λ r. Ok (residue ((get_or-drop q zs (k - 1) (pos 0) ∙ ap (λ m. get_or zs m (pos 0)) place) i) r))
 
--- what the checks and the items of a whole result give
+-- the consequences of the checks and the items of a whole result
 record Digits (a v digits : ArrayValue) : Type 0 where
   typed : digits.item_type ≡ Nums
   each : (k : ℕ) → k < size (a.shape ++ v.shape) → encode_item a v (index_after (a.shape ++ v.shape) k) ≡ Ok (get_or digits.items k (Num (pos 0)))
@@ -95,7 +95,7 @@ by_vector : (a b : ArrayValue) (n : ℕ) (s : Interval) (region : List Interval)
     → encode_item a b (walk_at (s ∷ region) p) ≡ number_item (digit (numbers a) (s.0 + p / box_size region) (number_of (item_of b (walk_at region (p % box_size region)))))
 by_vector a b n s region p shaped = rw shaped refl
 
--- the digits of the numbers in such a box, by the radices from its first one on
+-- the digits of the numbers in such a box, by the radices that begin with its first one
 pub record AreDigits (a b left v digits : ArrayValue) (read all : List Interval) (whole : DigitBox a.shape b.shape (length a.items) read all) : Type 0 where
   pub left_shape : left.shape ≡ (whole.count + 1 - whole.first.0) ∷ []
   pub left_items : left.items ≡ take (whole.count + 1 - whole.first.0) (drop (whole.first.0 - 1) a.items)

@@ -1,4 +1,4 @@
--- Each error of decode's items is LIMIT, so that of the whole result is too, whichever comes first.
+-- Each error of an item of decode is LIMIT, so the error of the whole result is LIMIT.
 use Rattle.std.{proofs.Common.{◌≡◌, ℕ, zero, suc, ◌<◌, Bool, true, false, List, [], ◌∷◌, length, get_or, map, ℤ, pos, ◌+ℤ◌, ◌*ℤ◌, Result, Ok, Err, refl, subst, arith}, specs.List.{range_with_len}}
 use Rattle.arrays_core.{specs.declared.item.Kind.{Kind}, specs.declared.item.Kind.TheVariants.{Limit}, specs.Items.{all_or_first_error, and_then}, specs.Arrays.{ArrayValue}}
 use Rattle.{item_fns.{specs.Numbers.{is_number, number_or_limit}, specs.Items.{number_item}}, index_region.specs.Checks.{check}}
@@ -41,7 +41,7 @@ decode_limited a b index =
     let digits = map (digit_pair a b index) (range_with_len 1 (digit_count a b)) in
     item_limited (decoded digits) (worth_limited (pos 0) digits)
 
--- where each error is LIMIT, one of them makes that of the list LIMIT
+-- where each error is LIMIT, an error makes the whole list LIMIT
 pub limit_of_list : {A B : Type 0} (rule : A → Result B Kind) (xs : List A) (d : A) (k : ℕ) → ((x : A) → IsLimited (rule x)) → k < length xs → rule (get_or xs k d) ≡ Err Limit
     → all_or_first_error (map rule xs) ≡ Err Limit
 limit_of_list rule [] d k h below is = absurd (omega arith)

@@ -6,7 +6,7 @@ use Rattle.arrays_core.{specs.Arrays.{ArrayValue, collect, with_items}, proofs.O
 use Rattle.{item_fns.specs.Items.{number_item}, index_region.{specs.Arguments.{number_of}, specs.Axes.{places_along}}}
 use Rattle.search_fns.{specs.Decode.{decode_item, digit_count, radix_at, digit_at, worth, decoded}, specs.DecodedRows.{with_one_more, HaveOneMore, LeavesNumbers, AreDecoded, HasLimit}, proofs.Worths.{digits_after, digit_pair, one_more_digit, number_there}, proofs.DecodeErrors.{limit_of_list, decode_limited}}
 
--- ---- a number on its way: with the digits that are left it is worth what all digits are
+-- ---- a partial number: the remaining digits make it the number of all digits
 
 pub record IsOnTheWay (a b : ArrayValue) (index : List ℕ) (count before : ℕ) (value : ℤ) : Type 0 where
   pub is : worth value (digits_after a b index count before) ≡ decoded (map (digit_pair a b index) (range_with_len 1 count))
@@ -24,7 +24,7 @@ module _ (a b : ArrayValue) (index : List ℕ) (count : ℕ) where
   no_further before value e h failed so_far =
       sym so_far.is ∙ one_more_digit a b index count before value h ∙ ap (λ r. and_then r (λ z. worth z (digits_after a b index count (before + 1)))) failed
 
--- ---- where the digits of a row stand
+-- ---- the places of the digits of a row
 
 -- the row of a digit, counted from 1
 abbrev pub row_of : List ℕ → ℕ → ℕ

@@ -9,10 +9,10 @@ encode_cases : AllSame (
     -- 24 60 60⊤3723: 1 hour, 2 minutes, 3 seconds; 10 10⊤345 keeps the last two digits
     encode_whole (nums (3 ∷ []) (24 ∷ 60 ∷ 60 ∷ [])) (scalar 3723) ⇒ is (nums (3 ∷ []) (1 ∷ 2 ∷ 3 ∷ [])) ∷
     encode_whole (nums (2 ∷ []) (10 ∷ 10 ∷ [])) (scalar 345) ⇒ is (nums (2 ∷ []) (4 ∷ 5 ∷ [])) ∷  -- encode last digits
-    -- 0 10⊤345: a radix 0 has all that is left; 10 0⊤345: it leaves 0
+    -- 0 10⊤345: a radix 0 takes the whole rest; 10 0⊤345: it leaves 0
     encode_whole (nums (2 ∷ []) (0 ∷ 10 ∷ [])) (scalar 345) ⇒ is (nums (2 ∷ []) (34 ∷ 5 ∷ [])) ∷
     encode_whole (nums (2 ∷ []) (10 ∷ 0 ∷ [])) (scalar 345) ⇒ is (nums (2 ∷ []) (0 ∷ 345 ∷ [])) ∷  -- encode none left
-    -- 10 10⊤¯1: what is left is rounded down; 0 10⊤¯15
+    -- 10 10⊤¯1: the rest is rounded down; 0 10⊤¯15
     encode_whole (nums (2 ∷ []) (10 ∷ 10 ∷ [])) (integer (minus 1)) ⇒ is (nums (2 ∷ []) (9 ∷ 9 ∷ [])) ∷
     encode_whole (nums (2 ∷ []) (0 ∷ 10 ∷ [])) (integer (minus 15)) ⇒ is (ints (2 ∷ []) (minus 2 ∷ pos 5 ∷ [])) ∷  -- encode below 0 whole
     -- 0 ¯10⊤15 and 0 ¯10⊤¯15

@@ -12,7 +12,7 @@ row_some : (n s m : ℕ) → m < n * s → 0 < s
 row_some n zero m h = absurd (omega arith)
 row_some n (suc s) m h = omega arith
 
--- what is known where the form is one
+-- the consequences of a form
 pub record IsEncoded (a b : ArrayValue) (shape : List ℕ) (item_type : ItemType) : Type 0 where
   pub few : length a.shape ≤ 1
   pub shaped : shape ≡ a.shape ++ b.shape
@@ -29,7 +29,7 @@ encode_gives a b shape item_type form =
     within : (n : ℕ) → nat_le n 1 ≡ true → n ≤ 1
     within n e = grind (arith, nat_tests)
 
--- how many digits there are
+-- the number of digits
 pub digits_long : (s t : List ℕ) → length s ≤ 1 → size (s ++ t) ≡ size s * size t
 digits_long [] t few = omega arith
 digits_long (n ∷ []) t few = ap (λ m. m * size t) (let one : n ≡ n * 1 = omega arith in one)
@@ -64,7 +64,7 @@ module _ (a b : ArrayValue) (digits : List ℤ) (long_a : length a.items ≡ siz
       digit_there (m / s) (m % s) (omega arith) (mod_below m s some) ∙ ap (λ k. Ok (Num (get_or digits k (pos 0)))) (div-add-mod' m s)
   item_there (n ∷ p ∷ s) few same m h = absurd (omega arith)
 
-  -- there is one for each place of the result
+  -- there is one digit for each place of the result
   pub encoded_long : (shape : List ℕ) (item_type : ItemType) → IsEncoded a b shape item_type → length digits ≡ size shape
   encoded_long shape item_type known =
       let places : length (numbers b) ≡ size b.shape = length-map b.items number_of ∙ long_b in

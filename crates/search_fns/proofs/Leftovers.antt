@@ -1,10 +1,10 @@
--- A digit, from what its radix leaves to the radices before it.
+-- A digit, from the rest that its radix leaves.
 use Rattle.std.{proofs.Common.{◌≡◌, ◌∙◌, ◌+◌, ◌-◌, ◌*◌, ◌%◌, ◌^◌, ap, subst, refl, arith, of_z, to_z, Bool, true, false, if◌then◌else◌, ℤ, pos, negsuc, ◌-ℤ◌, ◌*ℤ◌, Ok, SFits, w64}, specs.Ordering.{int_eq}, specs.Int.{int_wrap}}
 use Rattle.std.{proofs.lemmas.Int.{ints, wrapping_sub-bits, wrapping_mul-bits, int_wrap_fits, int_wrap-sub_right, to_z-of_z}, proofs.Math.Facts.{Fits-of_z}, proofs.Math.Nat.{mod-lt}, proofs.lemmas.Bool.Decides.{Decides-int_eq}}
 use Rattle.item_fns.{specs.Numbers.{residue, floor_div, number_or_limit}, specs.Residue.{IsFromZeroBelow}, proofs.Floors.{held_ok}, proofs.Rests.{residue_is_rest}}
 use Rattle.search_fns.specs.Encode.{carried}
 
--- what lies between 0 and a number of 64 bits is of 64 bits
+-- a number between 0 and a 64-bit number fits 64 bits
 rest_fits : (a r : ℤ) → SFits w64 a → IsFromZeroBelow a r → SFits w64 r
 rest_fits (pos a) (pos r) f h = let high = f.sfits in record { sfits = omega (arith, ints, h) }
 rest_fits (pos a) (negsuc r) f h = absurd (omega (arith, ints, h))

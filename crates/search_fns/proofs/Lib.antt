@@ -12,6 +12,6 @@ pub mod NearNumbers
 pub mod SearchCases
 pub mod DigitCases
 pub mod Leftovers
--- What changes of results.
+-- Changes of results.
 pub mod BoxCases
 pub mod BoxDigits

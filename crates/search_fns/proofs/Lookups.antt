@@ -3,7 +3,7 @@ use Rattle.std.{proofs.Common.{◌≡◌, ℕ, ◌+◌, ◌<◌, ◌≤◌, Bool
 use Rattle.{std.{proofs.lemmas.List.{drop_more, take_more, map-append}, proofs.lemmas.Int.{to_z-of_z}}, item_fns.specs.Numbers.{truth}}
 use mir.Val.{bool_byte}
 
--- one more item in front of those whose first places are known
+-- one more item in front of items whose first places are known
 pub one_more_first : {K : Type 0} {eq : K → K → Bool} (laws : IsEquivalence eq) (xs : List K) (x : K) (k place : ℕ) (m n : K → Option ℕ)
     → k < length xs → k + 1 ≡ place → x ≡ get_or xs k x
     → ((q : K) → m q ≡ position_from (eq q) place (drop place xs))
@@ -17,7 +17,7 @@ one_more_first {eq = eq} laws xs x k place m n below next here known put q =
     ∙ ap (λ y. position_from (eq q) k (y ∷ drop (k + 1) xs)) here
     ∙ ap (position_from (eq q) k) (sym (drop_more xs k x below))
 
--- where there is a first place, it is where the items that fail end
+-- a first place is the end of the items that fail
 pub found_at : {K : Type 0} (p : K → Bool) (xs : List K) (i k : ℕ) → position_from p i xs ≡ Some k → i + position_or_len p xs ≡ k
 found_at p [] i k h = cc
 found_at p (x ∷ xs) i k h = decide (p x) refl (found_at p xs (i + 1) k) h
@@ -27,7 +27,7 @@ found_at p (x ∷ xs) i k h = decide (p x) refl (found_at p xs (i + 1) k) h
     decide true e more h = let same : i ≡ k = cc in rw e (omega arith)
     decide false e more h = let rest = more h in rw e (omega arith)
 
--- and else all items fail
+-- without one all items fail
 pub found_nowhere : {K : Type 0} (p : K → Bool) (xs : List K) (i : ℕ) → position_from p i xs ≡ None → position_or_len p xs ≡ length xs
 found_nowhere p [] i h = refl
 found_nowhere p (x ∷ xs) i h = decide (p x) refl (found_nowhere p xs (i + 1)) h
@@ -45,7 +45,7 @@ position_within p (x ∷ xs) = decide (p x) refl (position_within p xs)
     decide true e more = rw e (omega arith)
     decide false e more = rw e (omega arith)
 
--- there is a first place where some item passes
+-- there is a first place if and only if some item passes
 pub is_found : {K : Type 0} (p : K → Bool) (xs : List K) (i : ℕ) → is_some (position_from p i xs) ≡ list_any p xs
 is_found p [] i = refl
 is_found p (x ∷ xs) i = decide (p x) refl (is_found p xs (i + 1))

@@ -1,4 +1,4 @@
--- Numbers that are near 0, which one more digit leaves within 64 bits.
+-- Numbers so near 0 that one more digit keeps them within 64 bits.
 use Rattle.std.{proofs.Common.{◌≡◌, ◌+◌, ◌^◌, ◌≤◌, ltb, true, ℤ, pos, negsuc, ◌+ℤ◌, ◌*ℤ◌, unsigned_abs, FitsSigned, w64, Ok, refl, ap, ◌∙◌, arith}, proofs.lemmas.Int.{ints, unsigned_abs-mul, fits_signed_from_abs}, proofs.lemmas.Bool.{lt-ltb}, proofs.Math.Nat.{mul-le-mul}}
 use Rattle.{arrays_core.specs.Items.{and_then}, item_fns.specs.Numbers.{number_or_limit}, search_fns.specs.DecodedRows.{with_one_more, StaysWithin}}
 

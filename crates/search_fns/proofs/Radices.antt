@@ -6,7 +6,7 @@ use Rattle.arrays_core.{specs.declared.item.Kind.{Kind}, specs.declared.item.Ite
 use Rattle.index_region.{specs.Arguments.{is_list, counts_as_numbers}, specs.Answers.{IsPlaceOf}, proofs.Passing.{passed, place_inside}}
 use Rattle.search_fns.specs.Encode.{carried, carried_through, encode_form}
 
--- an error at a later radix is an error at those before it
+-- an error at a later radix is an error of all radices
 pub error_through : (radices : List ℤ) (n : ℕ) (z : ℤ) (e : Kind) → carried_through (drop n radices) z ≡ Err e → carried_through radices z ≡ Err e
 error_through radices zero z e h = h
 error_through [] (suc n) z e h = h
@@ -18,7 +18,7 @@ error_in_front radices place k z e h failed =
     ap (λ xs. carried_through xs z) (drop-drop (k - place) place radices ∙ ap (λ n. drop n radices) (omega arith)) ∙ failed in
     error_through (drop place radices) (k - place) z e there
 
--- ---- of 0 nothing is left
+-- ---- 0 leaves 0
 
 zero_divided : (radix : ℤ) → floor_div (pos 0) radix ≡ pos 0
 zero_divided (pos zero) = refl
@@ -81,7 +81,7 @@ in_front (n ∷ []) rest (i ∷ index) one h =
     let head = head_of n i rest index h in
     record { some = omega arith; low = head.low; high = omega (arith, head.high) }
 
--- the number that is left before one more radix
+-- the rest before one more radix
 pub one_more_radix : (radices : List ℤ) (k : ℕ) (z rest : ℤ) → k < length radices → carried_through (drop (k + 1) radices) z ≡ Ok rest
     → carried_through (drop k radices) z ≡ carried (get_or radices k (pos 0)) rest
 one_more_radix radices k z rest below h =

@@ -6,20 +6,20 @@ use Rattle.search_fns.{specs.IndexOf.{index_of_whole}, specs.Member.{member_whol
 -- ---- index of
 
 index_of_cases : AllSame (
-    -- 3 1 3⍳1 2 3: the first place of 3 is 1, and 2 is nowhere
+    -- 3 1 3⍳1 2 3: the first place of 3 is 1, and 2 is absent
     index_of_whole (nums (3 ∷ []) (3 ∷ 1 ∷ 3 ∷ [])) (nums (3 ∷ []) (1 ∷ 2 ∷ 3 ∷ [])) ⇒ is (nums (3 ∷ []) (2 ∷ 4 ∷ 1 ∷ [])) ∷
     -- 'abca'⍳'ca '
     index_of_whole (chars (4 ∷ []) (97 ∷ 98 ∷ 99 ∷ 97 ∷ [])) (chars (3 ∷ []) (99 ∷ 97 ∷ 32 ∷ [])) ⇒ is (nums (3 ∷ []) (3 ∷ 1 ∷ 5 ∷ [])) ∷
-    -- 'ab'⍳97 98: a character is no number; and 97 98⍳'ab'
+    -- 'ab'⍳97 98: a number never equals a character; and 97 98⍳'ab'
     index_of_whole (chars (2 ∷ []) (97 ∷ 98 ∷ [])) (nums (2 ∷ []) (97 ∷ 98 ∷ [])) ⇒ is (nums (2 ∷ []) (3 ∷ 3 ∷ [])) ∷
     index_of_whole (nums (2 ∷ []) (97 ∷ 98 ∷ [])) (chars (2 ∷ []) (97 ∷ 98 ∷ [])) ⇒ is (nums (2 ∷ []) (3 ∷ 3 ∷ [])) ∷  -- index of letters in codes
-    -- in a vector without items nothing is found
+    -- a vector without items has no item
     index_of_whole no_numbers (nums (2 ∷ []) (1 ∷ 2 ∷ [])) ⇒ is (nums (2 ∷ []) (1 ∷ 1 ∷ [])) ∷
     index_of_whole no_text (chars [] (97 ∷ [])) ⇒ is (scalar 1) ∷  -- index of in no text
     -- of nothing: numbers, in its shape
     index_of_whole (nums (1 ∷ []) (1 ∷ [])) no_text ⇒ is no_numbers ∷
     index_of_whole no_text (nums (2 ∷ 0 ∷ 3 ∷ []) []) ⇒ is (nums (2 ∷ 0 ∷ 3 ∷ []) []) ∷  -- index of no numbers
-    -- the shape is that of B, of each rank
+    -- the shape of B, of each rank
     index_of_whole (nums (2 ∷ []) (5 ∷ 6 ∷ [])) (scalar 6) ⇒ is (scalar 2) ∷
     index_of_whole (nums (1 ∷ []) (6 ∷ [])) (nums (1 ∷ []) (6 ∷ [])) ⇒ is (nums (1 ∷ []) (1 ∷ [])) ∷  -- index of one
     index_of_whole (nums (2 ∷ []) (5 ∷ 6 ∷ [])) (nums (2 ∷ 2 ∷ []) (6 ∷ 5 ∷ 7 ∷ 6 ∷ [])) ⇒ is (nums (2 ∷ 2 ∷ []) (2 ∷ 1 ∷ 3 ∷ 2 ∷ [])) ∷  -- index of matrix
@@ -49,7 +49,7 @@ membership_cases : AllSame (
     member_whole (chars [] (32 ∷ [])) no_text ⇒ is (scalar 0) ∷  -- member of no text
     member_whole no_text (scalar 5) ⇒ is no_numbers ∷  -- member no text
     member_whole (nums (0 ∷ 2 ∷ []) []) no_text ⇒ is (nums (0 ∷ 2 ∷ []) []) ∷  -- member no numbers
-    -- A and B of each rank; the shape is that of A
+    -- A and B of each rank; the shape of A
     member_whole (nums (2 ∷ 2 ∷ []) (1 ∷ 2 ∷ 3 ∷ 1 ∷ [])) (scalar 1) ⇒ is (nums (2 ∷ 2 ∷ []) (1 ∷ 0 ∷ 0 ∷ 1 ∷ [])) ∷
     member_whole (scalar 4) (nums (2 ∷ 2 ∷ []) (1 ∷ 2 ∷ 3 ∷ 4 ∷ [])) ⇒ is (scalar 1) ∷  -- member of matrix
     member_whole (nums (1 ∷ []) (4 ∷ [])) (nums (1 ∷ 2 ∷ 1 ∷ []) (3 ∷ 4 ∷ [])) ⇒ is (nums (1 ∷ []) (1 ∷ [])) ∷  -- member of rank 3

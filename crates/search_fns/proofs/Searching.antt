@@ -63,7 +63,7 @@ module _ (a b : ArrayValue) (in_a : All (λ item. type_of item ≡ a.item_type) 
   pub no_members_as : map (λ x. truth (list_any (same_item x) a.items)) b.items ≡ replicate (length b.items) (pos 0)
   no_members_as = all_alike _ _ b.items (λ k d below. ap truth (none_any (get_or b.items k d) a.items (differ k d below)))
 
--- ---- an item is there where its first place is
+-- ---- an item is present if and only if its first place is
 
 first_passes : (n : ℕ) → nat_le 1 (suc n) ≡ true
 first_passes n = grind (arith, nat_tests)

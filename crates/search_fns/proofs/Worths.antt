@@ -1,11 +1,11 @@
--- Numbers of digits: where the digits and their radices stand, and one more digit.
+-- Numbers of digits: the places of digits and radices, and one more digit.
 use Rattle.std.{proofs.Common.{◌≡◌, ◌≢◌, ℕ, suc, ◌+◌, ◌-◌, ◌*◌, ◌<◌, ◌≤◌, ◌==◌, true, false, cond, List, [], ◌∷◌, length, get_or, map, drop, ℤ, pos, ◌+ℤ◌, ◌*ℤ◌, Result, Ok, Err, refl, ap, sym, ◌∙◌, arith}, specs.Prelude.{◌||◌, nat_eq, if◌then◌else◌}, specs.List.{range_with_len}, proofs.lemmas.Bool.Decides.{nat_tests}}
 use Rattle.std.proofs.Math.ListN.{get_or-map}
 use Rattle.arrays_core.{specs.declared.item.Kind.{Kind}, specs.declared.item.ItemType.{ItemType}, specs.declared.item.ItemType.TheVariants.{Nums, Chars}, specs.Items.{fill, and_then}, specs.Shapes.{size, places_before, is_index_of}, specs.Arrays.{ArrayValue}}
 use Rattle.{item_fns.specs.Numbers.{number_or_limit}, index_region.{specs.Arguments.{numbers, number_of}, specs.Axes.{places_along}}}
 use Rattle.search_fns.specs.Decode.{digit_count, radix_at, digit_at, worth, decoded}
 
--- ---- what is known at a place of decode's result
+-- ---- a place of decode's result
 
 pub record Decodes (a b : ArrayValue) (index : List ℕ) : Type 0 where
   pub list : length a.shape ≤ 1
@@ -39,12 +39,12 @@ radix_there a k one some = number_there a (k - 1) ∙ ap (λ j. number_of (get_o
 
 -- ---- one more digit
 
--- a radix and the digit there
+-- a radix and its digit
 abbrev pub digit_pair : ArrayValue → ArrayValue → List ℕ → ℕ → ℤ × ℤ
 digit_pair a b index k = (radix_at a k, digit_at b index k)
 
 module _ (a b : ArrayValue) (index : List ℕ) where
-  -- the digits, with their radices, that come after the first few
+  -- the digits, with their radices, after the first few
   abbrev pub digits_after : ℕ → ℕ → List (ℤ × ℤ)
   digits_after count before = map (digit_pair a b index) (range_with_len (before + 1) (count - before))
 

@@ -1,4 +1,4 @@
--- Worked boxes, computed: what changes of a result where boxes of the arguments changed.
+-- Worked boxes, computed: the places of a result that a box of an argument changes.
 use Rattle.std.proofs.Common.{◌≡◌, ℕ, List, [], ◌∷◌, refl, true, false, Option, Some, None}
 use Rattle.arrays_core.{specs.Arrays.{ArrayValue}, proofs.CaseWords.{◌⇒◌, AllSame, nums, scalar, no_numbers}}
 use Rattle.{function_names.specs.declared.along.Along.TheVariants.{First, Last}, index_region.specs.Boxes.{Interval}}

@@ -1,4 +1,4 @@
--- What the checks of replicate say of the copies.
+-- The consequences of the checks of replicate.
 use Rattle.std.{proofs.Common.{◌≡◌, ℕ, zero, suc, ◌*◌, ◌≤◌, ◌<◌, Bool, true, false, nat_le, ◌&&◌, ◌||◌, nat_eq, List, [], ◌∷◌, length, take, replicate, get_or, refl, sym, ap, subst, arith, Result, Ok, Err}, specs.Prelude.{max, sum}, specs.List.{list_all}, proofs.lemmas.Bool.{and_parts, leb-true}}
 use Rattle.arrays_core.{specs.declared.item.ItemType.{ItemType}, specs.declared.item.Kind.{Kind}, specs.declared.item.Kind.TheVariants.{Limit}, specs.Arrays.{ArrayValue}, specs.Shapes.{size}}
 use Rattle.function_names.{specs.declared.along.Along.{Along}, specs.Axes.{is_axis, axis_at}}
@@ -12,7 +12,7 @@ sum_first_same (suc first) zero count h = absurd (omega arith)
 sum_first_same (suc first) (suc places) count h =
     omega (arith, sum_first_same first places count (omega arith), sum_front count (take first (replicate places count)))
 
--- a form is one of its shape and some type
+-- a form has this shape
 pub record IsForm (form : Result Form Kind) (shape : List ℕ) : Type 0 where
   pub item_type : ItemType
   pub is : form ≡ Ok (form_of shape item_type)
@@ -42,7 +42,7 @@ axis_within [] axis h k = absurd (omega arith)
 axis_within (n ∷ shape) zero h k = leb-true n 1048576 (and_parts _ _ h).0
 axis_within (n ∷ shape) (suc axis) h k = axis_within shape axis (and_parts _ _ h).1 (omega arith)
 
--- what the checks say where the array has axes
+-- the consequences of the checks, where the array has axes
 pub record IsCopiedAlong (a : ArrayValue) (shape result : List ℕ) (axis : ℕ) : Type 0 where
   pub there : axis < length result
   pub few : sum (times a (places_along shape axis)) ≤ 1048576

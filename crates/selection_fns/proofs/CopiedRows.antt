@@ -15,7 +15,7 @@ pub record IsCopyRow (along : Along) (a b : ArrayValue) (shape before row : List
   pub row_of : IsRowOf shape row count
 
 module _ (along : Along) (a b : ArrayValue) (shape before row : List ℕ) (count k : ℕ) (r : IsCopyRow along a b shape before row count k) where
-  -- the index list that a copy is of
+  -- the source of a copy, as an index list
   abbrev pub copied : ℕ → List ℕ
   copied i = set (row ++ i ∷ []) k (get_or before (get_or (row ++ i ∷ []) k 0 - 1) 0 + 1)
 
@@ -34,7 +34,7 @@ module _ (along : Along) (a b : ArrayValue) (shape before row : List ℕ) (count
       (r.long ∙ ap (λ m. sum (times a (places_along b.shape m))) (sym ranked))
       (subst (λ m. (i : ℕ) → i < length before → get_or before i 0 + 1 ≡ copied_place a (places_along b.shape m) (i + 1)) (sym ranked) r.is)
 
-  -- what a call answers for the first index of a row
+  -- the index list of the first copy of a row
   pub first_copied : (at : List ℕ) → Place 1 at ≡ replicate_source along a b (row ++ 1 ∷ []) → at ≡ copied 1
   first_copied at h =
       let same : Place 1 at ≡ Place 1 (copied 1) = h ∙ sym (source 1 (omega arith) (omega arith)) in
@@ -84,7 +84,7 @@ module _ (along : Along) (a b : ArrayValue) (shape before row : List ℕ) (count
         let below = places_below b.shape (copied (0 + (count - 1) + 1)) (inside (0 + (count - 1) + 1) (omega arith) (omega arith)) in
         omega (arith, place_other (count - 1) last, sound.one_item_a_place)
 
-  -- along the last axis it has copies of the places of one
+  -- along the last axis a row has the copies of the places of one row
   module _ (last_axis : k ≡ length row) where
     at_last : (i : ℕ) → copied i ≡ row ++ (get_or before (i - 1) 0 + 1) ∷ []
     at_last i =

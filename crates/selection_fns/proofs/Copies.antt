@@ -9,7 +9,7 @@ use Rattle.index_region.{proofs.Passing.{passed, place_inside, typed_check, type
 use Rattle.selection_fns.{specs.Laws.RepeatedPlaces.{sum_front, walk, maker_is_walk}, proofs.Repeated.{sum_same, sum_within, maker_most}, specs.Replicate.{is_bit, IsMask, times, maker, counts_checked, copied_place, replicated_shape, replicate_form, replicate_source}}
 use Rattle.selection_fns.specs.Laws.CopiedPlaces.{IsCopied, is_copied, replicate_gives}
 
--- the place that makes a copy where each is copied as often
+-- the place of a copy where all counts are the same
 each_walk : (n count i : ℕ) → 1 ≤ i → i ≤ n * count → (i - 1) / count + 1 ≡ walk (replicate n count) i
 each_walk zero count i low high = absurd (omega arith)
 each_walk (suc n) count i low high = decide (λ j. each_walk n count j) (nat_le i count) refl
@@ -65,7 +65,7 @@ beyond_limits axes k places item_type long h =
         and_false true = refl
         and_false false = refl
 
--- what the checks of replicate say of an index list of the result
+-- the consequences of the checks of replicate, for an index list of the result
 pub replicated_inside : (along : Along) (a b : ArrayValue) (index : List ℕ) → IsPlaceOf (replicate_form along a b) index
     → is_index_of (replicated_shape a b.shape (axis_at (max 1 (length b.shape)) along)) index ≡ true
 replicated_inside along a b index h =
@@ -92,7 +92,7 @@ replicate_typed along a b item h =
     (typed_check (counts_as_numbers a && none_negative (numbers a)) _ last item
     (typed_limited (replicated_shape a b.shape axis) b.item_type item h))))
 
--- what is left of replicate where the other checks have passed
+-- the limits, after the other checks of replicate
 pub replicate_limited : (along : Along) (a b : ArrayValue) → is_axis (max 1 (length b.shape)) along ≡ true
     → ((rest : Result Form Kind) → counts_checked a (places_along b.shape (axis_at (max 1 (length b.shape)) along)) rest ≡ rest)
     → replicate_form along a b ≡ limited (replicated_shape a b.shape (axis_at (max 1 (length b.shape)) along)) b.item_type
@@ -116,7 +116,7 @@ replicate_beyond along a b on pass below long =
     fits (n ∷ []) (suc k) h = absurd (omega arith)
     fits (n ∷ m ∷ axes) (suc k) h = let rest = fits (m ∷ axes) k (omega arith) in omega arith
 
--- the copies of one place, after those of the places before
+-- the copies of one place follow those of the earlier places
 walk_run : (counts : List ℕ) (k i : ℕ) → k < length counts → sum (take k counts) < i → i ≤ sum (take k counts) + get_or counts k 0 → walk counts i ≡ k + 1
 walk_run [] k i below low high = absurd (omega arith)
 walk_run (count ∷ counts) zero i below low high =
@@ -141,7 +141,7 @@ maker_run counts k i below low high =
     let within = sum_within counts k below in
     maker_is_walk counts i (omega arith) (omega arith) ∙ walk_run counts k i below low high
 
--- what holds of each entry of a list still holds where copies of a number follow
+-- a property of all items of a list also holds with copies of a number after them
 pub holds_with_run : (xs : List ℕ) (count x : ℕ) (f : ℕ → ℕ) → ((i : ℕ) → i < length xs → get_or xs i 0 + 1 ≡ f i) → ((j : ℕ) → j < count → x + 1 ≡ f (length xs + j))
     → (i : ℕ) → i < length xs + count → get_or (xs ++ replicate count x) i 0 + 1 ≡ f i
 holds_with_run [] zero x f before run i h = absurd (omega arith)
@@ -151,7 +151,7 @@ holds_with_run (y ∷ xs) count x f before run zero h = before 0 (omega arith)
 holds_with_run (y ∷ xs) count x f before run (suc i) h =
     holds_with_run xs count x (λ j. f (suc j)) (λ j k. before (suc j) (omega arith)) (λ j k. run j k ∙ ap f (let next : suc (length xs) + j ≡ suc (length xs + j) = omega arith in next)) i (omega arith)
 
--- the sum of one count more
+-- the sum with one more count
 sum_taken : (xs : List ℕ) (k : ℕ) → k < length xs → sum (take (suc k) xs) ≡ sum (take k xs) + get_or xs k 0
 sum_taken [] k h = absurd (omega arith)
 sum_taken (x ∷ xs) zero h = refl
@@ -179,7 +179,7 @@ count_step a k h =
       taken = rw next (sum_taken counts k (omega arith));
     }
 
--- how many places come before that of each copy of the first k places
+-- the places, counted from 0, of the copies of the first k places
 pub record AreBefore (counts : List ℕ) (k : ℕ) (before : List ℕ) : Type 0 where
   pub first : length before ≡ sum (take k counts)
   pub is : (i : ℕ) → i < length before → get_or before i 0 + 1 ≡ maker counts (i + 1)
@@ -199,7 +199,7 @@ one_place_more counts k count before new below same put made =
 pub all_copies : (counts : List ℕ) (k : ℕ) (before : List ℕ) → length counts ≤ k → AreBefore counts k before → length before ≡ sum counts
 all_copies counts k before h made = made.first ∙ ap sum (take_all k counts h)
 
--- places of one count: what one more takes, and what all of them take
+-- places of one count: the next one fits, and all of them make the total
 pub one_count_fits : (n count total k : ℕ) (before : List ℕ) → total ≡ n * count → total ≤ 1048576 → k < n → AreBefore (replicate n count) k before → length before + count ≤ 1048576
 one_count_fits n count total k before all within below made =
     let fit = copies_fit (replicate n count) k before made (rw (length-replicate n count) below) in
@@ -228,13 +228,13 @@ pub mask_from_0 : (zs : List ℤ) → list_all is_bit zs ≡ true → none_negat
 mask_from_0 [] h = refl
 mask_from_0 (z ∷ zs) h = let parts = and_parts (is_bit z) _ h in and_from _ _ (and_parts _ _ parts.0).0 (mask_from_0 zs parts.1)
 
--- how many of the first counts are 1, while each is 0 or 1
+-- the number of the first counts that are 1, while each is 0 or 1
 pub record IsMaskSoFar (zs : List ℤ) (k : ℕ) (are_bits : Bool) (ones : ℕ) : Type 0 where
   pub bits : are_bits ≡ list_all is_bit (take k zs)
   pub few : ones ≤ k
   pub copies : are_bits ≡ true → ones ≡ sum (map unsigned_abs (take k zs))
 
--- a place more, which stands behind the copies before it, and stays there where its count is 1
+-- one more place is written after the copies so far, and stays where its count is 1
 pub record IsMaskStep (counts : List ℕ) (k copies : ℕ) (new : List ℕ) : Type 0 where
   pub counted : length (take copies new) ≡ copies
   pub made : AreBefore counts k (take copies new)
@@ -251,7 +251,7 @@ mask_step counts k copies count before below same low room counted made =
     stays (suc zero) h = ap (λ m. take m (set before copies k)) (let one : copies + suc zero ≡ copies + 1 = omega arith in one) ∙ take_more_set before copies k room
     stays (suc (suc n)) h = absurd (omega arith)
 
--- what is known of an index list of the copies, where the array has axes
+-- the facts of an index list of the copies, where the array has axes
 pub record CopyFacts (along : Along) (a b : ArrayValue) (index : List ℕ) (k : ℕ) : Type 0 where
   pub axis : k ≡ axis_at (max 1 (length b.shape)) along
   pub below : k < length b.shape
@@ -273,7 +273,7 @@ copy_facts along a b shape item_type index k some form inside is =
     greatest : (n : ℕ) → 0 < n → max 1 n ≡ n
     greatest n h = omega arith
 
--- where a copy comes from
+-- the source of a copy
 pub copy_source : (along : Along) (a b : ArrayValue) (index before : List ℕ) (k : ℕ) → 0 < length b.shape → CopyFacts along a b index k
     → length before ≡ sum (times a (places_along b.shape k))
     → ((i : ℕ) → i < length before → get_or before i 0 + 1 ≡ copied_place a (places_along b.shape k) (i + 1))
@@ -294,7 +294,7 @@ copy_source along a b index before k some facts long is =
     positive : (n : ℕ) → 0 < n → nat_eq n 0 ≡ false
     positive n h = grind (arith, nat_tests)
 
--- no place before a copy is beyond the limits of arrays
+-- no place of a copy is beyond the limits of arrays
 pub copies_within : (a : ArrayValue) (n total : ℕ) (before : List ℕ) → n ≤ 1048576 → length a.items ≤ 1048576 → length before ≡ total
     → ((i : ℕ) → i < total → get_or before i 0 + 1 ≡ copied_place a n (i + 1)) → All (λ m. m ≤ 1048576) before
 copies_within a n total before places counts long is =

@@ -21,7 +21,7 @@ has_index (n ∷ []) index h =
 
 -- ---- the whole vector
 
--- what the checks gave
+-- the consequences of the checks
 pub record Generated (n : ArrayValue) (shape : List ℕ) (item_type : ItemType) : Type 0 where
   pub alone : shape ≡ get_or shape 0 0 ∷ []
   pub within : nat_le (get_or shape 0 0) 1048576 ≡ true

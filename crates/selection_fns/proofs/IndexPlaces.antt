@@ -1,4 +1,4 @@
--- The places that the items of an indexed reference come from.
+-- The places of the items of an indexed reference.
 use Rattle.std.{proofs.Common.{◌≡◌, ℕ, zero, suc, ◌+◌, ◌-◌, ◌*◌, ◌<◌, ◌≤◌, pos, unsigned_abs, Bool, true, false, List, [], ◌∷◌, ◌++◌, map, length, get_or, take, drop, Some, None, Ok, refl, ap, sym, subst, ◌∙◌, arith}, specs.List.{list_all, range_with_len}, specs.Prelude.{not, nat_eq, ◌&&◌}}
 use Rattle.std.{proofs.lemmas.Bool.{and_parts, eqb-true, false≢true}, proofs.lemmas.List.{length-map, get_or-map}, proofs.lemmas.List.FromFn.{length-map-range_with_len, get_or-map-range_with_len, length-range_with_len, get_or-range_with_len}}
 use Rattle.arrays_core.{specs.declared.item.Item.{Item}, specs.declared.item.ItemType.{ItemType}, specs.Building.{listed}, specs.Items.{fill, and_then}, specs.Arrays.{ArrayValue, IsArray, collect, with_items}, specs.Shapes.{size, is_index_of, places_before, index_after, IsWithinLimits}}
@@ -25,7 +25,7 @@ places_append (n ∷ shape) rest (i ∷ index) h =
 
 -- ---- the places of a list
 
--- each is one of the array's
+-- each place is one of the array's
 pub places_inside : (axes : List ℕ) (positions : List Position) (places : List ℕ) → ArePlacesOf axes positions places → (k : ℕ) → k < length places → get_or places k 0 < size axes
 places_inside axes positions places found k h =
     let shape = indexed_shape axes positions in
@@ -35,7 +35,7 @@ places_inside axes positions places found k h =
     ap (λ j. get_or places j 0) (sym (places_before-index_after shape k below)) ∙ found.is (index_after shape k) there in
     omega (arith, places_below axes (source_index positions (index_after shape k)) (found.inside (index_after shape k) there))
 
--- how far the places of the indices of a position lie from that of index 1
+-- the offsets of the places that a position names, from the place of index 1
 pub record AreOffsetsOf (n step : ℕ) (q : Position) (offsets : List ℕ) : Type 0 where
   pub as_many : length offsets ≡ size (position_axes n q)
   pub is : (at : List ℕ) → is_index_of (position_axes n q) at ≡ true → get_or offsets (places_before (position_axes n q) at) 0 ≡ (own_index q at - 1) * step
@@ -171,7 +171,7 @@ axes_indexed n axes q positions offsets step own within some =
     let axis : 0 < n = omega arith in
     record { axis = axis; within = rest_within n axes axis within; some = parts.1; few = let less = parts.2 in omega arith }
 
--- what is known of the axes behind the first, and of the positions that are left
+-- the remaining axes and positions after the first
 pub record IsRest (axes : List ℕ) (written : List Bool) (rest : List ArrayValue) (all : ℕ) : Type 0 where
   pub within : IsWithinLimits (drop 1 axes)
   pub one_an_axis : length (drop 1 written) ≡ length (drop 1 axes)

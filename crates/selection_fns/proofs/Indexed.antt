@@ -4,7 +4,7 @@ use Rattle.arrays_core.{specs.declared.item.Item.{Item}, specs.declared.item.Kin
 use Rattle.index_region.{specs.Checks.{Form, whole}, specs.Arguments.{is_scalar}, specs.Answers.{IsPlaceOf}, proofs.Passing.{passed, place_inside}}
 use Rattle.selection_fns.specs.Index.{Position, count_written, written_positions, of_array_and_positions, are_numbers, are_on, indexed_shape, index_form}
 
--- what the checks say, of an index list of the result
+-- the consequences of the checks, for an index list of the result
 pub record HasPassed (a : ArrayValue) (written : List Bool) (positions : List Position) (index : List ℕ) : Type 0 where
   pub one_an_axis : length written ≡ length a.shape
   pub on : are_on a.shape positions ≡ true

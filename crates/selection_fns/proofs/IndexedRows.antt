@@ -1,4 +1,4 @@
--- Rows of an index: what stands along the last axis of the result comes from one row of the array, where the last position has an axis.
+-- Rows of an index: where the last position has an axis, the items of a row of the result come from one row of the array.
 use Rattle.std.{proofs.Common.{◌≡◌, ℕ, suc, ◌+◌, ◌-◌, ◌*◌, ◌<◌, ◌≤◌, ℤ, pos, unsigned_abs, Bool, true, false, cond, List, [], ◌∷◌, ◌++◌, length, take, drop, get_or, Some, None, Result, Ok, Err, refl, ap, sym, subst, ◌∙◌, append-nil, arith}, specs.Prelude.{unwrap_or, not, nat_eq, map, ◌&&◌}, specs.List.{list_all}}
 use Rattle.std.{proofs.lemmas.Bool.{and_parts, false≢true}, proofs.lemmas.List.{length-append, length-drop, length_push, take_all, take-append-le, drop-append-le, drop-drop, length-map, get_or-map}, proofs.Math.Seq.{drop-length, get_or-append_seam}}
 use Rattle.arrays_core.{specs.declared.item.Item.TheVariants.{Num}, specs.declared.item.ItemType.{ItemType}, specs.declared.item.Kind.{Kind}, specs.Items.{fill}, specs.Arrays.{ArrayValue, IsArray, item_of}, specs.Shapes.{size, is_index_of, places_before}, proofs.Shapes.{as_long, head_of, places_below}}
@@ -13,21 +13,21 @@ last_position [] = None
 last_position (q ∷ []) = q
 last_position (q ∷ r ∷ rest) = last_position (r ∷ rest)
 
--- how many axes it gives
+-- the number of its axes
 abbrev pub own_rank : Position → ℕ
 own_rank (Some p) = length p.shape
 own_rank None = 1
 
--- the index it gives for an index list of these
+-- the index that it holds at an index list of its own
 abbrev pub own_index : Position → List ℕ → ℕ
 own_index (Some p) index = unsigned_abs (number_of (item_of p index))
 own_index None index = get_or index 0 0
 
--- the end of a row, which is an index list of all its axes but the last
+-- the end of a row: an index list of all its axes but the last
 abbrev pub own_part : Position → List ℕ → List ℕ
 own_part q row = drop (length row + 1 - own_rank q) row
 
--- what the positions before it give
+-- the indices that the earlier positions give
 abbrev pub others_index : List Position → List ℕ → List ℕ
 others_index [] row = []
 others_index (q ∷ []) row = []
@@ -52,7 +52,7 @@ own_part_later q row n low high =
     let long = length-drop n row in
     drop-drop (length (drop n row) + 1 - own_rank q) n row ∙ ap (λ k. drop k row) (omega arith)
 
--- where the items of a row come from: an index list that differs in its last index alone
+-- the sources of the items of a row: index lists that differ in the last index alone
 pub source_ends : (axes : List ℕ) (positions : List Position) (row : List ℕ) (i : ℕ) → length positions ≡ length axes → 0 < length positions
     → length row + 1 ≡ length (indexed_shape axes positions) → 0 < own_rank (last_position positions)
     → source_index positions (row ++ i ∷ []) ≡ others_index positions row ++ own_index (last_position positions) (own_part (last_position positions) row ++ i ∷ []) ∷ []
@@ -88,14 +88,14 @@ source_ends (n ∷ axes) (Some p ∷ r ∷ rest) row i same some long own =
     ∙ ap (λ at. unsigned_abs (number_of (item_of p (take (length p.shape) row))) ∷ at) more
     ∙ ap (λ part. unsigned_abs (number_of (item_of p (take (length p.shape) row))) ∷ others_index (r ∷ rest) (drop (length p.shape) row) ++ own_index (last_position (r ∷ rest)) (part ++ i ∷ []) ∷ []) end
 
--- the last of a list is that of the rest, where there is one
+-- the last item of a list is the last item of its rest, if that is not empty
 last_later : {A : Type 0} (x y : A) (xs : List A) (d : A) → get_or (x ∷ y ∷ xs) (length (x ∷ y ∷ xs) - 1) d ≡ get_or (y ∷ xs) (length (y ∷ xs) - 1) d
 last_later x y xs d =
     let one : length (x ∷ y ∷ xs) - 1 ≡ suc (length xs) = omega arith in
     let none : length xs ≡ length (y ∷ xs) - 1 = omega arith in
     ap (λ k. get_or (x ∷ y ∷ xs) k d) one ∙ ap (λ k. get_or (y ∷ xs) k d) none
 
--- the shape that its index list lies below, and the length of the last axis
+-- the shape of its index lists, and the length of its last axis
 abbrev own_shape : List ℕ → Position → List ℕ
 own_shape axes q = position_axes (get_or axes (length axes - 1) 0) q
 
@@ -142,14 +142,14 @@ last_on (n ∷ []) (q ∷ r ∷ rest) same some on = absurd (omega arith)
 last_on (n ∷ m ∷ axes) (q ∷ r ∷ rest) same some on =
     ap (λ k. is_on k (last_position (r ∷ rest))) (last_later n m axes 0) ∙ last_on (m ∷ axes) (r ∷ rest) (omega arith) (omega arith) (and_parts (is_on n q) _ on).1
 
--- an index that it gives is on its axis
+-- an index that it holds is on its axis
 own_on : (n : ℕ) (q : Position) (own : List ℕ) (i : ℕ) → is_index_of (position_axes n q) (own ++ i ∷ []) ≡ true → is_on n q ≡ true → ((p : ArrayValue) → q ≡ Some p → IsArray p)
     → OnAxis n (own_index q (own ++ i ∷ []))
 own_on n (Some p) own i inside on sound = index_on_axis n p (own ++ i ∷ []) (sound p refl) inside on
 own_on n None [] i inside on sound = let end = row_end (n ∷ []) [] i inside in record { low = end.low; high = end.high }
 own_on n None (j ∷ own) i inside on sound = let end = row_end (n ∷ []) (j ∷ own) i inside in absurd (omega (arith, end.long))
 
--- ---- the last position of those that are written
+-- ---- the last of the written positions
 
 pub last_empty : (written : List Bool) (args : List ArrayValue) → length args ≡ count_written written → 0 < length written → get_or written (length written - 1) false ≡ false
     → last_position (written_positions written args) ≡ None
@@ -195,12 +195,12 @@ last_written (true ∷ true ∷ written) (p ∷ r ∷ args) long some h =
 
 -- ---- a row of the result
 
--- an item of the array as an item of the result
+-- an item of the array is the item of the result
 pub item_there : (a : ArrayValue) (at : List ℕ) → is_index_of a.shape at ≡ true
     → item_from a a a.item_type (Place 0 at) ≡ Ok (get_or a.items (places_before a.shape at) (fill a.item_type))
 item_there a at h = ap (λ w. Ok (unwrap_or (cond w (Some (get_or a.items (places_before a.shape at) (fill a.item_type))) None) (fill a.item_type))) h
 
--- an item of a row, where the place x of a row of the array, which begins after so many others, stands at place i
+-- the item at place i of a row is the item at place x of the array's row that begins after `before` items
 pub record IsItemOfRow (a : ArrayValue) (positions : List Position) (row : List ℕ) (before x i : ℕ) : Type 0 where
   pub is : index_item a positions (row ++ i ∷ []) ≡ Ok (get_or a.items (before + x - 1) (fill a.item_type))
   pub low : 1 ≤ x
@@ -246,7 +246,7 @@ module _ (a : ArrayValue) (positions : List Position) (row : List ℕ) (before c
         high = omega arith;
       }
 
--- ---- what calls ask for
+-- ---- the conditions of calls
 
 -- the type of a row is the array's
 pub row_typed : (a : ArrayValue) (positions : List Position) (row : List ℕ) (count : ℕ) (item_type : ItemType) → IsRowIn (index_form a positions) row count item_type → a.item_type ≡ item_type
@@ -255,7 +255,7 @@ row_typed a positions row count item_type h =
     let counted = row_passed (list_all are_numbers positions) _ _ row count item_type ranks.row_in in
     (row_inside (indexed_shape a.shape positions) a.item_type row count item_type (row_passed (are_on a.shape positions) _ _ row count item_type counted.row_in).row_in).typed
 
--- the last index of an index list is at most how many places come before it, and one
+-- the last index of an index list is at most one more than the number of places before it
 pub last_index_below : (shape at : List ℕ) → is_index_of shape at ≡ true → get_or at (length at - 1) 0 ≤ places_before shape at + 1
 last_index_below [] [] h = omega arith
 last_index_below [] (i ∷ at) h = cc
@@ -267,7 +267,7 @@ last_index_below (n ∷ m ∷ shape) (i ∷ j ∷ at) h =
     let before : places_before (n ∷ m ∷ shape) (i ∷ j ∷ at) ≡ (i - 1) * size (m ∷ shape) + places_before (m ∷ shape) (j ∷ at) = refl in
     omega (arith, last_index_below (m ∷ shape) (j ∷ at) (head_of n i (m ∷ shape) (j ∷ at) h).rest, last_later i j at 0, before)
 
--- the indices that a row takes lie one after another
+-- the indices that a row takes are contiguous
 pub indices_of_row : (p : ArrayValue) (zs : List ℤ) (own : List ℕ) (count : ℕ) → IsArray p → p.items ≡ map (λ z. Num z) zs
     → ((i : ℕ) → 1 ≤ i → i ≤ count → is_index_of p.shape (own ++ i ∷ []) ≡ true) → 0 < count
     → (places_before p.shape (own ++ 1 ∷ []) + count ≤ length zs)
@@ -287,7 +287,7 @@ indices_of_row p zs own count sound numbered places some =
           ∙ ap number_of (get_or-map (λ z. Num z) zs (places_before p.shape (own ++ 1 ∷ []) + i) (pos 0) (fill p.item_type) here.1),
     )
 
--- what is known of a row of the result
+-- the facts of a row of the result
 pub record IsRowOfIndex (written : List Bool) (args : List ArrayValue) (a : ArrayValue) (row : List ℕ) (count : ℕ) : Type 0 where
   pub args_are : args ≡ a ∷ drop 1 args
   pub counted : length (drop 1 args) ≡ count_written written
@@ -350,7 +350,7 @@ module _ (written : List Bool) (args : List ArrayValue) (a : ArrayValue) (row : 
       subst (λ r. IsItemOfRow a all_positions row before (own_index r (own_part r row ++ i ∷ [])) i) last
       (item_of_row a all_positions row before count known.one_an_axis known.some known.on (subst (λ r. 0 < own_rank r) (sym last) own) (λ p e. sound p (sym last ∙ e)) known.places there begins i low high)
 
-  -- it stands for the whole last axis
+  -- it takes the whole last axis
   of_whole : last_position all_positions ≡ None → (i : ℕ) → 1 ≤ i → i ≤ count → IsItemOfRow a all_positions row before i i
   of_whole last i low high =
       subst (λ x. IsItemOfRow a all_positions row before x i) (ap (λ xs. get_or (xs ++ i ∷ []) 0 0) nothing) (of_last None last (omega arith) (λ p e. let no : ⊥ = cc in absurd no) i low high)

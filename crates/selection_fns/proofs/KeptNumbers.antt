@@ -14,7 +14,7 @@ pub record AreKeptSoFar (counts ns : List ℤ) (k : ℕ) (kept : List ℤ) : Typ
 pub none_kept : (counts ns : List ℤ) → AreKeptSoFar counts ns 0 []
 none_kept counts ns = record { before = []; made = record { first = refl; is = λ i h. absurd (omega arith) }; are = refl }
 
--- a count of 0 or 1 that is not 0 for the machine
+-- a count of 0 or 1 that is not 0 in machine arithmetic
 pub one_of_bit : (z : ℤ) → unsigned_abs z ≤ 1 → (of_z w64 z ≡ 0 → ⊥) → unsigned_abs z ≡ 1
 one_of_bit (pos zero) few some = absurd (some refl)
 one_of_bit (pos (suc k)) few some = omega arith
@@ -32,7 +32,7 @@ one_kept counts ns k kept new below one put so_far =
       are = put ∙ ap (λ t. t ++ get_or ns k (pos 0) ∷ []) so_far.are ∙ sym (map-append (λ j. get_or ns j (pos 0)) so_far.before (k ∷ []));
     }
 
--- and is not where its count is 0
+-- the next number is dropped where its count is 0
 pub not_kept : (counts ns : List ℤ) (k : ℕ) (kept : List ℤ) → k < length counts → unsigned_abs (get_or counts k (pos 0)) ≡ 0
     → AreKeptSoFar counts ns k kept → AreKeptSoFar counts ns (k + 1) kept
 not_kept counts ns k kept below none so_far =
@@ -47,7 +47,7 @@ not_kept counts ns k kept below none so_far =
 counted : (counts ns : List ℤ) (k : ℕ) (kept : List ℤ) (so_far : AreKeptSoFar counts ns k kept) → length so_far.before ≡ length kept
 counted counts ns k kept so_far = sym (ap length so_far.are ∙ length-map so_far.before (λ j. get_or ns j (pos 0)))
 
--- those that are kept and the next one, if it is, are no more than all
+-- the numbers kept so far, with the next one if it is kept, are at most all
 pub kept_fit : (counts ns : List ℤ) (k : ℕ) (kept : List ℤ) → k < length counts → AreKeptSoFar counts ns k kept
     → length kept + unsigned_abs (get_or counts k (pos 0)) ≤ sum (map unsigned_abs counts)
 kept_fit counts ns k kept below so_far =
@@ -55,7 +55,7 @@ kept_fit counts ns k kept below so_far =
     let fit = copies_fit (map unsigned_abs counts) k so_far.before so_far.made (omega arith) in
     omega (arith, counted counts ns k kept so_far, get_or-map unsigned_abs counts k (pos 0) 0 below)
 
--- all are kept where there are as many as copies
+-- all are kept once there are as many as copies
 pub all_kept : (counts ns : List ℤ) (k : ℕ) (kept : List ℤ) → AreKeptSoFar counts ns k kept → length kept ≡ sum (map unsigned_abs counts) → AreKept counts ns kept
 all_kept counts ns k kept so_far full = record { before = so_far.before; are = so_far.are; long = counted counts ns k kept so_far ∙ full; is = so_far.made.is }
 

@@ -12,7 +12,7 @@ pub mod SourcePlaces
 pub mod PlaceSums
 pub mod IndexPlaces
 pub mod KeptNumbers
--- What changes of results.
+-- Changes of results.
 pub mod Intervals
 pub mod Copied
 pub mod ResultAxes

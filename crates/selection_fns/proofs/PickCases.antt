@@ -68,7 +68,7 @@ index_generator_cases_2 = refl
 replicate_cases : AllSame (
     -- 1 0 2/7 8 9
     replicate_whole Last (nums (3 ∷ []) (1 ∷ 0 ∷ 2 ∷ [])) (nums (3 ∷ []) (7 ∷ 8 ∷ 9 ∷ [])) ⇒ is (nums (3 ∷ []) (7 ∷ 9 ∷ 9 ∷ [])) ∷
-    -- 2/7 8 9: one count is that of every place, of a vector too
+    -- 2/7 8 9: a single count applies to every place; so does a vector of one
     replicate_whole Last (scalar 2) (nums (3 ∷ []) (7 ∷ 8 ∷ 9 ∷ [])) ⇒ is (nums (6 ∷ []) (7 ∷ 7 ∷ 8 ∷ 8 ∷ 9 ∷ 9 ∷ [])) ∷
     replicate_whole First (nums (1 ∷ []) (2 ∷ [])) (nums (3 ∷ []) (7 ∷ 8 ∷ 9 ∷ [])) ⇒ is (nums (6 ∷ []) (7 ∷ 7 ∷ 8 ∷ 8 ∷ 9 ∷ 9 ∷ [])) ∷  -- replicate by one
     -- 0 0 0/7 8 9, 0/'abc' and 0 0 3/'abc'
@@ -181,7 +181,7 @@ indexed_reference_cases : AllSame (
     index_whole table (Some (nums (2 ∷ []) (2 ∷ 1 ∷ [])) ∷ Some (nums (2 ∷ []) (3 ∷ 1 ∷ [])) ∷ []) ⇒ is (nums (2 ∷ 2 ∷ []) (6 ∷ 4 ∷ 3 ∷ 1 ∷ [])) ∷
     index_whole table (Some (nums (2 ∷ []) (2 ∷ 1 ∷ [])) ∷ None ∷ []) ⇒ is (nums (2 ∷ 3 ∷ []) (4 ∷ 5 ∷ 6 ∷ 1 ∷ 2 ∷ 3 ∷ [])) ∷  -- index rows swapped
     index_whole table (None ∷ Some (nums (2 ∷ []) (3 ∷ 1 ∷ [])) ∷ []) ⇒ is (nums (2 ∷ 2 ∷ []) (3 ∷ 1 ∷ 6 ∷ 4 ∷ [])) ∷  -- index columns
-    -- the shape is that of the positions joined
+    -- the shape is the shapes of the positions, joined
     index_whole (nums (3 ∷ []) (7 ∷ 8 ∷ 9 ∷ [])) (Some (nums (2 ∷ 2 ∷ []) (1 ∷ 2 ∷ 3 ∷ 1 ∷ [])) ∷ []) ⇒ is (nums (2 ∷ 2 ∷ []) (7 ∷ 8 ∷ 9 ∷ 7 ∷ [])) ∷
     -- index row by matrix
     index_whole table (Some (nums (1 ∷ []) (2 ∷ [])) ∷ Some (nums (2 ∷ 2 ∷ []) (1 ∷ 2 ∷ 3 ∷ 1 ∷ [])) ∷ []) ⇒ is (nums (1 ∷ 2 ∷ 2 ∷ []) (4 ∷ 5 ∷ 6 ∷ 4 ∷ [])) ∷

@@ -1,4 +1,4 @@
--- Numbers of one list and of another, added.
+-- Each number of one list plus each of another.
 use Rattle.std.{proofs.Common.{◌≡◌, ℕ, zero, suc, ◌+◌, ◌*◌, ◌<◌, ◌≤◌, List, [], ◌∷◌, ◌++◌, map, length, get_or, take, refl, ap, sym, ◌∙◌, append-nil, append_assoc, arith}, proofs.lemmas.List.{length-append, length-map, get_or-map, get_or_append_left, get_or-append-add, map-append, take_more, take_all}}
 use Rattle.std.{proofs.lemmas.List.FromFn.{fill_by_all, length-range_with_len, get_or-range_with_len}, proofs.lemmas.Nat.{mul-add-lt}, proofs.lemmas.Simd.{map-map}, specs.List.{range_with_len}}
 use Rattle.{arrays_core.specs.Building.{listed}, selection_fns.specs.IndexPlaces.{sums}}
@@ -20,7 +20,7 @@ get_or-sums (x ∷ xs) ys (suc i) j h g =
     ∙ get_or-append-add (map (λ y. x + y) ys) (sums xs ys) (i * length ys + j) 0
     ∙ get_or-sums xs ys i j (omega arith) g
 
--- what holds of each sum holds of each two numbers that are added
+-- a bound of each sum bounds each two numbers that are added
 pub sums_below : (xs ys : List ℕ) (m : ℕ) → ((k : ℕ) → k < length (sums xs ys) → get_or (sums xs ys) k 0 < m)
     → (i j : ℕ) → i < length xs → j < length ys → get_or xs i 0 + get_or ys j 0 < m
 sums_below xs ys m below i j h g =
@@ -81,7 +81,7 @@ some_first xs ys some =
     right m zero h = absurd (omega arith)
     right m (suc n) h = omega arith
 
--- one number more behind those that a function gives of a list's entries
+-- one more result of a function, after those of the earlier items
 pub map_more : {A : Type 0} (f : A → ℕ) (before now new : List ℕ) (xs : List A) (k x : ℕ) (d : A) → k < length xs
     → now ≡ before ++ map f (take k xs) → new ≡ now ++ x ∷ [] → x ≡ f (get_or xs k d) → new ≡ before ++ map f (take (k + 1) xs)
 map_more f before now new xs k x d h made pushed same =
@@ -159,7 +159,7 @@ run_inside head (suc n) long begins inside =
 pub listed_map : {A : Type 0} (f : ℕ → A) (ys : List ℕ) → listed (length ys) (λ k. f (get_or ys k 0)) ≡ map f ys
 listed_map f ys = sym (fill_by_all (λ k. f (get_or ys k 0)) (map f ys) (length ys) (f 0) (length-map ys f) (λ k h. get_or-map f ys k 0 (f 0) h))
 
--- what a function gives of the sums of one number more, behind what it gives of those before
+-- the results of a function of the sums of one number more, after the earlier ones
 pub picked_more : {A : Type 0} (f : ℕ → A) (before now new : List A) (xs ys : List ℕ) (k : ℕ) → k < length xs
     → now ≡ before ++ map f (sums (take k xs) ys) → new ≡ now ++ map (λ y. f (get_or xs k 0 + y)) ys → new ≡ before ++ map f (sums (take (k + 1) xs) ys)
 picked_more f before now new xs ys k h made put =

@@ -4,7 +4,7 @@ use Rattle.std.proofs.lemmas.List.{length-append, length-drop, take_all}
 use Rattle.arrays_core.{specs.declared.item.Item.{Item}, specs.declared.item.ItemType.{ItemType}, specs.declared.item.ItemType.TheVariants.{Nums, Chars}, specs.Items.{fill}, specs.Arrays.{ArrayValue}, specs.Shapes.{is_index_of}}
 use Rattle.{index_region.specs.Arguments.{number_of}, selection_fns.specs.Index.{count_written, written_positions, indexed_shape, is_on_axis, is_on, are_on}}
 
--- the first position where it is not written, and the rest
+-- the first position is not written; the rest
 pub record IsEmptyFirst (written : List Bool) (args : List ArrayValue) : Type 0 where
   pub positions : written_positions written args ≡ None ∷ written_positions (drop 1 written) args
   pub counted : count_written (drop 1 written) ≡ count_written written
@@ -14,13 +14,13 @@ empty_first [] args some h = absurd (omega arith)
 empty_first (true ∷ written) args some h = let no : ⊥ = cc in absurd no
 empty_first (false ∷ written) args some h = record { positions = refl; counted = refl }
 
--- the first position where it is written, and the rest
+-- the first position is written; the rest
 pub record IsWrittenFirst (written : List Bool) (args : List ArrayValue) (a : ArrayValue) : Type 0 where
   pub positions : written_positions written args ≡ Some (get_or args 0 a) ∷ written_positions (drop 1 written) (drop 1 args)
   pub counted : count_written (drop 1 written) + 1 ≡ count_written written
   pub there : 0 < length args
 
--- an index list of two shapes joined, in its parts
+-- an index list of two shapes joined, split in two
 pub record IsSplit (shape rest : List ℕ) (index : List ℕ) : Type 0 where
   pub long : length shape ≤ length index
   pub first : is_index_of shape (take (length shape) index) ≡ true
@@ -61,7 +61,7 @@ split_empty axes (true ∷ written) args index same some h inside = let no : ⊥
 split_empty [] (false ∷ written) args index same some h inside = absurd (omega arith)
 split_empty (n ∷ axes) (false ∷ written) args index same some h inside = split_inside (n ∷ []) (indexed_shape axes (written_positions written args)) index inside
 
--- the axes of the first position, which is written, are among those of the result
+-- the axes of a written first position are among those of the result
 pub written_axes : (axes : List ℕ) (written : List Bool) (args : List ArrayValue) (p : ArrayValue)
     → length written ≡ length axes → length args ≡ count_written written → get_or written 0 false ≡ true → p ≡ get_or args 0 p
     → length p.shape ≤ length (indexed_shape axes (written_positions written args))
@@ -96,12 +96,12 @@ place_within n (x ∷ items) (suc k) d low h = place_within n items k d low (and
     and_second true b h = h
     and_second false b h = let no : ⊥ = cc in absurd no
 
--- fill is on any axis, as far as its magnitude goes
+-- fill is on any axis, by its magnitude
 pub fill_within : (n : ℕ) (item_type : ItemType) → unsigned_abs (number_of (fill item_type)) ≤ n
 fill_within n Nums = omega arith
 fill_within n Chars = omega arith
 
--- what the rest has where the first position is written
+-- the rest after a written first position
 pub record IsWrittenStep (axes : List ℕ) (written : List Bool) (args : List ArrayValue) : Type 0 where
   pub long : length (drop 1 args) ≡ count_written (drop 1 written)
   pub on : are_on axes (written_positions written args) ≡ true → are_on (drop 1 axes) (written_positions (drop 1 written) (drop 1 args)) ≡ true
@@ -118,7 +118,7 @@ written_step (n ∷ axes) (true ∷ written) (a ∷ args) same long h = record {
     and_second true b h = h
     and_second false b h = let no : ⊥ = cc in absurd no
 
--- all of a list but its first entry, as it is cut
+-- a list without its first item, as a slice
 pub tail_of : {X : Type 0} → (xs : List X) → take (length xs - 1) (drop 1 xs) ≡ drop 1 xs
 tail_of xs = take_all (length xs - 1) (drop 1 xs) (rw length-drop (omega arith))
 

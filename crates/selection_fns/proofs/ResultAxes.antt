@@ -13,7 +13,7 @@ none_selected [] (suc which) = refl
 none_selected (true ∷ written) (suc which) = none_selected written which
 none_selected (false ∷ written) (suc which) = none_selected written (suc which)
 
--- the place that an index names, by its place in the ravel
+-- the place that an index names, by its position in the ravel
 pub named_at : (p : ArrayValue) (k : ℕ) → k < size p.shape → length p.items ≡ size p.shape → place_named (item_of p (index_after p.shape k)) ≡ unsigned_abs (get_or (numbers p) k (pos 0))
 named_at p k below long =
     ap (λ (m : ℕ). place_named (get_or p.items m (fill p.item_type))) (places_before-index_after p.shape k below)
@@ -55,7 +55,7 @@ count_shape (n ∷ axes) [] h = absurd (omega arith)
 count_shape (n ∷ axes) (None ∷ positions) h = let k = count_shape axes positions (omega arith) in omega (arith, k)
 count_shape (n ∷ axes) (Some p ∷ positions) h = omega (arith, count_shape axes positions (omega arith), length-append p.shape (indexed_shape axes positions))
 
--- what the checks say of the axes of the result
+-- the axes of the result, by the checks
 pub record HasAxes (written : List Bool) (args : List ArrayValue) (shape : List ℕ) : Type 0 where
   pub long : length (drop 1 args) ≡ count_written written
   pub axes : count_axes (written_positions written (drop 1 args)) ≡ length shape
@@ -79,7 +79,7 @@ has_axes written (a ∷ args) shape n h =
       one_an_axis = λ region fit. let k = fits_length region a.shape fit in omega (arith, k, positions_long written args (omega arith), same);
     }
 
--- the axes of a written position are among those of the result
+-- the axes of a written position lie within those of the result
 pub axes_within : (written : List Bool) (args : List ArrayValue) (which : ℕ) (p : ArrayValue) → length args ≡ count_written written → which < length args → p ≡ get_or args which p
     → axes_before (written_positions written args) which + length p.shape ≤ count_axes (written_positions written args)
 axes_within [] args which p n l e = absurd (omega arith)
@@ -109,7 +109,7 @@ fits_at_length [] which p region l e h = absurd (omega arith)
 fits_at_length (a ∷ args) zero p region l e h = fits_length region a.shape h ∙ ap (λ (x : ArrayValue). length x.shape) (sym e)
 fits_at_length (a ∷ args) (suc which) p region l e h = fits_at_length args which p region (omega arith) e h
 
--- how long a box is that is made of axes, a box, and axes
+-- the length of a box of whole axes, a box, and whole axes
 pub record ArePartsLong (shape : List ℕ) (region : List Interval) (before rank : ℕ) : Type 0 where
   pub first : length (whole_of (take before shape)) ≡ before
   pub front : length (whole_of (take before shape) ++ region) ≡ before + rank

@@ -26,7 +26,7 @@ index_on_axis n p at sound inside on =
     let same : unsigned_abs (get_or (numbers p) k (pos 0)) ≡ unsigned_abs (number_of (item_of p at)) = ap unsigned_abs read in
     record { low = omega (arith, place.low); high = omega (arith, place.high) }
 
--- the index list that positions give, where the first is written
+-- the index list by positions, where the first is written
 pub written_inside : (axes : List ℕ) (written : List Bool) (args : List ArrayValue) (index : List ℕ) (p : ArrayValue)
     → length written ≡ length axes → length args ≡ count_written written → get_or written 0 false ≡ true → p ≡ get_or args 0 p → IsArray p
     → are_on axes (written_positions written args) ≡ true → is_index_of (indexed_shape axes (written_positions written args)) index ≡ true
@@ -64,7 +64,7 @@ times_long a n h = by_test (has_one_item a) h
     by_test true h = length-replicate n (unsigned_abs (number_of (item_of a [])))
     by_test false h = length-map (numbers a) unsigned_abs ∙ length-map a.items number_of ∙ eqb-true (length a.items) n h
 
--- the place that a copy is of is on its axis
+-- the place of a copy is on its axis
 copied_on_axis : (a : ArrayValue) (n i : ℕ) → (has_one_item a || (nat_eq n 1 || nat_eq (length a.items) n)) ≡ true → 1 ≤ i → i ≤ sum (times a n)
     → OnAxis n (copied_place a n i)
 copied_on_axis a n i h low high = by_test (nat_eq n 1) refl h
@@ -77,7 +77,7 @@ copied_on_axis a n i h low high = by_test (nat_eq n 1) refl h
         let within = walk_within (times a n) i low high in
         record { low = maker_positive (times a n) i; high = omega arith }
 
--- an index list of a shape with one axis exchanged, with an index of that axis
+-- an index list of a shape with one axis replaced, with an index of that axis
 exchanged_inside : (shape index : List ℕ) (k m i : ℕ) → k < length shape → is_index_of (insert (remove shape k) k m) index ≡ true → OnAxis (get_or shape k 0) i
     → is_index_of shape (set index k i) ≡ true
 exchanged_inside [] index k m i below h on = absurd (omega arith)
@@ -100,7 +100,7 @@ copied_inside a shape index k below counted h =
     let on = copied_on_axis a n (get_or index k 1) counted (omega (arith, copy.low)) (omega (arith, copy.high)) in
     exchanged_inside shape index k (sum (times a n)) (copied_place a n (get_or index k 1)) below h (record { low = on.low; high = omega (arith, on.high) })
 
--- the counts are as many as the places, where neither is one
+-- there are as many counts as places, unless either is one
 pub counts_fit : (along : Along) (a b : ArrayValue) (index : List ℕ) (k : ℕ) → k ≡ axis_at (max 1 (length b.shape)) along → IsPlaceOf (replicate_form along a b) index
     → (has_one_item a || (nat_eq (places_along b.shape k) 1 || nat_eq (length a.items) (places_along b.shape k))) ≡ true
 counts_fit along a b index k e h =
@@ -108,7 +108,7 @@ counts_fit along a b index k e h =
     let ranks = passed (is_list a) _ _ index (passed (is_axis (max 1 (length b.shape)) along) _ _ index h).place in
     rw e (passed (has_one_item a || (nat_eq n 1 || nat_eq (length a.items) n)) _ _ index ranks.place).test
 
--- where a copy comes from lies in the array
+-- the source of a copy lies in the array
 pub replicate_inside : (along : Along) (a b : ArrayValue) (index at : List ℕ) → Place 1 at ≡ replicate_source along a b index → IsPlaceOf (replicate_form along a b) index
     → is_index_of b.shape at ≡ true
 replicate_inside along a b index at e h = by_test (is_scalar b) refl e

@@ -1,4 +1,4 @@
--- The items in a box of a result that was worked out whole.
+-- The items in a box of a result that was computed whole.
 use Rattle.std.{proofs.Common.{◌≡◌, ℕ, ◌<◌, true, IsTrue, List, [], length, get_or, map, Some, Result, Ok, Err, refl, ap, sym, ◌∙◌, arith}, specs.List.{range_with_len}, proofs.lemmas.Bool.{cond-true}, proofs.lemmas.List.{length-map, get_or-map as get_or-map_inside}}
 use Rattle.std.proofs.lemmas.List.FromFn.{length-map-range_with_len, get_or-map-range_with_len}
 use Rattle.arrays_core.{specs.declared.item.Item.{Item}, specs.declared.item.ItemType.{ItemType}, specs.declared.item.Kind.{Kind}, specs.declared.item.Kind.TheVariants.{Domain}, specs.Items.{all_or_first_error, and_then, fill}, specs.Shapes.{indices, is_index_of, places_before}}
@@ -6,7 +6,7 @@ use Rattle.arrays_core.{specs.Arrays.{ArrayValue, collect, with_items, item_of},
 use Rattle.index_region.{specs.Boxes.{Interval, box_size, walk_at, fits}, specs.Checks.{Form, form_of, whole}, proofs.Patched.{fits_within}, proofs.Walks.{walk_within}}
 use Rattle.{change_core.specs.Parts.{items_in}, selection_fns.{specs.WholeBox.{IsPicked}, proofs.Entries.{entry_of, from_entries}}}
 
--- what a whole result without errors is
+-- a whole result without errors
 record Whole (item : List ℕ → Result Item Kind) (shape : List ℕ) (t : ItemType) (w : ArrayValue) : Type 0 where
   typed : w.item_type ≡ t
   shaped : w.shape ≡ shape

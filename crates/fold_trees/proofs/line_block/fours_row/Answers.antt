@@ -19,7 +19,7 @@ inside g c =
     let row = node_row c.args.first (length c.args.nodes.now) (c.args.from + 3) c.requires.nodes (omega arith) (omega (arith, c.requires.full)) in
     omega (arith, row, later_row c.args.first c.args.from 2, c.nth_node-node.ensures, c.loop-column-test.true, c.loop-column.invariant.sized)
 
--- a number that is read stands at its place of the line
+-- a number that is read is the one at its place of the line
 read : (numbers : List ℤ) (l : Line) (at place : ℕ) → FitsSigned w64 (get_or numbers at (pos 0)) → at ≡ slot_at l place → to_z w64 (of_z w64 (get_or numbers at (pos 0))) ≡ slot_of l numbers place
 read numbers l at place fits is = to_z-of_z w64 _ fits ∙ ap (λ p. get_or numbers p (pos 0)) is
 

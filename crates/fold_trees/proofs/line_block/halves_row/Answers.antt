@@ -9,7 +9,7 @@ inside g c =
     (omega (arith, c.requires.wide)) (omega (arith, c.requires.full, c.requires.wide)) in
     omega (arith, row, c.nth_node-node.ensures, c.loop-column-test.true, c.loop-column.invariant.sized)
 
--- what is read of the earlier half and of the later one
+-- the nodes of the earlier and the later half
 earlier_is : (g : Over) (c : goal.After-index-nodes-later g)
     → c.index-nodes-earlier.result ≡ node_of g.P.Part.blank (line_of c.args.first c.loop-column.column) c.args.nodes.now (c.args.from + c.args.half / 2)
 earlier_is g c =

@@ -3,17 +3,17 @@ use Rattle.fold_trees.{proofs.LineEnds.{near_node, end_is, first_told, second_to
 use Rattle.fold_trees.specs.LineTrees.{segment, node_of, ArePartsKeptUpTo}
 use Rattle.fold_trees.proofs.neighbours.close_parts.Goals as goal
 
--- where the part that is joined ends
+-- the end of the joined part
 ends : (g : Over) (c : After-index-nodes-node-in-loop-half g) → c.args.end ≡ (c.args.end / (2 * c.loop-half.half) - 1) * (2 * c.loop-half.half) + 2 * c.loop-half.half
 ends g c = end_is c.args.end c.loop-half.half c.loop-half-test.true c.requires.some
 
--- its nodes are some of the list
+-- its nodes lie in the list
 inside : (g : Over) (c : After-index-nodes-node-in-loop-half g) → c.args.line.node + (c.args.end - c.loop-half.half) - 1 + c.loop-half.half / 2 < length c.loop-half.nodes
 inside g c =
     let inv = c.loop-half.invariant in
     omega (arith, c.requires.nodes, inv.sized, near_node c.args.line c.args.end c.requires.near, ends g c, inv.half.1, pow_pos inv.half.0)
 
--- what is read of the earlier half
+-- the node of the earlier half
 earlier : (g : Over) (c : After-index-nodes-node-in-loop-half g) (x : ℕ → ℤ) → ArePartsKeptUpTo g.P.Part.tells c.args.end c.args.width c.args.line.count x (node_of g.P.Part.blank c.args.line c.args.nodes.now)
     → g.P.Part.tells c.index-nodes-node.result (segment x ((c.args.end / (2 * c.loop-half.half) - 1) * (2 * c.loop-half.half)) c.loop-half.half)
 earlier g c x h =
@@ -23,7 +23,7 @@ earlier g c x h =
     rw ((get_or_read nodes _ c.index-nodes-node.result (omega (arith, inside g c)) c.index-nodes-node.is g.P.Part.blank) ∙ sym (ap (λ k. get_or nodes k g.P.Part.blank) at))
     (first_told g.P.Part.blank g.P.Part.tells c.args.line nodes x c.args.end c.loop-half.half inv.half.0 inv.half.1 c.loop-half-test.true c.requires.some c.requires.below (inv.kept x h))
 
--- and of the later one
+-- the node of the later half
 later : (g : Over) (c : After-index-nodes-node-in-loop-half g) (x : ℕ → ℤ) → ArePartsKeptUpTo g.P.Part.tells c.args.end c.args.width c.args.line.count x (node_of g.P.Part.blank c.args.line c.args.nodes.now)
     → g.P.Part.tells c.index-nodes-node-in-loop-half.result (segment x ((c.args.end / (2 * c.loop-half.half) - 1) * (2 * c.loop-half.half) + c.loop-half.half) c.loop-half.half)
 later g c x h =

@@ -2,7 +2,7 @@ use Rattle.std.{proofs.Common.{◌≡◌, ◌∙◌, ℕ, ◌+◌, ◌<◌, ◌+
 use Rattle.fold_trees.{specs.LineTrees.{nth_node, slot_of, segment, node_of, ArePartsKeptUpTo}, proofs.LineEnds.{near_node}, proofs.Segments.{segment_split}, proofs.Fours.{four_more}, proofs.neighbours.push_four.Goals.{After-deref_mut}, proofs.neighbours.push_four.Given.{Over}}
 use Rattle.fold_trees.proofs.neighbours.push_four.Goals as goal
 
--- what lies where, of four more nodes
+-- the places of four more nodes
 module _ {P : Type 0} (blank : P) (nodes : List P) (a b c d : P) where
   abbrev all : List P
   all = (((nodes ++ a ∷ []) ++ b ∷ []) ++ c ∷ []) ++ d ∷ []
@@ -45,7 +45,7 @@ pushed g c =
     ∙ ap (λ ns. ns ++ c.two_from-second.result ∷ []) (c.push_reserved-2.ensures.items
     ∙ ap (λ ns. ns ++ c.join.result ∷ []) c.push_reserved.ensures.items))
 
--- what was there before
+-- the earlier nodes
 before : (g : Over) (c : After-deref_mut g) (p : ℕ) → p < c.args.line.node + c.args.from → get_or c.deref_mut.result.now p g.P.Part.blank ≡ get_or c.args.nodes.now.items p g.P.Part.blank
 before g c p below =
     let long : length c.args.nodes.now.items ≡ c.args.line.node + c.args.from = search rules in

@@ -2,7 +2,7 @@ use Rattle.std.{proofs.Common.{◌≡◌, ◌∙◌, ℕ, ◌+◌, ◌-◌, ◌*
 use Rattle.fold_trees.{specs.LineTrees.{slot_of, nth_node, node_of, ArePartsKept}, proofs.LineEnds.{near_node, kept_beside_last}, proofs.neighbours.push_line.Goals.{After-deref_mut, then-last-eq1, else-last-eq1}, proofs.neighbours.push_line.Given.{Over}}
 use Rattle.fold_trees.proofs.neighbours.push_line.Goals as goal
 
--- what was there before the last one
+-- the nodes before the last one
 before : (g : Over) (c : After-deref_mut g) (p : ℕ) → p < c.args.line.node + 2 * ((c.args.line.count - 1) / 2) → get_or c.deref_mut.result.now p g.P.Part.blank ≡ get_or c.push_fours.new.nodes.items p g.P.Part.blank
 before g c p below =
     let long : length c.push_fours.new.nodes.items ≡ c.args.line.node + 2 * ((c.args.line.count - 1) / 2) = search rules in

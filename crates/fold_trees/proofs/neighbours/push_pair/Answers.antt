@@ -6,7 +6,7 @@ use Rattle.fold_trees.proofs.neighbours.push_pair.Goals as goal
 pushed : (g : Over) (c : After-deref_mut g) → c.deref_mut.result.now ≡ (c.args.nodes.now.items ++ c.two_from-pair.result ∷ []) ++ c.two_from-pair.result ∷ []
 pushed g c = c.deref_mut.ensures.value ∙ c.push_reserved-2.ensures.items ∙ ap (λ ns. ns ++ c.two_from-pair.result ∷ []) c.push_reserved.ensures.items
 
--- what was there before
+-- the earlier nodes
 before : (g : Over) (c : After-deref_mut g) (p : ℕ) → p < c.args.line.node + c.args.from → get_or c.deref_mut.result.now p g.P.Part.blank ≡ get_or c.args.nodes.now.items p g.P.Part.blank
 before g c p below =
     let s = c.two_from-pair.result in

@@ -3,7 +3,7 @@ use Rattle.fold_trees.{specs.ArrayLines.{TreesValue, NewTreesValue, line_count},
 use Rattle.fold_trees.specs.LineTrees.{nodes_in_line}
 use Rattle.fold_trees.proofs.part_trees.PartTrees.grow.Goals as goal
 
--- ---- the new lines are as long as the old ones, their neighbours as far apart, and the room is for them
+-- ---- the new lines have the length and the step of the old ones, and the memory is for both
 
 seen_count : (g : Over) (c : After-trees g) → c.more.inside.trees.count ≡ c.self.inside.count
 seen_count g c = ap (λ (n : NewTreesValue). n.count) c.more.view_is ∙ c.requires.count ∙ sym (ap (λ (t : TreesValue). t.count) c.self.view_is)
@@ -26,7 +26,7 @@ old_count g c = ap (λ (n : NewTreesValue). n.old_lines) c.more.view_is ∙ c.re
 new_count : (g : Over) (c : After-trees g) → line_count c.more.inside.trees ≡ length c.trees.inside.numbers.items / c.self.inside.count
 new_count g c = sym (ap (λ (t : TreesValue). line_count t) c.trees.view_is) ∙ ap (λ (n : ℕ). length c.trees.inside.numbers.items / n) (same_count g c)
 
--- how many numbers there are, in lines
+-- the count of numbers, by lines
 held_numbers : (g : Over) (c : After-trees g) → length c.self.inside.numbers.items ≡ c.more.inside.old_lines * c.self.inside.count
 held_numbers g c =
     all_slots c.self.inside.count c.self.inside.step (length c.self.inside.numbers.items) c.self.invariant.trees.lines

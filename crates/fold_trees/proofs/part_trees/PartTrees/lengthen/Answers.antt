@@ -2,7 +2,7 @@ use Rattle.std.{proofs.Common.{◌≡◌, ◌∙◌, ◌+◌, ◌*◌, ◌++◌,
 use Rattle.fold_trees.{specs.ArrayLines.{TreesValue, NewPlacesValue}, specs.LineTrees.{nodes_in_line}, proofs.LongerTrees.{all_long, held_nodes, kept_without, longer_trees, nodes_long}, proofs.part_trees.PartTrees.lengthen.Given.{Over}, proofs.part_trees.PartTrees.lengthen.Goals.{After-more, After-deref_mut}}
 use Rattle.fold_trees.proofs.part_trees.PartTrees.lengthen.Goals as goal
 
--- ---- the numbers are those of one more place of each line, and the room is for them
+-- ---- the new numbers are one more place of each line, and the memory is for the longer lines
 
 same_count : (g : Over) (c : After-more g) → c.more.inside.count ≡ c.self.inside.count
 same_count g c = ap (λ (n : NewPlacesValue). n.count) c.more.view_is ∙ c.requires.count ∙ sym (ap (λ (t : TreesValue). t.count) c.self.view_is)
@@ -62,7 +62,7 @@ pub take_places-requires-clause-kept : goal.take_places-requires-clause-kept
 take_places-requires-clause-kept g c line h =
     rw (numbers_are g c, nodes_are g c) (kept_without _ _ _ _ _ _ _ _ c.self.invariant.trees (between g ((goal.at.take_places-requires-clause-kept g c).After-more)) line h)
 
--- ---- when all lines have taken theirs
+-- ---- after all lines have their new numbers
 
 pub invariant_of-self : goal.invariant_of-self
 invariant_of-self g c =

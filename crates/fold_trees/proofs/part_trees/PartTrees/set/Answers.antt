@@ -3,7 +3,7 @@ use Rattle.fold_trees.{specs.ArrayLines.{TreesValue, line_through, with_number},
 use Rattle.fold_trees.{proofs.part_trees.PartTrees.set.Goals.{After-self, After-nth_line-line, After-write}, specs.LineBlocks.{line_at}}
 use Rattle.fold_trees.proofs.part_trees.PartTrees.set.Goals as goal
 
--- ---- where the place lies
+-- ---- the line of the place
 
 is_inside : (g : Over) (c : After-self g) → c.args.place < length c.self.inside.numbers.items
 is_inside g c = omega (arith, c.requires.place, ap (λ (t : TreesValue). length t.numbers) c.self.view_is)
@@ -38,7 +38,7 @@ write-requires-clause-joined g c =
     rw (line_is g (goal.at.write-requires-clause-joined g c).After-nth_line-line, c.deref_mut.ensures.value, to_z-of_z w64 c.args.number c.ranges.number)
     (subst (λ (t : TreesValue). IfSome c.args.joined (λ parts. AreJoinedFor g.P.Part.tells t c.args.place c.args.number parts.now)) (sym c.self.view_is) c.requires.joined)
 
--- ---- what is written
+-- ---- the written numbers and nodes
 
 is_written : (g : Over) (c : After-write g)
     → IsWritten g.P.Part.blank g.P.Part.tells (line_at c.self.inside.count c.self.inside.step (line_through c.self.inside.count c.self.inside.step c.args.place))

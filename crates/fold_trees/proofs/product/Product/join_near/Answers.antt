@@ -2,7 +2,7 @@ use Rattle.std.{proofs.Common.{◌≡◌, ◌≤◌, sym, subst, ◌∙◌, to_z
 use Rattle.fold_trees.{specs.Products.{Products, AreOrdered, TellsProducts, kept_products, joined_products}, proofs.JoinedProducts.{products_eq, ordered_join, tells_join}, proofs.NearProducts.{narrow_fits, narrow_least, narrow_greatest}}
 use Rattle.fold_trees.proofs.product.Product.join_near.Goals as goal
 
--- a number that is read, and what it is
+-- the value of a number that is read
 read : (z x : ℤ) → SFits w64 z → z ≡ x → to_z w64 (of_z w64 z) ≡ x
 read z x fits e = to_z-of_z w64 z fits ∙ e
 
@@ -23,7 +23,7 @@ overflow_mul-other c = read_times c.near_greatest.result c.near_total-factor.res
 pub overflow_mul-near_total : goal.overflow_mul-near_total
 overflow_mul-near_total c = read_times c.near_total.result c.near_total-factor.result (record { sfits = c.near_total.type_inv }) (record { sfits = c.near_total-factor.type_inv }) c.near_total.ensures.near c.near_total-factor.ensures.near
 
--- what is worked out is the join of what the two tell
+-- the computed values are the join of the stored ones
 made : (c : goal.After-near_total) → record {
   total = to_z w64 (of_z w64 (to_z w64 (of_z w64 c.near_total.result) *ℤ to_z w64 (of_z w64 c.near_total-factor.result)));
   least = to_z w64 (of_z w64 c.min-least.result);

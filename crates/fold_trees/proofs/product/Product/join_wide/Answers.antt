@@ -2,7 +2,7 @@ use Rattle.std.{proofs.Common.{◌≡◌, ◌^◌, ◌≤◌, sym, subst, ◌∙
 use Rattle.fold_trees.{specs.Products.{Products, AreOrdered, TellsProducts, kept_products, joined_products}, proofs.JoinedProducts.{products_eq, ordered_join, tells_join}, proofs.NearProducts.{IsWithin126, are_near, times_fits, join_within}}
 use Rattle.fold_trees.proofs.product.Product.join_wide.Goals as goal
 
--- a number that is read, and what it is
+-- the value of a number that is read
 read : (z x : ℤ) → SFits w128 z → z ≡ x → to_z w128 (of_z w128 z) ≡ x
 read z x fits e = to_z-of_z w128 z fits ∙ e
 
@@ -27,7 +27,7 @@ pub overflow_mul-total : goal.overflow_mul-total
 overflow_mul-total c = read_times _ _ _ _ (record { sfits = c.total.type_inv }) (record { sfits = c.total-factor.type_inv }) c.total.ensures c.total-factor.ensures
     (are_near c.args.self.now _ c.requires.here.1).total (are_near c.args.later.now _ c.requires.later.1).total
 
--- what is worked out is the join of what the two tell
+-- the computed values are the join of the stored ones
 made : (c : goal.After-total) → record {
   total = to_z w128 (of_z w128 (to_z w128 (of_z w128 c.total.result) *ℤ to_z w128 (of_z w128 c.total-factor.result)));
   least = to_z w128 (of_z w128 c.min-least.result);

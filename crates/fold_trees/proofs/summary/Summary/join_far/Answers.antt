@@ -2,7 +2,7 @@ use Rattle.std.{proofs.Common.{◌≡◌, sym, subst, arith, to_z, of_z, ◌+ℤ
 use Rattle.fold_trees.{specs.Sums.{IsOrdered, IsSummaryOf, told_sums, join}, proofs.JoinedSums.{sums_eq, ordered_join, tells_join}}
 use Rattle.fold_trees.proofs.summary.Summary.join_far.Goals as goal
 
--- what is worked out is the join of what the two tell
+-- the computed values are the join of the stored ones
 made : (c : goal.After-total) → record {
   total = to_z w128 (of_z w128 (to_z w128 (of_z w128 c.total.result) +ℤ to_z w128 (of_z w128 c.total-shift.result)));
   least = to_z w128 (of_z w128 c.min-least.result);

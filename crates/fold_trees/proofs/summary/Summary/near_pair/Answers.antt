@@ -10,7 +10,7 @@ near_sum : (x y : ℤ) → unsigned_abs x < 2 ^ 61 → unsigned_abs y < 2 ^ 61 �
 near_sum x y h k f g =
     (λ i. to_z w64 (of_z w64 (to_z-of_z w64 x f i +ℤ to_z-of_z w64 y g i))) ∙ to_z-of_z w64 (x +ℤ y) (fits_signed_from_abs w64 (x +ℤ y) (omega (arith, abs_sum x y, h, k)))
 
--- the sums of two numbers, as they are added
+-- the sums of two numbers, in the order of the computation
 two : (l r : ℤ) → record { total = l +ℤ r; least = int_min (int_min (l +ℤ r) r) (pos 0); greatest = int_max (int_max (l +ℤ r) r) (pos 0) } ≡ sums_of (l ∷ r ∷ [])
 two l r = sums_eq _ _ (omega (arith, ints)) (omega (arith, ints, clamps)) (omega (arith, ints, clamps))
 

@@ -2,7 +2,7 @@ use Rattle.std.{proofs.Common.{◌≡◌, ℕ, ◌+◌, ◌<◌, ◌∷◌, [], 
 use Rattle.selection_fns.{specs.IndexPlaces.{sums, row_places, all_places}, proofs.PlaceSums.{sums_first, sums_sums, sums_turned, heads_few, heads_fit, first_alone}, proofs.index_places.Places.moved.Goals.{Then-index-eq0}}
 use Rattle.selection_fns.proofs.index_places.Places.moved.Goals as goal
 
--- one place is given, the first, so the places are those of the row
+-- the only head is place 0, so the places are those of the row
 alone : (c : Then-index-eq0) → c.args.self.heads.items ≡ 0 ∷ []
 alone c = first_alone c.args.self.heads.items (search rules) (subst (λ z. z ≡ get_or c.args.self.heads.items 0 z) c.if-index-eq0.true c.index.ensures)
 
