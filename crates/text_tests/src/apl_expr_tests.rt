@@ -1,22 +1,22 @@
-//! A tree of each kind, a line of each kind, the largest expressions, and what faults say.
+//! Trees and lines of each kind, the largest expressions, and the texts of faults.
 
 use apl_expr::{Change, Command, Expr, LineFault, Literal, ParseFault, line, parse};
 use apl_tokens::tokens;
 use std::alloc::{AllocError, Global};
 
-/// The tree of a text.
+/// Returns the tree of a text.
 fn tree_of(alloc: Global, text: &str) -> Option<Expr> {
     let found = tokens(alloc, text).ok()?;
     parse(alloc, &found).ok()
 }
 
-/// The tree of a text, written out.
+/// Returns the tree of a text, written out.
 fn written(alloc: Global, text: &str) -> Option<String> {
     let tree = tree_of(alloc, text)?;
     format!(in alloc; "{tree:?}").ok()
 }
 
-/// A text has so many tokens, and they are more than an expression may have.
+/// Returns whether a text has this many tokens, more than an expression may have.
 fn is_beyond(alloc: Global, text: &str, count: usize) -> bool {
     match tokens(alloc, text) {
         Ok(found) => found.len() == count && matches!(parse(alloc, &found), Err(ParseFault::Limit)),
@@ -24,7 +24,7 @@ fn is_beyond(alloc: Global, text: &str, count: usize) -> bool {
     }
 }
 
-/// What a line asks for.
+/// Returns the kind of command of a line, in words.
 fn asked(alloc: Global, text: &str) -> &'static str {
     match line(alloc, text) {
         Ok(Command::Nothing) => "nothing",
@@ -47,7 +47,7 @@ fn asked(alloc: Global, text: &str) -> &'static str {
     }
 }
 
-/// So many times the front, and then the back.
+/// Returns `times` copies of the front, and then the back.
 fn repeated(alloc: Global, front: &str, times: usize, back: &str) -> Result<String, AllocError> {
     let mut text = String::new(alloc);
     for _ in 0..times {
@@ -152,7 +152,7 @@ fn says_what_is_wrong(rt: HostRuntime) {
     }
 }
 
-/// How a literal holds what it says.
+/// Returns the kind of literal of a text, in words.
 fn held_as(alloc: Global, text: &str) -> &'static str {
     match tree_of(alloc, text) {
         Some(Expr::Const(Literal::Num(_))) => "a number",

@@ -1,17 +1,17 @@
-//! Tokens of each kind, and what faults say.
+//! Tokens of each kind, and the texts of faults.
 
 use apl_tokens::{
     NumberEdit, NumberRow, RowNumbers, Token, TokenFault, number_edit, number_row, tokens,
 };
 use std::alloc::Global;
 
-/// The tokens of a line, written out.
+/// Returns the tokens of a line, written out.
 fn written(alloc: Global, line: &str) -> Option<String> {
     let found = tokens(alloc, line).ok()?;
     format!(in alloc; "{found:?}").ok()
 }
 
-/// The first token of a line is this name.
+/// Returns whether the first token of a line is this name.
 fn begins_with_name(alloc: Global, line: &str, name: &str) -> bool {
     let Ok(found) = tokens(alloc, line) else {
         return false;
@@ -22,7 +22,7 @@ fn begins_with_name(alloc: Global, line: &str, name: &str) -> bool {
     }
 }
 
-/// What the fault of a line says.
+/// Returns the text of the fault of a line.
 fn message(alloc: Global, line: &str) -> Option<String> {
     let fault = tokens(alloc, line).err()?;
     format!(in alloc; "{fault}").ok()
@@ -54,7 +54,7 @@ fn reads_each_kind_of_token(rt: HostRuntime) {
     assert!(rt; begins_with_name(rt.alloc(), "∆x2←7", "∆x2"));
 }
 
-/// The edit of an item by a number that a line is read as, but for its name.
+/// Returns the edit of an item of this name that a line reads as: its first and last position, their count, and the number.
 fn edit_of(alloc: Global, line: &str, name: &str) -> Option<([i64; 2], usize, i64)> {
     let NumberEdit {
         name: edited,
@@ -83,7 +83,7 @@ fn reads_the_edit_of_an_item(rt: HostRuntime) {
     }
 }
 
-/// The row of `D` that a line is read as, of at most four numbers, is of these numbers: one as such, and several where there is room for this many.
+/// Returns whether a row of `D` has these numbers, at most four. A list of several has room for `room` numbers; one is stored as such.
 fn is_row(row: &Option<NumberRow>, numbers: &[i64], room: usize) -> bool {
     match row {
         Some(row) if row.name.text() == "D" => match &row.numbers {

@@ -21,7 +21,7 @@ fn prints_faults(rt: HostRuntime) {
     }
 }
 
-/// The text of an array of numbers, if they are as many as its places.
+/// Returns the text of an array of numbers, if there are as many as places.
 fn text_of(alloc: Global, axes: &[u32], numbers: &[i64]) -> Option<String> {
     if !is_within_limits(axes) || size(axes) as usize != numbers.len() {
         return None;

@@ -1,5 +1,5 @@
-//! Tests of the calls that read and write text, as those of sheet_tests: what no contract says and no worked row of the program shows.
-//! They stand on no formula, so their proofs load little.
+//! Tests of the calls that read and write text, for results that neither contracts nor the worked rows of the program
+//! cover. They stand on no formula, so their proofs load little.
 #![tactic(auto)]
 
 #[cfg(test)]

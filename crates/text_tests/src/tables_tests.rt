@@ -1,4 +1,4 @@
-//! Tables in and out.
+//! Tables read and written.
 
 use array_text::{TableFault, read_table, write_table};
 use arrays_core::{Array, ItemType, is_within_limits, shape_of, size};
@@ -6,7 +6,7 @@ use std::alloc::{AllocError, Global};
 use std::fmt::Write;
 use std::test::Fail;
 
-/// The shape of a table, a colon and its numbers.
+/// Returns the shape of a table, a colon and its numbers.
 fn shown(alloc: Global, table: &Array) -> Result<String, AllocError> {
     let mut text = String::new(alloc);
     for axis in table.shape().as_slice() {
@@ -19,7 +19,7 @@ fn shown(alloc: Global, table: &Array) -> Result<String, AllocError> {
     Ok(text)
 }
 
-/// A fault in words.
+/// Returns a fault in words.
 fn told(alloc: Global, fault: TableFault) -> Result<String, AllocError> {
     match fault {
         TableFault::Field { row, field } => format!(in alloc; "field {row} {field}"),
@@ -29,7 +29,7 @@ fn told(alloc: Global, fault: TableFault) -> Result<String, AllocError> {
     }
 }
 
-/// A file reads as this: the shape, a colon and the numbers, or the fault.
+/// Returns whether a file reads as this: the shape, a colon and the numbers, or the fault.
 fn reads_as(alloc: Global, bytes: &[u8], header: bool, wanted: &str) -> bool {
     let text = match read_table(alloc, bytes, header) {
         Ok(table) => shown(alloc, &table),
@@ -38,7 +38,7 @@ fn reads_as(alloc: Global, bytes: &[u8], header: bool, wanted: &str) -> bool {
     matches!(&text, Ok(text) if text.as_str() == wanted)
 }
 
-/// The array of these numbers, if they are as many as its places.
+/// Returns the array of these numbers, if there are as many as places.
 fn array_of(alloc: Global, axes: &[u32], numbers: &[i64]) -> Option<Array> {
     if !is_within_limits(axes) || size(axes) as usize != numbers.len() {
         return None;
@@ -47,7 +47,7 @@ fn array_of(alloc: Global, axes: &[u32], numbers: &[i64]) -> Option<Array> {
     Array::from_numbers(&shape_of(alloc, axes), numbers).ok()
 }
 
-/// The array is a table of numbers, whose file is this.
+/// Returns whether the array is a table of numbers with this file.
 fn writes_as(alloc: Global, table: &Array, wanted: &str) -> bool {
     if table.shape().len() > 2 || table.item_type() != ItemType::Nums {
         return false;
@@ -116,15 +116,15 @@ fn tells_the_first_fault(rt: HostRuntime) {
 #[test]
 fn records_are_those_of_csv(rt: HostRuntime) {
     for (file, want) in [
-        // CR, LF and CR LF each end a record, and an empty line is none.
+        // CR, LF and CR LF each end a record; empty lines are skipped.
         (&b"1,2\r3,4\n5,6\r\n7,8"[..], "4 2 : 1 2 3 4 5 6 7 8"),
         (&b"\n\r\n1\n\n\n2\r\r"[..], "2 1 : 1 2"),
-        // One byte order mark is skipped, and no more, and none inside.
+        // A single byte order mark is skipped, at the beginning only.
         (&b"\xef\xbb\xbf1,2"[..], "1 2 : 1 2"),
         (&b"\xef\xbb\xbf\xef\xbb\xbf1"[..], "field 1 1"),
         (&b"1\n\xef\xbb\xbf2"[..], "field 2 1"),
         (&b"\xef\xbb\xbf"[..], "0 0 :"),
-        // Quotes, and what stands behind a closing one.
+        // Quotes, and text after a closing quote.
         (&b"\"3\"4"[..], "1 1 : 34"),
         (&b"\"1\",\" 2 \""[..], "1 2 : 1 2"),
         (&b"\"1\n\""[..], "field 1 1"),
@@ -132,7 +132,7 @@ fn records_are_those_of_csv(rt: HostRuntime) {
         (&b"\"1,2\""[..], "field 1 1"),
         (&b"\"\""[..], "field 1 1"),
         (&b"\"12"[..], "1 1 : 12"),
-        // Half a high minus sign is none.
+        // Half a high minus sign is not a sign.
         (&b"\xc25"[..], "field 1 1"),
         (&b"\xc2"[..], "field 1 1"),
         (&b"\xaf5"[..], "field 1 1"),
@@ -161,7 +161,7 @@ fn writes_tables(rt: HostRuntime) {
     }
 }
 
-/// A vector of characters without items has an empty file.
+/// Returns whether an empty vector of characters has an empty file.
 fn writes_no_characters(alloc: Global) -> bool {
     let Ok(none) = Array::filled(alloc, ItemType::Chars, &shape_of(alloc, &[0])) else {
         return false;
@@ -174,7 +174,7 @@ fn writes_nothing_of_no_items(rt: HostRuntime) {
     assert!(rt; writes_no_characters(rt.alloc()));
 }
 
-/// A file of so many records, each of so many zeros.
+/// Returns a file of `rows` records, each of `columns` zeros.
 fn zeros(alloc: Global, rows: u32, columns: u32) -> Result<String, AllocError> {
     let mut text = String::new(alloc);
     for _row in 0..rows {
