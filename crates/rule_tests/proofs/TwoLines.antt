@@ -13,7 +13,7 @@ module _ (a : ArrayValue) (lines : List (List ℤ)) (a_is : a ≡ array_of_shape
   shape_is : a.shape ≡ two_by_five
   shape_is = ap (λ (v : ArrayValue). v.shape) a_is
 
-  -- what holds of that shape holds of the array's
+  -- the array has each property of that shape
   by_shape : (P : List ℕ → Type 0) → P two_by_five → P a.shape
   by_shape P holds = subst P (sym shape_is) holds
 

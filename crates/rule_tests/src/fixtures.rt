@@ -1,4 +1,4 @@
-//! Arrays of given numbers, with patches and tails for them. Each call ends the test where that cannot be made.
+//! Arrays of given numbers, with patches and tails for them. Each call ends the test if it fails.
 
 ghost use Rattle.std.specs.Prelude.{◌≡◌, ◌<◌, length};
 ghost use Rattle.arrays_core.specs.Growth.{one_longer as longer_by_one};
@@ -59,7 +59,7 @@ fn one_longer(rt: &impl Abort, alloc: Global, array: &Array) -> Shape
     shape
 }
 
-/// Returns the growth of an array of numbers by one more place of its first axis, of which these are the items.
+/// Returns the tail that adds one place of these numbers to the first axis of an array.
 pub(crate) fn tail_of(rt: &impl Abort, alloc: Global, array: &Array, numbers: &[i64]) -> Tail
     ensures { FitsTail array.now result }
 {
@@ -69,7 +69,7 @@ pub(crate) fn tail_of(rt: &impl Abort, alloc: Global, array: &Array, numbers: &[
     Tail::of(shape, values).expect(rt, "a tail")
 }
 
-/// Returns the item of a patch at an index list; none where the change is no patch or the list lies outside its box.
+/// Returns the item of a patch at an index list; none where the change is not a patch, or the list lies outside its box.
 pub(crate) fn item_in(change: &Delta, index: &[u32]) -> Option<Item> {
     match change {
         Delta::Patch(patch) if patch.region().contains(index) => Some(patch.item(index)),

@@ -1,5 +1,5 @@
-//! Trees of folds by each function that has them: a fold of given numbers, and the number of joins, of which contracts give
-//! bounds alone.
+//! Trees of folds by each function that has them: the folds of given numbers, and the number of joins, for which
+//! contracts give only bounds.
 
 ghost use Rattle.std.specs.Prelude.{◌≡◌, length};
 
@@ -18,7 +18,7 @@ fn tree_of(rt: &impl Abort, alloc: Global, function: Scalar2, row: &[i64]) -> Fo
     FoldTrees::build(alloc, function, row, row.len(), 1).expect(rt, "a tree")
 }
 
-/// Returns the fold of three ones of which the second is replaced by 0.
+/// Returns the fold of three ones, with the second one replaced by 0.
 fn fold_with_zero(rt: &impl Abort, alloc: Global, function: Scalar2) -> Option<i64> {
     let mut tree = tree_of(rt, alloc, function, &[1, 1, 1]);
     tree.set(1, 0);

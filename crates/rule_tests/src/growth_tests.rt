@@ -1,4 +1,4 @@
-//! The change of a node of which an argument grew by one place of its first axis, and its cost.
+//! The change of a node and its cost, after an argument grew by one place of its first axis.
 
 ghost use Rattle.std.specs.Prelude.{◌≡◌, length};
 ghost use Rattle.index_region.specs.Tails.{FitsTail};
@@ -15,7 +15,7 @@ use selection_fns::Index;
 use std::alloc::Global;
 use std::process::Abort;
 
-/// Returns the change of a node that held an array and whose argument grew by a tail, and its cost.
+/// Returns the change of a node that held an array, and its cost, after its argument grew by a tail.
 fn change_of_one<R: Rule>(
     rt: &impl Abort,
     alloc: Global,
@@ -35,7 +35,7 @@ fn change_of_one<R: Rule>(
     (change, cost)
 }
 
-/// Returns the change of a node that held an array and whose left argument grew by a tail, and its cost.
+/// Returns the change of a node that held an array, and its cost, after its left argument grew by a tail.
 fn change_of_left<'a, R: Rule>(
     rt: &impl Abort,
     alloc: Global,
@@ -58,7 +58,7 @@ fn change_of_left<'a, R: Rule>(
     (change, cost)
 }
 
-/// Returns whether the result grew to this shape by these numbers.
+/// Returns whether the result grew to this shape, by these numbers.
 fn is_growth(change: &Delta, axes: &[u32], numbers: &[i64]) -> bool {
     match change {
         Delta::Grown(tail) => { tail.shape().as_slice() == axes && tail.numbers() == Some(numbers) }
@@ -66,7 +66,7 @@ fn is_growth(change: &Delta, axes: &[u32], numbers: &[i64]) -> bool {
     }
 }
 
-/// Returns whether the result is another vector, of these numbers.
+/// Returns whether the result is a new vector of these numbers.
 fn is_whole(change: &Delta, numbers: &[i64]) -> bool {
     match change {
         Delta::Whole(Ok(array)) => array.numbers() == Some(numbers),
@@ -87,14 +87,14 @@ fn each(function: Scalar2) -> EachDyadic {
     EachDyadic { function }
 }
 
-/// The shape and the numbers of two rows, and the numbers of a third.
+/// The shape of two rows; their numbers and those of a third row follow.
 const AXES: [u32; 2] = [2, 3];
 
 const ROWS: [i64; 6] = [1, 2, 3, 4, 5, 6];
 
 const ROW: [i64; 3] = [7, 8, 9];
 
-/// Returns the change of a node whose argument, two rows of numbers, grew by a third, and its cost.
+/// Returns the change of a node, and its cost, after its argument of two rows grew by a third.
 fn with_row<R: Rule>(rt: &impl Abort, alloc: Global, rule: &R) -> (Delta, u32)
     requires { length (R.model rule.now).selectors ≡ 1 }
 {
@@ -103,7 +103,7 @@ fn with_row<R: Rule>(rt: &impl Abort, alloc: Global, rule: &R) -> (Delta, u32)
     change_of_one(rt, alloc, rule, &rows, &row)
 }
 
-/// Returns the change of a node whose left argument, of these numbers, grew by more, and its cost.
+/// Returns the change of a node, and its cost, after its left argument of these numbers grew by more.
 fn with_more<R: Rule>(
     rt: &impl Abort,
     alloc: Global,

@@ -10,7 +10,7 @@ use scalar_fns::common_shape;
 use std::alloc::Global;
 use std::process::Abort;
 
-/// Returns the item at an index list of a table of zeros in which a number was written there.
+/// Returns the item at an index list of a table of zeros, after a number was written there.
 fn item_written(rt: &impl Abort, alloc: Global, axes: &[u32], index: &[u32]) -> Option<Item> {
     assert!(rt; is_within_limits(axes) && is_index_of(axes, index));
     let shape = shape_of(alloc, axes);
@@ -25,7 +25,7 @@ fn an_item_lies_at_its_place(rt: HostRuntime) {
     assert!(rt; item_written(&rt, rt.alloc(), &[2, 3], &[2, 1]) == Some(Item::Num(7)));
 }
 
-/// Writes a patch into an array and a tail behind it.
+/// Writes a patch into an array, and appends a tail.
 fn write_both(rt: &impl Abort, alloc: Global, array: &mut Array) {
     let patch = patch_of(rt, alloc, array, &[(2, 2), (1, 2)], &[7, 8]);
     patch.write_into(array);

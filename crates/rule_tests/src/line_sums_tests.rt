@@ -1,4 +1,4 @@
-//! The change of totals by trees of the lines, the joins that it takes, and trees that follow their array.
+//! The change of totals by the trees of lines, the joins that it takes, and trees that follow their array.
 
 ghost use Rattle.std.specs.Prelude.{◌≡◌, ◌∷◌, [], Some};
 ghost use Rattle.std.specs.List.{flat_map};
@@ -37,7 +37,7 @@ fn kept_of(rt: &impl Abort, alloc: Global, fold: Reduce, array: &Array) -> LineS
     kept.expect(rt, "long lines")
 }
 
-/// Returns the change of the totals of an array over which a patch is laid, by the trees of its lines.
+/// Returns the change of the totals of an array under a patch, by the trees of its lines.
 fn totals_with(
     rt: &impl Abort,
     alloc: Global,
@@ -81,7 +81,7 @@ fn a_row_gives_two_columns_one_new_number_each(rt: HostRuntime) {
     assert!(rt; meter.ticks() == 2 && 2 <= meter.joins() && meter.joins() <= 10);
 }
 
-/// Returns the change of the sums of two rows of five numbers over which a patch is laid, by a tree for each row.
+/// Returns the change of the sums of two rows of five numbers under a patch, by a tree for each row.
 fn sums_with(
     rt: &impl Abort,
     alloc: Global,
@@ -94,7 +94,7 @@ fn sums_with(
     requires fits { FitsPatch rows.now patch.now }
     requires long { AreAllAsLong 5 trees.now }
 {
-    // The shape says that it is an array.
+    // `shape` shows that the array is sound.
     let _sound = rows.shape();
     let moved = Delta::Patch(patch.copy().expect(rt, "a patch"));
     let old = Ok(Array::scalar(alloc, 0).expect(rt, "a number"));
@@ -110,7 +110,7 @@ fn no_value() -> Fault {
     }
 }
 
-/// Returns how many sums are joined for the totals of a new array, and how many totals are worked out.
+/// Returns the number of joins for the totals of a new array, and the number of totals computed.
 fn joins_anew(rt: &impl Abort, alloc: Global, array: &Array) -> (u64, u64) {
     assert!(rt; !array.shape().as_slice().is_empty());
     let anew = Delta::Whole(Err(no_value()));
@@ -160,7 +160,7 @@ fn one_number_of_two_rows_changes_one_sum(rt: HostRuntime) {
     }
 }
 
-/// Returns the trees of the lines of an array over which a patch is laid and which then grows by a tail.
+/// Returns the trees of the lines of an array, after a patch and then a tail.
 fn kept_after(
     rt: &impl Abort,
     alloc: Global,

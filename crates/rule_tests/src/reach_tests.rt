@@ -1,4 +1,4 @@
-//! The places that a rule reaches where a box of an argument changed. The boxes of each function stand as worked cases in
+//! The places that a rule reaches from the changed box of an argument. The boxes of each function are worked cases in
 //! the proofs of its rule.
 
 use crate::fixtures::array_of;

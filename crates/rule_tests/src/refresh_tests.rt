@@ -1,4 +1,4 @@
-//! The change of a node of which one place of an argument changed: a patch of one place, which ticks once.
+//! The change of a node after one place of an argument changed: a patch of one place, and one tick.
 
 ghost use Rattle.std.specs.Prelude.{◌≡◌, length};
 ghost use Rattle.index_region.specs.Patches.{FitsPatch};
@@ -20,8 +20,8 @@ fn second_alone(change: &Delta) -> Option<Item> {
     item_in(change, &[2])
 }
 
-/// Returns the change of a node that held an array and over whose left argument a patch is laid, twice: as worked out for
-/// any change, which the meter counts, and as known at once.
+/// Returns the change of a node that held an array, under a patch of its left argument, twice: by `refresh`, which the
+/// meter counts, and by `refreshed_place`.
 fn changes_of_left<'a, R: Rule>(
     rt: &impl Abort,
     alloc: Global,

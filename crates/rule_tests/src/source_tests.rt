@@ -1,4 +1,4 @@
-//! The arguments from which the items of functions of arrays come.
+//! The argument that an item of a function of arrays comes from.
 
 use crate::fixtures::array_of;
 use arrays_core::{Array, is_index_of};
@@ -7,7 +7,7 @@ use index_region::{Along, Primitive, Source};
 use std::process::Abort;
 use structural_fns::{Catenate, Take};
 
-/// Returns the argument from which an item of `A↑B` comes; none where it is fill.
+/// Returns the argument that an item of `A↑B` comes from; none for fill.
 fn taken_from(rt: &impl Abort, count: &Array, array: &Array, index: u32) -> Option<usize> {
     let args = [Seen::plain(count), Seen::plain(array)];
     let (shape, _) = Take.shape_of(&args).ok()?;
@@ -18,7 +18,7 @@ fn taken_from(rt: &impl Abort, count: &Array, array: &Array, index: u32) -> Opti
     }
 }
 
-/// Returns the argument from which an item of `A,B` comes.
+/// Returns the argument that an item of `A,B` comes from.
 fn joined_from(rt: &impl Abort, left: &Array, right: &Array, index: u32) -> Option<usize> {
     let args = [Seen::plain(left), Seen::plain(right)];
     let joined = Catenate { along: Along::Last };

@@ -1,4 +1,4 @@
-//! Trees of sums: totals of given numbers, and the number of joins, of which contracts give bounds alone.
+//! Trees of sums: totals of given numbers, and the number of joins, for which contracts give only bounds.
 
 ghost use Rattle.std.specs.Prelude.{◌≡◌};
 
@@ -42,7 +42,7 @@ fn another_number_changes_the_sum(rt: HostRuntime) {
     assert_eq!(rt; tree.result(), Ok(9_223_372_036_854_775_801));
 }
 
-/// Returns the greatest number of joins where one of this many numbers is replaced.
+/// Returns the greatest number of joins after one of this many numbers is replaced.
 fn greatest_count(rt: &impl Abort, alloc: Global, length: usize) -> u32 {
     let tree = tree_of(rt, alloc, &ones(rt, alloc, length));
     let mut greatest = 0;
