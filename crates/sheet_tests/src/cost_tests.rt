@@ -1,4 +1,4 @@
-//! What changes cost and how many items they compute, and a long run of edits of cells.
+//! The costs of changes and the number of items that they compute, and a long run of edits of cells.
 
 use crate::fixtures::{are_made, is_made};
 use apl_expr::Literal;
@@ -11,8 +11,8 @@ fn has_cost(sheet: &Sheet, cost: u64) -> bool {
     sheet.last_cost() == cost && sheet.last_ticks() == cost
 }
 
-/// Changes with their costs: a cell under a total; an error in an item, which costs the item; boxes that are joined in a product; an error in
-/// a check, which costs nothing.
+/// Changes with their costs: a cell under a total; an error in an item, which costs the item; boxes that join in a
+/// product; an error in a check, which costs nothing.
 const COSTS: [(&str, u64); 16] = [
     (")DATA D←2 3⍴⍳6", 12),
     ("T←+/D", 2),
@@ -32,7 +32,7 @@ const COSTS: [(&str, u64); 16] = [
     (")ERASE I", 0),
 ];
 
-/// Makes changes, up to one that is refused or has another cost, and returns whether there is none.
+/// Makes changes up to one that is refused or has another cost, and returns whether there is none.
 fn have_costs(alloc: Global, sheet: &mut Sheet, changes: &[(&str, u64)]) -> bool {
     for (text, cost) in changes {
         if !is_made(alloc, sheet, text) || !has_cost(sheet, *cost) {
@@ -52,7 +52,7 @@ const PLACES: usize = 1048576;
 
 const EDITS: usize = 100000;
 
-/// Makes the first places of data 2, one after the other, and returns whether each edit is accepted at the cost of one item.
+/// Sets the first places of data to 2, one after the other, and returns whether each edit is accepted at the cost of one item.
 fn edit_first_places(sheet: &mut Sheet, name: Name) -> bool {
     for place in 0..EDITS {
         let is_edited = sheet
@@ -65,7 +65,7 @@ fn edit_first_places(sheet: &mut Sheet, name: Name) -> bool {
     true
 }
 
-/// Returns whether these are all the numbers: fours where an edit was, and twos behind them.
+/// Returns whether the numbers are fours up to the last edit, and twos after it.
 fn are_edited(numbers: &[i64]) -> bool {
     for (place, number) in numbers.iter().enumerate() {
         let wanted = if place < EDITS { 4 } else { 2 };
@@ -76,7 +76,7 @@ fn are_edited(numbers: &[i64]) -> bool {
     numbers.len() == PLACES
 }
 
-/// Returns whether a name shows the numbers that come of all edits.
+/// Returns whether a name shows the numbers after all edits.
 fn shows_edits(sheet: &Sheet, name: Name) -> bool {
     match sheet.value(name) {
         Some(Ok(array)) => are_edited(array.numbers().unwrap_or(&[])),
@@ -84,7 +84,7 @@ fn shows_edits(sheet: &Sheet, name: Name) -> bool {
     }
 }
 
-/// Doubles a million ones, of which many become 2, and returns whether each edit costs one item.
+/// Doubles a million ones, sets many of them to 2, and returns whether each edit costs one item.
 fn are_edits_cheap(alloc: Global, sheet: &mut Sheet, data: Name, product: Name) -> bool {
     are_made(alloc, sheet, &[")DATA D←1048576⍴1", "T←D×2"])
         && edit_first_places(sheet, data)

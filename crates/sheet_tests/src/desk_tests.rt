@@ -1,5 +1,5 @@
-//! A desk against a plain model, which makes a change only when it is committed: the model keeps, of each slot, which change is open there, how many
-//! steps are left, and whether another change was made since. Then a list of events, and calls that are made again after a refusal of memory.
+//! A desk against a plain model, which makes a change only when it is committed. The model stores for each slot the open change, the steps left,
+//! and whether another change was made since. Then a list of events, and calls that are repeated after an allocation failed.
 
 use crate::fixtures::{MOST_TRIES, change_of, is_made, shows};
 use apl_expr::Change;
@@ -14,7 +14,7 @@ use std::process::Abort;
 /// The first changes of both sheets.
 const FIRST: [&str; 4] = [")DATA D←1 2 3", "A←D×2", "B←A+D", "C←+/B"];
 
-/// Changes, of which some are refused: a cycle, cells that are not there, rows that do not fit, a cell and a row of a formula, an error.
+/// Changes, some of them refused: a cycle, cells outside the data, rows that do not fit, a cell and a row of a formula, an error.
 const CHANGES: [&str; 24] = [
     "D[1]←5",
     "D[2]←7",
@@ -47,7 +47,7 @@ const NAMES: [&str; 6] = ["A", "B", "C", "D", "E", "F"];
 /// The number of events.
 const EVENTS: usize = 100_000;
 
-/// A change that is open in a slot: its index, the count of steps that are left, and whether another change was made since.
+/// A change that is open in a slot: its index, the number of steps left, and whether another change was made since.
 #[derive(Clone, Copy)]
 struct Open {
     which: usize,
@@ -55,7 +55,7 @@ struct Open {
     is_stale: bool,
 }
 
-/// The count of steps that are left, 0 where none are told, or the number of a refusal.
+/// The number of steps left, 0 for answers without one, or the number of a refusal.
 type Outcome = Result<u32, u8>;
 
 const NO_MEMORY: u8 = 11;
@@ -89,7 +89,7 @@ fn cause(refusal: &Refusal) -> u8 {
     }
 }
 
-/// Returns the outcome that an answer tells.
+/// Returns the outcome of an answer.
 fn outcome_of(answer: &Answer) -> Outcome {
     match answer {
         Answer::Left(left) => Ok(*left),
@@ -98,7 +98,7 @@ fn outcome_of(answer: &Answer) -> Outcome {
     }
 }
 
-/// A plain model of a desk: a sheet, and the change that is open in each slot.
+/// A plain model of a desk: a sheet, and the open change of each slot.
 #[derive(Drop)]
 struct Model {
     sheet: Sheet,
@@ -106,7 +106,7 @@ struct Model {
 }
 
 impl Model {
-    /// Returns what a slot holds, where there is such a slot.
+    /// Returns the content of a slot; none where there is no such slot.
     fn held(&self, number: i64) -> Option<Option<Open>> {
         if number < 1 || number > 8 {
             return None;
@@ -117,7 +117,7 @@ impl Model {
         }
     }
 
-    /// Puts this into a slot.
+    /// Stores the content of a slot.
     fn put(&mut self, number: i64, held: Option<Open>) {
         if number < 1 || number > 8 {
             return;
@@ -127,7 +127,7 @@ impl Model {
         }
     }
 
-    /// Marks all that is open as stale, since a change was made.
+    /// Marks all open changes as stale, after a change.
     fn mark_stale(&mut self) {
         for held in self.slots.iter_mut() {
             if let Some(open) = held {
@@ -170,7 +170,7 @@ impl Model {
         Ok(left)
     }
 
-    /// Returns what is open in a slot, where it is not stale.
+    /// Returns the open change of a slot, if it is not stale.
     fn current(&self, number: i64) -> Result<Open, u8> {
         match self.held(number) {
             Some(Some(open)) if open.is_stale => Err(STALE),
@@ -207,7 +207,7 @@ impl Model {
         Ok(0)
     }
 
-    /// Answers an event, whose change is the one at this index.
+    /// Answers an event; its change is the one at this index.
     fn answer(&mut self, alloc: Global, event: &Event, which: usize) -> Outcome {
         match event {
             Event::Open(number, change) => self.open(*number, which, change),
@@ -220,12 +220,12 @@ impl Model {
     }
 }
 
-/// Returns whether two arrays are the same.
+/// Returns whether two arrays have the same shape and numbers.
 fn are_equal(array: &Array, wanted: &Array) -> bool {
     array.shape().as_slice() == wanted.shape().as_slice() && array.numbers() == wanted.numbers()
 }
 
-/// Returns whether a name is absent from both sheets, or shows the same array or the same error.
+/// Returns whether a name is absent from both sheets, or shows the same array or error in both.
 fn shows_same(sheet: &Sheet, wanted: &Sheet, name: Name) -> bool {
     match sheet.value(name) {
         None => matches!(wanted.value(name), None),
@@ -283,12 +283,12 @@ fn event_of(rt: &impl Abort, alloc: Global, kind: u64, number: i64, text: &str) 
     }
 }
 
-/// Has the desk answer an event.
+/// Applies an event to the desk, and returns the outcome.
 fn answered(desk: &mut Desk, event: Event) -> Outcome {
     outcome_of(&desk.apply(event))
 }
 
-/// Returns whether the desk and the model answer an event the same, and show the same then.
+/// Returns whether the desk and the model answer an event alike, and then show the same.
 fn is_answered_alike(
     rt: &impl Abort,
     alloc: Global,
@@ -355,7 +355,7 @@ fn four_events(rt: &impl Abort, alloc: Global) -> VecDeque<Event> {
     events
 }
 
-/// Has a desk answer these events, and returns whether all are done.
+/// Applies the events to a desk, and returns whether all succeed.
 fn are_answered(rt: &impl Abort, desk: &mut Desk, events: VecDeque<Event>) -> bool {
     let answers = desk.apply_all(events).expect(rt, "answers");
     are_done(answers.as_slice())
@@ -384,7 +384,7 @@ fn done(outcome: Result<(), Refusal>) -> Outcome {
     }
 }
 
-/// Makes a change at once, again where memory is refused.
+/// Makes a change at once, repeated if an allocation fails.
 fn is_made_at_once(alloc: Global, desk: &mut Desk, text: &str) -> bool {
     for _ in 0..MOST_TRIES {
         if let Some(change) = change_of(alloc, text) {
@@ -396,7 +396,7 @@ fn is_made_at_once(alloc: Global, desk: &mut Desk, text: &str) -> bool {
     false
 }
 
-/// Opens a change, and returns how many steps it takes; where memory is refused, the slot stays empty.
+/// Opens a change, and returns the number of its steps. The slot stays empty if an allocation fails.
 fn opened(alloc: Global, desk: &mut Desk, number: i64, text: &str) -> Option<u32> {
     for _ in 0..MOST_TRIES {
         if let Some(change) = change_of(alloc, text) {
@@ -410,7 +410,7 @@ fn opened(alloc: Global, desk: &mut Desk, number: i64, text: &str) -> Option<u32
     None
 }
 
-/// Does a step, and returns how many are left; where memory is refused, as many as before.
+/// Does a step, repeated if an allocation fails, and returns the number of steps left.
 fn stepped(desk: &mut Desk, number: i64) -> Option<u32> {
     match counted(desk.step(number)) {
         Ok(left) => Some(left),
@@ -432,7 +432,7 @@ fn is_made_by_slot(alloc: Global, desk: &mut Desk, number: i64, text: &str) -> b
     readied(alloc, desk, number, text) == Some([2, 1, 0]) && done(desk.commit(number)) == Ok(0)
 }
 
-/// Returns whether the change in a slot is stale, and gives it up.
+/// Returns whether the change in a slot is stale, and drops it.
 fn is_stale(desk: &mut Desk, number: i64) -> bool {
     done(desk.commit(number)) == Err(STALE) && done(desk.drop_slot(number)) == Ok(0)
 }
@@ -442,7 +442,7 @@ fn has_total(sheet: &Sheet, cost: u64, number: i64) -> bool {
     sheet.last_cost() == cost && shows(sheet, "T", &[number])
 }
 
-/// Makes three changes by slots, of which the second is stale once the first is made, and returns whether each has its outcome.
+/// Makes three changes by slots, the second one stale after the first, and returns whether each has its outcome.
 fn have_outcomes(alloc: Global, desk: &mut Desk) -> bool {
     is_made_at_once(alloc, desk, ")DATA D←1 2 3")
         && readied(alloc, desk, 8, "U←-+/D") == Some([2, 1, 0])

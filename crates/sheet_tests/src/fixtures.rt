@@ -1,11 +1,11 @@
-//! Changes and trees of lines, and what a sheet shows.
+//! Changes and trees from lines, and the values that a sheet shows.
 
 use apl_expr::{Change, Command, Expr, line};
 use apl_tokens::Name;
 use sheet_recalc::Sheet;
 use std::alloc::Global;
 
-/// The most times that a call is made: once more where memory is refused.
+/// The greatest number of tries of a call: it is repeated once if an allocation fails.
 pub(crate) const MOST_TRIES: usize = 2;
 
 /// Reads the change of a line.

@@ -1,5 +1,5 @@
-//! Tests of the calls of `sheet_recalc` and `sheet_desk`: what no contract says and no worked row of the program shows. A call that takes memory
-//! succeeds once, with the right answer.
+//! Tests of the calls of `sheet_recalc` and `sheet_desk`, for results that neither contracts nor the worked rows of the
+//! program cover. A call that allocates succeeds once, with the right answer.
 #![tactic(auto)]
 
 #[cfg(test)]

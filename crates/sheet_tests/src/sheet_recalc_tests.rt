@@ -1,4 +1,4 @@
-//! The names of a cycle, changes in a list, and calls that are refused memory.
+//! The names of a cycle, changes in a list, and calls whose allocations fail.
 
 use crate::fixtures::{MOST_TRIES, are_made, change_of, shows, tree_of};
 use apl_expr::{Change, Literal};
@@ -25,7 +25,8 @@ fn is_cycle(refused: &Result<(), Refusal>, cycle: &[Name]) -> bool {
     }
 }
 
-/// Returns whether each cycle is told from the name that closes it. The second one goes through data, which stays. The names are A, B and C.
+/// Returns whether each refusal lists the cycle from the name that closes it. The second cycle passes through data,
+/// which stays. The names are A, B and C.
 fn are_cycles(alloc: Global, sheet: &mut Sheet, names: [Name; 3]) -> bool {
     let [a, b, c] = names;
     are_made(alloc, sheet, &["A←B", "B←C"])
@@ -50,7 +51,7 @@ fn a_cycle_begins_with_the_name_that_closes_it(rt: HostRuntime) {
     assert!(rt; are_cycles(rt.alloc(), &mut sheet, names));
 }
 
-/// Returns a number for an answer to a change: accepted, refused for a cycle, or refused for another cause.
+/// Returns the number of an answer to a change: accepted, refused for a cycle, or refused for another cause.
 fn kind_of(answer: &Result<(), Refusal>) -> u8 {
     match answer {
         Ok(()) => 0,
@@ -59,7 +60,7 @@ fn kind_of(answer: &Result<(), Refusal>) -> u8 {
     }
 }
 
-/// Returns whether the third of four changes alone is refused, for a cycle.
+/// Returns whether only the third of four changes is refused, for a cycle.
 fn third_closes_a_cycle(answers: &[Result<(), Refusal>]) -> bool {
     let kinds = [0, 0, 1, 0];
     answers.len() == 4
@@ -69,7 +70,7 @@ fn third_closes_a_cycle(answers: &[Result<(), Refusal>]) -> bool {
             .all(|(answer, kind)| kind_of(answer) == kind)
 }
 
-/// Makes a list of changes, of which the third would close a cycle.
+/// Makes a list of changes; the third one would close a cycle.
 fn four_changes(rt: &impl Abort, alloc: Global) -> VecDeque<Change> {
     let mut changes = VecDeque::new(alloc);
     for text in ["D←1 2 3", "T←D×2", "D←T", "D←4 5 6"] {
@@ -79,7 +80,7 @@ fn four_changes(rt: &impl Abort, alloc: Global) -> VecDeque<Change> {
     changes
 }
 
-/// Makes these changes, and returns whether the third alone is refused.
+/// Makes these changes, and returns whether only the third one is refused.
 fn are_answered(rt: &impl Abort, sheet: &mut Sheet, changes: VecDeque<Change>) -> bool {
     let answers = sheet.apply_all(changes).expect(rt, "answers");
     third_closes_a_cycle(answers.as_slice())
@@ -92,10 +93,10 @@ fn answers_changes_in_order(rt: HostRuntime) {
     assert!(rt; are_answered(&rt, &mut sheet, changes) && shows(&sheet, "T", &[8, 10, 12]));
 }
 
-/// The numbers of `D` and of `T`, none where the name is absent, and the cost of the last change.
+/// The numbers of `D` and of `T`, empty for an absent name, and the cost of the last change.
 type State<'a> = (&'a [i64], &'a [i64], u64);
 
-/// Returns whether a name shows these numbers, or is absent where there are none.
+/// Returns whether a name shows these numbers, or is absent if there are none.
 fn shows_or_is_absent(sheet: &Sheet, name: &str, numbers: &[i64]) -> bool {
     if !numbers.is_empty() {
         return shows(sheet, name, numbers);
@@ -116,7 +117,7 @@ fn is_in_state(sheet: &Sheet, state: State) -> bool {
         && shows_or_is_absent(sheet, "T", product)
 }
 
-/// Gives a name the data 1 2 3.
+/// Binds a name to the data 1 2 3.
 fn store(alloc: Global, sheet: &mut Sheet, name: Name) -> Result<(), Refusal> {
     match tree_of(alloc, "1 2 3") {
         Some(tree) => sheet.data(name, tree),
@@ -133,7 +134,7 @@ fn put(alloc: Global, sheet: &mut Sheet, name: Name) -> Result<(), Refusal> {
     }
 }
 
-/// Makes one of the calls that change a sheet, of the name of data or of its double.
+/// Makes one of the calls that change a sheet, for the name of data or of its double.
 fn call(alloc: Global, sheet: &mut Sheet, names: [Name; 2], which: usize) -> Result<(), Refusal> {
     let [data, product] = names;
     match which {
@@ -146,7 +147,7 @@ fn call(alloc: Global, sheet: &mut Sheet, names: [Name; 2], which: usize) -> Res
     }
 }
 
-/// Makes a call again where memory is refused, and returns whether it leads from one state to another. A refusal leaves the first.
+/// Repeats a call while allocations fail, and returns whether it leads from one state to another. A failed call leaves the first state.
 fn leads_to(
     alloc: Global,
     sheet: &mut Sheet,
@@ -164,7 +165,7 @@ fn leads_to(
     false
 }
 
-/// The states of a sheet before the first of the calls, and after each.
+/// The states of a sheet before the first call, and after each.
 const STATES: [State; 7] = [
     (&[], &[], 0),
     (&[1, 2, 3], &[], 0),

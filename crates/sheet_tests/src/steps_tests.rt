@@ -1,4 +1,4 @@
-//! A change in steps: begun, done function by function, and made. Where memory is refused a step is done again.
+//! A change in steps: begun, computed function by function, and made. A step is repeated if an allocation fails.
 
 ghost use Rattle.sheet_recalc.specs.Changes.{SheetChange as Asked};
 ghost use Rattle.sheet_recalc.specs.Pending.{IsPendingOn};
@@ -8,7 +8,7 @@ use apl_expr::Change;
 use sheet_recalc::{Pending, Sheet};
 use std::alloc::Global;
 
-/// Does a step, and returns how many are left; where memory is refused, it is done again.
+/// Does a step, repeated if an allocation fails, and returns the number of steps left.
 fn step(sheet: &Sheet, pending: &mut Pending) -> Option<u32>
     requires { (change : Asked) × IsPendingOn sheet.now change pending.old }
     ensures { (change : Asked) → IsPendingOn sheet.now change pending.old → IsPendingOn sheet.now change pending.new }
@@ -23,7 +23,7 @@ fn step(sheet: &Sheet, pending: &mut Pending) -> Option<u32>
     sheet.advance(pending).ok()
 }
 
-/// Does three steps, and returns how many are left before them and after each.
+/// Does three steps, and returns the number of steps left before them and after each.
 fn counts(sheet: &Sheet, pending: &mut Pending) -> Option<[u32; 4]>
     requires { (change : Asked) × IsPendingOn sheet.now change pending.old }
     ensures { (change : Asked) → IsPendingOn sheet.now change pending.old → IsPendingOn sheet.now change pending.new }
@@ -35,7 +35,7 @@ fn counts(sheet: &Sheet, pending: &mut Pending) -> Option<[u32; 4]>
     Some([before, first, second, third])
 }
 
-/// Begins a change, does three steps of it, makes it where none is left then, and returns the counts of steps.
+/// Begins a change, does three steps, makes it if no step is left, and returns the numbers of steps left.
 fn in_steps(sheet: &mut Sheet, change: Change) -> Option<[u32; 4]> {
     let Ok(mut pending) = sheet.begin(change) else {
         return None;
@@ -47,7 +47,7 @@ fn in_steps(sheet: &mut Sheet, change: Change) -> Option<[u32; 4]> {
     counts
 }
 
-/// Makes the change of a line in three steps, and returns the counts of steps.
+/// Makes the change of a line in three steps, and returns the numbers of steps left.
 fn made_in_steps(alloc: Global, sheet: &mut Sheet, text: &str) -> Option<[u32; 4]> {
     for _ in 0..MOST_TRIES {
         if let Some(change) = change_of(alloc, text) {
@@ -66,7 +66,7 @@ fn costs_in_steps(alloc: Global, sheet: &mut Sheet, text: &str, cost: u64) -> bo
         && sheet.last_ticks() == cost
 }
 
-/// Gives `D` data, again where memory is refused, and returns whether a formula and an edit are then made in steps.
+/// Binds `D` to data, repeated if an allocation fails, and returns whether a formula and an edit are then made in steps.
 fn are_made_in_steps(alloc: Global, sheet: &mut Sheet) -> bool {
     let data = ")DATA D←1 2 3";
     (is_made(alloc, sheet, data) || is_made(alloc, sheet, data))
