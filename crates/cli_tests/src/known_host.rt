@@ -1,5 +1,5 @@
-//! The whole program in a host of which all is known: its words, one file, and the text that it is told. That such a host exists, so that the
-//! program's contract is not empty, is proved. No test makes the call: the built program is tried instead.
+//! The whole program in a host that is fully known: its words, one file, and the text of its messages. The proof that such a host exists shows that
+//! the program's contract is not empty. No test calls it; the tests run the built program.
 
 ghost use Rattle.std.specs.Prelude.{Some, map, string_bytes};
 ghost use Rattle.sheet_cli.specs.Hosts.{Closed, Whole};
@@ -54,7 +54,7 @@ impl<'a> Host for Shelf<'a> {
     }
 }
 
-/// Keeps what it is told.
+/// Stores the messages.
 #[derive(Drop)]
 struct Heard {
     text: String,
@@ -77,7 +77,7 @@ impl Teller for Heard {
     }
 }
 
-/// Returns whether the program gives these answers to these lines, ends with this status, and tells this text.
+/// Returns whether the program answers these lines so, ends with this status, and gives these messages.
 pub fn ends_so(shelf: &Shelf<'_>, lines: &[u8], status: u8, answers: &str, told: &str) -> bool {
     let mut output = Device::new(Vec::new(shelf.alloc));
     let mut heard = Heard {

@@ -1,5 +1,5 @@
-//! Tests of the calls of `sheet_cli`: what no contract says and no worked row of the program shows. Devices give and take a little at a time, or
-//! fail.
+//! Tests of the calls of `sheet_cli`, for results that neither contracts nor the worked rows of the program cover.
+//! Devices transfer a few bytes a call, or fail.
 #![tactic(auto)]
 
 #[cfg(test)]

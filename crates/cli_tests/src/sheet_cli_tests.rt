@@ -1,4 +1,4 @@
-//! Runs over lines of every length, and over devices that give or take a little at a time, or fail.
+//! Runs over lines of every length, and over devices that transfer a few bytes a call, or fail.
 
 ghost use Rattle.std.specs.Prelude.{None, Some, false};
 
@@ -8,7 +8,7 @@ use sheet_recalc::Sheet;
 use std::alloc::Global;
 use std::io::{self, ErrorKind, Write};
 
-/// Gives one byte a call. At the end of its bytes it fails, or says that the input ends.
+/// Gives one byte a call. At the end of its bytes it fails, or ends the input.
 #[derive(Drop)]
 struct Drip<'a> {
     bytes: &'a [u8],
@@ -42,7 +42,7 @@ impl Source for Drip<'_> {
     }
 }
 
-/// Takes one byte a call, and fails once no more are left to take.
+/// Takes one byte a call. Fails when no byte is left to take.
 #[derive(Drop)]
 struct Trickle {
     bytes: Vec<u8>,
@@ -95,7 +95,7 @@ impl Write for Stuck {
     }
 }
 
-/// Takes bytes while any are left to take, then none, without a fault.
+/// Takes bytes up to a limit, and then none, without an error.
 #[derive(Drop)]
 struct Filling {
     bytes: Vec<u8>,
@@ -127,7 +127,7 @@ fn sink_of(alloc: Global, left: usize) -> Trickle {
     }
 }
 
-/// Runs with a new sheet, and returns how that ends and how many names the sheet has then.
+/// Runs with a new sheet, and returns the end of the run and the number of names of the sheet.
 fn run_anew<R: Source, W: Sink>(
     alloc: Global,
     source: &mut R,
@@ -138,7 +138,7 @@ fn run_anew<R: Source, W: Sink>(
     (end, desk.sheet().names().len())
 }
 
-/// Gives a line of every length from 0 to 4,097 bytes, each but the empty one answered 5.
+/// Gives a line of every length from 0 to 4,097 bytes. Lines of 1 to 4,096 bytes are answered by 5; the last one is too long.
 #[derive(Drop)]
 struct Lengths {
     length: usize,
@@ -151,7 +151,7 @@ const COMMENT: [u8; 3] = [0xE2, 0x8D, 0x9D];
 const CLEF: [u8; 4] = [0xF0, 0x9D, 0x84, 0x9E];
 
 impl Lengths {
-    /// Returns the next byte: a 5, a comment of characters of four bytes where there is room, blanks, and the end of the line.
+    /// Returns the next byte: a 5, a comment of characters of four bytes where they fit, blanks, and the end of the line.
     fn next_byte(&mut self) -> u8 {
         let (length, at) = (self.length, self.at);
         if at >= length {
