@@ -3,7 +3,7 @@ use Rattle.{std.proofs.Common.{◌≡◌, ℕ, List, [], ◌∷◌, length, fals
 use Rattle.{index_region.specs.declared.delta.Delta.{Delta}, change_rules.specs.Currency.{applied}}
 use Rattle.formula_core.{specs.declared.input.Input.{Input}, specs.Changes.{NamesChange, FitsIn}, specs.Formulas.{FormulaValue, IsHeld}, specs.Inputs.{IsInput}, specs.Meaning.{names_in}, specs.Plans.{AreInputs, IsTold}}
 
--- an array before and after, and what changed of it
+-- an array before and after a change, and the change
 module _ (a b : ArrayValue) (d : Delta) (becomes : applied d (Ok a) ≡ Ok b) (fit : FitsIn d (Ok a)) (sound_a : IsArray a) (sound_b : IsArray b) where
   abbrev pub one_change : NamesChange
   one_change = record { old = λ x. Ok a; new = λ x. Ok b; delta = λ x. d }

@@ -1,4 +1,4 @@
-//! Room for an array to grow. The program asks a tail of an array for it.
+//! Memory for an array to grow. The program allocates it with a tail instead.
 
 use arrays_core::Array;
 

@@ -1,4 +1,4 @@
-//! An order, a cycle, and what depends on a node.
+//! An order, a cycle, and the dependents of a node.
 
 use dep_order::{Graph, OrderFault, dependents, order};
 use std::alloc::Global;

@@ -1,4 +1,4 @@
-//! A formula without a sheet, and how many sums its plan joins.
+//! A formula without a sheet, and the number of sums that its plan joins.
 
 ghost use Rattle.std.specs.Prelude.{◌≡◌, length, Ok};
 ghost use Rattle.formula_core.specs.Changes.{FitsIn};
@@ -37,7 +37,7 @@ fn formula_of(rt: &impl Abort, alloc: Global, text: &str) -> Formula {
     Formula::build(alloc, tree).expect(rt, "a formula")
 }
 
-/// Returns whether a formula shows one number, this one.
+/// Returns whether a formula shows this number.
 fn shows_number(formula: &Formula, number: i64) -> bool {
     match formula.result() {
         Ok(array) => array.numbers() == Some(&[number][..]),
@@ -54,7 +54,7 @@ fn a_formula_is_worked_out_without_a_sheet(rt: HostRuntime) {
     assert!(rt; shows_number(&formula, 13));
 }
 
-/// Returns how many sums a plan joins for a change of the array that each name shows.
+/// Returns the number of sums that a plan joins for a change of the array that each name shows.
 fn joins_of<'a>(rt: &impl Abort, formula: &Formula, array: &'a Array, delta: &'a Delta) -> u64
     requires held { IsHeld formula.now (λ _. Ok array.now) }
     requires one { length (names_in formula.now.tree) ≡ 1 }
@@ -82,7 +82,7 @@ fn one_of_a_thousand(rt: &impl Abort, alloc: Global, array: &Array) -> Delta
     Delta::Patch(Patch::of(region, number))
 }
 
-/// Returns how many sums are joined where one number changes in the first row of an array whose totals a formula shows.
+/// Returns the number of sums joined for a change of one number in the first row of an array whose totals a formula shows.
 fn joins_of_a_total(rt: &impl Abort, alloc: Global, array: &Array) -> u64 {
     let mut formula = formula_of(rt, alloc, "+/D");
     formula.evaluate(&Everywhere { array }).expect(rt, "totals");

@@ -1,4 +1,4 @@
-//! Tests of calls of `arrays_core`, `dep_order` and `formula_core` that the program does not make, and of how many sums a plan joins.
+//! Tests of calls of `arrays_core`, `dep_order` and `formula_core` that the program does not make, and of the number of sums that a plan joins.
 #![tactic(auto)]
 
 #[cfg(test)]
