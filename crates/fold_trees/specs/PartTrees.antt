@@ -44,8 +44,8 @@ pub record AreRooms {P : Type 0} (old_lines : ℕ) (more : TreesValue) (slots : 
 
 -- ---- one more place of each line
 
--- the nodes that one more number adds to each line; and two empty lists of these capacities, for the longer lines where
--- the old memory is too small
+-- the nodes that one more number adds to each line, and
+-- two empty lists of these capacities, for the longer lines where the old memory is too small
 pub record AreNextPartRooms {P : Type 0} (count : ℕ) (numbers slots : List ℤ) (more nodes : List P) (slot_capacity node_capacity : ℕ) : Type 0 where
   pub more_nodes : length more ≡ length numbers
   pub no_slots : slots ≡ []

@@ -43,8 +43,8 @@ impl<'a, P: Part> LineTree<'a, P> {
         self.part(0, self.line.count.next_power_of_two())
     }
 
-    /// Returns the part twice as wide as a block, from the part of the block, and the number of joins: 0 if the line
-    /// ends with the block, else 1.
+    /// Returns the part twice as wide as a block, from the part of the block, and the number of joins. That is 0 if the
+    /// line ends with the block, else 1.
     fn widened(&self, block: usize, width: usize, kept: &P) -> (P, u32)
         requires inside { IsIn self.now.line (length self.now.numbers.now) (length self.now.nodes.now) }
         requires from { block * width < self.now.line.count }

@@ -29,8 +29,8 @@ fn checked(number: i64) -> Result<i64, Kind>
     }
 }
 
-/// Whether all numbers of a list are true: a single number unchanged, else the fold by `∧`. `NO_TRUTH` where a number
-/// of several is not a truth value.
+/// The fold of a list by `∧`: a single number unchanged, else the truth value. `NO_TRUTH` where a number of several is
+/// not a truth value.
 #[derive(Clone, Copy)]
 pub(crate) struct AllTrue {
     truth: i64,
@@ -58,8 +58,8 @@ impl Part for AllTrue {
     }
 }
 
-/// Whether any number of a list is true: a single number unchanged, else the fold by `∨`. `NO_TRUTH` where a number of
-/// several is not a truth value.
+/// The fold of a list by `∨`: a single number unchanged, else the truth value. `NO_TRUTH` where a number of several is
+/// not a truth value.
 #[derive(Clone, Copy)]
 pub(crate) struct AnyTrue {
     truth: i64,

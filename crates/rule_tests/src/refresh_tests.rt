@@ -20,8 +20,8 @@ fn second_alone(change: &Delta) -> Option<Item> {
     item_in(change, &[2])
 }
 
-/// Returns the change of a node that held an array, under a patch of its left argument, twice: by `refresh`, which the
-/// meter counts, and by `refreshed_place`.
+/// Returns the change of a node that held an array, under a patch of its left argument. The first result is by
+/// `refresh`, which the meter counts, the second by `refreshed_place`.
 fn changes_of_left<'a, R: Rule>(
     rt: &impl Abort,
     alloc: Global,

@@ -12,7 +12,7 @@ use Rattle.selection_fns.proofs.Entries.{entry_of, from_entries, long_entries}
 
 -- ---- the box
 
--- a box of the digits of a vector of radices, of which the first interval is read
+-- a box of the digits of a vector of radices; `read` begins at the first radix of the box
 pub record DigitBox (radices rest : List ℕ) (items : ℕ) (read region : List Interval) : Type 0 where
   pub first : Interval
   pub later : List Interval

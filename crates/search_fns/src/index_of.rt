@@ -18,8 +18,8 @@ use index_region::{IndexBox, Intervals, Primitive, Seen, limited};
 use selection_fns::{is_small, items_of_whole};
 use std::alloc::{AllocError, Global};
 
-/// Index of, `A⍳B` (ISO/IEC 13751, "Index of"): for each item of B the first place of A that holds it, or one more than
-/// the length of A. The result has the shape of B. A number never equals a character. RANK where A is not a vector.
+/// Index of, `A⍳B` (ISO/IEC 13751, "Index of"): the first place in A of each item of B, or one more than the length of
+/// A. The result has the shape of B. A number never equals a character. RANK where A is not a vector.
 #[derive(Clone, Copy, PartialEq, Eq, Debug)]
 pub struct IndexOf;
 

@@ -1,4 +1,4 @@
--- Rows of an index: where the last position has an axis, the items of a row of the result come from one row of the array.
+-- Rows of an index whose last position has an axis: the items of a row come from one row of the array.
 use Rattle.std.{proofs.Common.{◌≡◌, ℕ, suc, ◌+◌, ◌-◌, ◌*◌, ◌<◌, ◌≤◌, ℤ, pos, unsigned_abs, Bool, true, false, cond, List, [], ◌∷◌, ◌++◌, length, take, drop, get_or, Some, None, Result, Ok, Err, refl, ap, sym, subst, ◌∙◌, append-nil, arith}, specs.Prelude.{unwrap_or, not, nat_eq, map, ◌&&◌}, specs.List.{list_all}}
 use Rattle.std.{proofs.lemmas.Bool.{and_parts, false≢true}, proofs.lemmas.List.{length-append, length-drop, length_push, take_all, take-append-le, drop-append-le, drop-drop, length-map, get_or-map}, proofs.Math.Seq.{drop-length, get_or-append_seam}}
 use Rattle.arrays_core.{specs.declared.item.Item.TheVariants.{Num}, specs.declared.item.ItemType.{ItemType}, specs.declared.item.Kind.{Kind}, specs.Items.{fill}, specs.Arrays.{ArrayValue, IsArray, item_of}, specs.Shapes.{size, is_index_of, places_before}, proofs.Shapes.{as_long, head_of, places_below}}

@@ -48,7 +48,7 @@ positions_checked a positions rest =
 abbrev pub index_form : ArrayValue → List Position → Result Form Kind
 index_form a positions = positions_checked a positions (limited (indexed_shape a.shape positions) a.item_type)
 
--- the index list in the indexed array: each position takes its own part of the index list of the result, and gives the index on its axis
+-- the index list in the indexed array: each position takes its part of the result's index list, and gives the index on its axis
 abbrev pub source_index : List Position → List ℕ → List ℕ
 source_index [] index = []
 source_index (None ∷ positions) index = get_or index 0 0 ∷ source_index positions (drop 1 index)
@@ -112,7 +112,7 @@ beside (Some a) (Some b) = Some (a ++ b)
 abbrev pub position_box : ArrayValue → Interval → Option (List Interval)
 position_box p s = least_box p.shape (λ part. lies_in s (place_named (item_of p part))) (size p.shape)
 
--- the box for the indexed array: an empty position contributes its interval, a written one the least box of its places that name a changed one
+-- by the indexed array: an empty position contributes its interval, a written one the least box of its places that name a changed one
 abbrev pub indexed_box : List Position → Spread
 indexed_box (None ∷ positions) (s ∷ region) = beside (Some (s ∷ [])) (indexed_box positions region)
 indexed_box (Some p ∷ positions) (s ∷ region) = beside (position_box p s) (indexed_box positions region)

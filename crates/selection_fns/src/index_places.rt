@@ -294,7 +294,7 @@ fn position_offsets(
     }
 }
 
-/// Returns the places of all items of the result, of which there is at least one.
+/// Returns the places of all items of the result. The result has at least one item.
 pub(crate) fn places_of(
     alloc: Global,
     axes: &[u32],

@@ -96,7 +96,8 @@ fn axes_before(written: &[bool], positions: &[Seen], which: usize) -> usize
     positions[0].shape().len() + axes_before(&written[1..], &positions[1..], which - 1)
 }
 
-/// Returns the box of the result that a box of a written position may change: `region` on the axes of that position, all other axes whole.
+/// Returns the box of the result that a box of a written position may change. It is `region` on the axes of that
+/// position; all other axes are whole.
 fn position_box(
     written: &[bool],
     positions: &[Seen],

@@ -11,8 +11,8 @@ fn has_cost(sheet: &Sheet, cost: u64) -> bool {
     sheet.last_cost() == cost && sheet.last_ticks() == cost
 }
 
-/// Changes with their costs: a cell under a total; an error in an item, which costs the item; boxes that join in a
-/// product; an error in a check, which costs nothing.
+/// Changes with their costs. An error in an item costs the item; an error in a check costs nothing; boxes join in a
+/// product.
 const COSTS: [(&str, u64); 16] = [
     (")DATA D←2 3⍴⍳6", 12),
     ("T←+/D", 2),

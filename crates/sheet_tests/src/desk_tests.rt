@@ -14,7 +14,7 @@ use std::process::Abort;
 /// The first changes of both sheets.
 const FIRST: [&str; 4] = [")DATA D←1 2 3", "A←D×2", "B←A+D", "C←+/B"];
 
-/// Changes, some of them refused: a cycle, cells outside the data, rows that do not fit, a cell and a row of a formula, an error.
+/// Changes, some of them refused: a cycle, cells outside the data, rows that do not fit, edits of a formula, an error.
 const CHANGES: [&str; 24] = [
     "D[1]←5",
     "D[2]←7",
@@ -272,7 +272,7 @@ fn line_of(which: usize) -> &'static str {
     }
 }
 
-/// Makes an event of one of twelve kinds: four open the change of a line, four do a step, two commit, one drops a slot, one makes the change.
+/// Makes an event of one of twelve kinds. Four open the change of a line, four do a step, two commit, one drops a slot, one makes the change.
 fn event_of(rt: &impl Abort, alloc: Global, kind: u64, number: i64, text: &str) -> Event {
     match kind {
         0..=3 => Event::Open(number, change_of(alloc, text).expect(rt, "a change")),

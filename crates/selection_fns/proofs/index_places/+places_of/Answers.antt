@@ -14,7 +14,7 @@ returns-then-axes-ge-LEAST_ROW t c =
 
 -- ---- the first axis is taken whole
 
--- the axes behind it
+-- the axes after it
 rest_of_whole : (t : ℕ) (c : Then-not-written t) → IsRest c.args.axes.now c.args.written.now c.args.positions.now (size (indexed_shape c.args.axes.now (written_positions c.args.written.now c.args.positions.now)))
 rest_of_whole t c =
     empty_rest c.args.axes.now c.args.written.now c.args.positions.now c.requires.within c.requires.one_an_axis c.requires.long c.requires.on c.requires.some (search rules) c.if-not-written.true
@@ -62,7 +62,7 @@ prove-unreachable-requires t c =
     let some = written_some axes c.args.written.now c.args.positions.now p c.requires.one_an_axis c.requires.long c.requires.some c.if-not-written.false c.index-positions-0.is in
     omega arith
 
--- the axes behind it, and the other positions
+-- the axes after it, and the other positions
 rest_of_written : (t : ℕ) (c : After-places t)
     → IsRest c.args.axes.now c.args.written.now (drop 1 c.args.positions.now) (size (indexed_shape c.args.axes.now (written_positions c.args.written.now c.args.positions.now)))
 rest_of_written t c =
