@@ -8,7 +8,7 @@ ghost use Rattle.fold_trees.specs.LineBlocks.{line_of};
 /// The slots of a line's numbers in the list of numbers, and of its nodes in the list of nodes.
 #[derive(Clone, Copy)]
 pub(crate) struct Line {
-    /// The number of its numbers.
+    /// The count of its numbers.
     pub(crate) count: usize,
     /// The distance from one number to the next in the list, and from node to node.
     pub(crate) step: usize,

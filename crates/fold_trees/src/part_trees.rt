@@ -141,8 +141,8 @@ fn take_places<P: Part>(numbers: &[i64], nodes: &mut [P], count: usize, step: us
 }
 
 /// All lines of an array along one axis, with a tree of parts for each. Replacing a number of a line of n numbers takes
-/// at most ⌈log2 n⌉ joins. The numbers and the nodes are two lists; the capacity of each is the next power of two of
-/// its length.
+/// at most ⌈log2 n⌉ joins. The numbers and the nodes are two lists; each has room for the next power of two of its
+/// length.
 #[derive(Drop)]
 pub(crate) struct PartTrees<P: Part> {
     count: usize,

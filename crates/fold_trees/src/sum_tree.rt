@@ -37,7 +37,7 @@ impl SumTree {
         Ok(SumTree { trees })
     }
 
-    /// Returns the number of numbers.
+    /// Returns the length of the list.
     pub fn len(&self) -> usize
         ensures { result ≡ length self.now }
     {
