@@ -1,4 +1,4 @@
--- The folds of the lines of a list, from those of the columns of its blocks.
+-- Folds of lines from the column folds of blocks.
 use Rattle.std.{proofs.Common.{◌≡◌, refl, inl, inr, ℕ, ◌+◌, ◌-◌, ◌*◌, ◌/◌, ◌%◌, ◌<◌, ◌≤◌, List, length, get_or, drop, take, ℤ, pos, Result, Ok, ap, sym, ◌∙◌, arith}, proofs.lemmas.Bool.{cases_lt}, proofs.lemmas.List.{ext_get_or, get_or-take, get_or-drop, get_or_append_left, get_or-append_right}}
 use Rattle.{std.{proofs.lemmas.Nat.{div-mul-add, mod-mul-add, div-add-mod'}, proofs.Math.Nat.{mul-le-mul_right}}, arrays_core.specs.declared.item.Kind.{Kind}}
 use Rattle.item_fns.{specs.Folds.{strided, folded, line_start}, proofs.RightFolds.{length-strided, get_or-strided}}

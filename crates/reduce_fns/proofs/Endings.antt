@@ -91,7 +91,7 @@ greatest_step a b = dyadic_on_numbers Plus (int_max a (pos 0)) b
 abbrev pub least_step : ℤ → ℤ → Result ℤ Kind
 least_step a b = dyadic_on_numbers Plus (int_min a (pos 0)) b
 
--- they keep what they are for, within 64 bits
+-- a value is equal to a bound, and fits 64 bits
 pub record Kept (z bound : ℤ) : Type 0 where
   pub is : z ≡ bound
   pub within : Within z

@@ -4,7 +4,7 @@ use Rattle.arrays_core.{specs.declared.item.Item.{Item}, specs.declared.item.Ite
 use Rattle.arrays_core.proofs.Order.{length-indices, get_or-indices, places_before-index_after, index_after-within}
 use Rattle.item_fns.{proofs.Collected.{collected}, specs.Items.{number_item}, specs.NumberLists.{number_items}}
 
--- the numbers of a rule are those of the array that it gives
+-- collecting a rule over a shape is the array of its list of numbers
 pub numbers_collected : (shape : List ℕ) (number : ℕ → Result ℤ Kind)
     → collect Nums shape (λ index. number_item (number (places_before shape index)))
     ≡ with_items Nums shape (number_items (all_or_first_error (map number (range_with_len 0 (size shape)))))

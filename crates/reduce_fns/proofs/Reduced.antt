@@ -1,4 +1,4 @@
--- The reduction of an array of numbers, taken from the numbers as they lie.
+-- Reduction of an array of numbers, computed from its slice of numbers.
 use Rattle.std.{proofs.Common.{◌≡◌, ℕ, zero, suc, ◌+◌, ◌-◌, ◌*◌, ◌/◌, ◌%◌, ◌<◌, ◌≤◌, Bool, true, false, cond, ℤ, pos, List, [], ◌∷◌, length, get_or, drop, take, map, refl, ap, sym, ◌∙◌, arith, insert, remove, Ok}, proofs.lemmas.List.{length-map, ext_get_or, get_or_default, take_all}}
 use Rattle.std.{proofs.lemmas.List.FromFn.{length-map-range_with_len}, proofs.Math.ListN.{get_or-map}, proofs.Math.Nat.{mul-le-mul_right, div-eq_of_lt, mul-add-div_right, mul-add-mod_self_right, mod-eq_of_lt, div-lt_iff_lt-mul, mul-mod_left}, proofs.lemmas.Nat.{div-add-mod', mod_below}}
 use Rattle.arrays_core.{specs.declared.item.Item.{Item}, specs.declared.item.Item.TheVariants.{Num}, specs.declared.item.ItemType.{ItemType}, specs.declared.item.ItemType.TheVariants.{Nums}, specs.Items.{fill, and_then}, specs.Shapes.{size, is_index_of, places_before}, specs.Arrays.{ArrayValue, item_of, collect}}
@@ -22,7 +22,7 @@ strided_numbers xs first stride count =
     ∙ get_or-map (λ z. Num z) xs (first + k * stride) (pos 0)
     ∙ sym (get_or-map (λ z. Num z) zs k (pos 0) ∙ ap (λ z. Num z) (get_or-strided (pos 0) xs first stride count k (pos 0) below)))
 
--- that of some of them
+-- the fold of items that are numbers is the fold of the numbers
 pub numbers_folded : (f : Scalar2) (xs : List ℤ) (items : List Item) (first stride count : ℕ) → items ≡ map (λ z. Num z) xs → 1 ≤ count
     → fold_right f (strided (Num (pos 0)) items first stride count) ≡ number_item (folded (dyadic_on_numbers f) (strided (pos 0) xs first stride count))
 numbers_folded f xs items first stride count is h =

@@ -1,12 +1,12 @@
--- What public contracts mean.
+-- Meaning of the public contracts.
 pub mod Lines
 pub mod Reduce
 pub mod AxisLines
 pub mod Sum
--- What proofs and bodies use.
+-- Used by proofs and bodies.
 pub mod Columns
 pub mod LeftFolds
--- What changes of results.
+-- Effect of changes on results.
 pub mod Growth
--- Proofs that impls give with their functions: all that changes lies in the boxes, and what grows.
+-- Proofs that impls supply with their functions: changes stay inside the boxes, and growth is preserved.
 pub mod Laws

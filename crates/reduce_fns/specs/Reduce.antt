@@ -7,17 +7,17 @@ use Rattle.change_core.{specs.RuleModels.{RuleModel, Use}, specs.Growth.{growing
 use Rattle.item_fns.specs.RightFold.{fold_right}
 use Rattle.reduce_fns.{specs.Lines.{line}, specs.Growth.{lines_grow}}
 
--- that of b where each line is one item
+-- the item type of the result: b's own if each line is one item, else numbers
 abbrev pub reduce_type : ArrayValue → ℕ → ItemType
 reduce_type b axis = if nat_eq (places_along b.shape axis) 1 then b.item_type else Nums
 
--- the checks, and the shape and the type of the result
+-- the checks, then the shape and the item type of the result
 abbrev pub reduce_form : Along → ArrayValue → Result Form Kind
 reduce_form along b =
     let axis = axis_at (length b.shape) along in
     check (is_axis (length b.shape) along) Axis (limited (remove b.shape axis) (reduce_type b axis))
 
--- the item at an index list: the fold of its line
+-- the item at an index list: the right fold of its line
 abbrev pub reduce_item : Scalar2 → Along → ArrayValue → List ℕ → Result Item Kind
 reduce_item f along b index = fold_right f (line b (axis_at (length b.shape) along) index)
 
@@ -25,10 +25,9 @@ reduce_item f along b index = fold_right f (line b (axis_at (length b.shape) alo
 abbrev pub reduce_whole : Scalar2 → Along → ArrayValue → Result ArrayValue Kind
 reduce_whole f along b = whole (reduce_form along b) (reduce_item f along b)
 
--- What a change of the argument of a reduction changes of its result.
+-- Effect of a change of the argument on the result.
 
--- each item reads the line along an axis (from 0) at its index list, and a scalar is a line of its one item: a changed
--- box goes to itself without that axis
+-- each item reads its line along an axis (from 0); a scalar is a line of one item: a changed box maps to itself without that axis
 abbrev pub line_use : ℕ → ArrayValue → Use
 line_use axis b = record {
   reads = λ index. if is_scalar b then [] ∷ [] else map (insert index axis) (range_with_len 1 (places_along b.shape axis));

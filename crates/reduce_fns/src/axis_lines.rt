@@ -7,17 +7,16 @@ ghost use Rattle.arrays_core.specs.Shapes.{size};
 use crate::right_fold::stride;
 use index_region::Seen;
 
-/// The lines of a list of numbers along an axis of the array that they are, in row-major order. Each line has one place in the
-/// array without that axis.
+/// Borrowed numbers of an array, in row-major order, seen as its lines along one axis. Each line is one place of the array without that axis.
 #[derive(Clone, Copy)]
 pub struct AxisLines<'a> {
     /// The numbers of all lines.
     pub numbers: &'a [i64],
-    /// How far apart two neighbours on a line stand.
+    /// The distance between neighbours on a line.
     pub stride: usize,
-    /// How many numbers a line has.
+    /// The number of items on a line.
     pub count: usize,
-    /// How many lines there are.
+    /// The number of lines.
     pub places: usize,
     pub ghost apart: { 0 < stride },
     pub ghost some: { 1 ≤ count },
@@ -27,7 +26,7 @@ pub struct AxisLines<'a> {
 }
 
 impl<'a> AxisLines<'a> {
-    /// The lines along an axis of an array that has numbers.
+    /// Borrows the numbers of a non-empty array as its lines along `axis`.
     pub fn along(array: &Seen, axis: usize, numbers: &'a [i64]) -> AxisLines<'a>
         requires numbers { array.now.items ≡ map (λ z. Num z) numbers.now }
         requires some { 0 < length numbers.now }
@@ -47,7 +46,7 @@ impl<'a> AxisLines<'a> {
         }
     }
 
-    /// A list of numbers as one line.
+    /// Borrows a list of numbers as a single line.
     pub fn one(numbers: &'a [i64]) -> AxisLines<'a>
         requires { 0 < length numbers.now }
         ensures numbers { result.numbers.now ≡ numbers.now }

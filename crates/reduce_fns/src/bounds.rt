@@ -1,10 +1,10 @@
-//! Lists of numbers that are near 0.
+//! A bound check for lists of numbers.
 
 ghost use Rattle.std.specs.Prelude.{◌≡◌, All, true};
 ghost use Rattle.reduce_fns.specs.Sum.{IsWithinBound};
 
-/// Each number of a list is less than a bound, and no further below 0 than that. Where each is moved up by the bound, those within it
-/// lie below twice as much, and all others do not; the bits of all within it, taken together, do so where the bound is a power of two.
+/// Returns true only if each number is at least `-bound` and less than `bound`. One pass without branches: it compares the OR of all `number + bound`
+/// with twice the bound. If the bound is a power of two, the answer is exact.
 pub fn are_within(numbers: &[i64], bound: u64) -> bool
     ensures { result ≡ true → All (IsWithinBound bound) numbers.now }
 {

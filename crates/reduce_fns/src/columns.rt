@@ -1,4 +1,4 @@
-//! Folds of columns, which are made a row at a time.
+//! Folds of columns, made a row at a time.
 
 ghost use Rattle.std.specs.Prelude.{◌≡◌, ◌≤◌, ◌-◌, ◌*◌, length, drop, map, Ok, OnOk, IfOk, vec_len};
 ghost use Rattle.std.specs.List.{range_with_len};
@@ -11,9 +11,9 @@ use arrays_core::{ApplyFault, Kind, room_of};
 use item_fns::kernels::{Plus, TwoNumbers};
 use std::alloc::Global;
 
-/// A function of two numbers that puts a whole row together with the folds of the columns below it.
+/// A function of two numbers that combines a whole row with the folds of the columns below it.
 pub(crate) trait RowFold: TwoNumbers {
-    /// Puts each number of a row together with the fold of those below it.
+    /// Combines each number of a row with the fold of the numbers below it, in place.
     fn put_over(&self, row: &[i64], folds: &mut [i64]) -> Result<(), Kind>
         requires { length row.now ≡ length folds.old }
         ensures long { length folds.new ≡ length folds.old }
@@ -26,10 +26,9 @@ pub(crate) trait RowFold: TwoNumbers {
     }
 }
 
-/// A function of two numbers that is put over rows number by number.
+/// Applies a function to rows number by number.
 #[derive(Clone, Copy)]
 pub(crate) struct Numberwise<S> {
-    /// The function.
     pub(crate) step: S,
 }
 
@@ -44,7 +43,7 @@ impl<S: TwoNumbers> TwoNumbers for Numberwise<S> {
 impl<S: TwoNumbers> RowFold for Numberwise<S> {}
 
 impl RowFold for Plus {
-    /// A sum that leaves 64 bits is seen when the row has been added, so no number waits for the one before it.
+    /// Checks for overflow once, after the whole row, so that no addition waits for the one before it.
     fn put_over(&self, row: &[i64], folds: &mut [i64]) -> Result<(), Kind> {
         let mut is_within = true;
         for column in 0..row.len() {
@@ -56,7 +55,7 @@ impl RowFold for Plus {
     }
 }
 
-/// Folds the columns of some rows, of which the last stands in the list of the folds.
+/// Folds the columns of `count` rows in place; `folds` holds the last row at the start.
 fn fold_rows<S: RowFold>(
     step: &S,
     rows: &[i64],
@@ -77,7 +76,7 @@ fn fold_rows<S: RowFold>(
     Ok(())
 }
 
-/// Puts the folds of the columns of some rows at the end of a list.
+/// Appends the column folds of `count` rows to a list.
 fn push_folds<S: RowFold>(
     folds: &mut Vec<i64>,
     step: &S,
@@ -95,7 +94,7 @@ fn push_folds<S: RowFold>(
     Ok(())
 }
 
-/// The folds of the lines of an axis, where none of them has an error; else some error of a line.
+/// Folds all lines along an axis, a row at a time. If some line fails, returns the error of one of them, not always the first.
 pub(crate) fn column_folds<S: RowFold>(
     alloc: Global,
     step: &S,

@@ -1,11 +1,11 @@
-//! The lines of an array along an axis.
+//! A test of the axis along which lines lie.
 
 ghost use Rattle.std.specs.Prelude.{◌≡◌};
 ghost use Rattle.reduce_fns.specs.Growth.{is_along_a_later_axis};
 
 use index_region::{Along, Seen};
 
-/// Its lines lie along an axis that it has, and not the first.
+/// Tells if `along` names an axis of the array other than the first.
 pub fn is_along_a_later_axis(array: &Seen, along: Along) -> bool
     ensures { result ≡ is_along_a_later_axis along array.now }
 {

@@ -1,4 +1,4 @@
-//! Reduction, and the calls that scans and products share with it: lines of numbers, their folds, arrays of numbers.
+//! Reduction, and the parts that scans and products share with it: lines of numbers, their folds, arrays of numbers.
 #![tactic(auto)]
 
 mod axis_lines;

@@ -1,4 +1,4 @@
-//! The limits of arrays, in the types of the numbers that are held against them.
+//! Limits of arrays, in the types of the counts that are compared with them.
 
-/// The most items that an array may have.
+/// The most items of an array.
 pub const MOST_ITEMS: usize = arrays_core::MOST_PLACES as usize;

@@ -1,4 +1,4 @@
-//! Arrays of numbers from a function that gives the number at each place, without an index list.
+//! Arrays of numbers from a function of the place, without index lists.
 
 ghost use Rattle.std.specs.Prelude.{◌≡◌, ◌<◌, ℕ, ℤ, Result, map, IfOk, vec_len};
 ghost use Rattle.std.specs.List.{range_with_len};
@@ -13,19 +13,19 @@ ghost use Rattle.item_fns.specs.NumberLists.{number_items, IsListAnswerTo};
 use arrays_core::{ApplyFault, Array, Kind, Shape, room_of, size};
 use std::alloc::Global;
 
-/// The number at each place of a result; a place is given by how many come before it in row-major order.
+/// A function that computes the number at each place of a result. A place counts from 0 in row-major order.
 pub trait NumberFunction {
     ghost places: { Self → ℕ };
 
     ghost number: { Self → ℕ → Result ℤ AKind };
 
-    /// The number at a place, or its error.
+    /// Returns the number at a place, or its error.
     fn number_at(&self, place: usize) -> Result<i64, Kind>
         requires { place < places self.now }
         ensures { result ≡ number self.now place };
 }
 
-/// The numbers that a function gives, or the error of the first place that has one.
+/// Collects the numbers at places 0 to `places - 1`, or returns the error of the first place that fails.
 fn numbers_of<F: NumberFunction>(
     alloc: Global,
     function: &F,
@@ -43,7 +43,7 @@ fn numbers_of<F: NumberFunction>(
     Ok(numbers)
 }
 
-/// The array of the list of the numbers that a function gives.
+/// Collects the numbers into an array of this shape.
 fn array_of<F: NumberFunction>(
     alloc: Global,
     function: &F,
@@ -57,7 +57,7 @@ fn array_of<F: NumberFunction>(
     Ok(Array::from_numbers(shape, numbers)?)
 }
 
-/// The array of the numbers that a function gives, or the error of the first place in row-major order that has one.
+/// Collects the numbers into an array, or returns the error of the first place in row-major order that fails.
 pub fn collect_numbers<F: NumberFunction>(
     alloc: Global,
     function: &F,

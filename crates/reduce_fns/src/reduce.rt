@@ -31,7 +31,7 @@ use item_fns::kernels::{Plus, TwoNumbers};
 use item_fns::{Scalar2, WithFunction, with_function};
 use std::alloc::Global;
 
-/// The fold of each line.
+/// Computes the fold of each line.
 #[derive(Drop)]
 struct LineFolds<'a, S> {
     step: &'a S,
@@ -50,7 +50,7 @@ impl<'a, S: TwoNumbers> NumberFunction for LineFolds<'a, S> {
     }
 }
 
-/// The sum of each line, where the numbers of a line stand side by side.
+/// Computes the sum of each line; the numbers of a line are contiguous.
 #[derive(Drop)]
 struct Totals<'a> {
     lines: AxisLines<'a>,
@@ -68,7 +68,7 @@ impl<'a> NumberFunction for Totals<'a> {
     }
 }
 
-/// The array of the sums of the lines.
+/// Sums each line.
 fn sums(alloc: Global, lines: &AxisLines, shape: &Shape) -> Result<Array, ApplyFault>
     requires within { IsWithinLimits shape.now.items }
     requires shaped { size shape.now.items ≡ lines.now.places }
@@ -81,8 +81,8 @@ fn sums(alloc: Global, lines: &AxisLines, shape: &Shape) -> Result<Array, ApplyF
     }
 }
 
-/// The array of the folds of the lines, a row of the array at a time where the numbers of a line do not stand side by side.
-/// Where a line has an error, that of the first line that has one is looked for.
+/// Folds each line. If the numbers of a line are not contiguous, it folds a row at a time. If that fails, it folds line by line to return the error
+/// of the first line that fails.
 fn folds_by<S: RowFold>(
     alloc: Global,
     step: &S,
@@ -107,7 +107,7 @@ fn folds_by<S: RowFold>(
     }
 }
 
-/// Lines that are to be folded, and the shape of their folds.
+/// The lines to fold, and the shape of the result.
 #[derive(Drop)]
 struct Foldable<'a> {
     alloc: Global,
@@ -127,7 +127,7 @@ impl<'a> WithFunction for Foldable<'a> {
     }
 }
 
-/// The array of the folds of the lines by the scalar function that is named; each has a loop of its own.
+/// Folds each line by the scalar function. Each function has its own compiled loop.
 fn folds(
     alloc: Global,
     function: Scalar2,
@@ -149,21 +149,20 @@ fn folds(
     with_function(function, foldable)
 }
 
-/// Reduction, `f/B` and `f⌿B` (ISO/IEC 13751, "Reduction"): the lines along an axis, each put together by
-/// the function from its last item to its first, `x1 f (x2 f (..))`, until there is an error. A line of
-/// one item is that item, and a line of none the identity of the function, or DOMAIN where it has none. A
-/// scalar is itself. The result is of numbers, but of B's type where each line is one item. AXIS where
-/// the axis is not one of the array's, LIMIT beyond the limits of arrays.
+/// Reduction, `f/B` and `f⌿B` (ISO/IEC 13751, "Reduction"): folds each line along an axis from its last item to its first, `x1 f (x2 f (..))`, and
+/// stops at the first error. A line of one item yields that item. An empty line yields the identity of the function, or DOMAIN if it has none. A
+/// scalar yields itself. The result is of numbers, but of B's type if each line is one item. Fails with AXIS if the array has no such axis, with
+/// LIMIT beyond the limits of arrays.
 #[derive(Clone, Copy, PartialEq, Eq, Debug)]
 pub struct Reduce {
-    /// The function that puts the items of a line together.
+    /// The function that combines the items of a line.
     pub function: Scalar2,
-    /// The axis that the lines lie along.
+    /// The axis along which the lines lie.
     pub along: Along,
 }
 
 impl Reduce {
-    /// The checks, and the shape and the type of the result.
+    /// Checks the argument; returns the shape and the item type of the result.
     fn form(self, array: &Seen) -> Result<(Shape, ItemType), Kind>
         ensures { IsFormAnswerTo (reduce_form self.along array.now) result }
     {
@@ -186,7 +185,7 @@ impl Reduce {
         limited(without_axis(alloc, axes, axis), item_type)
     }
 
-    /// The item at an index list of the result.
+    /// Returns the item at an index list of the result.
     fn folded_at(self, array: &Seen, index: &[u32]) -> Result<Item, Kind>
         requires { IsPlaceOf (reduce_form self.along array.now) index.now }
         ensures is { result ≡ reduce_item self.function self.along array.now index.now }
@@ -204,7 +203,7 @@ impl Reduce {
         fold_line(self.function, array, axis, index, count)
     }
 
-    /// The folds of the lines. Those of numbers are taken from the numbers as they lie.
+    /// Folds the lines. Reads numbers straight from the slice of the argument if it has one.
     pub fn apply(&self, alloc: Global, args: &[Seen]) -> Result<Array, ApplyFault>
         requires { length args.now ≡ 1 }
         ensures { IsAnswerTo (of_one_argument (reduce_whole self.now.function self.now.along) args.now) result }
@@ -218,7 +217,7 @@ impl Reduce {
         }
     }
 
-    /// The folds of the lines of an array of numbers that has axes.
+    /// Folds the lines of a non-empty array of numbers that has axes.
     fn of_numbers(self, alloc: Global, array: &Seen, numbers: &[i64]) -> Result<Array, ApplyFault>
         requires numbers { array.now.items ≡ map (λ z. Num z) numbers.now }
         requires typed { array.now.item_type ≡ Nums }

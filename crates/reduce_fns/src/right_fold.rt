@@ -1,4 +1,4 @@
-//! Right folds of the items of lines.
+//! Right folds along lines.
 
 ghost use Rattle.std.specs.Prelude.{◌≡◌, ◌<◌, ◌≤◌, ◌+◌, ◌-◌, ◌*◌, pos, length, map, IfOk, IsTrue, drop, take, remove, get_or};
 ghost use Rattle.arrays_core.specs.Limits.{most_places};
@@ -17,7 +17,7 @@ use index_region::Seen;
 use item_fns::{Scalar2, identity, two};
 use std::alloc::{AllocError, Global};
 
-/// What a fold of no items gives: the identity of the function, or DOMAIN where it has none.
+/// Returns the fold of no items: the identity of the function, or DOMAIN if it has none.
 pub fn identity_item(function: Scalar2) -> Result<Item, Kind>
     ensures is { result ≡ identity_item (identity_of function) }
     ensures typed { IfOk result (λ x. type_of x ≡ Nums) }
@@ -28,8 +28,7 @@ pub fn identity_item(function: Scalar2) -> Result<Item, Kind>
     }
 }
 
-/// The right fold of `count` items of an array that stand a stride apart, the first of them at the place
-/// `first`, counted from 1.
+/// Folds `count` items of an array from the right. They are `stride` places apart; the first is at place `first`, counted from 1.
 pub(crate) fn fold_items(
     function: Scalar2,
     array: &Seen,
@@ -52,7 +51,7 @@ pub(crate) fn fold_items(
     Ok(result)
 }
 
-/// How far apart two neighbours along an axis lie: the size of the axes after that one.
+/// Returns the distance between neighbours along an axis: the product of the lengths of the later axes.
 pub fn stride(axes: &[u32], axis: usize) -> u32
     requires within { IsWithinLimits axes.now }
     requires there { axis < length axes.now }
@@ -64,7 +63,7 @@ pub fn stride(axes: &[u32], axis: usize) -> u32
     size(later)
 }
 
-/// `count` numbers of an array of numbers that stand a stride apart, the first of them at the place `first`, counted from 1.
+/// Copies `count` numbers of an array. They are `stride` places apart; the first is at place `first`, counted from 1.
 fn numbers_apart(
     alloc: Global,
     array: &Seen,
@@ -85,7 +84,7 @@ fn numbers_apart(
     Ok(numbers)
 }
 
-/// The first `count` numbers of the line along an axis at an index list of the other axes, of an array of numbers.
+/// Copies the first `count` numbers of the line along `axis` at the indices `index` of the other axes.
 pub fn line_numbers(
     alloc: Global,
     array: &Seen,
@@ -107,7 +106,7 @@ pub fn line_numbers(
     numbers_apart(alloc, array, first_place, apart, count)
 }
 
-/// The right fold of the first `count` items of the line along an axis at an index list of the other axes.
+/// Folds the first `count` items of the line along `axis` at the indices `index` of the other axes, from the right.
 pub fn fold_line(
     function: Scalar2,
     array: &Seen,

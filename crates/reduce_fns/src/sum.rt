@@ -13,10 +13,10 @@ use arrays_core::Kind;
 use item_fns::folds::fold_list;
 use item_fns::kernels::Plus;
 
-/// Numbers that are less than this, and no further below 0, add up within 64 bits: as many of them as an array may have.
+/// A bound on numbers: if all are at least `-SMALL` and less than `SMALL`, an array of them has a sum within 64 bits.
 pub const SMALL: u64 = 8_796_093_022_208;
 
-/// The sum of small numbers, which no order of adding takes out of 64 bits.
+/// Sums small numbers. Their sum fits 64 bits in any order.
 fn sum_of_small(numbers: &[i64]) -> i64
     requires small { All IsSmall numbers.now }
     requires few { length numbers.now ≤ most_places }
@@ -29,8 +29,7 @@ fn sum_of_small(numbers: &[i64]) -> i64
     sum
 }
 
-/// The right fold of a list of numbers by their sum: in a plain loop where all of them are small, else
-/// each step held to 64 bits.
+/// Folds a list of numbers by `+`. If all are small it adds them in a plain loop, else it checks each addition for overflow.
 pub(crate) fn sum_list(numbers: &[i64]) -> Result<i64, Kind>
     requires { 0 < length numbers.now }
     ensures { result ≡ folded (dyadic_on_numbers Sum) numbers.now }

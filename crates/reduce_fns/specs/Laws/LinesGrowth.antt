@@ -7,7 +7,7 @@ use Rattle.change_core.{specs.Growth.{IsGrown, IsGrowing}, proofs.Growing.{along
 use Rattle.reduce_fns.{specs.Reduce.{reduce_form, reduce_item, reduce_type, reduce_rule, reduce_use}, specs.Lines.{line}, specs.Laws.LineIndices.{inside}, specs.Laws.ReducedShapes.{reduce_facts}, specs.Growth.{lines_grow}}
 use Rattle.item_fns.specs.RightFold.{fold_right}
 
--- what is the same of the old array and the one that grew, along an axis that is not the first
+-- facts shared by an old array and the longer one, for an axis that is not the first
 pub record Alike (along : Along) (old new : ArrayValue) : Type 0 where
   pub axis : axis_at (length new.shape) along ≡ axis_at (length old.shape) along
   pub later : 0 < axis_at (length old.shape) along

@@ -1,10 +1,10 @@
--- Lines of arrays that are read alike.
+-- Lines of two arrays whose items read the same.
 use Rattle.std.{proofs.Common.{◌≡◌, ℕ, ◌+◌, ◌<◌, ◌≤◌, zero, suc, true, List, [], ◌∷◌, length, map, remove, refl, arith}, specs.List.{range_with_len}, proofs.lemmas.Bool.{false≢true}}
 use Rattle.arrays_core.{specs.Arrays.{ArrayValue, item_of, item_if_there}, specs.Shapes.{is_index_of}}
 use Rattle.change_core.proofs.ReadAlike.{item_same}
 use Rattle.reduce_fns.specs.Lines.{line}
 
--- items that are read alike one after another are the same
+-- if the items at a run of places read the same in two arrays, they are the same
 pub items_same : (a c : ArrayValue) (place : ℕ → List ℕ) (from n : ℕ) → ((j : ℕ) → from ≤ j → j < from + n → (is_index_of a.shape (place j) ≡ true) × (is_index_of c.shape (place j) ≡ true))
     → map (item_if_there a) (map place (range_with_len from n)) ≡ map (item_if_there c) (map place (range_with_len from n))
     → map (λ j. item_of a (place j)) (range_with_len from n) ≡ map (λ j. item_of c (place j)) (range_with_len from n)

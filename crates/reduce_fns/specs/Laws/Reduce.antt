@@ -8,7 +8,7 @@ use Rattle.change_core.{specs.Tightness.{IsTight, Covered, Each}, specs.Sourced.
 use Rattle.reduce_fns.{specs.Reduce.{reduce_form, reduce_item, line_use, reduce_rule, reduce_use}, specs.Lines.{line}, specs.Laws.LineIndices.{inside}, specs.Laws.ReducedShapes.{reduce_facts}, specs.Laws.ReadLines.{items_same, no_axes, scalar_line}}
 use Rattle.item_fns.specs.RightFold.{fold_right}
 
--- a line is the same where it is read alike
+-- lines whose items read the same are the same
 line_same : (d : ArrayValue) (xs : List Item) (axis : ℕ) (index : List ℕ) → (0 < length d.shape → axis < length d.shape) → is_index_of (remove d.shape axis) index ≡ true
     → map (item_if_there (other d xs)) ((line_use axis d).reads index) ≡ map (item_if_there d) ((line_use axis d).reads index) → line (other d xs) axis index ≡ line d axis index
 line_same d xs axis index there place read = elim (cases_Bool (nat_eq (length d.shape) 0)) [

@@ -1,11 +1,11 @@
--- What the checks of reduction have shown.
+-- The facts that follow when the checks of reduction pass.
 use Rattle.std.proofs.Common.{◌≡◌, ℕ, true, List, length, ap, remove, Ok}
 use Rattle.arrays_core.{specs.declared.item.ItemType.{ItemType}, specs.Arrays.{ArrayValue}}
 use Rattle.function_names.{specs.declared.along.Along.{Along}, specs.Axes.{is_axis, axis_at}}
 use Rattle.index_region.{specs.Checks.{form_of, Form, limited}, proofs.Passing.{gives, limited_gives}}
 use Rattle.reduce_fns.specs.Reduce.{reduce_type, reduce_form}
 
--- the shape and the type that the checks give
+-- the shape and the type of the result
 pub record ReduceFacts (along : Along) (b : ArrayValue) (shape : List ℕ) (t : ItemType) : Type 0 where
   pub on_axis : is_axis (length b.shape) along ≡ true
   pub shaped : shape ≡ remove b.shape (axis_at (length b.shape) along)

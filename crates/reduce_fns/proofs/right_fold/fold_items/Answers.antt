@@ -28,7 +28,7 @@ pub overflow_add-first-in-loop-before : goal.overflow_add-first-in-loop-before
 overflow_add-first-in-loop-before c =
     omega (arith, place_high c.args.first c.args.stride c.args.count (c.loop-before.before - 1) (length c.args.array.now.items) (omega arith) c.requires.high, c.requires.few)
 
--- the fold from here on is what the function gives
+-- the fold from this item on is the result of `two`
 two_gives : (c : After-two)
     → folded (dyadic_on_items c.args.function) (drop (c.loop-before.before - 1) (strided (fill c.args.array.now.item_type) c.args.array.now.items (c.args.first - 1) c.args.stride c.args.count)) ≡ c.two.result
 two_gives c =
