@@ -1,4 +1,4 @@
--- The first error of a box, from those of its lines.
+-- The first error of a box, from the errors of its lines.
 use Rattle.std.{proofs.Common.{◌≡◌, ℕ, zero, suc, ◌+◌, ◌-◌, ◌*◌, ◌<◌, ◌≤◌, true, ◌⊎◌, inl, inr, List, [], ◌∷◌, length, get_or, map, set, insert, remove, Option, Some, None, Result, Ok, Err, refl, ap, sym, ◌∙◌, arith, pos}, specs.List.{range_with_len}, proofs.lemmas.Bool.{and_parts, false≢true}}
 use Rattle.std.{proofs.lemmas.Nat.{mul-le}, proofs.lemmas.List.FromFn.{length-map-range_with_len, get_or-map-range_with_len}}
 use Rattle.arrays_core.{specs.declared.item.Item.{Item}, specs.declared.item.Item.TheVariants.{Num}, specs.declared.item.Kind.{Kind}, specs.declared.item.Kind.TheVariants.{Domain}, specs.Items.{all_or_first_error, after}, specs.declared.item.ItemType.TheVariants.{Nums}, specs.Arrays.{ArrayValue, with_items}}
@@ -95,7 +95,7 @@ module _ (item : List ℕ → Result Item Kind) (region : List Interval) (axis :
   within_here : (place before : ℕ) → place < box_size region → before < interval_length s → is_within region (here place before) ≡ true
   within_here place before inside below = within_line axis region (walk_at region place) (s.0 + before) there (walk_within region place inside) (omega arith) (omega arith)
 
-  -- the first error of the whole is that of its line
+  -- the first error of the box is the first error of its line
   pub first_of_line : (e : Kind) (first : First (map (λ p. item (walk_at region p)) (range_with_len 0 (box_size region))) e) → line_items item region axis (walk_at region first.place) ≡ Err e
   first_of_line e first =
       let g : ℕ → Result Item Kind = λ p. item (walk_at region p) in

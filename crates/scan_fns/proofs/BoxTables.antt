@@ -114,7 +114,7 @@ module _ (f : Scalar2) (along : Along) (b : ArrayValue) (region : List Interval)
 
 -- ---- the whole table
 
--- a table that holds all items is what is asked for
+-- a table with the right item at each place is the answer
 pub table_is : (item : List ℕ → Result Item Kind) (region : List Interval) (a : ArrayValue) → FillsBox region a → ((place : ℕ) → place < box_size region → Holds item region a place) → items_in item region ≡ Ok a.items
 table_is item region a table each =
     let g : ℕ → Result Item Kind = λ place. item (walk_at region place) in

@@ -38,7 +38,7 @@ module _ (zs : List ℤ) (stride count : ℕ) where
         ap (given_at (dyadic_on_numbers ByResidue) zs stride count place) (stays (get_or zs place (pos 0)) w (beside_at zs w place beside inside) near)
         ∙ at_place place w ∙ same
 
-  -- what is further on the way from the place below is further on the way from the place
+  -- a link from the place below is a link from the place
   pub leads_on : (place : ℕ) (below far : Option ℕ) → AreTheSame zs stride count (extent_at zs place) (Some place) below
       → IfSome below (λ b. extent_at zs b < extent_at zs place) → LeadsTo zs stride count below far → IfSome far (Leads zs stride count (Some place))
   leads_on place below None same near leads = _
@@ -49,7 +49,7 @@ module _ (zs : List ℤ) (stride count : ℕ) where
         same = λ w beside close. same w beside (omega (arith, close, near, leads.leads.less)) ∙ leads.leads.same w beside close;
       }
 
--- at most so much is less than what is more
+-- a measure of at most `most` is less than a greater bound
 pub nearer : (measure : ℕ → ℕ) (most bound : ℕ) (found : Option ℕ) → most < bound → IfSome found (λ q. measure q ≤ most) → IfSome found (λ q. measure q < bound)
 nearer measure most bound None more h = _
 nearer measure most bound (Some q) more h = omega (arith, more, h)

@@ -3,7 +3,7 @@ use Rattle.std.{proofs.Common.{◌≡◌, refl, ℕ, List, ℤ, pos, Vec, Ok, Er
 use Rattle.arrays_core.{specs.declared.item.Kind.{Kind}, specs.declared.fault.ApplyFault.{ApplyFault}, specs.declared.fault.ApplyFault.TheVariants.{Kind as KindFault, NoMemory}, specs.declared.item.ItemType.TheVariants.{Nums}, specs.Arrays.{ArrayValue, IsAnswerTo, with_items}}
 use Rattle.{item_fns.specs.NumberLists.{IsListAnswerTo, number_items}, scan_fns.specs.LinearScan.{run_to, FailsAt, HasRead}}
 
--- an error of what was read is that of the whole, or it is want of memory
+-- an error among the numbers read is the error of the whole; else memory was short
 pub fault_passed : {G : Type 0} (fold : List ℤ → Result ℤ Kind) (zs : List ℤ) (stride count : ℕ) (wanted : Result (List ℤ) Kind) (fault : ApplyFault) (r : Result (Vec ℤ G) ApplyFault)
     → ((k : Kind) → FailsAt (λ place. fold (run_to (pos 0) zs stride count place)) zs k → wanted ≡ Err k)
     → HasRead {G = G} fold zs stride count (Err fault) → IsErr r × IsErrAnd r (λ e. e ≡ fault) → IsListAnswerTo wanted r

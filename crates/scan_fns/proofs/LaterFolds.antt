@@ -47,7 +47,7 @@ module _ (f : ℤ → ℤ → Result ℤ Kind) where
   scanned_line : (zs : List ℤ) → scanned (folded f) zs 1 (length zs) ≡ all_or_first_error (first_folds zs (length zs))
   scanned_line zs = ap all_or_first_error (same_rules _ _ (length zs) (λ place below. ap (folded f) (run_whole zs place below)))
 
-  -- so is that of its first numbers
+  -- the scan of the first numbers is the start of the scan
   scanned_first : (zs : List ℤ) (n : ℕ) → n ≤ length zs → scanned (folded f) (take n zs) 1 n ≡ all_or_first_error (take n (first_folds zs (length zs)))
   scanned_first zs n few =
       let long : length (take n zs) ≡ n = omega (arith, length-take n zs) in

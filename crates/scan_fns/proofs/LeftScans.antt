@@ -18,7 +18,7 @@ result_before rule zs place xs made within k h =
     ∙ get_or-map-range_with_len rule 0 (length zs) k k (Ok (pos 0)) (omega arith) (omega arith)) ∙ entry
 
 module _ (f : ℤ → ℤ → Result ℤ Kind) (zs : List ℤ) (stride count : ℕ) (apart : 0 < stride) (some : 1 ≤ count) where
-  -- the results before a place, and what it gives with the one a stride before it
+  -- one more result, from the one a stride before it
   pub next_left : (place block_place : ℕ) (xs : List ℤ) (r : Result ℤ Kind) → place < length zs
       → all_or_first_error (take place (map (left_rule f zs stride count) (range_with_len 0 (length zs)))) ≡ Ok xs
       → block_place ≡ place % (count * stride)
@@ -127,7 +127,7 @@ module _ {G : Type 0} (rule : ℕ → Result ℤ Kind) (zs : List ℤ) (count : 
     begins = λ h. ap (λ n. n % count) (omega (arith, is.long, h)) ∙ add-mod_right (vec_len results) count ∙ before.begins inside;
   }
 
--- what a `?` passes on
+-- the error that `?` passes on
 pub error_read : {G : Type 0} (fold : List ℤ → Result ℤ Kind) (zs : List ℤ) (stride count : ℕ) (kind : Kind) (r : Result (Vec ℤ G) ApplyFault)
     → FailsAt (λ place. fold (run_to (pos 0) zs stride count place)) zs kind → IsErr r × IsErrAnd r (λ e. e ≡ KindFault kind) → HasRead fold zs stride count r
 error_read fold zs stride count kind (Ok v) is h = absurd h.1

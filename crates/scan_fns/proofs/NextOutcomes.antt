@@ -12,7 +12,7 @@ zero_or_one z e = decide (int_eq z (pos 0)) refl e
     decide false f e = inr ((Decides-int_eq z (pos 1)).0 e)
 
 module _ (f : ℤ → ℤ → Result ℤ Kind) (truths : GivesTruths f) where
-  -- what is made of 0 and of 1 tells what is made of each truth value
+  -- the results for 0 and for 1 decide the result for each truth value
   by_truth : (x v : ℤ) (after : ℤ → Result ℤ Kind) → and_then (f x v) (chosen (after (pos 0)) (after (pos 1))) ≡ and_then (f x v) after
   by_truth x v after = decide (f x v) refl
     where

@@ -52,7 +52,7 @@ margin_below low high m (pos (suc n)) fits =
     same (nat_le (suc n) (min (low / suc m) 9223372036854775807)) (lies_within low high (neg_ℤ (pos (suc m * suc n)))) (up_to (suc n) (min (low / suc m) 9223372036854775807))
     (low_margin low high (suc m * suc n) (omega arith)) (λ h. q.0 (omega arith)) (λ h. let r = q.1 h in omega arith)
 
--- what is within the margin is a number of 64 bits
+-- a number within the margin fits 64 bits
 margin_number : (low high : ℕ) (z : ℤ) → low ≤ 2 ^ 63 → high < 2 ^ 63 → lies_within low high z ≡ true → is_number z ≡ true
 margin_number low high (pos n) l h e = let r = leb-true n high e in lt-ltb n (2 ^ 63) (omega arith)
 margin_number low high (negsuc n) l h e = let r = ltb-true n low e in lt-ltb n (2 ^ 63) (omega arith)
@@ -84,7 +84,7 @@ next_product total x v low high new_low new_high fit_low fit_high there =
     decide false e true f = rw (f, e) refl
     decide false e false f = rw (f, e) refl
 
--- ---- what a quotient of a margin is
+-- ---- quotients of a margin
 
 module _ (low high : ℕ) where
   pub by_none : (x v : ℤ) (new_low new_high : ℕ) → unsigned_abs x ≡ 0 → lies_within new_low new_high v ≡ true → lies_within new_low new_high v ≡ lies_within low high (x *ℤ v)

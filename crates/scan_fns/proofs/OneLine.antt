@@ -73,7 +73,7 @@ line_walk (suc axis) (s ∷ region) (n ∷ shape) there fit one p below =
     ap (walk_at region) left ∙ line_walk axis region shape (omega arith) inside rest p p_below ∙ ap (λ q. set (walk_at region q) axis ((get_or region axis (0, 0)).0 + p)) (sym none) in
     λ i. (s.0 + (div-eq_of_lt p_below ∙ sym (div-eq_of_lt some)) i) ∷ tail i
 
--- the interval of a box on an axis, as it is read
+-- facts about the interval of a box on an axis
 pub record OnAxis (read region : List Interval) (shape : List ℕ) (axis : ℕ) : Type 0 where
   pub there : axis < length region
   pub low : 1 ≤ (get_or read axis (0, 0)).0

@@ -48,7 +48,7 @@ stays (negsuc a) (pos (suc b)) (inl h) near = absurd (not_low b h.1)
 stays (negsuc a) (pos (suc b)) (inr h) near = absurd (let no = h.0 in cc)
 stays (negsuc a) (negsuc b) beside near = both_negative b a ∙ ap (λ n. neg_ℤ (pos n)) (mod-eq_of_lt (omega (arith, near)))
 
--- what is left stays on its side
+-- a residue stays on its side of 0
 pub rest_low : (a b : ℤ) → IsTrue (is_low a) → IsTrue (is_low b) → IsTrue (is_low (residue a b))
 rest_low (pos zero) b left right = right
 rest_low (pos (suc a)) b left right = absurd (not_low a left)

@@ -4,7 +4,7 @@ use Rattle.std.{proofs.lemmas.Bool.{cases_lt, lt-ltb, le-ltb}, proofs.lemmas.Lis
 use Rattle.{arrays_core.{specs.declared.item.Kind.{Kind}, specs.Items.{and_then}}, item_fns.{specs.Folds.{folded}, proofs.RightFolds.{fold_more}}}
 use Rattle.scan_fns.{specs.LinearScan.{depth, run_to}, specs.Prefixes.{fold_to, IsFresh, Continues, IsClosed}, proofs.Runs.{through, as_it_is, regroup, run_first, run_more, first_row, later_row}}
 
--- what a list of numbers and one more of 64 bits fold to
+-- a function of the next 64-bit number that folds a list with it
 pub record FoldsWithNext (f : ℤ → ℤ → Result ℤ Kind) (gives : ℤ → Result ℤ Kind) (xs : List ℤ) : Type 0 where
   pub is : (v : ℤ) → FitsSigned w64 v → gives v ≡ folded f (xs ++ v ∷ [])
 
@@ -60,7 +60,7 @@ module _ (f : ℤ → ℤ → Result ℤ Kind) (zs : List ℤ) (stride count : �
           subst (FoldsWithNext f after) (sym (run_more stride count apart some (pos 0) zs place deep))
           (tells_more f before after _ (get_or zs place (pos 0)) closed fits (told deep) next)
 
--- ---- what is kept of a line, and of those a stride apart
+-- ---- prefixes kept for one line, and for lines a stride apart
 
 -- a line of which these numbers are known so far
 pub record Keeps {A : Type 0} (step : A → ℤ → ℤ → Result ℤ Kind) (gives : A → ℤ → Result ℤ Kind) (f : ℤ → ℤ → Result ℤ Kind) (xs : List ℤ) (line : A) : Type 0 where

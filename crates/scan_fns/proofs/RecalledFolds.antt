@@ -25,7 +25,7 @@ module _ (f : ℤ → ℤ → Result ℤ Kind) (zs : List ℤ) (stride count : �
       two_more [] x y = refl
       two_more (w ∷ ws) x y = ap (λ vs. w ∷ vs) (two_more ws x y)
 
--- one more entry of what is recalled
+-- replacing one kept value by a correct one
 pub one_recalled : (f : ℤ → ℤ → Result ℤ Kind) (zs : List ℤ) (stride count : ℕ) (rs : List Recalled) (here : ℕ) (r : Recalled) → here < length rs
     → AreRecalled f zs stride count rs → IsRecalled f zs stride count here r → AreRecalled f zs stride count (set rs here r)
 one_recalled f zs stride count rs here r inside before is place below =

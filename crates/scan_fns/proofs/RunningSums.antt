@@ -10,7 +10,7 @@ module _ (zs : List ℤ) (stride count : ℕ) (apart : 0 < stride) (some : 1 ≤
   abbrev run : ℕ → List ℤ
   run place = run_to (pos 0) zs stride count place
 
-  -- what holds of the numbers before a place
+  -- a property of all numbers before a place holds for its run
   pub run_each : (P : ℤ → Type 0) (end : ℕ) → ((k : ℕ) → k < end → P (get_or zs k (pos 0))) → (place : ℕ) → place < end → All P (run place)
   run_each P end numbers place inside k d below =
       let deep = depth stride count place in
@@ -99,7 +99,7 @@ module _ (zs : List ℤ) (stride count : ℕ) (apart : 0 < stride) (some : 1 ≤
       (rule_entry (λ p. folded_left greatest_step (run p)) (length zs) tops q (pos 0) g below)
       (rule_entry (λ p. folded_left least_step (run p)) (length zs) bottoms q (pos 0) l below)))
 
-  -- those of small numbers are the sums from the left
+  -- for small numbers, the right folds are the left folds
   pub small_sums : All IsSmall zs → length zs ≤ 1048576 → scanned (folded_left (dyadic_on_numbers Plus)) zs stride count ≡ scanned (folded (dyadic_on_numbers Plus)) zs stride count
   small_sums small few =
       ap all_or_first_error (same_rules _ _ (length zs) (λ q below.

@@ -1,4 +1,4 @@
--- The scan of an array of numbers, taken from the numbers as they lie.
+-- The scan of an array of numbers, computed from its slice of numbers.
 use Rattle.std.proofs.Common.{◌≡◌, ℕ, zero, suc, ◌+◌, ◌-◌, ◌*◌, ◌/◌, ◌%◌, ◌<◌, ◌≤◌, Bool, true, false, ◌||◌, not, nat_eq, nat_lt, inl, inr, IfOk, ℤ, pos, List, [], ◌∷◌, length, get_or, drop, take, map, refl, ap, sym, ◌∙◌, arith, insert, remove, if◌then◌else◌, Result, Ok, Err}
 use Rattle.std.{proofs.lemmas.Bool.{eqb-true, ltb-true, le-ltb, cases_lt}, proofs.lemmas.List.{get_or_default}, proofs.lemmas.List.Edits.{length-remove}, proofs.lemmas.Nat.{div-mul-add, mod-mul-add, mod_below}, specs.List.{range_with_len}}
 use Rattle.arrays_core.{specs.declared.item.Item.{Item}, specs.declared.item.Item.TheVariants.{Num}, specs.declared.item.Kind.{Kind}, specs.declared.item.Kind.TheVariants.{Axis as AxisKind, Domain}, specs.declared.item.ItemType.{ItemType}, specs.declared.item.ItemType.TheVariants.{Nums, Chars}}
@@ -51,7 +51,7 @@ module _ (f : Scalar2) (b : ArrayValue) (xs : List ℤ) (items : b.items ≡ map
       first_is : (p first d i s : ℕ) → p ≡ first + i * s → d ≡ i → first ≡ p - d * s
       first_is p first d i s e g = rw g (omega arith)
 
--- what holds at an index list of a result
+-- facts about an index list of the result
 pub record ScanPlace (along : Along) (b : ArrayValue) (index : List ℕ) : Type 0 where
   pub on_axis : is_axis (length b.shape) along ≡ true
   pub short_or_numbers : (nat_lt (places_along b.shape (axis_at (length b.shape) along)) 2 || counts_as_numbers b) ≡ true

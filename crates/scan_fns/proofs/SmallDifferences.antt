@@ -33,7 +33,7 @@ sum_more (x ∷ xs) z =
     ∙ even_or_odd (length xs) (λ p q. (x -ℤ (if p then signed_sum xs +ℤ z else signed_sum xs -ℤ z)) ≡ (if q then (x -ℤ signed_sum xs) +ℤ z else (x -ℤ signed_sum xs) -ℤ z))
     (omega (arith, ints)) (omega (arith, ints))
 
--- ---- that of small numbers
+-- ---- signed sums of small numbers
 
 record Bounded (n : ℕ) (sum : ℤ) : Type 0 where
   low : neg_ℤ (pos (8796093022208 * n)) ≤ℤ sum
@@ -64,7 +64,7 @@ small_fits (x ∷ rest) some few h =
 
 -- ---- along lines
 
--- what the numbers up to a place come to
+-- the signed sum of the numbers up to a place
 abbrev pub sum_to : List ℤ → (stride count place : ℕ) → ℤ
 sum_to zs stride count place = signed_sum (run_to (pos 0) zs stride count place)
 
@@ -102,7 +102,7 @@ module _ (zs : List ℤ) (stride count : ℕ) (apart : 0 < stride) (some : 1 ≤
     pub sum_fits : SFits w64 (sum_to zs stride count place)
     sum_fits = small_fits (run_to (pos 0) zs stride count place) (run_some stride count apart some (pos 0) zs place) run_few run_small
 
--- the results so far are what the numbers come to
+-- each result so far is the signed sum up to its place
 pub result_is : (zs : List ℤ) (stride count : ℕ) (apart : 0 < stride) (some : 1 ≤ count) → All IsSmall zs → length zs ≤ 1048576 → (place q : ℕ) (xs : List ℤ)
     → all_or_first_error (take place (map (fold_to (dyadic_on_numbers Minus) zs stride count) (range_with_len 0 (length zs)))) ≡ Ok xs → q < place → place ≤ length zs
     → get_or xs q (pos 0) ≡ sum_to zs stride count q
@@ -112,7 +112,7 @@ result_is zs stride count apart some small few place q xs made before within =
     let is : rule q ≡ Ok (sum_to zs stride count q) = sum_is zs stride count apart some small few q (omega arith) in
     cc
 
--- what the next number of a line of neighbours comes to
+-- the next result of a contiguous line
 pub next_beside : (zs : List ℤ) (count : ℕ) → 1 ≤ count → (place first : ℕ) (total : ℤ) → first % count ≡ 0 → first ≤ place → place < first + count
     → (place ≡ first → total ≡ pos 0) → (first < place → total ≡ sum_to zs 1 count (place - 1))
     → sum_to zs 1 count place ≡ next_total (place - first) total (get_or zs place (pos 0))

@@ -34,7 +34,7 @@ product_of_two a b u v =
     less : IsUnit (negsuc 0)
     less = record { near = omega arith }
 
--- those of a list, from its last number
+-- the product of a list, from its last number
 abbrev product_on : ℤ → List ℤ → ℤ
 product_on x [] = x
 product_on x (y ∷ rest) = x *ℤ product_on y rest

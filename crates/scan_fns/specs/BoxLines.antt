@@ -3,12 +3,12 @@ use Rattle.std.{specs.Prelude.{◌≡◌, ℕ, ◌+◌, ◌<◌, pos, List, leng
 use Rattle.arrays_core.{specs.declared.item.Item.{Item}, specs.declared.item.Item.TheVariants.{Num}, specs.declared.item.ItemType.TheVariants.{Nums}, specs.declared.item.Kind.{Kind}, specs.Items.{all_or_first_error}, specs.Arrays.{ArrayValue}}
 use Rattle.index_region.specs.Boxes.{Interval, interval_length, box_size, walk_at}
 
--- numbers, as many as a box has places
+-- an array of numbers, with one item for each place of a box
 pub record FillsBox (region : List Interval) (a : ArrayValue) : Type 0 where
   pub typed : a.item_type ≡ Nums
   pub long : length a.items ≡ box_size region
 
--- a table of the items of a box has the item of this place
+-- a table of the items of a box holds the right item at this place
 abbrev pub Holds : (List ℕ → Result Item Kind) → List Interval → ArrayValue → ℕ → Type 0
 Holds item region a place = item (walk_at region place) ≡ Ok (get_or a.items place (Num (pos 0)))
 
@@ -22,12 +22,12 @@ line_items item region axis index =
 abbrev pub IsOnLine : List Interval → ℕ → List ℕ → ℕ → Type 0
 IsOnLine region axis index place = remove (walk_at region place) axis ≡ remove index axis
 
--- a table holds the items of a line, or this is the first error among them
+-- a table holds the items of a line, or the line fails with this first error
 abbrev pub LineIsIn : (List ℕ → Result Item Kind) → List Interval → ℕ → List ℕ → ArrayValue → Result (Unit {0}) Kind → Type 0
 LineIsIn item region axis index a (Ok u) = (place : ℕ) → place < box_size region → IsOnLine region axis index place → Holds item region a place
 LineIsIn item region axis index a (Err kind) = line_items item region axis index ≡ Err kind
 
--- the one error of some lines and of one more, if there is any
+-- the error common to some lines and one more, if any fails
 abbrev pub IsOneError : Option Kind → Result (Unit {0}) Kind → Option Kind → Type 0
 IsOneError failed (Ok u) now = now ≡ failed
 IsOneError None (Err kind) now = now ≡ Some kind

@@ -1,4 +1,4 @@
--- Proofs that impls give with their functions. No contract cites them.
+-- Proofs that impls supply with their functions. No contract cites them.
 pub mod Scan
 pub mod ScannedPlaces
 pub mod ScanGrowth

@@ -1,11 +1,11 @@
--- What public contracts mean.
+-- Meaning of the public contracts.
 pub mod Scan
--- What proofs and bodies use.
+-- Used by proofs and bodies.
 pub mod LinearScan
 pub mod Prefixes
 pub mod RecalledScan
 pub mod ResidueScan
--- What changes of results.
+-- Effect of changes on results.
 pub mod BoxLines
--- Proofs that impls give with their functions: all that changes lies in the boxes, and what grows.
+-- Proofs that impls supply with their functions: changes stay inside the boxes, and growth is preserved.
 pub mod Laws

@@ -7,11 +7,11 @@ use Rattle.change_core.{specs.RuleModels.{RuleModel, Use}, specs.Growth.{growing
 use Rattle.item_fns.specs.RightFold.{fold_right}
 use Rattle.reduce_fns.{specs.Lines.{line}, specs.Growth.{lines_grow}}
 
--- b itself where the axis is below 2
+-- the item type of the result: b's own if the axis is shorter than 2, else numbers
 abbrev pub scan_type : ArrayValue → ℕ → ItemType
 scan_type b axis = if nat_lt (places_along b.shape axis) 2 then b.item_type else Nums
 
--- the checks, and the shape and the type of the result
+-- the checks, then the shape and the item type of the result
 abbrev pub scan_form : Along → ArrayValue → Result Form Kind
 scan_form along b =
     let axis = axis_at (length b.shape) along in
@@ -19,13 +19,13 @@ scan_form along b =
     (check (nat_lt (places_along b.shape axis) 2 || counts_as_numbers b) Domain
     (limited b.shape (scan_type b axis)))
 
--- the reduction of the first items of the line
+-- the right fold of the line up to the place of the item
 abbrev pub scan_item : Scalar2 → Along → ArrayValue → List ℕ → Result Item Kind
 scan_item f along b index =
     let axis = axis_at (length b.shape) along in
     fold_right f (take (get_or index axis 1) (line b axis (remove index axis)))
 
--- the items on the line of an index list, from the place there on up to a later one
+-- the items on the line of an index list, from its place up to a later one
 abbrev pub scan_along : Scalar2 → Along → ArrayValue → List ℕ → ℕ → Result ArrayValue Kind
 scan_along f along b index last =
     let axis = axis_at (length b.shape) along in
@@ -36,10 +36,9 @@ scan_along f along b index last =
 abbrev pub scan_whole : Scalar2 → Along → ArrayValue → Result ArrayValue Kind
 scan_whole f along b = whole (scan_form along b) (scan_item f along b)
 
--- What a change of the argument of a scan changes of its result.
+-- Effect of a change of the argument on the result.
 
--- each item reads its line along an axis (from 0) up to its own place: on that axis a changed interval goes to itself
--- and all places after it
+-- each item reads its line along an axis (from 0) up to its own place: a changed interval on that axis maps to itself and all later places
 abbrev pub run_use : ℕ → ArrayValue → Use
 run_use axis b = on_own_line axis (λ index. range_with_len 1 (get_or index axis 1)) (λ s. (s.0, places_along b.shape axis))
 

@@ -17,7 +17,7 @@ use arrays_core::{ApplyFault, Array, ItemType, Kind, shape_of, with_axis, withou
 use index_region::{IndexBox, Seen};
 use std::alloc::Global;
 
-/// The error of an item that a fault is; None for want of memory.
+/// Returns the error kind of a fault; None for a lack of memory.
 fn kind_of(fault: ApplyFault) -> Option<Kind>
     ensures { IfSome result (λ kind. fault ≡ KindFault kind) }
 {
@@ -27,8 +27,8 @@ fn kind_of(fault: ApplyFault) -> Option<Kind>
     }
 }
 
-/// Puts the items of a scan that lie in a box and on the line of an index list, which begins there, where a table of the items of the box has them,
-/// or answers the first error among them. None where they are not answered in one go.
+/// Writes one line of a box of a scan into a table of the items of the box; the line starts at `index`. Returns the first error on the line. None if
+/// the line cannot be computed in one pass.
 fn write_line(
     scan: &Scan,
     alloc: Global,
@@ -68,7 +68,7 @@ fn write_line(
     Some(Ok(()))
 }
 
-/// The one error of the lines so far and of one more, if there is any; None where they have different errors.
+/// Returns the error common to the lines so far and one more line, if any fails; None if two errors differ.
 fn one_error(failed: Option<Kind>, line: Result<(), Kind>) -> Option<Option<Kind>>
     ensures { IfSome result (IsOneError failed line) }
 {
@@ -81,8 +81,8 @@ fn one_error(failed: Option<Kind>, line: Result<(), Kind>) -> Option<Option<Kind
     }
 }
 
-/// The items of a box of a scan, or the first error among them, each line gone over once; None where a line is not answered in one go, or lines have
-/// different errors.
+/// Returns the items of a box of a scan, or its first error, in one pass per line. None if memory is short, a line cannot be computed in one pass, or
+/// two lines fail with different errors.
 pub(crate) fn items_by_lines(
     scan: &Scan,
     alloc: Global,

@@ -1,4 +1,4 @@
-//! The difference of the numbers of a line so far and of the next one.
+//! A prefix of a line under `-`.
 
 ghost use Rattle.std.specs.Prelude.{◌≡◌, ◌+ℤ◌, ◌-ℤ◌, if◌then◌else◌};
 ghost use Rattle.function_names.specs.declared.scalar.Scalar2.TheVariants.{Minus as Difference};
@@ -9,8 +9,8 @@ use crate::prefix::Prefix;
 use arrays_core::Kind;
 use item_fns::kernels::{Minus, Plus, TwoNumbers};
 
-/// `x1 - (x2 - (.. (xk - v)))` for each v: the next number v is added to a total or taken from it, in turn. Each difference on
-/// the way to it is within 64 bits where v lies between two numbers, as 0 always does.
+/// `x1 - (x2 - (.. (xk - v)))` of v: `total + v` and `total - v` in turn. Every intermediate difference fits 64 bits exactly if `low <= v <= high`.
+/// The bounds always admit 0.
 #[derive(Clone, Copy)]
 pub(crate) struct Differences {
     total: i64,
@@ -20,7 +20,7 @@ pub(crate) struct Differences {
 }
 
 impl Differences {
-    /// That of no numbers.
+    /// Returns the empty prefix.
     pub(crate) fn none() -> Differences
         ensures { IsFresh (difference result.total result.is_added result.low result.high) }
     {
@@ -32,7 +32,7 @@ impl Differences {
         }
     }
 
-    /// The total with a number, or LIMIT where that is beyond 64 bits.
+    /// Adds `number` to the total or subtracts it; LIMIT beyond 64 bits.
     fn total_with(&self, number: i64) -> Result<i64, Kind>
         ensures { result ≡ number_or_limit (if self.now.is_added then self.now.total +ℤ number else self.now.total -ℤ number) }
     {

@@ -1,4 +1,4 @@
-//! Scan: the folds of a line up to each of its places.
+//! Scan: the folds of each line up to each of its places.
 #![tactic(auto)]
 
 mod box_lines;

@@ -1,4 +1,4 @@
-//! Scans of numbers in time in proportion to them, each result from the one before it on its line.
+//! Scans of numbers in linear time: each result follows from the one before it on its line.
 
 ghost use Rattle.std.specs.Prelude.{◌≡◌, ◌<◌, ◌≤◌, ◌+◌, ◌-◌, ◌*◌, ◌%◌, true, false, pos, length, min, get_or, Ok, Err, IfOk, IfErr, vec_len};
 ghost use Rattle.std.specs.Int.{int_max, int_min};
@@ -15,8 +15,7 @@ use item_fns::kernels::{Plus, TwoNumbers};
 use reduce_fns::{AxisLines, MOST_ITEMS, SMALL, are_within};
 use std::alloc::Global;
 
-/// The greatest sum of an ending, from that of the numbers before: the last number, and what came
-/// before where that is more than 0.
+/// Computes the greatest suffix sum from the previous one: the last number, plus the previous sum if it is above 0.
 struct GreatestEnding;
 
 impl TwoNumbers for GreatestEnding {
@@ -27,7 +26,7 @@ impl TwoNumbers for GreatestEnding {
     }
 }
 
-/// The least sum of an ending, from that of the numbers before.
+/// Computes the least suffix sum from the previous one.
 struct LeastEnding;
 
 impl TwoNumbers for LeastEnding {
@@ -38,8 +37,7 @@ impl TwoNumbers for LeastEnding {
     }
 }
 
-/// The number at the place after some results: as it is, or put together with the result a stride
-/// before it.
+/// Returns the next result: the number itself at the first place of a line, else its combination with the result a stride before.
 fn next_result<S: TwoNumbers>(
     step: &S,
     results: &[i64],
@@ -59,7 +57,7 @@ fn next_result<S: TwoNumbers>(
     }
 }
 
-/// The place after one of a block, or the first of the next block.
+/// Returns the next place of a block, or 0 at its end.
 pub(crate) fn place_after(block_place: usize, block: usize) -> usize
     requires { block_place < block }
     ensures { result ≡ (block_place + 1) % block }
@@ -71,7 +69,7 @@ pub(crate) fn place_after(block_place: usize, block: usize) -> usize
     }
 }
 
-/// The number at a place of a line of neighbours: as it is, or put together with the result before it.
+/// Returns the next result of a contiguous line: the number itself at the first place, else its combination with the result before.
 fn next_in_line<S: TwoNumbers>(
     step: &S,
     before: i64,
@@ -88,8 +86,7 @@ fn next_in_line<S: TwoNumbers>(
     }
 }
 
-/// Puts the results of a line of `count` neighbours, or of as many as there still are, at the end of those of the
-/// lines before it.
+/// Appends the results of the next line, of `count` contiguous numbers. The last line may be shorter.
 fn push_line<S: TwoNumbers>(
     results: &mut Vec<i64>,
     step: &S,
@@ -114,7 +111,7 @@ fn push_line<S: TwoNumbers>(
     Ok(())
 }
 
-/// The left folds of the first numbers of each line, where a line has `count` numbers, which are neighbours.
+/// Returns the left folds up to each place of its line; a line is `count` contiguous numbers.
 fn running_beside<S: TwoNumbers>(
     alloc: Global,
     step: &S,
@@ -133,7 +130,7 @@ fn running_beside<S: TwoNumbers>(
     Ok(results)
 }
 
-/// The left folds of the first numbers of each line, of which neighbours may stand apart.
+/// Returns the left folds up to each place of its line; neighbours are `stride` apart.
 fn running_apart<S: TwoNumbers>(
     alloc: Global,
     step: &S,
@@ -157,7 +154,7 @@ fn running_apart<S: TwoNumbers>(
     Ok(results)
 }
 
-/// The left folds of the first numbers of each line.
+/// Returns the left folds up to each place of its line.
 pub(crate) fn running<S: TwoNumbers>(
     alloc: Global,
     step: &S,
@@ -174,8 +171,7 @@ pub(crate) fn running<S: TwoNumbers>(
     }
 }
 
-/// The folds of the first numbers of each line by a function that is associative: then the left fold is
-/// the right one.
+/// Scans each line by an associative function, for which left and right folds agree.
 pub(crate) fn running_folds<S: TwoNumbers>(
     alloc: Global,
     step: &S,
@@ -188,9 +184,8 @@ pub(crate) fn running_folds<S: TwoNumbers>(
     running(alloc, step, lines)
 }
 
-/// The sums of the first numbers of each line. Such a sum is within 64 bits on its way from the last
-/// number to the first where that of each ending is, so where the greatest and the least of these are. Those
-/// of small numbers always are.
+/// Scans each line by `+`. Right folds stay within 64 bits if the greatest and the least suffix sums do. Small numbers take one pass without that
+/// check, others take three.
 pub(crate) fn running_sums(alloc: Global, lines: &AxisLines) -> Result<Vec<i64>, ApplyFault>
     ensures is { IsListAnswerTo (scans_of (dyadic_on_numbers Sum) lines.now) result }
     ensures long { IfOk result (λ v. vec_len v ≡ length lines.now.numbers.now) }

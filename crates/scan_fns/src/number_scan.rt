@@ -1,4 +1,4 @@
-//! Scans of plain lists of numbers.
+//! Scans of lists of numbers, by the scalar function.
 
 ghost use Rattle.std.specs.Prelude.{◌≡◌, ◌≤◌, ℤ, List, false, length, drop, take, Ok, IfOk, IfSome, vec_len};
 ghost use Rattle.function_names.specs.declared.scalar.Scalar2.TheVariants.{Residue as ByResidue};
@@ -25,7 +25,7 @@ use item_fns::kernels::{
 use reduce_fns::AxisLines;
 use std::alloc::Global;
 
-/// The folds of the first numbers of each line, by a function that gives truth values: one step for each number.
+/// Scans each line by a function with results 0 and 1, in one step per number.
 fn truth_folds<S: TwoNumbers + Copy>(
     alloc: Global,
     step: S,
@@ -39,7 +39,7 @@ fn truth_folds<S: TwoNumbers + Copy>(
     prefix_folds(alloc, &none, lines)
 }
 
-/// The residues of the first numbers of each line. Where none is below 0, or none above, few divisors are looked at for each.
+/// Scans each line by residue. If no number is below 0, or none above, it tries few divisors for each number.
 fn residue_folds(alloc: Global, lines: &AxisLines) -> Result<Vec<i64>, ApplyFault>
     ensures is { IsListAnswerTo (scans_of (dyadic_on_numbers ByResidue) lines.now) result }
     ensures long { IfOk result (λ v. vec_len v ≡ length lines.now.numbers.now) }
@@ -51,7 +51,7 @@ fn residue_folds(alloc: Global, lines: &AxisLines) -> Result<Vec<i64>, ApplyFaul
     }
 }
 
-/// The folds of the first numbers of each line by the scalar function that is named.
+/// Scans each line by the scalar function. Returns the error of the first place that fails.
 pub(crate) fn number_folds(
     alloc: Global,
     function: Scalar2,
@@ -82,7 +82,7 @@ pub(crate) fn number_folds(
     }
 }
 
-/// The numbers behind the first ones of a list.
+/// Copies the numbers after the first `first` ones.
 fn behind(alloc: Global, numbers: &[i64], first: usize) -> Result<Vec<i64>, ApplyFault>
     requires { first ≤ length numbers.now }
     ensures { IsListAnswerTo (Ok (drop first numbers.now)) result }
@@ -91,8 +91,7 @@ fn behind(alloc: Global, numbers: &[i64], first: usize) -> Result<Vec<i64>, Appl
     Ok(later.to_vec(alloc)?)
 }
 
-/// Whether one of the folds of the first numbers of a list, as many as are told, may be an error; where there is no memory to
-/// find out, it may.
+/// Tells if one of the first `count` folds may be an error. Without memory for the test it returns true.
 fn may_fail(alloc: Global, function: Scalar2, numbers: &[i64], count: usize) -> bool
     requires { count ≤ length numbers.now }
     ensures { result ≡ false → (folds : List ℤ) × (scanned (folded (dyadic_on_numbers function)) (take count numbers.now) 1 count ≡ Ok folds) }
@@ -100,8 +99,8 @@ fn may_fail(alloc: Global, function: Scalar2, numbers: &[i64], count: usize) -> 
     count > 0 && number_folds(alloc, function, &AxisLines::one(&numbers[..count])).is_err()
 }
 
-/// The folds of the first numbers of a list, up to each place from the one that is told on, counted from 1; None where an
-/// earlier place may have an error. One pass over the list, and one more over the places before where there is an error.
+/// Returns the folds of a list up to each place from `first` on, counted from 1. None if an earlier place may fail. Costs one pass over the list;
+/// after an error, one more over the earlier places.
 pub(crate) fn later_folds(
     alloc: Global,
     function: Scalar2,

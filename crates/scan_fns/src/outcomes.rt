@@ -1,4 +1,4 @@
-//! What a function that gives truth values makes of the numbers of a line so far and of the next one.
+//! A prefix of a line under a function with results 0 and 1.
 
 ghost use Rattle.std.specs.Prelude.{◌≡◌, Some, None};
 ghost use Rattle.scan_fns.specs.Prefixes.{IsFresh, GivesTruths, outcome};
@@ -8,8 +8,7 @@ use arrays_core::Kind;
 use item_fns::kernels::TwoNumbers;
 use std::alloc::AllocError;
 
-/// `x1 f (x2 f (.. (xk f v)))` for each v, by a function that gives 0 or 1: what the numbers before the last one make of these
-/// two, and the last one, which makes one of them of v.
+/// `x1 f (x2 f (.. (xk f v)))` of v, for an f with results 0 and 1. Keeps xk, and the folds of the numbers before it with 0 and with 1.
 pub(crate) struct Outcomes<S: TwoNumbers> {
     step: S,
     last: Option<i64>,
@@ -27,7 +26,7 @@ impl<S: TwoNumbers + Copy> Clone for Outcomes<S> {
 impl<S: TwoNumbers + Copy> Copy for Outcomes<S> {}
 
 impl<S: TwoNumbers> Outcomes<S> {
-    /// That of no numbers.
+    /// Returns the empty prefix.
     pub(crate) fn none(step: S) -> Outcomes<S>
         requires { GivesTruths (S.gives step) }
         ensures fresh { IsFresh (outcome (S.gives result.step) result.last result.at_zero result.at_one) }
@@ -41,7 +40,7 @@ impl<S: TwoNumbers> Outcomes<S> {
         }
     }
 
-    /// What the numbers before the last one make of it and of another one after it.
+    /// Returns the fold of the numbers before `last`, then `last` and `number`.
     fn after(&self, last: i64, number: i64) -> Result<i64, Kind>
         ensures { result ≡ outcome (S.gives self.now.step) (Some last) self.now.at_zero self.now.at_one number }
     {

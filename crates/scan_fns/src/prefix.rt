@@ -1,4 +1,4 @@
-//! Scans of numbers in time in proportion to them, from the numbers of each line so far as a function of the next one.
+//! Scans of numbers in one step per number: a prefix of a line is kept as a function of the next number.
 
 ghost use Rattle.std.specs.Prelude.{◌≡◌, ◌<◌, ◌≤◌, ◌+◌, ◌*◌, ◌%◌, true, false, ℤ, length, min, get_or, Result, Err, IfOk, IfErr, vec_len};
 ghost use Rattle.arrays_core.specs.declared.item.Kind.{Kind};
@@ -13,23 +13,20 @@ use arrays_core::{ApplyFault, Kind, room_of};
 use reduce_fns::AxisLines;
 use std::alloc::Global;
 
-/// The numbers of a line so far, as a function of the number that comes next: `x1 f (x2 f (.. (xk f v)))` of v, which is
-/// the fold of these numbers and of v. Before the first number it is v itself.
+/// A prefix of a line, as a function of the next number: `x1 f (x2 f (.. (xk f v)))` of v. The empty prefix yields v itself.
 pub(crate) trait Prefix {
     ghost step: { Self → ℤ → ℤ → Result ℤ Kind };
 
     ghost gives: { Self → ℤ → Result ℤ Kind };
 
-    /// The fold of the numbers so far and of this one, which is one of them from now on. After an error nothing more is
-    /// known of them.
+    /// Returns the fold of the prefix and `number`, and appends `number` to the prefix. After an error the state of the prefix is not specified.
     fn push(&mut self, number: i64) -> Result<i64, Kind>
         ensures is { result ≡ gives self.old number }
         ensures same { step self.new ≡ step self.old }
         ensures next { IfOk result (λ fold. Continues (step self.old number) (gives self.old) (gives self.new)) };
 }
 
-/// Puts the folds of a line of `count` neighbours, or of as many as there still are, at the end of those of the lines
-/// before it.
+/// Appends the folds of the next line, of `count` contiguous numbers. The last line may be shorter.
 fn push_folds<P: Prefix + Copy>(
     results: &mut Vec<i64>,
     none: &P,
@@ -55,7 +52,7 @@ fn push_folds<P: Prefix + Copy>(
     Ok(())
 }
 
-/// The folds of the first numbers of each line, where a line has `count` numbers, which are neighbours.
+/// Returns the folds up to each place of its line; a line is `count` contiguous numbers.
 fn folds_beside<P: Prefix + Copy>(
     alloc: Global,
     none: &P,
@@ -75,7 +72,7 @@ fn folds_beside<P: Prefix + Copy>(
     Ok(results)
 }
 
-/// What is kept of the line in a column, or that of no numbers where one begins.
+/// Returns the prefix of the line in a column, or the empty prefix if its line begins here.
 fn line_so_far<P: Copy>(none: &P, lines: &[P], column: usize, is_first: bool) -> P
     requires { column < length lines.now }
     ensures first { is_first ≡ true → result ≡ none.now }
@@ -84,8 +81,7 @@ fn line_so_far<P: Copy>(none: &P, lines: &[P], column: usize, is_first: bool) ->
     if is_first { *none } else { lines[column] }
 }
 
-/// The folds of the first numbers of each line, of which neighbours may stand apart. What is kept of the lines of a block stands
-/// beside one another, that of the line of the next number first for each.
+/// Returns the folds up to each place of its line; neighbours are `stride` apart. Keeps one prefix for each column of a block.
 fn folds_apart<P: Prefix + Copy>(
     alloc: Global,
     none: &P,
@@ -114,7 +110,7 @@ fn folds_apart<P: Prefix + Copy>(
     Ok(results)
 }
 
-/// The folds of the first numbers of each line: one step for each number, from a prefix of no numbers.
+/// Returns the folds up to each place of its line, in one step per number. `none` is the empty prefix.
 pub(crate) fn prefix_folds<P: Prefix + Copy>(
     alloc: Global,
     none: &P,

@@ -1,4 +1,4 @@
-//! The product of the numbers of a line so far and of the next one.
+//! A prefix of a line under `×`.
 
 ghost use Rattle.std.specs.Prelude.{◌≡◌, ◌<◌, ◌≤◌, ◌/◌, ◌^◌, ◌*ℤ◌, true, ℤ, FitsSigned};
 ghost use Rattle.std.specs.Int.{w64};
@@ -10,7 +10,7 @@ use crate::prefix::Prefix;
 use arrays_core::Kind;
 use item_fns::kernels::{Times, TwoNumbers};
 
-/// How far below 0 and above it a number may be.
+/// The largest distances below and above 0 that are allowed.
 #[derive(Clone, Copy)]
 struct Margin {
     below: u64,
@@ -19,7 +19,7 @@ struct Margin {
     ghost high: { above < 2 ^ 63 },
 }
 
-/// The quotient toward zero, where most divisors are 1.
+/// Divides, rounding toward zero; skips the division by 1, the most frequent divisor.
 fn quotient(number: u64, divisor: u64) -> u64
     requires { 0 < divisor }
     ensures { result ≡ number / divisor }
@@ -32,7 +32,7 @@ fn quotient(number: u64, divisor: u64) -> u64
 }
 
 impl Margin {
-    /// That of the numbers of 64 bits.
+    /// Returns the margin of all 64-bit numbers.
     fn whole() -> Margin
         ensures { (v : ℤ) → FitsSigned w64 v → lies_within result.below result.above v ≡ true }
     {
@@ -42,7 +42,7 @@ impl Margin {
         }
     }
 
-    /// Whether a number is within it.
+    /// Tells if a number is within the margin.
     fn has(&self, number: i64) -> bool
         ensures { result ≡ lies_within self.now.below self.now.above number }
     {
@@ -54,7 +54,7 @@ impl Margin {
         }
     }
 
-    /// That of the numbers whose products with a number are within it.
+    /// Returns the margin of the numbers whose products with `number` are within this one.
     fn divided(&self, number: i64) -> Margin
         ensures { (v : ℤ) → FitsSigned w64 v → lies_within result.below result.above v ≡ lies_within self.now.below self.now.above (number *ℤ v) }
     {
@@ -74,8 +74,8 @@ impl Margin {
     }
 }
 
-/// `x1 × (x2 × (.. (xk × v)))` for each v: a total times the next number v. Each product on the way to it is within 64 bits
-/// where v is within margin, as 0 always is.
+/// `x1 × (x2 × (.. (xk × v)))` of v: `total × v`. Every intermediate product fits 64 bits exactly if v is within the margin. The margin always admits
+/// 0.
 #[derive(Clone, Copy)]
 pub(crate) struct Products {
     total: i64,
@@ -83,7 +83,7 @@ pub(crate) struct Products {
 }
 
 impl Products {
-    /// That of no numbers.
+    /// Returns the empty prefix.
     pub(crate) fn none() -> Products
         ensures { IsFresh (product result.total result.margin.below result.margin.above) }
     {

@@ -1,4 +1,4 @@
-//! Scans by functions of which no law is used: what a number gave that came to a place before is recalled.
+//! Scans by functions without a usable law: the value that reached a place is kept, and its result reused.
 
 ghost use Rattle.std.specs.Prelude.{◌≡◌, ℕ, ◌<◌, ◌≤◌, pos, length, get_or, Ok, IfOk, vec_len};
 ghost use Rattle.item_fns.specs.NumberLists.{IsListAnswerTo};
@@ -11,17 +11,16 @@ use item_fns::kernels::TwoNumbers;
 use reduce_fns::AxisLines;
 use std::alloc::Global;
 
-/// What came to a place while a later place of its line was folded.
+/// The value that last reached a place during the fold of a later place of its line.
 #[derive(Clone, Copy)]
 pub(crate) struct Recalled {
-    /// The number that stood for the items from that place on.
+    /// The fold of the items from this place to the later one.
     pub(crate) number: i64,
     /// The later place.
     pub(crate) later: usize,
 }
 
-/// The right fold of the numbers up to the place after some results. It goes back along the line, and ends at a place where
-/// a number came that came there before.
+/// Folds the numbers up to the place after `results`. Goes back along the line, and stops at a place that the same value reached before.
 fn recalled_fold<S: TwoNumbers>(
     step: &S,
     numbers: &[i64],
@@ -61,7 +60,7 @@ fn recalled_fold<S: TwoNumbers>(
     Ok(number)
 }
 
-/// The right folds of the first numbers of each line.
+/// Returns the right folds up to each place of its line.
 pub(crate) fn recalled_folds<S: TwoNumbers>(
     alloc: Global,
     step: &S,

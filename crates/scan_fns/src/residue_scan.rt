@@ -14,20 +14,20 @@ use item_fns::residue;
 use reduce_fns::AxisLines;
 use std::alloc::{AllocError, Global};
 
-/// A number of a line as the divisor of what comes to its place, and the way from there back to the divisors before it.
+/// A number of a line as a divisor, with links to the divisors before it.
 #[derive(Clone, Copy)]
 pub(crate) struct Divisor {
-    /// How far from 0 the number is: one that is nearer to 0 is its own residue by it. By 0 all are, so it is farther than any.
+    /// The magnitude of the number, and the greatest `u64` for 0. A value of smaller magnitude is its own residue by this number.
     pub(crate) extent: u64,
-    /// The last place before this one whose extent is less.
+    /// The last place before this one on its line whose extent is less.
     pub(crate) below: Option<usize>,
-    /// A place further on that way, so that each one on it is found in few steps.
+    /// A skip link: a place further back along the chain of `below`, so that a search takes few steps.
     pub(crate) far: Option<usize>,
-    /// How many steps to a place below lead there.
+    /// The number of `below` links from this place to `far`.
     pub(crate) steps: usize,
 }
 
-/// How far from 0 a number is as a divisor.
+/// Returns the extent of a number as a divisor.
 fn extent_of(number: i64) -> u64
     ensures is { result ≡ extent_of number }
     ensures some { 0 < result }
@@ -39,21 +39,21 @@ fn extent_of(number: i64) -> u64
     }
 }
 
-/// None of the numbers is above 0.
+/// Tells if no number is above 0.
 fn are_low(numbers: &[i64]) -> bool
     ensures { result ≡ list_all is_low numbers.now }
 {
     numbers.iter().all(|number| *number <= 0)
 }
 
-/// None of the numbers is below 0.
+/// Tells if no number is below 0.
 fn are_high(numbers: &[i64]) -> bool
     ensures { result ≡ list_all is_high numbers.now }
 {
     numbers.iter().all(|number| *number >= 0)
 }
 
-/// None of the numbers is above 0, or none is below.
+/// Tells if no number is below 0, or none above.
 pub(crate) fn are_one_sided(numbers: &[i64]) -> bool
     ensures { result ≡ are_one_sided numbers.now }
 {
@@ -72,7 +72,7 @@ struct SidedLines<'a> {
 }
 
 impl<'a> SidedLines<'a> {
-    /// The place before one on its line.
+    /// Returns the place before one on its line; None at its start.
     fn place_before(&self, place: usize) -> Option<usize>
         ensures is { result ≡ place_before self.now.stride self.now.count place }
         ensures before { rank result ≤ place }
@@ -84,7 +84,7 @@ impl<'a> SidedLines<'a> {
         }
     }
 
-    /// The next place on the way back from one whose extent is more than this to one whose extent is not.
+    /// Follows one link back from a place whose extent is above `extent`. Passes no place whose extent is at most `extent`.
     fn next_place(&self, divisors: &[Divisor], place: usize, extent: u64) -> Option<usize>
         requires place { place < length divisors.now }
         requires divisors { AreDivisors self.now.numbers.now self.now.stride self.now.count divisors.now }
@@ -99,7 +99,7 @@ impl<'a> SidedLines<'a> {
         }
     }
 
-    /// The first place on the way back from one whose extent is at most this.
+    /// Returns the nearest place, from `start` back, whose extent is at most `extent`.
     fn nearest(&self, divisors: &[Divisor], start: Option<usize>, extent: u64) -> Option<usize>
         requires start { rank start ≤ length divisors.now }
         requires divisors { AreDivisors self.now.numbers.now self.now.stride self.now.count divisors.now }
@@ -117,7 +117,7 @@ impl<'a> SidedLines<'a> {
         None
     }
 
-    /// What a number comes to by the divisors on the way back from a place.
+    /// Reduces a number by the divisors from `start` back to the first of the line.
     fn residue_from(&self, divisors: &[Divisor], start: Option<usize>, number: i64) -> i64
         requires start { rank start ≤ length divisors.now }
         requires long { length divisors.now ≤ length self.now.numbers.now }
@@ -134,7 +134,7 @@ impl<'a> SidedLines<'a> {
         rest
     }
 
-    /// A place further on the way back than the next one, and how many steps lead there.
+    /// Returns the skip link of a place with this `below` link, and the number of `below` links that it spans.
     fn far_from(&self, divisors: &[Divisor], below: Option<usize>) -> (Option<usize>, usize)
         requires start { rank below ≤ length divisors.now }
         requires divisors { AreDivisors self.now.numbers.now self.now.stride self.now.count divisors.now }
@@ -158,7 +158,7 @@ impl<'a> SidedLines<'a> {
         }
     }
 
-    /// The divisor of the place behind the others.
+    /// Returns the divisor of the next place.
     fn next_divisor(&self, divisors: &[Divisor]) -> Divisor
         requires more { length divisors.now < length self.now.numbers.now }
         requires divisors { AreDivisors self.now.numbers.now self.now.stride self.now.count divisors.now }
@@ -176,7 +176,7 @@ impl<'a> SidedLines<'a> {
         }
     }
 
-    /// The residue that each number comes to by those before it on its line.
+    /// Returns the residue scan of all lines.
     fn residues(&self, alloc: Global) -> Result<Vec<i64>, AllocError>
         ensures is { IfOk result (λ v. scanned (folded (dyadic_on_numbers ByResidue)) self.now.numbers.now self.now.stride self.now.count ≡ Ok v.items) }
         ensures long { IfOk result (λ v. vec_len v ≡ length self.now.numbers.now) }
@@ -194,8 +194,7 @@ impl<'a> SidedLines<'a> {
     }
 }
 
-/// The residues of the first numbers of each line, where none of them is below 0, or none above. A number that is nearer to 0
-/// than a divisor is its own residue by it, so only those divisors are looked at that make it less than half as far from 0.
+/// Scans each line by residue. Visits only divisors of at most the magnitude of the current value; each of them reduces it to less than half.
 pub(crate) fn running_residues(alloc: Global, lines: &AxisLines) -> Result<Vec<i64>, AllocError>
     requires sided { IsTrue (are_one_sided lines.now.numbers.now) }
     ensures is { IfOk result (λ v. scans_of (dyadic_on_numbers ByResidue) lines.now ≡ Ok v.items) }

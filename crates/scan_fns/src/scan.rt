@@ -30,7 +30,7 @@ use item_fns::Scalar2;
 use reduce_fns::{AxisLines, fold_line, is_along_a_later_axis, line_numbers};
 use std::alloc::Global;
 
-/// The array of the folds of the numbers up to each place of its line, by the scalar function that is named.
+/// Scans each line by the scalar function, into an array.
 fn scans(
     alloc: Global,
     function: Scalar2,
@@ -45,8 +45,7 @@ fn scans(
     Ok(Array::from_numbers(shape, folds)?)
 }
 
-/// The vector of the folds of the first numbers of a list, up to each place from the one that is told on; None where an earlier
-/// place may have an error.
+/// Returns the folds of a list up to each place from `first` on, counted from 1, as a vector. None if an earlier place may fail.
 fn later_vector(
     alloc: Global,
     function: Scalar2,
@@ -65,25 +64,23 @@ fn later_vector(
     }
 }
 
-/// Scan, `f\B` and `f⍀B` (ISO/IEC 13751, "Scan"): each item put together with those before it on its line
-/// along an axis, by the function from that item to the first of the line, `x1 f (x2 f (.. xk))`, until
-/// there is an error. A scalar is itself. The result has B's shape, and is of numbers, but B itself where
-/// the axis is below 2. AXIS where the axis is not one of the array's, DOMAIN where it is 2 or more and B
-/// is of characters and has items, LIMIT beyond the limits of arrays.
+/// Scan, `f\B` and `f⍀B` (ISO/IEC 13751, "Scan"): folds each line along an axis up to each of its places, from that item to the first, `x1 f (x2 f
+/// (.. xk))`, and stops at the first error. A scalar yields itself. The result has B's shape and is of numbers; it is B itself if the axis is shorter
+/// than 2. Fails with AXIS if the array has no such axis. Fails with DOMAIN if the axis has 2 or more places and B has items that are characters.
+/// Fails with LIMIT beyond the limits of arrays.
 ///
-/// By any function but `÷ * |` it takes time in proportion to the axis, and so it does by `|` of numbers of which none is below 0, or none
-/// above, but for a logarithm. By `÷ *`, and by `|` of others, a place is folded back to one to which the same number came before, so
-/// the time is as a rule in proportion to the axis, and at most to its square.
+/// By any function but `÷ * |` the time is proportional to the length of a line. By `|` it is too, up to a logarithm, if no number is below 0 or none
+/// above. By `÷ *` and other `|`, a fold ends at a place that the same value reached before. That is usually proportional, at worst quadratic.
 #[derive(Clone, Copy, PartialEq, Eq, Debug)]
 pub struct Scan {
-    /// The function that puts the items of a line together.
+    /// The function that combines the items of a line.
     pub function: Scalar2,
-    /// The axis that the lines lie along.
+    /// The axis along which the lines lie.
     pub along: Along,
 }
 
 impl Scan {
-    /// The checks, and the shape and the type of the result.
+    /// Checks the argument; returns the shape and the item type of the result.
     fn form(self, array: &Seen) -> Result<(Shape, ItemType), Kind>
         ensures { IsFormAnswerTo (scan_form self.along array.now) result }
     {
@@ -102,7 +99,7 @@ impl Scan {
         limited(shape, ItemType::Nums)
     }
 
-    /// The item at an index list of the result.
+    /// Returns the item at an index list of the result.
     fn scanned_at(self, array: &Seen, index: &[u32]) -> Result<Item, Kind>
         requires { IsPlaceOf (scan_form self.along array.now) index.now }
         ensures is { result ≡ scan_item self.function self.along array.now index.now }
@@ -117,7 +114,7 @@ impl Scan {
         fold_line(self.function, array, axis, others.as_slice(), index[axis])
     }
 
-    /// The folds of the first items of the lines. Those of numbers are taken from the numbers as they lie.
+    /// Scans the lines. Reads numbers straight from the slice of the argument if it has one.
     pub fn apply(&self, alloc: Global, args: &[Seen]) -> Result<Array, ApplyFault>
         requires { length args.now ≡ 1 }
         ensures { IsAnswerTo (of_one_argument (scan_whole self.now.function self.now.along) args.now) result }
@@ -128,9 +125,8 @@ impl Scan {
         }
     }
 
-    /// The items of the result on one line, from the place at an index list on up to a later one, counted from 1, as a vector: the line
-    /// is gone over once from its beginning, which is quicker than one of these items after another. None where the array is of
-    /// characters, or where an item of the result before these may be an error.
+    /// Returns the items of the result on one line, from the place at `index` up to `last`, counted from 1, as a vector. Reads the line once from its
+    /// start, which is faster than item by item. None if the array is of characters, or if an earlier item of the line may be an error.
     pub fn along_line(
         &self,
         alloc: Global,
@@ -156,7 +152,7 @@ impl Scan {
         }
     }
 
-    /// The folds of the first numbers of the lines of an array of numbers.
+    /// Scans the lines of a non-empty array of numbers.
     fn of_numbers(self, alloc: Global, array: &Seen, numbers: &[i64]) -> Result<Array, ApplyFault>
         requires numbers { array.now.items ≡ map (λ z. Num z) numbers.now }
         requires typed { array.now.item_type ≡ Nums }
@@ -190,7 +186,7 @@ impl Primitive for Scan {
     }
 }
 
-/// The intervals of a box, of which that on an axis goes on to the end of the axis; those of a scalar are none.
+/// Extends the interval of a box on an axis to the end of that axis. The box of a scalar has no intervals.
 fn to_the_end(axes: &[u32], axis: usize, region: &IndexBox) -> Intervals
     requires { length region.now ≡ length axes.now }
     ensures { result ≡ set region.now axis ((get_or region.now axis (0, 0)).0, places_along axes.now axis) }

@@ -1,4 +1,4 @@
-//! Scans by `-` of small numbers: each result from the one before it on its line, by a sum or a difference that is within 64 bits.
+//! Scans by `-` of small numbers: each result is the one before it on its line plus or minus a number, within 64 bits.
 
 ghost use Rattle.std.specs.Prelude.{◌≡◌, ◌<◌, ◌≤◌, ◌+◌, ◌-◌, ◌%◌, ◌+ℤ◌, ◌-ℤ◌, if◌then◌else◌, pos, All, FitsSigned, length, min, get_or, IfOk, vec_len};
 ghost use Rattle.std.specs.Int.{w64};
@@ -19,7 +19,7 @@ use arrays_core::{ApplyFault, room_of};
 use reduce_fns::{AxisLines, MOST_ITEMS, SMALL, are_within};
 use std::alloc::Global;
 
-/// A total with a number added to it, or with the number taken off.
+/// Adds the number to the total, or subtracts it.
 fn with_number(total: i64, number: i64, is_added: bool) -> i64
     requires { FitsSigned w64 (if is_added then total +ℤ number else total -ℤ number) }
     ensures { result ≡ (if is_added then total +ℤ number else total -ℤ number) }
@@ -31,7 +31,7 @@ fn with_number(total: i64, number: i64, is_added: bool) -> i64
     }
 }
 
-/// The result a stride before a place that is on this row of its block, or 0 where the row is the first.
+/// Returns the result one row above on the line, or 0 in row 0 of a block.
 fn total_before(results: &[i64], place: usize, stride: usize, row: usize) -> i64
     requires apart { 0 < stride }
     requires made { place ≤ length results.now }
@@ -42,7 +42,7 @@ fn total_before(results: &[i64], place: usize, stride: usize, row: usize) -> i64
     if row == 0 { 0 } else { results[place - stride] }
 }
 
-/// Puts the results of a line of `count` neighbours, or of as many as there still are, at the end of those of the lines before it.
+/// Appends the results of the next line, of `count` contiguous numbers. The last line may be shorter.
 fn push_line(results: &mut Vec<i64>, numbers: &[i64], count: usize)
     requires small { All IsSmall numbers.now }
     requires few { length numbers.now ≤ most_places }
@@ -61,7 +61,7 @@ fn push_line(results: &mut Vec<i64>, numbers: &[i64], count: usize)
     }
 }
 
-/// The right folds by `-` of the first numbers of each line, where a line has `count` numbers, which are neighbours.
+/// Returns the right folds by `-` up to each place of its line; a line is `count` contiguous numbers.
 fn differences_beside(alloc: Global, numbers: &[i64], count: usize) -> Result<Vec<i64>, ApplyFault>
     requires small { All IsSmall numbers.now }
     requires few { length numbers.now ≤ most_places }
@@ -76,8 +76,7 @@ fn differences_beside(alloc: Global, numbers: &[i64], count: usize) -> Result<Ve
     Ok(results)
 }
 
-/// Puts the results of a row of a block, the next numbers of as many lines as the stride, or of as many as there still are, at the end of
-/// those before them. The row that comes after it in a block.
+/// Appends the results of the next row of a block, one number of each line of the block. Returns the number of the row after it in its block.
 fn push_row(
     results: &mut Vec<i64>,
     numbers: &[i64],
@@ -106,7 +105,7 @@ fn push_row(
     place_after(row, count)
 }
 
-/// The right folds by `-` of the first numbers of each line, of which neighbours may stand apart.
+/// Returns the right folds by `-` up to each place of its line, a row at a time; neighbours are `stride` apart.
 fn differences_apart(alloc: Global, lines: &AxisLines) -> Result<Vec<i64>, ApplyFault>
     requires small { All IsSmall lines.now.numbers.now }
     requires few { length lines.now.numbers.now ≤ most_places }
@@ -121,7 +120,7 @@ fn differences_apart(alloc: Global, lines: &AxisLines) -> Result<Vec<i64>, Apply
     Ok(results)
 }
 
-/// The folds by `-` of the first numbers of each line. Those of small numbers are within 64 bits on their way.
+/// Scans each line by `-`. Small numbers skip the overflow checks, since all intermediate values fit 64 bits.
 pub(crate) fn running_differences(alloc: Global, lines: &AxisLines) -> Result<Vec<i64>, ApplyFault>
     ensures is { IsListAnswerTo (scans_of (dyadic_on_numbers Difference) lines.now) result }
     ensures long { IfOk result (λ v. vec_len v ≡ length lines.now.numbers.now) }

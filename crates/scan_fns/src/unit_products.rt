@@ -15,7 +15,7 @@ use item_fns::kernels::Times;
 use reduce_fns::AxisLines;
 use std::alloc::Global;
 
-/// No number of a list is farther from 0 than 1: none has a bit but the last in its distance from 0.
+/// Tells if all numbers are 0, 1 or ¯1: the OR of their magnitudes is at most 1.
 fn are_units(numbers: &[i64]) -> bool
     ensures { result ≡ true → All IsUnit numbers.now }
 {
@@ -26,7 +26,7 @@ fn are_units(numbers: &[i64]) -> bool
     bits < 2
 }
 
-/// The folds by `×` of the first numbers of each line. Of numbers that are 0, 1 or ¯1, the product from the left is that from the right.
+/// Scans each line by `×`. Products of 0, 1 and ¯1 are the same from the left as from the right.
 pub(crate) fn running_products(alloc: Global, lines: &AxisLines) -> Result<Vec<i64>, ApplyFault>
     ensures is { IsListAnswerTo (scans_of (dyadic_on_numbers Product) lines.now) result }
     ensures long { IfOk result (λ v. vec_len v ≡ length lines.now.numbers.now) }

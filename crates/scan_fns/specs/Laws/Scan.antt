@@ -9,13 +9,13 @@ use Rattle.scan_fns.{specs.Scan.{scan_form, scan_item, run_use, scan_rule, scan_
 use Rattle.item_fns.specs.RightFold.{fold_right}
 use Rattle.reduce_fns.{specs.Lines.{line}, specs.Laws.ReadLines.{items_same, no_axes, scalar_line}}
 
--- an index that is taken out and put in again
+-- removing an index and inserting another sets it
 pub put_again : (axis j : ℕ) (index : List ℕ) → axis < length index → insert (remove index axis) axis j ≡ set index axis j
 put_again axis j [] l = absurd (omega arith)
 put_again zero j (i ∷ index) l = refl
 put_again (suc axis) j (i ∷ index) l = ap (λ (rest : List ℕ). i ∷ rest) (put_again axis j index (omega arith))
 
--- a place before that of an index list on its line
+-- the index list of an earlier place on the same line is valid
 earlier_inside : (axis j : ℕ) (shape index : List ℕ) → axis < length shape → is_index_of shape index ≡ true → 1 ≤ j → j ≤ get_or index axis 1 → is_index_of shape (set index axis j) ≡ true
 earlier_inside axis j [] index there place low high = absurd (omega arith)
 earlier_inside axis j (n ∷ shape) [] there place low high = absurd (false≢true place)
@@ -35,7 +35,7 @@ line_up_to a axis index n there few =
     take-map-range_with_len (λ j. item_of a (insert (remove index axis) axis j)) 1 (places_along a.shape axis) n few
     ∙ (λ i. map (λ j. item_of a (put_again axis j index there i)) (range_with_len 1 n))
 
--- the one item of a scalar
+-- the line of a scalar is its one item
 scalar_run : (d : ArrayValue) (axis : ℕ) (index : List ℕ) → d.shape ≡ [] → index ≡ [] → take (get_or index axis 1) (line d axis (remove index axis)) ≡ item_of d [] ∷ []
 scalar_run d axis index none at = rw at (ap (take 1) (scalar_line d d.shape axis (remove [] axis) refl none (rw none (nothing axis))))
   where
@@ -43,7 +43,7 @@ scalar_run d axis index none at = rw at (ap (take 1) (scalar_line d d.shape axis
     nothing zero = refl
     nothing (suc k) = refl
 
--- a line up to a place is the same where it is read alike
+-- lines up to a place whose items read the same are the same
 run_same : (d : ArrayValue) (xs : List Item) (axis : ℕ) (index : List ℕ) → (0 < length d.shape → axis < length d.shape) → is_index_of d.shape index ≡ true
     → map (item_if_there (other d xs)) ((run_use axis d).reads index) ≡ map (item_if_there d) ((run_use axis d).reads index)
     → take (get_or index axis 1) (line (other d xs) axis (remove index axis)) ≡ take (get_or index axis 1) (line d axis (remove index axis))

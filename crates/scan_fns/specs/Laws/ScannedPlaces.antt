@@ -1,11 +1,11 @@
--- What the checks of scan have shown, and its index lists.
+-- The facts that follow when the checks of scan pass, and index lists of the result.
 use Rattle.std.{proofs.Common.{◌≡◌, ℕ, zero, suc, ◌<◌, ◌≤◌, true, ◌||◌, nat_lt, nat_le, ◌&&◌, List, [], ◌∷◌, length, get_or, ap, arith, remove, Ok}, proofs.lemmas.Bool.{and_parts, and_from}}
 use Rattle.arrays_core.{specs.declared.item.ItemType.{ItemType}, specs.Shapes.{is_index_of}, specs.Arrays.{ArrayValue}, proofs.Shapes.{head_of}}
 use Rattle.function_names.{specs.declared.along.Along.{Along}, specs.Axes.{is_axis, axis_at}}
 use Rattle.index_region.{specs.Checks.{form_of, Form, limited}, specs.Arguments.{counts_as_numbers}, specs.Axes.{places_along}, proofs.Passing.{gives, limited_gives}}
 use Rattle.scan_fns.specs.Scan.{scan_type, scan_form}
 
--- the index along an axis, and those along the others
+-- the index along an axis, and the indices of the other axes
 pub record AtAxis (shape index : List ℕ) (k : ℕ) : Type 0 where
   pub low : 1 ≤ get_or index k 1
   pub high : get_or index k 1 ≤ get_or shape k 0
@@ -21,7 +21,7 @@ at_axis (n ∷ shape) (i ∷ index) (suc k) h inside =
     let rest = at_axis shape index k (omega arith) parts.1 in
     record { low = rest.low; high = rest.high; others = and_from _ _ parts.0 rest.others }
 
--- the shape and the type that the checks give
+-- the shape and the item type of the result
 pub record ScanFacts (along : Along) (b : ArrayValue) (shape : List ℕ) (t : ItemType) : Type 0 where
   pub on_axis : is_axis (length b.shape) along ≡ true
   pub shaped : shape ≡ b.shape

@@ -6,7 +6,7 @@ use Rattle.scan_fns.{specs.Scan.{scan_item, scan_along}, proofs.Scanned.{restore
 use Rattle.scan_fns.proofs.box_lines.write_line.Goals.{After-as_slice, After-as_slice-in-loop-before-2}
 use Rattle.scan_fns.proofs.box_lines.write_line.Goals as goal
 
--- the ends of the box along the axis, as they are read
+-- the interval of the box on the axis
 ends : (c : After-as_slice) → OnAxis c.as_slice.result.now c.args.region.now c.args.array.now.shape c.args.axis
 ends c = on_axis c.args.axis c.as_slice.result.now c.args.region.now c.args.array.now.shape c.as_slice.ensures.is c.requires.there c.requires.fit
 

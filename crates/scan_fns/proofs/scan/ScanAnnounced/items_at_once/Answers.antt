@@ -14,7 +14,7 @@ checked c = sym (as_one (scan_form c.args.self.now.along) c.args.args.now c.inde
 shaped : (c : After-as_slice) → c.args._shape.now ≡ c.index-args-0.result.shape
 shaped c = (scan_facts c.args.self.now.along c.index-args-0.result c.args._shape.now c.args.item_type (checked c)).shaped
 
--- the ends of the box along the axis, as they are read
+-- the interval of the box on the axis
 ends : (c : After-as_slice) → OnAxis c.as_slice.result.now c.args.region.now c.args._shape.now c.axis_at-axis.result
 ends c =
     let rank : c.len-rank.result ≡ length c.index-args-0.result.shape = c.len-rank.ensures.value ∙ ap length c.shape.ensures.is in
