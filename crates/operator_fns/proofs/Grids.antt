@@ -1,4 +1,4 @@
--- Inner products of numbers, by the numbers as they lie.
+-- Inner products of numbers, from the two slices of numbers.
 use Rattle.std.{proofs.Common.{◌≡◌, ◌≢◌, ℕ, zero, suc, ◌+◌, ◌-◌, ◌*◌, ◌/◌, ◌%◌, ◌<◌, ◌≤◌, Bool, true, false, cond, eqb, ◌||◌, List, [], ◌∷◌, ◌++◌, length, get_or, map, take, drop, ℤ, pos, Result, Ok, Err, refl, ap, sym, subst, ◌∙◌, arith, inl, inr}, specs.List.{range_with_len}, proofs.lemmas.Bool.Decides.{eqb_tells}}
 use Rattle.arrays_core.{specs.declared.item.Item.TheVariants.{Num}, specs.declared.item.ItemType.TheVariants.{Nums}, specs.declared.item.Kind.{Kind}, specs.declared.item.Kind.TheVariants.{Length}, specs.Items.{fill, and_then}, specs.Shapes.{size, is_index_of, index_after, places_before}}
 use Rattle.arrays_core.{specs.Arrays.{ArrayValue, collect}, proofs.Shapes.{places_below, factor_le}, proofs.Order.{places_before-index_after, index_after-within}}
@@ -189,7 +189,7 @@ module _ (a b : ArrayValue) (xs ys : List ℤ) (long_a : length a.items ≡ size
         ∙ fold_of_some f (all_met (dyadic_on_items g) (λ k. Num (x k)) (λ k. Num (y k)) count) (omega arith)
         ∙ fold_of_numbers f g x y count)
 
-  -- what is known where the checks have given a form
+  -- facts that follow when the checks pass
   record Checked (form : Form) : Type 0 where
     is : form ≡ form_of (take (row_rank a) a.shape ++ drop 1 b.shape) Nums
     row : length a.items ≢ 1 → row_length a ≡ inner_length a b

@@ -1,4 +1,4 @@
--- Folds of what a row and a column give, from the last entry to the first.
+-- Folds of the paired results of a row and a column, from the last pair to the first.
 use Rattle.std.{proofs.Common.{◌≡◌, ℕ, zero, suc, ◌+◌, ◌-◌, ◌<◌, ◌≤◌, List, [], ◌∷◌, ◌++◌, length, get_or, set, drop, take, map, refl, ap, sym, ◌∙◌, arith, Result, Ok, Err}, specs.List.{range_with_len}, proofs.lemmas.List.{drop_more, drop_all, drop-set}}
 use Rattle.std.proofs.lemmas.List.FromFn.{length-map-range_with_len, get_or-map-range_with_len, map-range_with_len_more, take-map-range_with_len}
 use Rattle.{arrays_core.{specs.declared.item.Kind.{Kind}, specs.Items.{and_then}}, item_fns.{specs.Folds.{folded}, proofs.RightFolds.{fold_more}}}
@@ -23,7 +23,7 @@ module _ {A : Type 0} where
   later_error (x ∷ rs) zero e h g = g
   later_error (x ∷ rs) (suc k) e h g = ap (λ r. and_then r (λ items. and_then x (λ item. Ok (item ∷ items)))) (later_error rs k e (omega arith) g)
 
-  -- what follows a list that is fine at its end, where it fails whatever stands in front
+  -- continuing after a suffix without errors fails, if it fails for every prefix
   fails_after : {B : Type 0} (rs : List (Result A Kind)) (k : ℕ) (later : List A) (next : List A → Result B Kind) (e : Kind)
       → all_or_last_error (drop k rs) ≡ Ok later → ((front : List A) → next (front ++ later) ≡ Err e)
       → and_then (all_or_last_error rs) next ≡ Err (last_error_or e (take k rs))
@@ -42,7 +42,7 @@ module _ {A : Type 0} where
       moved (Ok items) = refl
       moved (Err i) = refl
 
--- ---- what a rule gives at the first places
+-- ---- the results of a rule at the first places
 
 module _ {A : Type 0} (rule : ℕ → Result A Kind) where
   abbrev pub firsts : ℕ → List (Result A Kind)
@@ -131,7 +131,7 @@ module _ {A : Type 0} (f : A → A → Result A Kind) (rule : ℕ → Result A K
         fails_after (firsts rule n) (place - 1) (x ∷ so_far.later) (folded f) e made (λ front. (still_fails f front (x ∷ so_far.later) e (omega arith) fails).0)
         ∙ ap (λ rs. Err (last_error_or e rs)) (take-firsts rule n (place - 1) (omega arith))
 
--- ---- what is met
+-- ---- paired results
 
 module _ {A : Type 0} (g : A → A → Result A Kind) (row column : ℕ → A) where
   pub length-met : (count : ℕ) → length (all_met g row column count) ≡ count

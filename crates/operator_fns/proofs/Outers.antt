@@ -1,4 +1,4 @@
--- Outer products of numbers, by the numbers as they lie.
+-- Outer products of numbers, from the two slices of numbers.
 use Rattle.std.{proofs.Common.{◌≡◌, ℕ, ◌*◌, ◌/◌, ◌%◌, true, List, ◌++◌, length, get_or, map, take, drop, ℤ, pos, Result, Ok, refl, ap, sym, ◌∙◌, arith}, proofs.lemmas.List.{length-map}}
 use Rattle.arrays_core.{specs.declared.item.Item.TheVariants.{Num}, specs.declared.item.ItemType.TheVariants.{Nums}, specs.declared.item.Kind.{Kind}, specs.Items.{fill, all_or_first_error}, specs.Shapes.{size, is_index_of, places_before}, specs.Arrays.{ArrayValue, collect, with_items}, proofs.Shapes.{places_below}}
 use Rattle.function_names.specs.declared.scalar.Scalar2.{Scalar2}
@@ -13,7 +13,7 @@ as_many a xs long e = sym long ∙ ap length e ∙ length-map xs (λ z. Num z)
 
 module _ (f : Scalar2) (a b : ArrayValue) (xs ys : List ℤ) (long_a : length a.items ≡ size a.shape) (long_b : length b.items ≡ size b.shape)
     (is_a : a.items ≡ map (λ z. Num z) xs) (is_b : b.items ≡ map (λ z. Num z) ys) where
-  -- what is given for the numbers of a place of the result
+  -- the result for the pair of numbers of a place
   abbrev pub pair : ℕ → Result ℤ Kind
   pair place = dyadic_on_numbers f (get_or xs (place / length ys) (pos 0)) (get_or ys (place % length ys) (pos 0))
 

@@ -1,4 +1,4 @@
--- The rows and the columns of two matrices as they lie.
+-- The rows and columns of two matrices in row-major order.
 use Rattle.std.{proofs.Common.{◌≡◌, ℕ, zero, suc, ◌+◌, ◌-◌, ◌*◌, ◌/◌, ◌%◌, ◌<◌, ◌≤◌, List, length, get_or, ap, sym, ◌∙◌, arith, ℤ, pos, Ok}, proofs.lemmas.Nat.{div-mul-add, div-add-mod'}, proofs.Math.Nat.{mod-eq_of_lt}}
 use Rattle.{function_names.specs.declared.scalar.Scalar2.TheVariants.{Plus, Times}, item_fns.specs.Numbers.{dyadic_on_numbers}}
 use Rattle.operator_fns.{specs.declared.grid.Grid.{Grid}, specs.RowByColumn.{cell, IsGridOf, IsPlain}, specs.SmallProducts.{AddUp, IsProduct}, proofs.ProductSums.{small_entries, products_folded, same_sums}}

@@ -45,7 +45,7 @@ all_fine : {A : Type 0} (value : ℕ → A) (places : List ℕ) → all_or_last_
 all_fine value [] = refl
 all_fine value (k ∷ places) = ap (λ r. and_then r (λ items. Ok (value k ∷ items))) (all_fine value places)
 
--- what is summed in the same places is the same sum
+-- equal entries have equal sums of products
 pub same_sums : (row column other next : ℕ → ℤ) (n : ℕ) → ((k : ℕ) → k < n → row k ≡ other k) → ((k : ℕ) → k < n → column k ≡ next k)
     → sum_of_products row column n ≡ sum_of_products other next n
 same_sums row column other next n rows columns =
@@ -107,7 +107,7 @@ module _ (row column : ℕ → ℤ) (n : ℕ) (small : AreSmall row column n) wh
   pub next_fits : (k : ℕ) → k < n → FitsSigned w64 (sum_of_products row column k +ℤ row k *ℤ column k)
   next_fits k below = subst (FitsSigned w64) (next_sum row column k) (part_fits (k + 1) (omega arith))
 
-  -- the fold of what is met is the sum
+  -- the fold of the paired products is their sum
   pub products_folded : 1 ≤ n → folded_all (dyadic_on_numbers Plus) (all_met (dyadic_on_numbers Times) row column n) ≡ Ok (sum_of_products row column n)
   products_folded some =
       let long = length-map-range_with_len (λ k. row k *ℤ column k) 0 n in

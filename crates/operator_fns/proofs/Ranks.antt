@@ -1,4 +1,4 @@
--- How many axes the arguments of an inner product have.
+-- The number of axes of the arguments of an inner product.
 use Rattle.std.{proofs.Common.{◌≡◌, ◌≢◌, ℕ, zero, suc, ◌+◌, ◌-◌, ◌<◌, ◌≤◌, Bool, true, false, List, [], ◌∷◌, ◌++◌, length, get_or, take, drop, Result, Ok, refl, ap, arith}, proofs.lemmas.Bool.{and_parts, leb-true}, proofs.lemmas.List.{length-append, length-drop, length-take}}
 use Rattle.arrays_core.{specs.declared.item.Kind.{Kind}, specs.declared.item.ItemType.{ItemType}, specs.Arrays.{ArrayValue}, specs.Limits.{most_axes}}
 use Rattle.index_region.{specs.ArgumentLists.{of_two_arguments}, specs.Boxes.{Interval}, specs.Checks.{Form, check, form_of, is_within_limits, limited}, proofs.Boxes.{fits_length}}
@@ -17,7 +17,7 @@ passed_limits false kind form shape h = absurd h
 few_axes : (axes : List ℕ) (item_type : ItemType) (shape : List ℕ) → HasShape (limited axes item_type) shape → length axes ≤ most_axes
 few_axes axes item_type shape h = leb-true _ _ (and_parts _ _ (and_parts _ _ (passed_limits (is_within_limits axes) _ (form_of axes item_type) shape h)).0).0
 
--- the axes of the left argument but the last, and those of a box of the right one but the first
+-- a bound on the axes: the left argument but the last, and a box of the right argument but the first
 pub few_rows_and_columns : (args : List ArrayValue) (a : ArrayValue) (which : ℕ) (region : List Interval) (shape : List ℕ) → length args ≡ 2 → a ≡ get_or args 0 a → which < length args → which ≢ 0
     → FitsAt args which region → HasShape (of_two_arguments inner_form args) shape → length a.shape - 1 + (length region - 1) ≤ most_axes
 few_rows_and_columns [] a which region shape n e u o fit h = absurd (omega arith)

@@ -1,4 +1,4 @@
--- Proofs that impls give with their functions. No contract cites them.
+-- Proofs that impls supply with their functions. No contract cites them.
 pub mod OuterProduct
 pub mod InnerProductReads
 pub mod InnerProduct

@@ -1,9 +1,9 @@
--- What public contracts mean.
+-- Meaning of the public contracts.
 pub mod OuterProduct
 pub mod InnerProduct
--- What proofs and bodies use.
+-- Used by proofs and bodies.
 pub mod SmallProducts
 pub mod RowByColumn
 pub mod OuterResults
--- Proofs that impls give with their functions: all that changes lies in the boxes, and what grows.
+-- Proofs that impls supply with their functions: changes stay inside the boxes, and growth is preserved.
 pub mod Laws

@@ -6,7 +6,7 @@ use Rattle.change_core.{specs.RuleModels.{Growth, RuleModel, Use}, specs.Growth.
 use Rattle.function_names.specs.declared.scalar.Scalar2.{Scalar2}
 use Rattle.item_fns.specs.Items.{dyadic_on_items}
 
--- the checks, and the shape and the type of the result
+-- the checks, then the shape and the item type of the result
 abbrev pub outer_form : ArrayValue → ArrayValue → Result Form Kind
 outer_form a b = limited (a.shape ++ b.shape) Nums
 
@@ -18,17 +18,17 @@ outer_item f a b index = dyadic_on_items f (item_of a (take (length a.shape) ind
 abbrev pub outer_whole : Scalar2 → ArrayValue → ArrayValue → Result ArrayValue Kind
 outer_whole f a b = whole (outer_form a b) (outer_item f a b)
 
--- What a change of an argument of an outer product changes of its result.
+-- Effect of a change of an argument on the result.
 
--- by the left argument: a changed box, and then the axes of the right one whole
+-- the left argument: a changed box maps to itself, then the whole axes of the right argument
 abbrev pub front_use : List ℕ → ArrayValue → ArrayValue → Use
 front_use shape a b = front (length a.shape) b.shape
 
--- by the right argument: the axes of the left one whole, and then a changed box
+-- the right argument: a changed box maps to the whole axes of the left argument, then itself
 abbrev pub back_use : List ℕ → ArrayValue → ArrayValue → Use
 back_use shape a b = back a.shape
 
--- it grows with the left argument alone
+-- the result grows with the left argument alone
 abbrev pub outer_grows : Growth
 outer_grows = two_grow (λ a b. true) (λ a b. false) (λ a b. false)
 

@@ -6,11 +6,11 @@ use Rattle.reduce_fns.specs.Sum.{sum_of}
 abbrev pub sum_of_products : (row column : ℕ → ℤ) → ℕ → ℤ
 sum_of_products row column count = sum_of (map (λ k. row k *ℤ column k) (range_with_len 0 count))
 
--- not further from 0
+-- a magnitude of at most `most`
 pub record IsNoFurther (most : ℕ) (z : ℤ) : Type 0 where
   pub near : unsigned_abs z ≤ most
 
--- so many products of a number of one list and a number of another stay within 64 bits, in whatever order they are added
+-- `count` products of a number of one list and a number of another have a sum within 64 bits, in any order
 pub record AddUp (count : ℕ) (xs ys : List ℤ) : Type 0 where
   pub most_x : ℕ
   pub most_y : ℕ
@@ -18,23 +18,23 @@ pub record AddUp (count : ℕ) (xs ys : List ℤ) : Type 0 where
   pub near_y : All (IsNoFurther most_y) ys
   pub few : most_x * most_y * count < 2 ^ 63
 
--- a product, and a sum with it, are of 64 bits
+-- a product fits 64 bits, and so does a sum with it
 pub record RowFits (factor number sum : ℤ) : Type 0 where
   pub product : FitsSigned w64 (factor *ℤ number)
   pub total : FitsSigned w64 (sum +ℤ factor *ℤ number)
 
--- the sums of the products of some factors and the columns of as many rows that lie one after another
+-- the sums of the products of the factors with each column of consecutive rows
 pub record AreSums (factors rows : List ℤ) (columns : ℕ) (sums : List ℤ) : Type 0 where
   pub each : (column : ℕ) → column < columns
       → get_or sums column (pos 0) ≡ sum_of_products (λ k. get_or factors k (pos 0)) (λ k. get_or rows (column + k * columns) (pos 0)) (length factors)
 
--- they stand after some numbers
+-- these sums stand at the end of a list, after the numbers that it held
 pub record EndsInSums (factors rows : List ℤ) (columns : ℕ) (before all : List ℤ) : Type 0 where
   pub sums : List ℤ
   pub long : length sums ≡ columns
   pub is : all ≡ before ++ sums
   pub summed : AreSums factors rows columns sums
 
--- a number is the sum of the products of the row and the column of a place of the result
+-- a number is the sum of the products of the row and the column of a place
 pub record IsProduct (xs ys : List ℤ) (columns count place : ℕ) (z : ℤ) : Type 0 where
   pub is : z ≡ sum_of_products (λ k. get_or xs (place / columns * count + k) (pos 0)) (λ k. get_or ys (place % columns + k * columns) (pos 0)) count

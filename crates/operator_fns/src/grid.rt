@@ -1,4 +1,4 @@
-//! The rows of one list of numbers folded with the columns of another.
+//! Folds of the rows of one list of numbers with the columns of another.
 
 ghost use Rattle.std.specs.Prelude.{◌≡◌, ◌<◌, true, length};
 ghost use Rattle.arrays_core.specs.declared.item.ItemType.TheVariants.{Nums};
@@ -18,21 +18,21 @@ use item_fns::{Scalar2, WithFunction, with_function};
 use reduce_fns::{NumberFunction, collect_numbers};
 use std::alloc::Global;
 
-/// How the rows of one list of numbers and the columns of another lie.
+/// The layout of the rows of one list of numbers and the columns of another.
 #[derive(Clone, Copy)]
 pub(crate) struct Grid {
-    /// How many columns there are.
+    /// The number of columns.
     pub(crate) columns: usize,
-    /// How many numbers a row and a column have.
+    /// The number of entries of a row and of a column.
     pub(crate) count: usize,
-    /// How far apart the numbers of a row stand; 0 where one number is all of them.
+    /// The distance between entries of a row; 0 if one number stands for all of them.
     pub(crate) row_stride: usize,
-    /// How far apart the numbers of a column stand; 0 where one number is all of them.
+    /// The distance between entries of a column; 0 if one number stands for all of them.
     pub(crate) column_stride: usize,
 }
 
 impl Grid {
-    /// The rows and the columns of so many places are those of two matrices, as they lie.
+    /// Returns true only if the lists are two matrices in row-major order, and `places` is a positive number of whole rows.
     fn is_plain(&self, places: usize) -> bool
         requires { 0 < self.now.columns }
         ensures { result ≡ true → IsPlain self.now places }
@@ -44,7 +44,7 @@ impl Grid {
     }
 }
 
-/// Each row folded with each column.
+/// Computes the fold of each row with each column.
 #[derive(Drop)]
 struct Cells<'a, F, G> {
     fold: &'a F,
@@ -84,7 +84,7 @@ impl<'a, F: TwoNumbers, G: TwoNumbers> NumberFunction for Cells<'a, F, G> {
     }
 }
 
-/// The array of the rows folded with the columns.
+/// Folds each row with each column, into an array.
 fn products_by<F: TwoNumbers, G: TwoNumbers>(
     alloc: Global,
     fold: &F,
@@ -109,7 +109,7 @@ fn products_by<F: TwoNumbers, G: TwoNumbers>(
     collect_numbers(alloc, &rule, shape)
 }
 
-/// Rows and columns that are to be folded by the function that is named, and the shape of the result.
+/// The rows and columns to fold, and the shape of the result, for a function chosen at run time.
 #[derive(Drop)]
 struct Pairs<'a> {
     alloc: Global,
@@ -140,8 +140,7 @@ impl<'a> WithFunction for Pairs<'a> {
     }
 }
 
-/// The array of the sums of the products of rows and columns, a row of the result at a time where the numbers are small
-/// enough.
+/// Sums the products of each row and column. If the numbers are small enough, it adds a row of the result at a time, without overflow checks.
 fn sums_of_products(
     alloc: Global,
     left: &[i64],
@@ -161,8 +160,7 @@ fn sums_of_products(
     Ok(Array::from_numbers(shape, numbers)?)
 }
 
-/// The array of the rows folded with the columns by the two scalar functions that are named; the most usual products have a
-/// loop of their own.
+/// Folds each row with each column by two scalar functions. The most frequent pairs of functions have their own compiled loops.
 pub(crate) fn grid_products(
     alloc: Global,
     fold: Scalar2,

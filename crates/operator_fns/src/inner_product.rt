@@ -28,14 +28,14 @@ use item_fns::Scalar2;
 use reduce_fns::{identity_item, stride};
 use std::alloc::Global;
 
-/// How many axes are not folded along: all but the last.
+/// Returns the number of axes that select a row: all but the last.
 fn row_rank(array: &Seen) -> usize
     ensures { result ≡ row_rank array.now }
 {
     array.shape().len().saturating_sub(1)
 }
 
-/// The axes that are not folded along: all but the first.
+/// Returns the axes that select a column: all but the first.
 fn column_axes<'a>(array: &'a Seen<'a>) -> &'a [u32]
     ensures is { result.now ≡ drop 1 array.now.shape }
     ensures sound { IsArray array.now }
@@ -46,7 +46,7 @@ fn column_axes<'a>(array: &'a Seen<'a>) -> &'a [u32]
     }
 }
 
-/// How long a row is: the last axis; a scalar is a row of its one item.
+/// Returns the length of a row, the last axis. A scalar is a row of one item.
 fn row_length(array: &Seen) -> u32
     ensures { result ≡ row_length array.now }
 {
@@ -56,7 +56,7 @@ fn row_length(array: &Seen) -> u32
     }
 }
 
-/// How long a column is: the first axis; a scalar is a column of its one item.
+/// Returns the length of a column, the first axis. A scalar is a column of one item.
 fn column_length(array: &Seen) -> u32
     ensures { result ≡ column_length array.now }
 {
@@ -66,7 +66,7 @@ fn column_length(array: &Seen) -> u32
     }
 }
 
-/// How many items of a row and of a column meet: one item on a side extends to the other's length.
+/// Returns the number of items that are paired. A side of one item extends to the length of the other.
 fn inner_length(left: &Seen, right: &Seen) -> u32
     ensures { result ≡ inner_length left.now right.now }
 {
@@ -77,7 +77,7 @@ fn inner_length(left: &Seen, right: &Seen) -> u32
     }
 }
 
-/// Where the row at an index list of the other axes lies; one item is each item of its row.
+/// Returns the position of the row at the indices `row` of the other axes. A side of one item repeats it.
 fn row_line(array: &Seen, row: &[u32], count: u32) -> StridedLine
     requires inside { IsTrue (is_index_of (take (row_rank array.now) array.now.shape) row.now) }
     requires some { 1 ≤ count }
@@ -100,7 +100,7 @@ fn row_line(array: &Seen, row: &[u32], count: u32) -> StridedLine
     }
 }
 
-/// Where the column at an index list of the other axes lies; one item is each item of its column.
+/// Returns the position of the column at the indices `column` of the other axes. A side of one item repeats it.
 fn column_line(array: &Seen, column: &[u32], count: u32) -> StridedLine
     requires inside { IsTrue (is_index_of (drop 1 array.now.shape) column.now) }
     requires some { 1 ≤ count }
@@ -123,7 +123,7 @@ fn column_line(array: &Seen, column: &[u32], count: u32) -> StridedLine
     }
 }
 
-/// How the rows of one array and the columns of another lie.
+/// Returns the layout of the rows and columns of two arrays.
 fn grid(left: &Seen, right: &Seen) -> Grid
     requires { 0 < length right.now.items }
     ensures { result ≡ grid_of left.now right.now }
@@ -137,24 +137,22 @@ fn grid(left: &Seen, right: &Seen) -> Grid
     }
 }
 
-/// Inner product, `A f.g B` (ISO/IEC 13751, "Inner Product"): the axes of A but the last, and then those of
-/// B but the first. Each item is made of a row of A, along its last axis, and a column of B, along its
-/// first: g of each item of the row with the item of the column that it meets, folded by f from the last
-/// to the first. All items of g are looked at, from the last to the first, and the error of the last that
-/// has one is the error, before any of f; no items give the identity of f, or DOMAIN where it has none.
-/// One item on a side extends to the length of the other, to length 0 too. The result is of numbers.
-/// LENGTH where a row of A and a column of B are of different lengths, and neither side is one item; LIMIT
+/// Inner product, `A f.g B` (ISO/IEC 13751, "Inner Product"): the result has the axes of A but the last, then the axes of B but the first. Each item
+/// combines a row of A, along its last axis, with a column of B, along its first. It applies g to the paired items, then folds the results by f from
+/// the last to the first. g is applied to all pairs, from the last to the first. If g fails, the last pair that fails gives the error, ahead of any
+/// error of f. Empty lines yield the identity of f, or DOMAIN if it has none. A side of one item extends to the length of the other, also to length
+/// 0. The result is of numbers. Fails with LENGTH if rows of A and columns of B differ in length and neither side is one item. Fails with LIMIT
 /// beyond the limits of arrays.
 #[derive(Clone, Copy, PartialEq, Eq, Debug)]
 pub struct Inner {
-    /// f, which folds what the other function gives.
+    /// f, which folds the results of g.
     pub fold: Scalar2,
-    /// g, the function of an item of a row and an item of a column.
+    /// g, which is applied to an item of a row and an item of a column.
     pub each: Scalar2,
 }
 
 impl Inner {
-    /// The checks, and the shape and the type of the result.
+    /// Checks the arguments; returns the shape and the item type of the result.
     fn form(self, left: &Seen, right: &Seen) -> Result<(Shape, ItemType), Kind>
         ensures is { IsFormAnswerTo (inner_form left.now right.now) result }
         ensures left_sound { IsArray left.now }
@@ -174,7 +172,7 @@ impl Inner {
         limited(shape, ItemType::Nums)
     }
 
-    /// The item at an index list of the result.
+    /// Returns the item at an index list of the result.
     fn folded_at(self, left: &Seen, right: &Seen, index: &[u32]) -> Result<Item, Kind>
         requires { IsPlaceOf (inner_form left.now right.now) index.now }
         ensures is { result ≡ inner_item self.fold self.each left.now right.now index.now }
@@ -199,7 +197,7 @@ impl Inner {
         fold_row(&lines)
     }
 
-    /// The rows of A folded with the columns of B.
+    /// Folds the rows of A with the columns of B. Reads numbers straight from the slices of the arguments if both have one.
     pub fn apply(&self, alloc: Global, args: &[Seen]) -> Result<Array, ApplyFault>
         requires { length args.now ≡ 2 }
         ensures { IsAnswerTo (of_two_arguments (inner_whole self.now.fold self.now.each) args.now) result }
@@ -212,7 +210,7 @@ impl Inner {
         }
     }
 
-    /// The rows of A folded with the columns of B, where both are of numbers.
+    /// Folds the rows of A with the columns of B; both are non-empty and of numbers.
     fn of_numbers(
         self,
         alloc: Global,
@@ -249,14 +247,14 @@ impl Primitive for Inner {
     }
 }
 
-/// All but the last of a list.
+/// Returns a list without its last entry.
 fn but_last<T>(list: &[T]) -> &[T]
     ensures { result.now ≡ take (length list.now - 1) list.now }
 {
     &list[..list.len().saturating_sub(1)]
 }
 
-/// All but the first of a list.
+/// Returns a list without its first entry.
 fn but_first<T>(list: &[T]) -> &[T]
     ensures { result.now ≡ drop 1 list.now }
 {

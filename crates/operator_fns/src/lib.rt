@@ -1,4 +1,4 @@
-//! Outer and inner product of scalar functions, with the other operators: reduction, scan, and the tree of a sum.
+//! Outer and inner products of scalar functions. Re-exports reduction, scan and sum trees.
 #![tactic(auto)]
 
 mod grid;

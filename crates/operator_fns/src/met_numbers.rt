@@ -1,4 +1,4 @@
-//! What the rows of one list of numbers and the columns of another give, a list for each place, and the folds of these.
+//! Inner products that first write the paired results of a cell into a buffer, then fold the buffer.
 
 ghost use Rattle.std.specs.Prelude.{◌≡◌, ◌<◌, Ok, Err, pos, length, map, OnOk, IfErr, IfOk, vec_len};
 ghost use Rattle.std.specs.List.{range_with_len};
@@ -20,8 +20,8 @@ use item_fns::kernels::TwoNumbers;
 use item_fns::{Scalar2, WithFunction, with_function};
 use std::alloc::Global;
 
-/// Writes what a function gives for each number of a row with the number of a column that it meets, from the last to the
-/// first; the first error on this way is the error.
+/// Applies a function to each number of a row and its partner in a column, from the last to the first. Writes the results to `met`, and stops at the
+/// first error.
 fn meet<G: TwoNumbers>(
     each: &G,
     left: &[i64],
@@ -44,7 +44,7 @@ fn meet<G: TwoNumbers>(
     Ok(())
 }
 
-/// A list of numbers that is to be folded.
+/// A list of numbers to fold, for a function chosen at run time.
 #[derive(Drop)]
 struct Line<'a> {
     numbers: &'a [i64],
@@ -61,7 +61,7 @@ impl<'a> WithFunction for Line<'a> {
     }
 }
 
-/// The right fold of a list of numbers by the scalar function that is named.
+/// Folds a list of numbers by the scalar function, from the right.
 fn fold_of(function: Scalar2, numbers: &[i64]) -> Result<i64, Kind>
     requires { 0 < length numbers.now }
     ensures { result ≡ folded (dyadic_on_numbers function) numbers.now }
@@ -69,8 +69,7 @@ fn fold_of(function: Scalar2, numbers: &[i64]) -> Result<i64, Kind>
     with_function(function, Line { numbers })
 }
 
-/// The rows of one list of numbers and the columns of another, a function of the numbers that meet, and the name of the one
-/// that folds what it gives.
+/// Rows and columns of numbers, the function that is applied to each pair, and the function that folds the results.
 #[derive(Drop)]
 pub(crate) struct MetNumbers<'a, G> {
     pub(crate) fold: Scalar2,
@@ -83,7 +82,7 @@ pub(crate) struct MetNumbers<'a, G> {
 }
 
 impl<'a, G: TwoNumbers> MetNumbers<'a, G> {
-    /// The number at a place, by way of the list of what the function gives there.
+    /// Computes the number at a place, with `met` as the buffer of the paired results.
     fn cell(&self, place: usize, met: &mut [i64]) -> Result<i64, Kind>
         requires low { place < self.now.places }
         requires long { length met.old ≡ self.now.grid.count }
@@ -103,7 +102,7 @@ impl<'a, G: TwoNumbers> MetNumbers<'a, G> {
         fold_of(self.fold, met)
     }
 
-    /// The numbers at all places, or the error of the first that has one.
+    /// Computes the numbers at all places, or returns the error of the first place that fails. Allocates one buffer for all places.
     fn cells(&self, alloc: Global) -> Result<Vec<i64>, ApplyFault>
         ensures is { IsListAnswerTo (all_or_first_error (map (cell (dyadic_on_numbers self.now.fold) (G.gives self.now.each) self.now.left.now self.now.right.now self.now.grid) (range_with_len 0 self.now.places))) result }
         ensures long { IfOk result (λ v. vec_len v ≡ self.now.places) }
@@ -117,7 +116,7 @@ impl<'a, G: TwoNumbers> MetNumbers<'a, G> {
         Ok(numbers)
     }
 
-    /// The array of these numbers.
+    /// Computes the numbers at all places, into an array.
     pub(crate) fn array(&self, alloc: Global, shape: &Shape) -> Result<Array, ApplyFault>
         requires within { IsWithinLimits shape.now.items }
         requires shaped { size shape.now.items ≡ self.now.places }

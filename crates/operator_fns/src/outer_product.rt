@@ -28,7 +28,7 @@ use item_fns::kernels::TwoNumbers;
 use item_fns::{Scalar2, WithFunction, two, with_function};
 use std::alloc::Global;
 
-/// Puts what a function gives for a number with each of others at the end of a list.
+/// Appends the results of a function for `left` with each number of `right`. Stops at the first error.
 fn push_row<S: TwoNumbers>(
     row: &mut Vec<i64>,
     step: &S,
@@ -44,7 +44,7 @@ fn push_row<S: TwoNumbers>(
     Ok(())
 }
 
-/// What a function gives for each number of one list with each of another.
+/// Applies a function to each number of one list with each number of another.
 fn outer_numbers<S: TwoNumbers>(
     alloc: Global,
     step: &S,
@@ -62,7 +62,7 @@ fn outer_numbers<S: TwoNumbers>(
     Ok(numbers)
 }
 
-/// Two lists of numbers, and the shape of what a function gives for each number of one with each of the other.
+/// Two lists of numbers and the shape of the result, for a function chosen at run time.
 #[derive(Drop)]
 struct OuterNumbers<'a> {
     alloc: Global,
@@ -84,17 +84,17 @@ impl<'a> WithFunction for OuterNumbers<'a> {
     }
 }
 
-/// Outer product, `A∘.fB` (ISO/IEC 13751, "Outer Product"): the axes of A, and then those of B; each item
-/// is the function of an item of A and one of B. The result is of numbers. LIMIT beyond the limits of
-/// arrays; where the function fails at several places, the error is that of the first in row-major order.
+/// Outer product, `A∘.fB` (ISO/IEC 13751, "Outer Product"): the result has the axes of A, then the axes of B. Each item is f of an item of A and an
+/// item of B. The result is of numbers. Fails with LIMIT beyond the limits of arrays. If f fails at several places, the first in row-major order
+/// gives the error.
 #[derive(Clone, Copy, PartialEq, Eq, Debug)]
 pub struct Outer {
-    /// The function of each pair of items.
+    /// The function that is applied to each pair of items.
     pub function: Scalar2,
 }
 
 impl Outer {
-    /// The check of the limits, and the shape and the type of the result.
+    /// Checks the limits; returns the shape and the item type of the result.
     fn form(self, left: &Seen, right: &Seen) -> Result<(Shape, ItemType), Kind>
         ensures is { IsFormAnswerTo (outer_form left.now right.now) result }
         ensures left_sound { IsArray left.now }
@@ -109,7 +109,7 @@ impl Outer {
         limited(shape, ItemType::Nums)
     }
 
-    /// The item at an index list of the result.
+    /// Returns the item at an index list of the result.
     fn paired_at(self, left: &Seen, right: &Seen, index: &[u32]) -> Result<Item, Kind>
         requires { IsPlaceOf (outer_form left.now right.now) index.now }
         ensures is { result ≡ outer_item self.function left.now right.now index.now }
@@ -121,7 +121,7 @@ impl Outer {
         two(self.function, left_item, right_item)
     }
 
-    /// The function of each item of A with each item of B. Numbers are taken as they lie.
+    /// Applies the function to each item of A with each item of B. Reads numbers straight from the slices of the arguments if both have one.
     pub fn apply(&self, alloc: Global, args: &[Seen]) -> Result<Array, ApplyFault>
         requires { length args.now ≡ 2 }
         ensures { IsAnswerTo (of_two_arguments (outer_whole self.now.function) args.now) result }
@@ -134,7 +134,7 @@ impl Outer {
         }
     }
 
-    /// The function of each number of A with each number of B.
+    /// Applies the function to each number of A with each number of B.
     fn of_numbers(
         self,
         alloc: Global,

@@ -1,4 +1,4 @@
-//! A row and a column that meet entry by entry, and the fold of what a function gives there: of numbers, and of items.
+//! A row and a column paired entry by entry, and the fold of a function of the pairs: of numbers, and of items.
 
 ghost use Rattle.std.specs.Prelude.{◌≡◌, ◌<◌, ◌≤◌, ℕ, Result, pos, map, length, IfOk};
 ghost use Rattle.std.specs.List.{range_with_len};
@@ -14,18 +14,18 @@ use index_region::Seen;
 use item_fns::kernels::TwoNumbers;
 use item_fns::{Scalar2, two};
 
-/// Entries of a list that stand a stride apart.
+/// Entries of a list at a fixed distance.
 #[derive(Clone, Copy)]
 pub(crate) struct StridedLine {
-    /// How many entries of the list come before the first.
+    /// The position of the first entry, counted from 0.
     pub(crate) first: usize,
-    /// How far each stands after the one before; 0 where all are one entry.
+    /// The distance between neighbours; 0 if one entry stands for all.
     pub(crate) stride: usize,
 }
 
-/// A row and a column that meet: what a function gives at each place, and how that is folded.
+/// A row paired with a column: the result of each pair, and the fold of the results.
 pub(crate) trait Meeting {
-    /// What the function gives, and the fold.
+    /// The result of a pair, and of the fold.
     type Output: Copy;
 
     ghost places: { Self → ℕ };
@@ -36,23 +36,23 @@ pub(crate) trait Meeting {
 
     ghost is_output: { Self → Self.Output → Type 0 };
 
-    /// How many places there are.
+    /// Returns the number of pairs.
     fn count(&self) -> usize
         ensures { result ≡ places self.now };
 
-    /// What the function gives at a place.
+    /// Returns the result of the pair at a place, or its error.
     fn met_at(&self, place: usize) -> Result<Self::Output, Kind>
         requires { place < places self.now }
         ensures is { result ≡ met self.now place }
         ensures typed { IfOk result (is_output self.now) };
 
-    /// What it gives at a place, folded with what comes of the later places.
+    /// Combines the result of a pair with the fold of the later ones.
     fn folded(&self, here: Self::Output, later: Self::Output) -> Result<Self::Output, Kind>
         ensures is { result ≡ fold self.now here later }
         ensures typed { IfOk result (is_output self.now) };
 }
 
-/// The error of the last of the first `count` places where the function has one, or another error.
+/// Returns the error of the last pair that fails among the first `count`, or `error` if none fails.
 fn last_error<M: Meeting>(lines: &M, count: usize, error: Kind) -> Kind
     requires { count ≤ M.places lines.now }
     ensures { result ≡ last_error_or error (map (M.met lines.now) (range_with_len 0 count)) }
@@ -65,8 +65,8 @@ fn last_error<M: Meeting>(lines: &M, count: usize, error: Kind) -> Kind
     error
 }
 
-/// The right fold of what a function gives where a row and a column meet. It is folded on the way from the
-/// last place to the first; where the fold has an error, the places before it are still looked at.
+/// Folds the results of all pairs from the last to the first. If the fold fails, it still evaluates the earlier pairs, since an error of a pair comes
+/// first.
 pub(crate) fn fold_row<M: Meeting>(lines: &M) -> Result<M::Output, Kind>
     requires { 1 ≤ M.places lines.now }
     ensures is { result ≡ folded_all (M.fold lines.now) (map (M.met lines.now) (range_with_len 0 (M.places lines.now))) }

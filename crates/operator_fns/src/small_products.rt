@@ -1,4 +1,4 @@
-//! Sums of products of small numbers, which stay within 64 bits in whatever order they are added.
+//! Sums of products of small numbers, which fit 64 bits in any order of addition.
 
 ghost use Rattle.std.specs.Prelude.{◌≡◌, ◌<◌, ◌≤◌, ℕ, ◌+◌, ◌*◌, ◌/◌, ◌%◌, ◌^◌, ◌+ℤ◌, ◌*ℤ◌, true, pos, length, get_or, All, OnOk, IfOk, vec_len};
 ghost use Rattle.operator_fns.specs.SmallProducts.{sum_of_products, IsNoFurther, AddUp, RowFits, AreSums, EndsInSums, IsProduct};
@@ -7,7 +7,7 @@ use arrays_core::room_of;
 use reduce_fns::{MOST_ITEMS, are_within};
 use std::alloc::{AllocError, Global};
 
-/// How far the numbers of a list are from 0 at most.
+/// Returns the greatest magnitude in a list.
 fn farthest(numbers: &[i64]) -> u64
     ensures { All (IsNoFurther result) numbers.now }
 {
@@ -20,10 +20,10 @@ fn farthest(numbers: &[i64]) -> u64
     least.unsigned_abs().max(greatest.unsigned_abs())
 }
 
-/// The products of two numbers that are no further from 0 add up within 64 bits: as many of them as an array may have.
+/// A bound on magnitudes: the sum of as many products of two such numbers as an array has items fits 64 bits.
 const NEAR: u64 = 2_097_152;
 
-/// So many products of a number of one list and a number of another are known to add up within 64 bits.
+/// Returns true only if `count` products of a number of `left` and a number of `right` have a sum within 64 bits, in any order.
 pub(crate) fn add_up(left: &[i64], right: &[i64], count: usize) -> bool
     ensures { result ≡ true → AddUp count left.now right.now }
 {
@@ -39,7 +39,7 @@ pub(crate) fn add_up(left: &[i64], right: &[i64], count: usize) -> bool
     }
 }
 
-/// The sum of the products of two lists, number by number.
+/// Sums the products of two lists, number by number.
 fn sum_of_pairs(left: &[i64], right: &[i64]) -> i64
     requires long { length left.now ≡ length right.now }
     requires small { AddUp (length left.now) left.now right.now }
@@ -52,7 +52,7 @@ fn sum_of_pairs(left: &[i64], right: &[i64]) -> i64
     sum
 }
 
-/// Adds the numbers of a row, each times a factor, to sums.
+/// Adds `factor` times each number of a row to the sums.
 fn add_row(sums: &mut [i64], factor: i64, row: &[i64])
     requires long { length row.now ≡ length sums.old }
     requires fits { (j : ℕ) → j < length row.now → RowFits factor (get_or row.now j (pos 0)) (get_or sums.old j (pos 0)) }
@@ -64,7 +64,7 @@ fn add_row(sums: &mut [i64], factor: i64, row: &[i64])
     }
 }
 
-/// Adds to sums that are 0 the numbers of as many rows as there are factors, each row times its factor.
+/// Adds each row times its factor to sums that start at 0.
 fn sum_rows(sums: &mut [i64], factors: &[i64], rows: &[i64])
     requires none { (j : ℕ) → j < length sums.old → get_or sums.old j (pos 0) ≡ pos 0 }
     requires whole { length rows.now ≡ length factors.now * length sums.old }
@@ -79,7 +79,7 @@ fn sum_rows(sums: &mut [i64], factors: &[i64], rows: &[i64])
     }
 }
 
-/// Puts the sums of the products of some factors and the columns of as many rows at the end of a list.
+/// Appends the sums of the products of the factors with each column of the rows.
 fn push_sums(
     sums: &mut Vec<i64>,
     factors: &[i64],
@@ -101,7 +101,7 @@ fn push_sums(
     Ok(())
 }
 
-/// The sums of the products of each row of `count` numbers and each of as many columns as are told.
+/// Computes the sums of products of each row of `count` numbers with each of the columns.
 pub(crate) fn small_products(
     alloc: Global,
     left: &[i64],

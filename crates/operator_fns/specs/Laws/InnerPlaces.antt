@@ -1,4 +1,4 @@
--- What the checks of the inner product have shown, and the places of its rows and columns.
+-- The facts that follow when the checks of the inner product pass, and the positions of its rows and columns.
 use Rattle.std.{proofs.Common.{◌≡◌, ◌≢◌, ℕ, ◌+◌, ◌-◌, ◌*◌, ◌<◌, Bool, true, false, cond, eqb, ◌||◌, List, [], ◌∷◌, ◌++◌, length, get_or, take, drop, refl, ap, sym, subst, ◌∙◌, arith}, proofs.lemmas.Bool.{eq-eqb, ne_eqb, and_from, le-leb, eqb-true}, proofs.lemmas.List.{take_all, take_more, length-take-le}}
 use Rattle.arrays_core.{specs.declared.item.ItemType.TheVariants.{Nums}, specs.Items.{fill}, specs.Shapes.{size, is_index_of, places_before}, specs.Arrays.{ArrayValue, item_of}, proofs.Shapes.{places_below, as_long}}
 use Rattle.scalar_fns.specs.ScalarExtension.{extended}
@@ -22,7 +22,7 @@ last_axis shape h =
     let k = length shape - 1 in
     sym (take_all (k + 1) shape (omega arith)) ∙ take_more shape k 1 (omega arith)
 
--- the places of a row are next to one another
+-- the entries of a row are adjacent
 row_places : (rows row : List ℕ) (n k : ℕ) → length row ≡ length rows → places_before (rows ++ n ∷ []) (row ++ (k + 1) ∷ []) ≡ places_before rows row * n + k
 row_places rows row n k h =
     let split = places-append rows (n ∷ []) row ((k + 1) ∷ []) h in
@@ -67,7 +67,7 @@ column_place a column k many h low =
     let there = column_in a.shape column k (some_axes a.shape many) h low in
     record { inside = there.0; place = there.1; below = omega (arith, there.1, places_below a.shape ((k + 1) ∷ column) there.0) }
 
--- ---- what has passed
+-- ---- checks that passed
 pub lengths_of : (one_a one_b : Bool) (m n x y : ℕ) → eqb x 1 ≡ one_a → eqb y 1 ≡ one_b → (one_a || one_b || eqb m n) ≡ true
     → (x ≢ 1 → m ≡ cond one_a n m) × (y ≢ 1 → n ≡ cond one_a n m)
 lengths_of true one_b m n x y p q h = (λ many. absurd (many (eqb-true x 1 p)), λ many. refl)

@@ -1,4 +1,4 @@
--- What settles an item of an inner product, and what a changed box reaches.
+-- The items that decide an item of an inner product, and the places that a changed box reaches.
 use Rattle.std.{proofs.Common.{◌≡◌, ◌≢◌, ℕ, ◌+◌, ◌-◌, ◌*◌, ◌<◌, ◌≤◌, zero, suc, true, nat_eq, nat_le, ◌&&◌, List, [], ◌∷◌, ◌++◌, length, get_or, map, take, drop, Option, Result, Ok, if◌then◌else◌, refl, sym, ap, subst, ◌∙◌, arith, inl, inr}, specs.Prelude.{◌==◌}, specs.List.{range_with_len}}
 use Rattle.std.{proofs.lemmas.Bool.{and_from, and_parts, cases_Bool, cond-false, cond-true, eqb-false, eqb-true, false≢true, leb-true}, proofs.lemmas.List.{take-append-le, take_all}}
 use Rattle.arrays_core.{specs.declared.item.Item.{Item}, specs.declared.item.Kind.{Kind}, specs.Arrays.{ArrayValue, IsArray, item_if_there}, specs.Items.{fill, and_then}, specs.Shapes.{is_index_of, size}, proofs.Shapes.{as_long}}
@@ -9,7 +9,7 @@ use Rattle.index_region.{specs.Answers.{IsPlaceOf}, specs.Boxes.{Interval, is_wi
 use Rattle.change_core.{specs.Tightness.{Covered, Each}, specs.Sourced.{other}, proofs.UsedWays.{back-onto, each_all, each_map, front-onto}, proofs.ReadAlike.{item_same}}
 use Rattle.operator_fns.{specs.InnerProduct.{all_or_last_error, column_length, inner_form, inner_item, inner_length, row_length, row_rank, column_use, extended_line, row_use}, specs.Laws.InnerPlaces.{PassedInner, column_place, extended_many, extended_one, passed_inner, row_place}}
 
--- ---- the place of an array of one item
+-- ---- the only place of an array of one item
 
 abbrev ones : List ℕ → List ℕ
 ones shape = map (λ _. 1) shape
@@ -20,7 +20,7 @@ factors_of_one (suc n) zero h = absurd (omega arith)
 factors_of_one (suc zero) (suc s) h = (refl, omega arith)
 factors_of_one (suc (suc n)) (suc s) h = absurd (omega arith)
 
--- the one index of an axis of one place
+-- the only index of an axis of length 1
 only : (n i : ℕ) → n ≡ 1 → (nat_le 1 i && nat_le i n) ≡ true → i ≡ 1
 only n i one h =
     let parts = and_parts _ _ h in
@@ -47,7 +47,7 @@ but_first_one [] [] h place = refl
 but_first_one [] (i ∷ index) h place = absurd (false≢true place)
 but_first_one (n ∷ shape) index h place = sym (only_index shape index (factors_of_one n (size shape) h).1 place)
 
--- ---- lines that are read alike
+-- ---- lines whose items read the same
 
 read_at : (f g : List ℕ → Option Item) (place : ℕ → List ℕ) (from n : ℕ) → map f (map place (range_with_len from n)) ≡ map g (map place (range_with_len from n))
     → (j : ℕ) → from ≤ j → j < from + n → f (place j) ≡ g (place j)
@@ -62,7 +62,7 @@ read_at f g place from (suc n) read j low high = elim (cases_Bool (nat_eq from j
       read_at f g place (from + 1) n (cc) j later (omega arith)
 ]
 
--- what stands for a line that is read alike is the same at each of its places
+-- extended lines whose items read the same are the same at each place
 extended_same : (d : ArrayValue) (xs : List Item) (place : ℕ → List ℕ) (n : ℕ) → (size d.shape ≢ 1 → (j : ℕ) → 1 ≤ j → j < 1 + n → is_index_of d.shape (place j) ≡ true)
     → map (item_if_there (other d xs)) (extended_line d (map place (range_with_len 1 n))) ≡ map (item_if_there d) (extended_line d (map place (range_with_len 1 n)))
     → (j : ℕ) → 1 ≤ j → j < 1 + n → extended (other d xs) (place j) ≡ extended d (place j)
@@ -106,7 +106,7 @@ column_inside a column j n many back long low high =
     let again : j - 1 + 1 ≡ j = omega arith in
     subst (λ (k : ℕ). is_index_of a.shape (k ∷ column) ≡ true) again (column_place a column (j - 1) many back (omega arith)).inside
 
--- an item is the same where its row and its column are read alike, of arrays
+-- an item is the same if its row and its column read the same in both arrays
 pub inner_same : (f g : Scalar2) (c d : ArrayValue) (xs ys : List Item) (form : Form) (index : List ℕ) → IsArray c → IsArray d → length xs ≡ length c.items → length ys ≡ length d.items → inner_form c d ≡ Ok form → is_index_of form.shape index ≡ true
     → map (item_if_there (other c xs)) ((row_use form.shape c d).reads index) ≡ map (item_if_there c) ((row_use form.shape c d).reads index)
     → map (item_if_there (other d ys)) ((column_use form.shape c d).reads index) ≡ map (item_if_there d) ((column_use form.shape c d).reads index)
@@ -122,7 +122,7 @@ inner_same f g c d xs ys form index sound_c sound_d count_c count_d e place read
     (λ i. and_then (all_or_last_error (map (λ j. dyadic_on_items g (extended (other c xs) (row ++ j ∷ [])) (extended (other d ys) (j ∷ column))) (range_with_len 1 (same_n i)))) (fold_right f))
     ∙ ap (λ (rs : List (Result Item Kind)). and_then (all_or_last_error rs) (fold_right f)) (results_same _ _ 1 n (λ j low high i. dyadic_on_items g (left j low high i) (right j low high i)))
 
--- ---- what a changed box reaches
+-- ---- the reach of a changed box
 
 each_line : (P : List ℕ → Type 0) (d : ArrayValue) (places : List (List ℕ)) → (size d.shape ≡ 1 → P (ones d.shape)) → Each P places → Each P (extended_line d places)
 each_line P d places one h = elim (cases_Bool (size d.shape == 1)) [
@@ -145,7 +145,7 @@ within-drop_both [] (i ∷ place) h = absurd (false≢true h)
 within-drop_both (s ∷ region) [] h = absurd (false≢true h)
 within-drop_both (s ∷ region) (i ∷ place) h = (and_parts _ _ h).1
 
--- a row lies in the box but for its last axis
+-- without its last axis, the index list of a row entry lies in the box without its last axis
 row_within : (k : ℕ) (region : List Interval) (row : List ℕ) (j : ℕ) → length row ≡ k → is_within region (row ++ j ∷ []) ≡ true → is_within (take k region) row ≡ true
 row_within k region row j long h =
     let same : take k (row ++ j ∷ []) ≡ row = take-append-le k row (j ∷ []) (omega arith) ∙ take_all k row (omega arith) in

@@ -1,4 +1,4 @@
--- Index lists of two arrays put after one another.
+-- Concatenated index lists of two arrays.
 use Rattle.std.{proofs.Common.{◌≡◌, ℕ, ◌+◌, ◌-◌, ◌*◌, ◌/◌, ◌%◌, true, List, [], ◌∷◌, ◌++◌, length, take, drop, refl, ap, sym, ◌∙◌, arith}, proofs.lemmas.Bool.{and_from, le-leb}, proofs.lemmas.List.{take-append-drop}, proofs.lemmas.Nat.{div-mul-add, mod-mul-add}}
 use Rattle.arrays_core.{specs.Shapes.{size, is_index_of, places_before}, proofs.Shapes.{head_of, as_long, places_below}}
 
@@ -6,8 +6,7 @@ pub size-append : (s t : List ℕ) → size (s ++ t) ≡ size s * size t
 size-append [] t = omega arith
 size-append (n ∷ s) t = let e = size-append s t in ap (λ m. n * m) e ∙ omega arith
 
--- the places of an index list are those of its first part, each as many as the second shape has, and
--- those of its second part
+-- a concatenated index list has the place of its first part, times the size of the second shape, plus the place of its second part
 places_more : (x p s t q : ℕ) → x * (s * t) + (p * t + q) ≡ (x * s + p) * t + q
 places_more x p s t q = omega arith
 
@@ -40,7 +39,7 @@ joined_inside (n ∷ s) t (x ∷ i) j h g =
     let head = head_of n x s i h in
     and_from _ _ (and_from _ _ (le-leb 1 x head.low) (le-leb x n head.high)) (joined_inside s t i j head.rest g)
 
--- what the place of an index list says of the places of its two parts
+-- the places of the two parts of a concatenated index list
 pub record Parts (s t index : List ℕ) : Type 0 where
   pub front : is_index_of s (take (length s) index) ≡ true
   pub back : is_index_of t (drop (length s) index) ≡ true

@@ -7,11 +7,11 @@ use Rattle.index_region.{specs.Checks.{Form}, proofs.Passing.{limited_gives}}
 use Rattle.change_core.{specs.Tightness.{IsTight, Covered}, specs.Sourced.{other}, specs.Ways.{front, back}, proofs.Growing.{tight_growing}, proofs.Sourced.{two_tight}, proofs.UsedWays.{front-onto, back-onto, onto_covered, index-take, index-drop}, proofs.ReadAlike.{item_same}}
 use Rattle.operator_fns.specs.OuterProduct.{outer_form, outer_item, outer_rule, front_use, back_use}
 
--- the axes of the left argument, and then those of the right one
+-- the shape: the left argument's axes, then the right argument's
 joined_shape : (a b : ArrayValue) (g : Form) → outer_form a b ≡ Ok g → g.shape ≡ a.shape ++ b.shape
 joined_shape a b g e = ap (λ (f : Form). f.shape) (limited_gives (a.shape ++ b.shape) Nums g e)
 
--- the item that is read alone is the same where it is read alike
+-- an item whose one source reads the same is the same
 one_same : (d : ArrayValue) (xs : List Item) (place : List ℕ) → is_index_of d.shape place ≡ true
     → map (item_if_there (other d xs)) (place ∷ []) ≡ map (item_if_there d) (place ∷ []) → item_of (other d xs) place ≡ item_of d place
 one_same d xs place inside read = item_same (other d xs) d place inside inside (cc)
