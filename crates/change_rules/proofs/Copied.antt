@@ -11,7 +11,7 @@ push_copy (suc k) (a ∷ args) [] x l h e = absurd h
 push_copy (suc k) (a ∷ args) (c ∷ copies) x l h e = (h.0, push_copy k args copies x (omega arith) h.1 e)
 push_copy k [] copies x l h e = absurd (omega arith)
 
--- the copy of an argument is what that is
+-- a copy of an argument equals the argument
 pub copy_at : (k : ℕ) (args : List ArrayValue) (copies : List (Option ArrayValue)) (b : ArrayValue) → AreCopies args copies → get_or copies k None ≡ Some b → b ≡ get_or args k b
 copy_at k [] [] b h e = absurd (let no : ⊥ = cc in no)
 copy_at zero (a ∷ args) (Some c ∷ copies) b h e = let same : c ≡ b = cc in let is : c ≡ a = h.0 in cc
@@ -30,7 +30,7 @@ push_arg k args copies items x arg below h e same is =
     there None same = tt
     there (Some b) same = same ∙ is ∙ ap (get_or args k) (sym same)
 
--- the view of an argument is that of its copy
+-- a view of a copy equals the argument
 pub view_is : (k : ℕ) (args : List ArrayValue) (copies : List (Option ArrayValue)) (b arg : ArrayValue) → AreCopies args copies → get_or copies k None ≡ Some b → k < length args → arg ≡ get_or args k arg → b ≡ arg
 view_is k args copies b arg h e below is = copy_at k args copies b h e ∙ get_or_default args k b arg below ∙ sym is
 

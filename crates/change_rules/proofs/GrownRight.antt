@@ -24,7 +24,7 @@ indices_longer n s =
     let e : n + 1 ≡ suc n = omega arith in
     ap (λ (m : ℕ). flat_map (block (indices s)) (range_with_len 1 m)) e ∙ blocks (indices s) 1 n ∙ ap (λ (k : ℕ). indices (n ∷ s) ++ block (indices s) k) (omega arith)
 
--- ---- the items of the old places, and then those of the new one
+-- ---- the items of the old places, followed by the items of the new one
 
 put_joined : (x : Item) (ys : List Item) (r : Result (List Item) Kind) → after x (prepend ys r) ≡ prepend (x ∷ ys) r
 put_joined x ys (Ok zs) = refl
@@ -79,7 +79,7 @@ results_same u v from zero h = refl
 results_same u v from (suc n) h =
     λ i. (h from (omega arith) (omega arith)) i ∷ (results_same u v (from + 1) n (λ j low high. h j (omega arith) (omega arith))) i
 
--- the walk of the last place is that of the other axes
+-- the walk of the last place equals the walk of the other axes
 last_items : (item : List ℕ → Result Item Kind) (m : ℕ) (s : List ℕ) → items_in item ((m, m) ∷ whole_of s) ≡ all_or_first_error (map (λ index. item (m ∷ index)) (indices s))
 last_items item m s =
     let region = whole_of s in
@@ -117,7 +117,7 @@ whole_longer item n s xs e =
 abbrev array : ItemType → List ℕ → List Item → ArrayValue
 array t shape xs = record { item_type = t; shape = shape; items = xs }
 
--- where the items of the old places are those of the old result, the new ones make the new result
+-- if the items of the old places are the old result, the new items complete the new result
 tail_right : (t : ItemType) (n : ℕ) (s : List ℕ) (item : List ℕ → Result Item Kind) (old : Outcome) (rs : Result (List Item) Kind) → all_or_first_error (map item (indices (n ∷ s))) ≡ rs
     → old ≡ given (with_items t (n ∷ s) rs) → is_ok old ≡ true → applied (grown_in (Ok (form_of ((n + 1) ∷ s) t)) item) old ≡ given (whole (Ok (form_of ((n + 1) ∷ s) t)) item)
 tail_right t n s item old (Err k) e h ok = absurd (false≢true (ap is_ok (sym h) ∙ ok))
@@ -140,7 +140,7 @@ longer_right t (n ∷ s) item_old item_new old some kept h ok =
     let same : given (whole (Ok f) item_old) ≡ given (whole (Ok f) item_new) = sym (walked_is (Ok f) item_old) ∙ same_whole f item_old item_new kept ∙ walked_is (Ok f) item_new in
     tail_right t n s item_new old (all_or_first_error (map item_new (indices (n ∷ s)))) refl (h ∙ same) ok
 
--- the form of the new result is that of the old one with one more place
+-- the new form has one more place than the old one
 pub grown_right : (p : RuleModel) → IsGrowing p p.grows → (marks : List Bool) (olds news : List ArrayValue) (old : Outcome) → AllGrew marks olds news → Each IsArray olds → Each IsArray news → p.grows news marks ≡ true
     → old ≡ evaluation p olds → is_ok old ≡ true → applied (grown_in (p.form news) (p.item news)) old ≡ evaluation p news
 grown_right p law marks olds news old grew so sn listed h ok = by_forms (p.form olds) (p.form news) refl refl

@@ -66,6 +66,6 @@ one_item item region r one is =
     ap (λ (n : ℕ). all_or_first_error (map (λ before. item (walk_at region before)) (range_with_len 0 n))) one
     ∙ ap (λ (x : Result Item Kind). all_or_first_error (x ∷ [])) (sym is)
 
--- what may change lies in the result
+-- the reach lies in the result
 pub inside_fit : (form : Result Form Kind) (shape : List ℕ) (t : ItemType) (reach : Reach) (region : List Interval) → form ≡ Ok (form_of shape t) → Inside region ≡ reach → LiesInResult form reach → IsTrue (fits region shape)
 inside_fit form shape t reach region e w lies = subst (λ (r : Reach). LiesInResult (Ok (form_of shape t)) r) (sym w) (subst (λ (x : Result Form Kind). LiesInResult x reach) e lies)

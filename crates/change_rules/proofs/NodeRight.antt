@@ -10,7 +10,7 @@ axes_deltas : (args : List Argument) → HasAxis args → HaveAxes (deltas args)
 axes_deltas [] h = tt
 axes_deltas (a ∷ args) h = (h.0, axes_deltas args h.1)
 
--- where a node grows, or is made anew since an argument grew
+-- a node that grows, or is evaluated from scratch after an argument grew
 grown_case : (p : RuleModel) → IsGrowing p p.grows → (os : List Outcome) (args : List Argument) (old : Outcome) → ShowsAll os (deltas args) (views args) → HasAxis args → Each IsArray (views args) → IsEvaluation p os old → is_ok old ≡ true
     → applied (grown_delta p args) old ≡ evaluation p (views args)
 grown_case p law os args old all axes sound evaluated ok = elim (cases_Bool (node_grows p args)) [

@@ -1,4 +1,4 @@
--- The change of a node by cases of what changed of its arguments.
+-- The change of a node, by cases on the changes of its arguments.
 use Rattle.std.{proofs.Common.{◌≡◌, List, [], ◌∷◌, Bool, true, false, ◌||◌, not, is_ok, refl, ap, sym, ◌∙◌}, specs.List.{list_all, list_any}, proofs.lemmas.Bool.{cond-true, cond-false, false≢true, or_parts}, proofs.lemmas.List.Folds.{list_all-map}}
 use Rattle.index_region.{specs.Patches.{PatchValue}, specs.declared.delta.Delta.{Delta}, specs.declared.delta.Delta.TheVariants.{Same, Patch, Grown, Whole}}
 use Rattle.{change_core.specs.RuleModels.{RuleModel}, arrays_core.specs.Outcomes.{Outcome}}
@@ -19,12 +19,12 @@ some_grown (Patch p ∷ ds) h k = some_grown ds h k
 some_grown (Grown t ∷ ds) h k = refl
 some_grown (Whole r ∷ ds) h k = absurd (false≢true (sym k))
 
--- where arguments were patched at most and the node held an array, nothing starts anew
+-- a node with an array and arguments that were at most patched is not evaluated from scratch
 not_anew : (args : List Argument) (old : Outcome) → is_ok old ≡ true → all_patched_at_most args ≡ true → starts_anew args old ≡ false
 not_anew args old ok h =
     ap (λ (b : Bool). b || not (is_ok old)) (sym (any_delta is_whole args) ∙ none_else is_whole refl (λ p. refl) (deltas args) (list_all-map is_patched_at_most _ args ∙ h)) ∙ ap (λ (b : Bool). not b) ok
 
--- where none starts anew and one changed otherwise, one grew
+-- if nothing forces an evaluation from scratch and some change is no patch, an argument grew
 one_grew : (args : List Argument) (old : Outcome) → all_patched_at_most args ≡ false → starts_anew args old ≡ false → any_grown args ≡ true
 one_grew args old h k =
     let parts = or_parts (list_any (λ (a : Argument). is_whole a.1.now) args) (not (is_ok old)) k in

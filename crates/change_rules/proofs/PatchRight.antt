@@ -11,7 +11,7 @@ put_parts (Ok x) (Ok xs) ys e = let s : x ∷ xs ≡ ys = cc in (x, xs, refl, re
 put_parts (Ok x) (Err k) ys e = absurd cc
 put_parts (Err k) rest ys e = absurd cc
 
--- what was collected at a place
+-- the item collected for a place
 pub collected_at : (d : Item) (h : ℕ → Result Item Kind) (n a : ℕ) (ys : List Item) → collected (map h (range_with_len a n)) ≡ Ok ys → (p : ℕ) → p < n → h (a + p) ≡ Ok (get_or ys p d)
 collected_at d h zero a ys e p l = absurd (omega arith)
 collected_at d h (suc n) a ys e zero l =
@@ -24,7 +24,7 @@ collected_at d h (suc n) a ys e (suc p) l =
 pub collected_in : (d : Item) (h : ℕ → Result Item Kind) (n : ℕ) (ys : List Item) → collected (map h (range_with_len 0 n)) ≡ Ok ys → (p : ℕ) → p < n → h p ≡ Ok (get_or ys p d)
 collected_in d h n ys e p l = let z : p ≡ 0 + p = omega arith in ap h z ∙ collected_at d h n 0 ys e p l
 
--- what is given at each place is collected
+-- collecting a rule that succeeds at each place
 pub collected_from : (h : ℕ → Result Item Kind) (g : ℕ → Item) (n a : ℕ) → ((p : ℕ) → a ≤ p → p < a + n → h p ≡ Ok (g p)) → collected (map h (range_with_len a n)) ≡ Ok (map g (range_with_len a n))
 collected_from h g zero a f = refl
 collected_from h g (suc n) a f =

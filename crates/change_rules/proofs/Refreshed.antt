@@ -1,4 +1,4 @@
--- Where arguments changed in boxes, the change of a node makes the whole evaluation of the new ones.
+-- For arguments that changed in boxes, the change of a node yields the evaluation of the new arguments.
 use Rattle.index_region.{proofs.Walks.{walk_within}, specs.declared.delta.Delta.{Delta}, specs.declared.delta.Delta.TheVariants.{Same, Patch, Grown, Whole}, specs.Answers.{IsPlaceOf}, proofs.Patched.{patched_at}, specs.Boxes.{Interval, box_size, walk_at, whole_of}, specs.Checks.{Form}}
 use Rattle.index_region.specs.Patches.{PatchValue, patched, patched_item}
 use Rattle.std.{proofs.Common.{◌≡◌, ◌≢◌, ℕ, zero, suc, ◌+◌, ◌<◌, List, [], ◌∷◌, length, map, refl, ap, ◌∙◌, sym, subst, arith, IsTrue, true, false, Bool, ◌||◌, Option, Some, None, Result, Ok, Err, is_ok, IsOk, IfOk}, proofs.lemmas.List.{length-map}, proofs.lemmas.List.FromFn.{length-map-range_with_len}}
@@ -8,7 +8,7 @@ use Rattle.change_core.{specs.declared.reach.Reach.{Reach}, specs.declared.reach
 use Rattle.change_core.{specs.Reaches.{AllFit, LiesInResult, reach_of, is_moved, is_reached}, specs.RuleModels.{RuleModel}}
 use Rattle.change_rules.{proofs.PatchRight.{error_right, patch_right}, proofs.Walked.{array_of, walked, walked_is, walked_delta, walked_delta_is}, specs.Currency.{IsEvaluation, Shows, applied}, specs.Nodes.{Argument, is_same, is_whole, moved_by, patch_delta, delta_in, is_grown, views}, specs.Evaluation.{evaluation}}
 
--- an argument is what its change makes of what it was
+-- an argument is its old value with its change applied
 pub record BecameThis (o : Outcome) (d : Delta) (n : ArrayValue) : Type 0 where
   pub becomes : applied d o ≡ Ok n
   pub sound : IfOk o IsArray
@@ -42,7 +42,7 @@ same_olds [] (d ∷ ds) ns h k = absurd h
 same_olds (o ∷ os) [] ns h k = absurd h
 same_olds (o ∷ os) (d ∷ ds) [] h k = absurd h
 
--- the old arguments, as arrays, with what changed of them
+-- the old arguments, as arrays, with their changed boxes
 pub record Before (os : List Outcome) (ds : List Delta) (ns : List ArrayValue) : Type 0 where
   pub changes : List ArgumentChange
   pub old : os ≡ map (λ a. Ok a) (olds changes)

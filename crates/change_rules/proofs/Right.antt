@@ -1,4 +1,4 @@
--- What a change says is so of the result.
+-- The items and errors in a change belong to the result.
 use Rattle.index_region.{proofs.Walks.{walk_within, walk_of_offset, offset_below}, specs.declared.delta.Delta.{Delta}, specs.Answers.{IsPlaceOf}, specs.Boxes.{Interval, fits, is_within, walk_at, box_offset, box_size}, specs.Checks.{Form, whole}, proofs.Patched.{fits_within}}
 use Rattle.std.{proofs.Common.{◌≡◌, ℕ, inl, inr, ◌+◌, List, Option, Some, None, Result, Ok, Err, OnOk, true, refl, ap, ◌∙◌, sym, subst, arith}, specs.declared.alloc.AllocError.{AllocError}, proofs.lemmas.Bool.{cases_Bool, cond-true, cond-false}}
 use Rattle.arrays_core.{specs.declared.item.Item.{Item}, specs.declared.item.Kind.{Kind}, specs.Arrays.{ArrayValue}, specs.Items.{fill}, specs.Outcomes.{Outcome, given}}
@@ -62,7 +62,7 @@ node_is_right p args old = elim (cases_Bool (all_same args)) [
   ]
 ]
 
--- what holds of the change that was asked for holds of the one that was put in place, where that is it
+-- a property of the wanted change holds for the change that was written, if they are equal
 pub answered : (P : Delta → Type 0) (r : Result ℕ AllocError) (change wanted : Delta) → OnOk r (change ≡ wanted) → P wanted → OnOk r (P change)
 answered P (Ok n) change wanted e h = subst P (sym e) h
 answered P (Err e) change wanted is h = tt

@@ -1,8 +1,8 @@
--- Arrays that stand for arguments.
+-- Copies of arguments.
 use Rattle.std.specs.Prelude.{◌≡◌, List, [], ◌∷◌, Option, IfSome}
 use Rattle.arrays_core.specs.Arrays.{ArrayValue}
 
--- for each argument there is a copy, or none
+-- each argument has an equal copy, or none
 abbrev pub AreCopies : List ArrayValue → List (Option ArrayValue) → Type 0
 AreCopies [] [] = Unit {0}
 AreCopies (a ∷ args) (copy ∷ copies) = IfSome copy (λ b. b ≡ a) × AreCopies args copies

@@ -1,11 +1,11 @@
--- What makes a change right.
+-- Correctness of a change.
 use Rattle.std.specs.Prelude.{◌≡◌, ◌<◌, ◌⊎◌, length, true, ℕ, List, [], ◌∷◌, Ok, Err, IsTrue, IfOk, map, get_or}
 use Rattle.arrays_core.{specs.declared.item.Kind.{Kind}, specs.Arrays.{ArrayValue, IsArray}, specs.Items.{fill}, specs.Growth.{grown_by}, specs.Outcomes.{Outcome, fault}}
 use Rattle.index_region.{specs.declared.delta.Delta.{Delta}, specs.declared.delta.Delta.TheVariants.{Same, Patch, Grown, Whole}, specs.Answers.{IsPlaceOf}, specs.Boxes.{is_within, fits, box_offset}, specs.Checks.{Form}, specs.Tails.{TailValue}, specs.Patches.{PatchValue, patched}}
 use Rattle.change_core.{specs.Growth.{last_place}, specs.RuleModels.{RuleModel}}
 use Rattle.change_rules.{specs.Evaluation.{evaluation}, specs.Nodes.{Argument, views, is_grown, items_at}}
 
--- what a change makes of an array or an error
+-- a change applied to an array or an error
 abbrev pub applied : Delta → Outcome → Outcome
 applied Same old = old
 applied (Patch p) (Ok a) = Ok (patched a p)
@@ -14,7 +14,7 @@ applied (Grown t) (Ok a) = Ok (grown_by a t.items)
 applied (Grown t) (Err f) = Err f
 applied (Whole r) old = r
 
--- the argument is what its change makes of what it was, which was an array or an error
+-- an argument is its old value with its change applied; the old value was a valid array or an error
 pub record Became (old : Outcome) (a : Argument) : Type 0 where
   pub becomes : applied a.1.now old ≡ Ok a.0
   pub sound : IfOk old IsArray
@@ -24,17 +24,17 @@ abbrev pub HasAxis : List Argument → Type 0
 HasAxis [] = Unit {0}
 HasAxis (a ∷ args) = (is_grown a.1.now ≡ true → 0 < length a.0.shape) × HasAxis args
 
--- so is each argument
+-- each argument became its new value by its change
 abbrev pub Shows : List Outcome → List Argument → Type 0
 Shows [] [] = Unit {0}
 Shows (old ∷ olds) (a ∷ args) = Became old a × Shows olds args
 Shows _ _ = ⊥
 
--- it is the whole evaluation of these arguments, where all are arrays
+-- a value is the evaluation of these arguments, if all are arrays
 abbrev pub IsEvaluation : RuleModel → List Outcome → Outcome → Type 0
 IsEvaluation p olds old = (arrays : List ArrayValue) → olds ≡ map (λ a. Ok a) arrays → old ≡ evaluation p arrays
 
--- whatever the arguments were, if the node held the whole evaluation of those, the change makes of it that of the new ones
+-- if the node held the evaluation of the old arguments, the change applied to it is the evaluation of the new ones
 abbrev pub BringsUpToDate : RuleModel → List Argument → Outcome → Delta → Type 0
 BringsUpToDate p args old d = (olds : List Outcome) → Shows olds args → IsEvaluation p olds old → applied d old ≡ evaluation p (views args)
 
@@ -46,7 +46,7 @@ pub record IsRightPatch (p : RuleModel) (args : List ArrayValue) (patch : PatchV
   pub typed : patch.item_type ≡ form.item_type
   pub items : (index : List ℕ) → IsTrue (is_within patch.region index) → p.item args index ≡ Ok (get_or patch.items (box_offset patch.region index) (fill patch.item_type))
 
--- the error of an item of the result
+-- the error of some item of the result
 pub record IsItemError (p : RuleModel) (args : List ArrayValue) (r : Outcome) : Type 0 where
   pub kind : Kind
   pub index : List ℕ
@@ -54,7 +54,7 @@ pub record IsItemError (p : RuleModel) (args : List ArrayValue) (r : Outcome) : 
   pub fails : p.item args index ≡ Err kind
   pub is : r ≡ Err (fault kind)
 
--- the type and the shape are those of the result, and the items are those of its last place
+-- the type and the shape belong to the result, and the items to its last place
 pub record IsRightTail (p : RuleModel) (args : List ArrayValue) (t : TailValue) : Type 0 where
   pub form : Form
   pub passes : p.form args ≡ Ok form
@@ -62,8 +62,7 @@ pub record IsRightTail (p : RuleModel) (args : List ArrayValue) (t : TailValue) 
   pub typed : t.item_type ≡ form.item_type
   pub items : items_at (p.item args) (last_place form.shape) ≡ Ok t.items
 
--- what a change says is so of the result: the items of a patch are its items, and a whole is the whole evaluation, or the
--- error of an item
+-- a patch and a growth hold items of the result, and a whole is the evaluation or the error of an item
 abbrev pub IsRight : RuleModel → List ArrayValue → Delta → Type 0
 IsRight p args Same = Unit {0}
 IsRight p args (Patch patch) = IsRightPatch p args patch

@@ -4,6 +4,6 @@ use Rattle.arrays_core.{specs.Arrays.{ArrayValue}, specs.Outcomes.{Outcome, give
 use Rattle.index_region.specs.Checks.{whole}
 use Rattle.change_core.specs.RuleModels.{RuleModel}
 
--- the whole evaluation of a rule: the checks, and then all items
+-- the evaluation of a rule: the checks, then all items
 abbrev pub evaluation : RuleModel → List ArrayValue → Outcome
 evaluation p args = given (whole (p.form args) (p.item args))

@@ -1,6 +1,6 @@
--- What public contracts mean.
+-- Meaning of the public contracts.
 pub mod Evaluation
 pub mod Nodes
 pub mod Currency
--- What bodies use.
+-- Used by bodies.
 pub mod Copies

@@ -5,7 +5,7 @@ use Rattle.index_region.{specs.declared.delta.Delta.{Delta}, specs.declared.delt
 use Rattle.change_core.{specs.declared.reach.Reach.{Reach}, specs.declared.reach.Reach.TheVariants.{Unmoved, Inside, Anew}, specs.Parts.{items_in}, specs.Growth.{last_place}, specs.Reaches.{reach_of}, specs.RuleModels.{RuleModel, form_size}}
 use Rattle.change_rules.{specs.declared.one_place.OnePlace.{OnePlace}, specs.Evaluation.{evaluation}}
 
--- an argument as it is handed in: the array that it is now, and what changed of it
+-- an argument of a node: its new array, and its change
 abbrev pub Argument : Type 0
 Argument = ArrayValue × Bor Delta
 
@@ -20,7 +20,7 @@ abbrev pub is_whole : Delta → Bool
 is_whole (Whole r) = true
 is_whole _ = false
 
--- the result is an error now
+-- the change leaves an error
 abbrev pub is_error : Delta → Bool
 is_error (Whole (Err e)) = true
 is_error _ = false
@@ -29,19 +29,19 @@ abbrev pub is_grown : Delta → Bool
 is_grown (Grown t) = true
 is_grown _ = false
 
--- it is as it was, or was patched
+-- the same, or patched
 abbrev pub is_patched_at_most : Delta → Bool
 is_patched_at_most Same = true
 is_patched_at_most (Patch p) = true
 is_patched_at_most _ = false
 
--- it is as it was, or grew
+-- the same, or grown
 abbrev pub is_grown_at_most : Delta → Bool
 is_grown_at_most Same = true
 is_grown_at_most (Grown t) = true
 is_grown_at_most _ = false
 
--- which arguments grew
+-- the arguments that grew
 abbrev pub marks : List Argument → List Bool
 marks args = map (λ a. is_grown a.1.now) args
 
@@ -62,7 +62,7 @@ moved args = map (λ a. moved_by a.1.now) args
 abbrev pub all_same : List Argument → Bool
 all_same args = list_all (λ a. is_same a.1.now) args
 
--- an argument is another array, or the node held an error
+-- an argument was replaced as a whole, or the node held an error
 abbrev pub starts_anew : List Argument → Outcome → Bool
 starts_anew args old = list_any (λ a. is_whole a.1.now) args || not (is_ok old)
 
@@ -71,7 +71,7 @@ abbrev pub patch_delta : ItemType → List Interval → Result (List Item) Kind 
 patch_delta item_type region (Ok items) = Patch (record { region = region; item_type = item_type; items = items })
 patch_delta item_type region (Err kind) = Whole (Err (fault kind))
 
--- a patch of one place of a result, or the error there
+-- a patch of one place of a result, or its error
 abbrev pub place_delta : List Interval → Result Item Kind → Delta
 place_delta region (Ok item) = Patch (record { region = region; item_type = type_of item; items = item ∷ [] })
 place_delta region (Err kind) = Whole (Err (fault kind))
@@ -79,41 +79,41 @@ place_delta region (Err kind) = Whole (Err (fault kind))
 abbrev pub delta_of_place : OnePlace → Delta
 delta_of_place p = place_delta p.region p.given
 
--- nothing, a patch of the box, or the whole, by what may change of the result; or the error of the checks
+-- nothing, a patch of the box, or the whole, according to the reach; or the error of the checks
 abbrev pub delta_in : Result Form Kind → (List ℕ → Result Item Kind) → Reach → Delta
 delta_in (Err kind) item reach = Whole (Err (fault kind))
 delta_in (Ok f) item Unmoved = Same
 delta_in (Ok f) item (Inside region) = patch_delta f.item_type region (items_in item region)
 delta_in (Ok f) item Anew = Whole (given (whole (Ok f) item))
 
--- the change of a node that held an array, where arguments changed in boxes: the checks are made again
+-- the change of a node that held an array and whose arguments changed in boxes; the checks run again
 abbrev pub reached_delta : RuleModel → List ArrayValue → List (Option (List Interval)) → Delta
 reached_delta p args moves = delta_in (p.form args) (p.item args) (reach_of p args moves)
 
--- the node grows: no other argument changed, and its rule says so
+-- the node grows: every changed argument grew, and the rule allows it
 abbrev pub node_grows : RuleModel → List Argument → Bool
 node_grows p args = list_all (λ a. is_grown_at_most a.1.now) args && p.grows (views args) (marks args)
 
--- the items of a box, if there is one, or the first error among them
+-- the items of a box if there is one, or the first error among them
 abbrev pub items_at : (List ℕ → Result Item Kind) → Option (List Interval) → Result (List Item) Kind
 items_at item None = Ok []
 items_at item (Some region) = items_in item region
 
--- one more place of these items, or the first error among them
+-- a growth by one place with these items, or the first error among them
 abbrev pub tail_delta : ItemType → List ℕ → Result (List Item) Kind → Delta
 tail_delta item_type shape (Ok items) = Grown (record { item_type = item_type; shape = shape; items = items })
 tail_delta item_type shape (Err kind) = Whole (Err (fault kind))
 
--- the result with the items of its last place new; or the error of the checks
+-- a growth by the items of the last place; or the error of the checks
 abbrev pub grown_in : Result Form Kind → (List ℕ → Result Item Kind) → Delta
 grown_in (Err kind) item = Whole (Err (fault kind))
 grown_in (Ok f) item = tail_delta f.item_type f.shape (items_at item (last_place f.shape))
 
--- the change of a node that held an array, where an argument grew and none is another array: the checks are made again
+-- the change of a node that held an array, with an argument that grew and none that was replaced; the checks run again
 abbrev pub grown_delta : RuleModel → List Argument → Delta
 grown_delta p args = if node_grows p args then grown_in (p.form (views args)) (p.item (views args)) else Whole (evaluation p (views args))
 
--- the change of a node, by its rule, its arguments and what it held
+-- the change of a node, from its rule, its arguments and its old value
 abbrev pub node_delta : RuleModel → List Argument → Outcome → Delta
 node_delta p args old =
     if all_same args then Same
@@ -121,7 +121,7 @@ node_delta p args old =
     else if any_grown args then grown_delta p args
     else reached_delta p (views args) (moved args)
 
--- how many places of the result may change
+-- the number of places of the result that may change
 abbrev pub size_in : Result Form Kind → Reach → ℕ
 size_in (Err kind) reach = 0
 size_in (Ok f) Unmoved = 0
@@ -131,7 +131,7 @@ size_in (Ok f) Anew = size f.shape
 abbrev pub reached_cost : RuleModel → List ArrayValue → List (Option (List Interval)) → ℕ
 reached_cost p args moves = size_in (p.form args) (reach_of p args moves)
 
--- how many items a box has, if there is one
+-- the number of places of a box if there is one
 abbrev pub size_at : Option (List Interval) → ℕ
 size_at None = 0
 size_at (Some region) = box_size region
@@ -143,7 +143,7 @@ grown_size (Ok f) = size_at (last_place f.shape)
 abbrev pub grown_cost : RuleModel → List Argument → ℕ
 grown_cost p args = if node_grows p args then grown_size (p.form (views args)) else form_size (p.form (views args))
 
--- how many items of the result a change computes at most
+-- the most items of the result that a change computes
 abbrev pub node_cost : RuleModel → List Argument → Outcome → ℕ
 node_cost p args old =
     if all_same args then 0

@@ -1,4 +1,4 @@
-//! The arguments of a node as they are handed in: each as it is now, with what changed of it.
+//! The arguments of a node: each is a view of its new value, with its change.
 
 ghost use Rattle.std.specs.Prelude.{◌≡◌, IfOk, map, ◌||◌};
 ghost use Rattle.change_rules.specs.Nodes.{views, moved, all_same, starts_anew, is_whole, is_grown, is_grown_at_most, all_patched_at_most, marks};
@@ -11,7 +11,7 @@ use arrays_core::{Array, Fault};
 use index_region::{Delta, Moved, Seen};
 use std::alloc::{AllocError, Global};
 
-/// The arguments as they are now.
+/// Returns the views of the new arguments.
 pub(crate) fn views_of<'x>(
     alloc: Global,
     args: &'x [(Seen, &Delta)],
@@ -25,7 +25,7 @@ pub(crate) fn views_of<'x>(
     Ok(views)
 }
 
-/// The arguments are arrays: each view says so with its shape.
+/// Establishes that the arguments are arrays, by reading the shape of each view.
 pub(crate) fn views_are_arrays(args: &[(Seen, &Delta)])
     ensures { Each IsArray (views args.now) }
 {
@@ -50,14 +50,14 @@ pub(crate) fn moves_of<'c>(
     Ok(moves)
 }
 
-/// No argument changed.
+/// Tells if no argument changed.
 pub(crate) fn all_same(args: &[(Seen, &Delta)]) -> bool
     ensures { result ≡ all_same args.now }
 {
     args.iter().all(|(_, delta)| matches!(delta, Delta::Same))
 }
 
-/// Some argument is another array, or an error.
+/// Tells if some argument was replaced as a whole, by an array or an error.
 fn any_whole(args: &[(Seen, &Delta)]) -> bool
     ensures { result ≡ list_any (λ a. is_whole a.1.now) args.now }
 {
@@ -65,35 +65,35 @@ fn any_whole(args: &[(Seen, &Delta)]) -> bool
         .any(|(_, delta)| matches!(delta, Delta::Whole(_)))
 }
 
-/// An argument is another array, or the node held an error.
+/// Tells if the node is evaluated from scratch: an argument was replaced as a whole, or the node held an error.
 pub(crate) fn starts_anew(args: &[(Seen, &Delta)], old: &Result<Array, Fault>) -> bool
     ensures { result ≡ starts_anew args.now old.now }
 {
     any_whole(args) || old.is_err()
 }
 
-/// No argument changed but those that were patched.
+/// Tells if each argument is the same or was patched.
 pub(crate) fn patched_at_most(args: &[(Seen, &Delta)]) -> bool
     ensures { result ≡ all_patched_at_most args.now }
 {
     args.iter().all(|(_, delta)| matches!(delta, Delta::Same | Delta::Patch(_)))
 }
 
-/// No argument changed but those that grew.
+/// Tells if each argument is the same or grew.
 pub(crate) fn grown_at_most(args: &[(Seen, &Delta)]) -> bool
     ensures { result ≡ list_all (λ a. is_grown_at_most a.1.now) args.now }
 {
     args.iter().all(|(_, delta)| matches!(delta, Delta::Same | Delta::Grown(_)))
 }
 
-/// It grew.
+/// Tells if a change is a growth.
 pub(crate) fn is_grown(delta: &Delta) -> bool
     ensures { result ≡ is_grown delta.now }
 {
     matches!(delta, Delta::Grown(_))
 }
 
-/// Which arguments grew.
+/// Marks the arguments that grew.
 pub(crate) fn marks_of(alloc: Global, args: &[(Seen, &Delta)]) -> Result<Vec<bool>, AllocError>
     ensures { IfOk result (λ v. v.items ≡ marks args.now) }
 {

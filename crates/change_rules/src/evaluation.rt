@@ -15,7 +15,7 @@ use change_core::{Meter, Rule};
 use index_region::Seen;
 use std::alloc::{AllocError, Global};
 
-/// The whole evaluation.
+/// Evaluates the rule; an error of the rule becomes the value.
 pub(crate) fn evaluate<R: Rule>(
     alloc: Global,
     rule: &R,
@@ -32,7 +32,7 @@ pub(crate) fn evaluate<R: Rule>(
     outcome(all_of(alloc, rule, args, meter))
 }
 
-/// The whole result, of arguments without patches: one with a patch is copied once, so that its items lie in one piece.
+/// Evaluates the rule. First copies each argument that carries a patch, so that the rule reads plain arrays.
 pub(crate) fn all_of<R: Rule>(
     alloc: Global,
     rule: &R,
@@ -54,7 +54,7 @@ pub(crate) fn all_of<R: Rule>(
     rule.all(alloc, &views, meter)
 }
 
-/// For each argument that is seen with a patch an array of its own.
+/// Copies each argument that carries a patch.
 fn copies_of(alloc: Global, args: &[Seen]) -> Result<Vec<Option<Array>>, AllocError>
     ensures { IfOk result (λ v. AreCopies args.now v.items) }
 {
@@ -65,7 +65,7 @@ fn copies_of(alloc: Global, args: &[Seen]) -> Result<Vec<Option<Array>>, AllocEr
     Ok(copies)
 }
 
-/// An array of its own for an argument that is seen with a patch.
+/// Copies an argument if it carries a patch.
 fn copy_of(arg: &Seen) -> Result<Option<Array>, AllocError>
     ensures { IfOk result (λ copy. IfSome copy (λ a. a ≡ arg.now)) }
 {
@@ -75,7 +75,7 @@ fn copy_of(arg: &Seen) -> Result<Option<Array>, AllocError>
     }
 }
 
-/// The arguments, each by its copy where there is one.
+/// Returns views of the arguments, with the copies in place of their originals.
 fn views_of_copies<'x>(
     alloc: Global,
     args: &'x [Seen],

@@ -1,4 +1,4 @@
-//! The change of a result, from the changes of its arguments.
+//! Computes the change of a result from the changes of its arguments.
 #![tactic(auto)]
 
 mod arguments;

@@ -29,8 +29,8 @@ use change_core::{Meter, Reach, Reached, Rule, last_place};
 use index_region::{Delta, IndexBox, Moved, Seen, Tail};
 use std::alloc::{AllocError, Global};
 
-/// The change of a node that held an array, where arguments were patched, and what it costs. The change is written where it is wanted, here and below: it
-/// is large, and not handed from call to call.
+/// Writes the change of a node that held an array and whose arguments were at most patched. Returns its cost. A `Delta` is large, so functions here
+/// write it through `change`.
 fn reached<R: Rule>(
     alloc: Global,
     rule: &R,
@@ -74,7 +74,7 @@ fn reached<R: Rule>(
     }
 }
 
-/// The change of a node of which some argument changed, and what it costs.
+/// Writes the change of a node with a changed argument, and returns its cost.
 fn change_from<R: Rule>(
     alloc: Global,
     rule: &R,
@@ -107,7 +107,7 @@ fn change_from<R: Rule>(
     change_grown(alloc, rule, seen, args, change, meter)
 }
 
-/// The change of a node that is evaluated anew as a whole, and what it costs.
+/// Evaluates the node from scratch, writes the result as the change, and returns its cost.
 fn change_anew<R: Rule>(
     alloc: Global,
     rule: &R,
@@ -124,7 +124,7 @@ fn change_anew<R: Rule>(
     ensures joins { meter.new.joins ≡ meter.old.joins }
 {
     let whole = evaluate(alloc, rule, seen, meter)?;
-    // counted from its own shape, as the checks of an index look at all its positions
+    // the shape of the result gives the cost, since the checks of an index would visit all positions again
     let cost = match &whole {
         Ok(array) => size(array.shape().as_slice()),
         Err(_) => rule.places(seen),
@@ -133,7 +133,7 @@ fn change_anew<R: Rule>(
     Ok(cost)
 }
 
-/// The change of a node that held an array, where an argument grew and none is another array, and what it costs.
+/// Writes the change of a node that held an array and has an argument that grew, but none that was replaced. Returns its cost.
 fn change_grown<R: Rule>(
     alloc: Global,
     rule: &R,
@@ -159,7 +159,7 @@ fn change_grown<R: Rule>(
     }
 }
 
-/// The node grows by one place of its first axis. Up to three arguments are marked without memory.
+/// Tells if the node grows by one place of its first axis. Up to three arguments are marked without allocation.
 fn node_grows<R: Rule>(
     alloc: Global,
     rule: &R,
@@ -186,7 +186,7 @@ fn node_grows<R: Rule>(
     }
 }
 
-/// The new place of a node that grows, and what it costs: the checks are made again.
+/// Runs the checks, then writes the items of the new last place as the change. Returns its cost.
 fn tail_of<R: Rule>(
     alloc: Global,
     rule: &R,
@@ -227,8 +227,7 @@ fn tail_of<R: Rule>(
     Ok(cost)
 }
 
-/// What a node grows by to this shape, where that is one item, or the error there. Memory is asked for only where the result needs another piece for
-/// its items.
+/// Writes the one new item of a node that grows to `shape`, or its error. Allocates only if the result needs new memory for its items.
 fn tail_of_one<R: Rule>(
     rule: &R,
     seen: &[Seen],
@@ -257,7 +256,7 @@ fn tail_of_one<R: Rule>(
     Ok(())
 }
 
-/// The change of a node, and what it costs. Views and boxes of up to three arguments take no memory.
+/// Writes the change of a node, and returns its cost. Views and boxes of up to three arguments are not allocated.
 #[inline(always)]
 #[tactic(auto, using(crate::proofs::OneBox::moved_of_one, crate::proofs::OneBox::moved_of_two))]
 fn change_of<R: Rule>(
@@ -298,7 +297,7 @@ fn change_of<R: Rule>(
     }
 }
 
-/// The change of a node of more arguments, of which some changed, and what it costs.
+/// Writes the change of a node with more than two arguments, of which some changed. Returns its cost.
 fn change_of_more<R: Rule>(
     alloc: Global,
     rule: &R,
@@ -332,9 +331,9 @@ fn change_of_more<R: Rule>(
     }
 }
 
-/// The change of a node, from the changes of its arguments, by a rule whose boxes hold all that changes: where `old` was
-/// the whole evaluation, what the change makes of it is the whole evaluation of the new arguments. Where no argument
-/// changed nothing does. Each item that it computes ticks.
+/// Returns the change of a node from the changes of its arguments. If `old` was the evaluation of the old arguments, applying the change yields the
+/// evaluation of the new ones. Without a changed argument it returns `Same`. Ticks once for each item that it computes. Fails only for lack of
+/// memory.
 pub fn refresh<R: Rule>(
     alloc: Global,
     rule: &R,
@@ -358,7 +357,7 @@ pub fn refresh<R: Rule>(
     Ok(change)
 }
 
-/// The change of a node, as `refresh` answers it, put in place of another one, and what it costs: how many items of the result it computes at most.
+/// Replaces `change` by the change that `refresh` returns. Returns the cost: the most items of the result that it computes.
 #[inline(always)]
 pub fn refresh_with_cost<R: Rule>(
     alloc: Global,
@@ -381,7 +380,7 @@ pub fn refresh_with_cost<R: Rule>(
     ensures whole { OnOk result (BringsUpToDate (R.model rule.now) args.now old.now change.new) }
 {
     views_are_arrays(args);
-    // The count says that it is a number of 64 bits.
+    // Reading the count brings in the fact that it fits 64 bits.
     let _counted = meter.ticks();
     change_of(alloc, rule, args, old, change, meter)
 }

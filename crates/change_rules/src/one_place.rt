@@ -1,4 +1,4 @@
-//! The change of a result at one place alone.
+//! A change of a result at a single place.
 
 ghost use Rattle.std.specs.Prelude.{◌≡◌, ◌==◌, ◌≤◌, length, map, Ok, IsTrue, IfSome, IsNone};
 ghost use Rattle.std.specs.List.{list_all};
@@ -15,7 +15,7 @@ use arrays_core::{Array, Fault, Item, Kind};
 use change_core::{Meter, Reach, Reached, Rule};
 use index_region::{Delta, IndexBox, Moved, Patch, Seen};
 
-/// A place of a result, as a box, with the item that is there now, or its error.
+/// A place of a result, as a box, with its new item or error.
 #[derive(Drop)]
 pub struct OnePlace {
     /// The box of one place.
@@ -25,7 +25,7 @@ pub struct OnePlace {
 }
 
 impl OnePlace {
-    /// A place of the result, whose item is made here. It takes no memory.
+    /// Computes the item at the only place of `region`. Does not allocate.
     pub(crate) fn of<R: Rule>(
         rule: &R,
         args: &[Seen],
@@ -46,7 +46,7 @@ impl OnePlace {
         OnePlace { region, given }
     }
 
-    /// The change of the result: a patch of the place, or the error there.
+    /// Returns the change of the result: a patch of the place, or its error.
     #[inline(always)]
     pub fn delta(self) -> Delta
         requires { box_size self.region ≡ 1 }
@@ -59,15 +59,15 @@ impl OnePlace {
     }
 }
 
-/// The box has one place.
+/// Tells if the box has one place.
 pub(crate) fn is_one_place(region: &IndexBox) -> bool
     ensures { result ≡ list_all (λ s. s.0 == s.1) region.now }
 {
     region.as_slice().iter().all(|(first, last)| first == last)
 }
 
-/// The one place that changes of a node that held an array, where arguments were patched at most and the rule knows at once that the result changes at one
-/// place alone. Nothing else need be looked at. Where that is not so there is none, and nothing is done.
+/// Returns the only place that changes, if the node held an array, its arguments were at most patched, and the rule tells that the place reads few
+/// items. Otherwise returns None and leaves the meter alone.
 #[inline(always)]
 fn changed_place<R: Rule>(
     rule: &R,
@@ -108,8 +108,8 @@ fn changed_place<R: Rule>(
     }
 }
 
-/// The one place that changes of a node of one argument or two, where that is known without the shape of the result: what `refresh` answers is then its
-/// change, and its cost is 1. Where it is not known there is none, and nothing is done. It takes no memory.
+/// Returns the only place of the result that changes, for one or two arguments. `refresh` then returns that change, at a cost of 1. None if the rule
+/// does not tell that it is one place; the meter then stays the same. Does not allocate.
 #[inline(always)]
 #[tactic(auto, using(crate::proofs::OneBox::moved_of_one, crate::proofs::OneBox::moved_of_two))]
 pub fn refreshed_place<R: Rule>(

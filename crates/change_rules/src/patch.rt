@@ -16,11 +16,11 @@ use change_core::{Meter, Rule};
 use index_region::{Delta, IndexBox, Patch, Seen};
 use std::alloc::{AllocError, Global};
 
-/// So many places are few.
+/// The most places of a small argument.
 const FEW_PLACES: u32 = 16;
 
-/// The items of a box of the result, whose shape and type are given. Where the box is all of the result, they are made
-/// as a whole, unless each is made from few items of the arguments.
+/// Returns the items of a box of the result. If the box is the whole result, it evaluates the rule at once, unless each item reads few items of the
+/// arguments.
 fn items_of<R: Rule>(
     alloc: Global,
     rule: &R,
@@ -46,14 +46,13 @@ fn items_of<R: Rule>(
     }
 }
 
-/// One item that is all of the result is made as quickly from the arguments as they are seen as from their copies: few items of theirs are read, or
-/// each argument has few.
+/// Tells if the only item of a result is computed as fast from the views as from copies: it reads few items, or all arguments are small.
 fn goes_item_by_item<R: Rule>(rule: &R, args: &[Seen]) -> bool {
     !rule.reads_many_items() || args.iter().all(|arg| arg.places() <= FEW_PLACES)
 }
 
-/// Replaces a change by the patch of a box of the result, or by the first error in it, and returns the cost. One place takes no memory where it
-/// is not all of the result, or where few items of the arguments are read.
+/// Replaces `change` by the patch of a box of the result, or by the first error in it. Returns the cost. A single place does not allocate, unless it
+/// is the whole result and reads many items of a large argument.
 pub(crate) fn patch_of<R: Rule>(
     alloc: Global,
     rule: &R,
