@@ -164,7 +164,7 @@ module _ (axis : ℕ) (t : TreesValue) (a : ArrayValue) (p : PatchValue) (stand 
     changed_line : line (patched a p) axis index ≡ map (λ (y : ℤ). Num y) (strided (pos 0) numbers_now first step n)
     changed_line = line_of_numbers (patched a p) axis index numbers_now first step n (get_or_default a.shape axis 1 0 stand.there) item_now
 
-    -- the total of a line is what its tree says of the new number
+    -- the total of a line is the fold of its tree with the new number
     total_there : (f h : Scalar2) → h ≡ f → (at : ℕ) (item : Item) → at ≡ place → item ≡ get_or p.items before (fill p.item_type)
         → fold_right f (line (patched a p) axis index) ≡ fold_right h (map (λ (y : ℤ). Num y) (numbers_through (with_number t at (number_of item)) at))
     total_there f h same at item at_is item_is =
@@ -173,7 +173,7 @@ module _ (axis : ℕ) (t : TreesValue) (a : ArrayValue) (p : PatchValue) (stand 
         ∙ (λ i. strided (pos 0) numbers_now (first_is i) (stand.apart i) (stand.counted i)) in
         λ i. fold_right (sym same i) ((changed_line ∙ ap (map (λ (y : ℤ). Num y)) (sym told)) i)
 
-  -- the same of a place of the box that its index list tells
+  -- the same for a place of the box, given by its index list
   module _ (sound : IsPatch p) (index : List ℕ) (within : is_within p.region index ≡ true) where
     abbrev before : ℕ
     before = box_offset p.region index
@@ -194,7 +194,7 @@ module _ (axis : ℕ) (t : TreesValue) (a : ArrayValue) (p : PatchValue) (stand 
         ∙ ap (λ (i : List ℕ). fold_right f (line (patched a p) axis i)) (line_there before below)
         ∙ total_there sound before below f h same at item (at_is ∙ ap (places_before a.shape) (sym walked)) item_is
 
--- what the array is now, by its trees
+-- the patched array, from its trees
 pub now_is : (along : Along) (t : TreesValue) (p : PatchValue) (now : ArrayValue) → StoodFor along t p now → patched (array_of_shape now.shape t.numbers) p ≡ now
 now_is along t p now stood =
     let shape : now.shape ≡ stood.before.shape = ap (λ (a : ArrayValue). a.shape) stood.is in

@@ -14,7 +14,7 @@ use Rattle.sum_rules.{specs.LineSums.{array_of_shape, length_along}, specs.Total
 axis_before : (along : Along) (t : TreesValue) (p : PatchValue) (now : ArrayValue) (stood : StoodFor along t p now) → axis_at (length now.shape) along ≡ axis_at (length stood.before.shape) along
 axis_before along t p now stood = ap (λ (a : ArrayValue). axis_at (length a.shape) along) stood.is
 
--- the items of the box, by the array as it is now
+-- the items of the box, in the patched array
 pub items_now : (fold : Reduce) (t : TreesValue) (p : PatchValue) (now : ArrayValue) (shape : List ℕ) (region : List Interval) → StoodFor fold.along t p now → shape ≡ now.shape
     → region ≡ box_of_lines (axis_at (length now.shape) fold.along) p.region
     → items_in (reduce_item fold.function fold.along (patched (array_of_shape shape t.numbers) p)) (box_of_lines (axis_at (length shape) fold.along) p.region) ≡ items_in (reduce_item fold.function fold.along now) region
@@ -55,7 +55,7 @@ module _ (fold : Reduce) (t : TreesValue) (p : PatchValue) (now : ArrayValue) (s
       ap (λ k. all_or_first_error (map (λ before. (reduce_item fold.function fold.along now) (walk_at region before)) (range_with_len 0 k))) single
       ∙ ap (λ (r : Result Item Kind). all_or_first_error (r ∷ [])) (sym (total_is ∙ (λ i. reduce_item fold.function fold.along (same i) (there i))))
 
-  -- the box of what may change of the result
+  -- the box of the result that may change
   module _ (shape : List ℕ) (type : ItemType) (form : reduce_form fold.along now ≡ Ok (form_of shape type)) where
     met_is : unless_empty (met shape (remove p.region (axis_at (length now.shape) fold.along))) ≡ Some (box_of_lines (axis_at (length now.shape) fold.along) p.region)
     met_is =

@@ -1,4 +1,4 @@
--- The lines of one fold all fail alike, so one that fails decides what all totals come to.
+-- The lines of one fold all fail alike, so one line that fails decides the error of all totals.
 use Rattle.std.{proofs.Common.{◌≡◌, ◌∙◌, ℕ, zero, suc, ◌<◌, ℤ, pos, ◌+ℤ◌, ◌*ℤ◌, Bool, true, false, ◌&&◌, ◌||◌, List, [], ◌∷◌, length, map, get_or, insert, Result, Ok, Err, if◌then◌else◌, nat_lt, refl, ap, sym, arith, inl, inr}, specs.List.{range_with_len}, specs.Ordering.{int_eq}}
 use Rattle.std.{proofs.lemmas.Bool.{cases_Bool, false≢true, ltb-false, ltb-true}, proofs.lemmas.List.{get_or_past, length-map}, proofs.Math.ListN.{get_or-map}}
 use Rattle.arrays_core.{specs.declared.item.Item.{Item}, specs.declared.item.Item.TheVariants.{Num, Char}, specs.declared.item.ItemType.TheVariants.{Nums, Chars}, specs.declared.item.Kind.{Kind}, specs.declared.item.Kind.TheVariants.{Domain, Limit}, specs.Arrays.{ArrayValue, IsArray, collect, item_of, with_items}}

@@ -1,4 +1,4 @@
--- What an array grows by, and the trees of its lines.
+-- The growth of an array, and the trees of its lines.
 use Rattle.std.{proofs.Common.{◌≡◌, ◌∙◌, ◌++◌, ℕ, ℤ, List, map, refl, sym, subst}, proofs.lemmas.List.{map-append}}
 use Rattle.arrays_core.{specs.declared.item.Item.TheVariants.{Num}, specs.declared.item.ItemType.TheVariants.{Nums}, specs.Growth.{grown_by, one_longer}}
 use Rattle.fold_trees.specs.FoldTrees.{FoldsValue}
@@ -9,7 +9,7 @@ use Rattle.sum_rules.{proofs.MoreLines.{length_stays, old_lines, stand_grown, st
 abbrev pub held : (axis : ℕ) → List ℕ → FoldsValue → SummedValue
 held axis old t = record { function = t.function; axis = axis; array = array_of_shape old t.lines.numbers }
 
--- it takes what it grows by
+-- the trees can take the growth
 pub fits_trees : (axis : ℕ) (old new : List ℕ) (t : FoldsValue) (g : Growth) → StandFor t.lines axis (array_of_shape old t.lines.numbers) → AreNewLinesOf axis new g → FitsSums (held axis old t) (lines_behind axis new g)
     → FitsTrees t g
 fits_trees axis old new t (Lines m) stand made fits = record {
@@ -38,7 +38,7 @@ stands axis old new t (Places m) stand made fits =
     (stand_longer old new t m (subst (λ k. StandFor t.lines k (array_of_shape old t.lines.numbers)) first stand) (subst (λ k. AreNewLinesOf k new (Places m)) first made)
     (subst (λ k. FitsSums (held k old t) (lines_behind k new (Places m))) first fits))
 
--- and their numbers are those of both
+-- the numbers after the growth are the old ones, then the new ones
 pub numbers_grown : (t : FoldsValue) (g : Growth) → (trees_grown t g).lines.numbers ≡ t.lines.numbers ++ new_numbers g
 numbers_grown t (Lines m) = refl
 numbers_grown t (Places m) = refl

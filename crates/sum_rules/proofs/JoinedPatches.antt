@@ -1,4 +1,4 @@
--- What is joined for a patch of one place of an array whose lines are kept as trees.
+-- The parts joined for a patch of one place of an array whose lines have trees.
 use Rattle.std.{proofs.Common.{◌≡◌, ◌∙◌, ℕ, ℤ, List, [], ◌∷◌, get_or, set, map, true, refl, sym, ap, subst, arith}, proofs.lemmas.List.{map-set}}
 use Rattle.arrays_core.{specs.declared.item.Item.{Item}, specs.declared.item.Item.TheVariants.{Num}, specs.declared.item.ItemType.TheVariants.{Nums}, specs.Arrays.{ArrayValue, IsArray}, specs.Items.{fill}, specs.Shapes.{places_before}}
 use Rattle.index_region.{specs.Arguments.{number_of}, specs.Boxes.{box_size, walk_at}, specs.Patches.{PatchValue, FitsPatch, patched}, proofs.Written.{IsWritten, written_none, written_more, written_all}}
@@ -35,7 +35,7 @@ same_lines t u axis a of_t of_u = λ i. record { count = count i; step = step i;
     numbers : t.numbers ≡ u.numbers
     numbers = sym (back t.numbers) ∙ ap (λ (b : ArrayValue). map number_of b.items) (sym of_t.is ∙ of_u.is) ∙ back u.numbers
 
--- what is joined for the trees of some sums
+-- the parts joined in the trees of some sums
 pub joined_with : (l : FoldsValue) (axis : ℕ) (shape : List ℕ) → StandFor l.lines axis (array_of_shape shape l.lines.numbers) → (p : JoinedPatch)
     → (p.is_joined ≡ true → IsJoinedIn shape l p.patch p.joined) → IsJoinedWith (record { function = l.function; axis = axis; array = array_of_shape shape l.lines.numbers }) p
 joined_with l axis shape stands p joined t stand done =

@@ -44,7 +44,7 @@ lines_counted axis t a stand =
 pub line_below : (axis : ℕ) (t : TreesValue) (a : ArrayValue) → StandFor t axis a → (index : List ℕ) → is_index_of (remove a.shape axis) index ≡ true → places_before (remove a.shape axis) index < line_count t
 line_below axis t a stand index on = omega (arith, lines_counted axis t a stand, places_below (remove a.shape axis) index on)
 
--- the items of all index lists are those of the walk of the whole
+-- the items at all index lists, in the order of the walk of the whole
 pub items_walked : (shape : List ℕ) (item : List ℕ → Result Item Kind) → all_or_first_error (map item (indices shape)) ≡ collected (map (λ (q : ℕ). item (walk_at (whole_of shape) q)) (range_with_len 0 (size shape)))
 items_walked shape item =
     ap (λ (rs : List (Result Item Kind)). all_or_first_error rs) (sym (walk_is shape item))
@@ -111,7 +111,7 @@ module _ (axis : ℕ) (t : TreesValue) (a : ArrayValue) (p : PatchValue) (stand 
       (λ i. strided (pos 0) t.numbers (line_start (stand.apart i) (stand.counted i) which) (stand.apart i) (stand.counted i))
       ∙ ap (λ k. strided (pos 0) t.numbers k step n) (sym (start_is axis a.shape index stand.there on (some_step axis a.shape stand.some)))
 
-  -- its total is what its tree tells
+  -- the total of a line is the fold of its tree
   pub kept_total : (f h : Scalar2) → h ≡ f → fold_right f (line (patched a p) axis index) ≡ fold_right h (map (λ (y : ℤ). Num y) (numbers_of_line t which))
   kept_total f h same = λ i. fold_right (sym same i) ((kept_line ∙ ap (map (λ (y : ℤ). Num y)) (sym told)) i)
 

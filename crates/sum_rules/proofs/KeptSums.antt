@@ -6,7 +6,7 @@ use Rattle.function_names.{specs.Axes.{is_axis, axis_at}, specs.declared.along.A
 use Rattle.sum_rules.{proofs.Lines.{has_axis}, specs.LineSums.{SummedValue, StandFor, keeps_sums, length_along, line_length, most_without_tree, summed}, specs.Totals.{StoodFor}}
 use Rattle.{reduce_fns.specs.declared.reduce.Reduce.{Reduce}, fold_trees.specs.ArrayLines.{TreesValue}}
 
--- what holds of them: numbers, some, an axis and long lines
+-- facts about an array that keeps trees: non-empty, of numbers, with an axis and long lines
 pub record HasLongLines (along : Along) (a : ArrayValue) : Type 0 where
   pub numbers : a.item_type ≡ Nums
   pub some : 0 < size a.shape
@@ -44,14 +44,14 @@ kept_parts fold a keeps =
       long = lines;
     }
 
--- of what array they are kept, and along which axis
+-- the array and the axis of kept sums
 pub summed_is : (fold : Reduce) (a : ArrayValue) (s : SummedValue) → summed fold a ≡ Some s → (keeps_sums fold a ≡ true) × (s ≡ record { function = fold.function; axis = axis_at (length a.shape) fold.along; array = a })
 summed_is fold a s h = elim (cases_Bool (keeps_sums fold a)) [
   | inl w ↦ (w, (let same = sym (cond-true (keeps_sums fold a) (Some (record { function = fold.function; axis = axis_at (length a.shape) fold.along; array = a })) None w) ∙ h in cc))
   | inr f ↦ absurd (let none = sym (cond-false (keeps_sums fold a) (Some (record { function = fold.function; axis = axis_at (length a.shape) fold.along; array = a })) None f) ∙ h in cc)
 ]
 
--- trees of an array stand for what it was where a patch is laid over it
+-- trees of an array hold its old lines after a patch is applied
 pub stood_for : (fold : Reduce) (a : ArrayValue) (s : SummedValue) (t : TreesValue) (p : PatchValue) → summed fold a ≡ Some s → StandFor t s.axis s.array → FitsPatch a p → StoodFor fold.along t p (patched a p)
 stood_for fold a s t p h stand fit =
     let both = summed_is fold a s h in

@@ -1,4 +1,4 @@
--- Where the lines of an array along an axis lie.
+-- Positions of the lines of an array along an axis.
 use Rattle.std.{proofs.Common.{◌≡◌, ℕ, zero, suc, ◌+◌, ◌*◌, ◌/◌, ◌%◌, ◌<◌, List, [], ◌∷◌, length, sym, ap, ◌∙◌, arith}, proofs.lemmas.Nat.{div-add-mod', div-mul-add, mod-mul-add, mod_below, mul-add-lt}, proofs.Math.Nat.{mul-mod_left}}
 use Rattle.{arrays_core.specs.Shapes.{size}, item_fns.specs.Folds.{line_start}, fold_trees.specs.ArrayLines.{line_through}}
 use Rattle.{reduce_fns.{proofs.Lines.{size-drop-le}, proofs.Reduced.{sizes}}, sum_rules.specs.LineSums.{line_length, line_step}}
@@ -33,7 +33,7 @@ line_through_place count step line j some below =
     let blocks = ap (λ k. k / (count * step)) by_block ∙ div-mul-add block (count * step) (j * step + first) inside in
     (λ i. blocks i * step + (ap (λ k. k % step) by_row ∙ mod-mul-add (block * count + j) step first low) i) ∙ div-add-mod' line step
 
--- what divides by a product divides by a factor
+-- a multiple of a product is a multiple of a factor
 pub factor_divides : (x a b : ℕ) → x % (a * b) ≡ 0 → x % a ≡ 0
 factor_divides x a b even =
     let all : x / (a * b) * (a * b) ≡ x = omega (arith, div-add-mod' x (a * b), even) in

@@ -132,7 +132,7 @@ module _ (fold : Reduce) (t : TreesValue) (tail : TailValue) (now : ArrayValue) 
   long_now =
       omega (arith, along_axis fold.along now.shape (ap (λ n. is_axis n fold.along) rank ∙ stood.on_axis), ap (λ k. line_length k now.shape) first, now_longer, some_count)
 
-  -- so one join a total is no more than their length has binary digits
+  -- one join for each total is at most the binary digits of the length
   pub joins_within : (old new : ℕ) → new ≤ old + length tail.items → AreJoinsWithin (length tail.items) (length_along fold.along now.shape) old new
   joins_within old new h zero few = let no : ⊥ = omega (arith, few, long_now) in absurd no
   joins_within old new h (suc digits) few = let more : length tail.items * 1 ≤ length tail.items * suc digits = mul-le-mul_left (length tail.items) (omega arith) in omega (arith, h, more)

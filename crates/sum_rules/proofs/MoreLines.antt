@@ -1,4 +1,4 @@
--- Lines behind those of an array that grows.
+-- New lines at the end of an array that grows.
 use Rattle.std.{proofs.Common.{◌≡◌, ℕ, zero, suc, ◌+◌, ◌-◌, ◌*◌, ◌/◌, ◌%◌, ◌<◌, ℤ, List, [], ◌∷◌, ◌++◌, length, drop, refl, ap, sym, ◌∙◌, arith}, proofs.Math.Nat.{add-mul-div_right}, proofs.lemmas.List.{length-append, length-map}, proofs.lemmas.List.Elements.{All-map}, proofs.lemmas.Nat.{div-add-mod'}}
 use Rattle.arrays_core.{specs.declared.item.Item.TheVariants.{Num}, specs.declared.item.ItemType.TheVariants.{Nums}, specs.Growth.{one_longer}, specs.Items.{type_of}, specs.Shapes.{size}, proofs.Growing.{size_longer}}
 use Rattle.fold_trees.{specs.ArrayLines.{with_lines}, specs.FoldTrees.{FoldsValue, NewFoldsValue}}

@@ -40,7 +40,7 @@ module _ (old new : List ℕ) (t : FoldsValue) (more : NextFoldsValue) (stand : 
   more_places : length more.places.numbers ≡ size (drop 1 old)
   more_places = sym (length-map more.places.numbers (λ (z : ℤ). Num z)) ∙ fits.tail.one_place
 
-  -- the numbers are those of the next place of each line
+  -- the numbers belong to the next place of each line
   pub fit_next : FitNext t.lines more.places
   fit_next = record {
     count = made.new.1 ∙ (let some = some_in_line 0 old stand.there stand.some in omega (arith, length_is, some)) ∙ sym stand.counted;

@@ -1,4 +1,4 @@
--- What a call answers that did not want memory, as an outcome.
+-- The answer of a call that had enough memory, as an outcome.
 use Rattle.std.proofs.Common.{◌≡◌, ◌∙◌, List, Result, Ok, Err, sym, ap, subst}
 use Rattle.arrays_core.{specs.Arrays.{ArrayValue, IsAnswerTo}, specs.Outcomes.{Outcome, fault, given, IsOutcomeOf}, specs.declared.fault.ApplyFault.{ApplyFault}, specs.declared.fault.Fault.{Fault}, specs.declared.item.Item.{Item}, specs.declared.item.ItemType.{ItemType}, specs.declared.item.Kind.{Kind}}
 use Rattle.change_core.specs.Parts.{HoldsItems}

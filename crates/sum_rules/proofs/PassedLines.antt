@@ -1,11 +1,11 @@
--- How many lines of a box come before a line, where all lines are gone over in their order.
+-- The number of lines of a box before a line, in the order of the walk.
 use Rattle.std.{proofs.Common.{◌≡◌, ◌∙◌, ℕ, zero, suc, ◌+◌, ◌<◌, ◌≤◌, List, true, false, refl, ap, sym, arith, inl, inr}, proofs.Math.Nat.{mul-le-mul_right}, proofs.lemmas.Bool.{false≢true, cases_order}}
 use Rattle.arrays_core.{specs.Shapes.{is_index_of, size, index_after, places_before}, proofs.Order.{index_after-places_before, index_after-within, places_before-index_after}, proofs.Shapes.{places_below}}
 use Rattle.change_rules.proofs.PatchRight.{offset_order}
 use Rattle.index_region.{proofs.Patched.{fits_within}, proofs.Walks.{offset_below, offset_of_walk, walk_within}, specs.Boxes.{Interval, box_offset, box_size, fits, is_within, walk_at}}
 use Rattle.sum_rules.specs.Totals.{AreJoinsFrom, AreJoinsWithin}
 
--- of the lines of a box so many come before a line, and for each of these parts of a line of this length were joined
+-- `done` lines of the box come before this line, and each of them joined parts of a line of this length
 pub record Passed (lines : List Interval) (shape : List ℕ) (long line old now : ℕ) : Type 0 where
   pub done : ℕ
   pub few : done ≤ box_size lines
@@ -108,7 +108,7 @@ module _ (lines : List Interval) (shape : List ℕ) (fit : fits lines shape ≡ 
             omega (arith, passed.least two, from two);
       }
 
-  -- no more than the lines of the box
+  -- at most the lines of the box
   pub most_passed : (long line old now : ℕ) → Passed lines shape long line old now → AreJoinsWithin (box_size lines) long old now
   most_passed long line old now passed = λ digits h.
       omega (arith, passed.most digits h, mul-le-mul_right digits passed.few)

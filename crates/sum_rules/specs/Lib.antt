@@ -1,4 +1,4 @@
--- What public contracts mean.
+-- Meaning of the public contracts.
 pub mod LineSums
 pub mod JoinedPatches
 pub mod NewLines

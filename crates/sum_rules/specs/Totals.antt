@@ -1,4 +1,4 @@
--- The totals of the lines of an array whose sums are kept by trees.
+-- The totals of the lines of an array whose sums are kept as trees.
 use Rattle.std.{specs.Prelude.{◌≡◌, ℕ, ◌+◌, ◌-◌, ◌*◌, ◌<◌, ◌≤◌, ◌^◌, ℤ, pos, nat_eq, Bool, true, false, List, [], ◌∷◌, ◌++◌, length, get_or, map, remove, All, Result}, specs.List.{flat_map, range_with_len}}
 use Rattle.function_names.{specs.declared.scalar.Scalar2.{Scalar2}, specs.declared.scalar.Scalar2.TheVariants.{Plus}, specs.Axes.{is_axis, axis_at}, specs.declared.along.Along.{Along}, specs.declared.along.Along.TheVariants.{Last}}
 use Rattle.arrays_core.{specs.Arrays.{ArrayValue}, specs.Growth.{grown_by}, specs.declared.item.Item.{Item}, specs.declared.item.Item.TheVariants.{Num}, specs.declared.item.Kind.{Kind}, specs.Outcomes.{Outcome}}
@@ -10,7 +10,7 @@ use Rattle.item_fns.specs.RightFold.{fold_right}
 use Rattle.fold_trees.specs.ArrayLines.{TreesValue, line_count, numbers_of_line}
 use Rattle.sum_rules.specs.LineSums.{StandFor, length_along}
 
--- the totals that a reduction gives, as those of +/B
+-- the totals of a reduction, such as +/B
 abbrev pub total_rule : Reduce → RuleModel
 total_rule fold = reduce_rule fold.function fold.along
 
@@ -18,7 +18,7 @@ total_rule fold = reduce_rule fold.function fold.along
 abbrev pub row_sums : Reduce
 row_sums = record { function = Plus; along = Last }
 
--- trees stand for the lines that this array had along the axis that is written, before the patch was laid over it
+-- the trees hold the lines of the array before the patch was applied
 pub record StoodFor (along : Along) (t : TreesValue) (p : PatchValue) (now : ArrayValue) : Type 0 where
   pub before : ArrayValue
   pub on_axis : is_axis (length before.shape) along ≡ true
@@ -26,7 +26,7 @@ pub record StoodFor (along : Along) (t : TreesValue) (p : PatchValue) (now : Arr
   pub fit : FitsPatch before p
   pub is : now ≡ patched before p
 
--- or before it grew by these items
+-- the trees hold the lines of the array before it grew by these items
 pub record StoodBefore (along : Along) (t : TreesValue) (tail : TailValue) (now : ArrayValue) : Type 0 where
   pub before : ArrayValue
   pub on_axis : is_axis (length before.shape) along ≡ true
@@ -34,26 +34,26 @@ pub record StoodBefore (along : Along) (t : TreesValue) (tail : TailValue) (now 
   pub fit : FitsTail before tail
   pub is : now ≡ grown_by before tail.items
 
--- where a box of the argument changed, or it grew, the trees are of the function that folds its lines, and stand for what it was
+-- if a box of the argument changed or it grew, the trees have the function of the fold and hold the old lines
 pub record IsSummedUp (fold : Reduce) (arg : Argument) (function : Scalar2) (t : TreesValue) : Type 0 where
   pub changed : (p : PatchValue) → arg.1.now ≡ Patch p → (function ≡ fold.function) × StoodFor fold.along t p arg.0
   pub grew : (tail : TailValue) → arg.1.now ≡ Grown tail → (function ≡ fold.function) × StoodBefore fold.along t tail arg.0
 
--- lists of numbers that are each as long
+-- lists that all have this length
 abbrev pub AreAllAsLong : ℕ → List (List ℤ) → Type 0
 AreAllAsLong count lines = All (λ line. length line ≡ count) lines
 
--- a tree for each line along the last axis tells its numbers, one line after another
+-- the trees of lines along the last axis, one list for each line
 abbrev pub all_trees : ℕ → List (List ℤ) → TreesValue
 all_trees count lines = record { count = count; step = 1; numbers = flat_map (λ line. line) lines }
 
--- where a box of the argument changed, or it is a vector that grew and had numbers, these are the lines along the last axis of what it was
+-- if a box of the argument changed, or it is a vector with numbers that grew, these lists are its old lines along the last axis
 pub record IsSummedByLines (arg : Argument) (lines : List (List ℤ)) : Type 0 where
   pub changed : (p : PatchValue) → arg.1.now ≡ Patch p → AreAllAsLong (length_along Last arg.0.shape) lines × StoodFor Last (all_trees (length_along Last arg.0.shape) lines) p arg.0
   pub grew : (tail : TailValue) → arg.1.now ≡ Grown tail → length arg.0.shape ≡ 1 → 1 < length_along Last arg.0.shape
       → AreAllAsLong (length_along Last arg.0.shape - 1) lines × StoodBefore Last (all_trees (length_along Last arg.0.shape - 1) lines) tail arg.0
 
--- the totals of lines that get one of these numbers each behind their last one
+-- the totals of lines with one more number at the end of each
 abbrev pub longer_totals : Scalar2 → TreesValue → (numbers : List ℤ) → List (Result Item Kind)
 longer_totals function t numbers = map (λ line. fold_right function (map (λ z. Num z) (numbers_of_line t line ++ get_or numbers line (pos 0) ∷ []))) (range_with_len 0 (length numbers))
 
@@ -61,25 +61,25 @@ longer_totals function t numbers = map (λ line. fold_right function (map (λ z.
 abbrev pub all_totals : Scalar2 → TreesValue → List (Result Item Kind)
 all_totals function t = map (λ line. fold_right function (map (λ z. Num z) (numbers_of_line t line))) (range_with_len 0 (line_count t))
 
--- how many items a patch makes new, or are new where an array grew
+-- the number of items that are new by a patch or a growth
 abbrev pub new_items : Delta → ℕ
 new_items (Patch p) = box_size p.region
 new_items (Grown t) = length t.items
 new_items _ = 0
 
--- for each of so many new items of lines of this length, at most as many joins as the length less one has binary digits
+-- for each new item, at most as many joins as the length of the line, less one, has binary digits
 abbrev pub AreJoinsWithin : (items long old new : ℕ) → Type 0
 AreJoinsWithin items long old new = (digits : ℕ) → long - 1 < 2 ^ digits → new ≤ old + items * digits
 
--- at least one for each of them, where a line has two numbers
+-- at least one join for each new item, if lines have two numbers or more
 abbrev pub AreJoinsFrom : (items long old new : ℕ) → Type 0
 AreJoinsFrom items long old new = 1 < long → ticked old items ≤ new
 
--- at most those of so many lines of this length that are folded
+-- at most the joins that fold these lines
 abbrev pub AreFoldsWithin : (lines long old new : ℕ) → Type 0
 AreFoldsWithin lines long old new = new ≤ old + lines * (long - 1)
 
--- just those
+-- exactly the joins that fold these lines
 abbrev pub AreFolds : (lines long old new : ℕ) → Type 0
 AreFolds lines long old new = new ≡ ticked old (lines * (long - 1))
 
@@ -91,7 +91,7 @@ is_one_a_line axis region = let s = get_or region axis (1, 0) in nat_eq s.0 s.1
 abbrev pub box_of_lines : ℕ → List Interval → List Interval
 box_of_lines axis region = remove region axis
 
--- the trees serve: the box that changed has one place a line, or each line got one more place
+-- the trees apply: the changed box has one place on each line, or each line got one more place
 abbrev pub is_narrow : ℕ → Delta → Bool
 is_narrow axis (Patch p) = is_one_a_line axis p.region
 is_narrow axis (Grown t) = nat_eq axis 0
@@ -100,14 +100,14 @@ is_narrow axis _ = false
 abbrev pub is_by_trees : Along → Argument → Bool
 is_by_trees along arg = is_narrow (axis_at (length arg.0.shape) along) arg.1.now
 
--- how many joins of sums the change of the totals takes at most: by trees as many for each new item as the length of a line less one has binary digits, else
--- one less for each line that is folded than it has numbers
+-- the most joins for the change of the totals: by trees as many for each new item as the length of a line, less one, has binary digits; else one less
+-- for each folded line than it has numbers
 pub record HasJoins (fold : Reduce) (arg : Argument) (held : Outcome) (old new : ℕ) : Type 0 where
   pub trees : is_by_trees fold.along arg ≡ true → AreJoinsWithin (new_items arg.1.now) (length_along fold.along arg.0.shape) old new
   pub folds : is_by_trees fold.along arg ≡ false → AreFoldsWithin (node_cost (total_rule fold) (arg ∷ []) held) (length_along fold.along arg.0.shape) old new
 
--- how many it takes where no total fails: by trees at least one for each new item of lines of two numbers and more, else just those of the lines that are
--- folded
+-- the joins if no total fails: by trees at least one for each new item of lines with two numbers or more; else exactly one less for each folded line
+-- than it has numbers
 pub record HasAllJoins (fold : Reduce) (arg : Argument) (held : Outcome) (old new : ℕ) : Type 0 where
   pub trees : is_by_trees fold.along arg ≡ true → AreJoinsFrom (new_items arg.1.now) (length_along fold.along arg.0.shape) old new
   pub folds : is_by_trees fold.along arg ≡ false → AreFolds (node_cost (total_rule fold) (arg ∷ []) held) (length_along fold.along arg.0.shape) old new

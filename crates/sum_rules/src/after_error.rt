@@ -1,4 +1,4 @@
-//! The totals of all lines where they held an error, from trees of these lines.
+//! All totals after an error, from the trees of the lines.
 
 ghost use Rattle.std.specs.Prelude.{◌≡◌, ◌-◌, ◌+◌, ◌≤◌, ◌<◌, ◌∷◌, [], true, false, length, map, get_or, remove, Err, IfOk, IfSome, OnOk};
 ghost use Rattle.arrays_core.specs.declared.item.Item.TheVariants.{Num};
@@ -31,7 +31,7 @@ use index_region::{Delta, IndexBox, Moved, Patch, Seen};
 use reduce_fns::Reduce;
 use std::alloc::{AllocError, Global};
 
-/// The first place of a box on an axis, axes counted from 0; 1 where it has no such axis.
+/// Returns the first index of a box on an axis, or 1 if it has no such axis. Axes count from 0.
 fn first_on(axis: usize, region: &IndexBox) -> u32
     ensures { result ≡ (get_or region.now axis (1, 0)).0 }
 {
@@ -41,7 +41,7 @@ fn first_on(axis: usize, region: &IndexBox) -> u32
     }
 }
 
-/// The total of a line as its tree keeps it, lines counted from 0. It joins nothing.
+/// Returns the total of a line from its tree, without a join. Lines count from 0.
 fn kept_total<S: LineTotals>(sums: &S, line: usize, meter: &mut Meter) -> Result<Item, Kind>
     requires { line < line_count (S.trees sums.now) }
     ensures total { result ≡ fold_right (S.function sums.now) (map (λ z. Num z) (numbers_of_line (S.trees sums.now) line)) }
@@ -57,8 +57,8 @@ fn kept_total<S: LineTotals>(sums: &S, line: usize, meter: &mut Meter) -> Result
     }
 }
 
-/// The total of a line of an array of this shape over which a patch is laid: by the tree of the line, with the new number where it has one. The line is told
-/// by its index list, and counted from 0.
+/// Returns the total of a line of a patched array, from the tree of the line and its new number if it has one. `index` and `line` both name the line;
+/// `line` counts from 0.
 fn total_now<S: LineTotals>(
     alloc: Global,
     fold: Reduce,
@@ -86,7 +86,7 @@ fn total_now<S: LineTotals>(
     ensures least { is_within lines.now index.now ≡ true → AreJoinsFrom 1 (length_along fold.along axes.now.items) meter.old.joins meter.new.joins }
     ensures none { is_within lines.now index.now ≡ false → meter.new.joins ≡ meter.old.joins }
 {
-    // The type of the items says that the patch has one item for each place.
+    // Reading the item type brings in the fact that the patch has one item for each place.
     let _one_item_a_place = patch.item_type();
     if lines.contains(index) {
         let axis = fold.along.axis_at(axes.as_slice().len() as u32);
@@ -97,8 +97,8 @@ fn total_now<S: LineTotals>(
     kept_total(sums, line, meter)
 }
 
-/// The error of a line that was remembered and that the patch does not change, if it still fails. Then all totals come to this error: the lines of
-/// one fold all fail alike. It joins nothing and ticks nothing.
+/// Returns the error of the remembered line if it still fails and the patch leaves it alone. The lines of one fold all fail alike, so this is the
+/// error of all totals. Joins nothing and ticks nothing.
 fn failure_elsewhere<S: LineTotals>(
     fold: Reduce,
     shape: &Shape,
@@ -116,7 +116,7 @@ fn failure_elsewhere<S: LineTotals>(
     requires shaped { shape.now.items ≡ remove axes.now.items (axis_at (length axes.now.items) fold.along) }
     ensures { IfSome result (λ kind. collect Nums shape.now.items (reduce_item fold.function fold.along (patched (array_of_shape axes.now.items (S.trees sums.now).numbers) patch.now)) ≡ Err kind) }
 {
-    // The type of the items says that the patch has one item for each place.
+    // Reading the item type brings in the fact that the patch has one item for each place.
     let _one_item_a_place = patch.item_type();
     let line = sums.failing_line();
     if !has_trees(fold.function) || line >= size(shape.as_slice()) as usize {
@@ -132,7 +132,7 @@ fn failure_elsewhere<S: LineTotals>(
     }
 }
 
-/// The totals of all lines of an array of this shape over which a patch is laid, as an array of that shape, or the first error among them.
+/// Returns all totals of a patched array, or the first error among them. Remembers the line that fails.
 fn totals_now<S: LineTotals>(
     alloc: Global,
     fold: Reduce,
@@ -182,8 +182,8 @@ fn totals_now<S: LineTotals>(
     Ok(totals)
 }
 
-/// The change of the totals of an array of which a box that has one place on their axis is new, where they held an error, put in place of another one, and what
-/// it costs: all totals. Those of the other lines are read from their trees, and join nothing.
+/// Replaces `change` by all totals, after an error. The patch has one place on the axis of the lines. Returns the number of totals as the cost.
+/// Totals of unchanged lines are read from their trees without a join.
 pub(crate) fn change_after_error<S: LineTotals>(
     alloc: Global,
     fold: Reduce,

@@ -1,9 +1,9 @@
-//! A patch of an array whose lines are kept as trees, with what was joined for it.
+//! A patch of an array whose lines have trees, with the parts joined for it.
 
 use fold_trees::Joined;
 use index_region::Patch;
 
-/// A patch, and where it has one place also the fold of its line and the parts that were joined for that.
+/// A patch. If it has one place, it comes with the new fold of its line and the parts joined for it.
 #[derive(Drop)]
 pub struct JoinedPatch {
     pub(crate) patch: Patch,

@@ -1,4 +1,4 @@
-//! Totals of lines that follow changes by trees of the lines.
+//! Updates totals of lines from trees of the lines.
 #![tactic(auto)]
 
 mod after_error;

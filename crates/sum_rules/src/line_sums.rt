@@ -1,4 +1,4 @@
-//! The folds of the lines of an array, by trees.
+//! Folds of the lines of an array, kept as trees.
 
 ghost use Rattle.std.specs.Prelude.{◌≡◌, ◌+◌, ◌*◌, ◌<◌, length, map, set, true, IfOk};
 ghost use Rattle.arrays_core.specs.declared.item.Item.TheVariants.{Num};
@@ -23,10 +23,10 @@ use std::alloc::{AllocError, Global};
 use std::cell::Cell;
 use std::marker::Model;
 
-/// A line with no more numbers has no tree.
+/// The longest line without a tree.
 const MOST_WITHOUT_TREE: u32 = 3;
 
-/// How long the lines along an axis are, axes counted from 0; 0 where there is no such axis.
+/// Returns the length of the lines along an axis, or 0 if there is no such axis. Axes count from 0.
 pub(crate) fn line_length(axis: usize, shape: &[u32]) -> u32
     ensures { result ≡ line_length axis shape.now }
 {
@@ -36,7 +36,7 @@ pub(crate) fn line_length(axis: usize, shape: &[u32]) -> u32
     }
 }
 
-/// How far the neighbours of a line lie apart.
+/// Returns the distance between neighbours on a line.
 pub(crate) fn line_step(axis: usize, shape: &[u32]) -> u32
     requires within { IsWithinLimits shape.now }
     requires some { 0 < size shape.now }
@@ -46,7 +46,7 @@ pub(crate) fn line_step(axis: usize, shape: &[u32]) -> u32
     size(&shape[axis + 1..])
 }
 
-/// How long the lines along the axis are that is written; 0 where there is no such axis.
+/// Returns the length of the lines along the axis of the formula, or 0 if there is no such axis.
 pub(crate) fn length_along(along: Along, shape: &[u32]) -> u32
     requires { IsWithinLimits shape.now }
     ensures { result ≡ length_along along shape.now }
@@ -58,8 +58,8 @@ pub(crate) fn length_along(along: Along, shape: &[u32]) -> u32
     line_length(along.axis_at(rank), shape)
 }
 
-/// Returns whether a fold of an array keeps trees: it is by `+ × ⌈ ⌊ ∧ ∨`, and the array is of numbers, has some, and has lines along the axis
-/// of more than three. Shorter lines are folded as fast without a tree.
+/// Tells if a fold of an array keeps trees. The function must be one of `+ × ⌈ ⌊ ∧ ∨`, the array non-empty and of numbers, and the lines longer than
+/// three. Shorter lines fold as fast without a tree.
 pub fn keeps_sums(fold: Reduce, array: &Seen) -> bool
     ensures { result ≡ keeps_sums fold array.now }
 {
@@ -69,7 +69,7 @@ pub fn keeps_sums(fold: Reduce, array: &Seen) -> bool
         && length_along(fold.along, array.shape().as_slice()) > MOST_WITHOUT_TREE
 }
 
-/// The folds of the lines of an array whose lines are long enough.
+/// Builds the trees of the lines of an array for which `keeps_sums` holds.
 fn sums_of(alloc: Global, fold: Reduce, array: &Array) -> Result<Option<LineSums>, AllocError>
     requires { keeps_sums fold array.now ≡ true }
     ensures { IfOk result (λ s. s ≡ summed fold array.now) }
@@ -96,7 +96,7 @@ fn sums_of(alloc: Global, fold: Reduce, array: &Array) -> Result<Option<LineSums
     }
 }
 
-/// Puts an item that is a number at a place of all lines, places counted from 0.
+/// Sets the number at a place of the lines; places count from 0.
 fn set_item(trees: &mut FoldTrees, place: usize, item: Item)
     requires place { place < length trees.old.lines.numbers }
     requires number { type_of item ≡ Nums }
@@ -110,7 +110,7 @@ fn set_item(trees: &mut FoldTrees, place: usize, item: Item)
     }
 }
 
-/// Puts the new items of a patch into the lines of an array of this shape.
+/// Writes the items of a patch into the lines of an array of this shape.
 fn write_into(shape: &Shape, trees: &mut FoldTrees, patch: &Patch)
     requires lines { IsArray (array_of_shape shape.now.items trees.old.lines.numbers) }
     requires fit { FitsPatch (array_of_shape shape.now.items trees.old.lines.numbers) patch.now }
@@ -131,8 +131,8 @@ fn write_into(shape: &Shape, trees: &mut FoldTrees, patch: &Patch)
     }
 }
 
-/// Joins the fold of the line of a patch of one place that lies in an array of this shape. Returns false, and joins nothing, where the patch has more
-/// places, lies elsewhere or has no number. AllocError where memory for the parts is refused.
+/// Joins the new fold of the line of a patch with one place. Returns false without a join if the patch has more places, lies outside the array or
+/// holds no number. Fails with AllocError if memory for the parts is short.
 fn join_one(
     shape: &Shape,
     trees: &FoldTrees,
@@ -158,7 +158,7 @@ fn join_one(
     Ok(true)
 }
 
-/// Puts the new items of a patch into the lines of an array of this shape, and writes what was joined for it.
+/// Writes the items of a patch into the lines, and reuses the parts joined for it.
 fn write_joined(shape: &Shape, trees: &mut FoldTrees, patch: &JoinedPatch)
     requires lines { IsArray (array_of_shape shape.now.items trees.old.lines.numbers) }
     requires fit { FitsPatch (array_of_shape shape.now.items trees.old.lines.numbers) patch.now.patch }
@@ -177,7 +177,7 @@ fn write_joined(shape: &Shape, trees: &mut FoldTrees, patch: &JoinedPatch)
     trees.set_joined(&patch.joined);
 }
 
-/// Trees take new lines behind the others, or one more place of each line. They take no memory.
+/// Appends new lines, or one more place of each line, to the trees. Does not allocate.
 fn take_growth(trees: &mut FoldTrees, growth: Growth)
     requires { FitsTrees trees.old growth }
     ensures { trees.new ≡ trees_grown trees.old growth }
@@ -188,17 +188,17 @@ fn take_growth(trees: &mut FoldTrees, growth: Growth)
     }
 }
 
-/// The trees of the lines of an array of this shape along an axis.
+/// The trees of the lines of an array along an axis.
 #[derive(Drop)]
 struct Lines {
     axis: usize,
     shape: Shape,
     trees: FoldTrees,
-    /// A box for the next patch, kept from the last one.
+    /// The box of the last patch, reused for the next one.
     room: Cell<Option<Box<JoinedPatch>>>,
 }
 
-/// The folds of the lines of an array of numbers along an axis by a function, as trees. They lie in a box, since most nodes of formulas have none.
+/// The folds of the lines of an array of numbers, as trees. They are boxed, since most nodes of formulas have none.
 #[derive(Drop)]
 pub struct LineSums {
     lines: Box<Lines>,
@@ -215,7 +215,8 @@ impl Model for LineSums {
 }
 
 impl LineSums {
-    /// Returns the trees of the lines of an array that are folded, or none where `keeps_sums` says so. AllocError where memory for them is refused.
+    /// Builds the trees of the lines, or returns None unless `keeps_sums` holds. Copies an array that carries a patch. Fails with AllocError if
+    /// memory is short.
     pub fn of(alloc: Global, fold: Reduce, array: &Seen) -> Result<Option<LineSums>, AllocError>
         ensures { IfOk result (λ s. s ≡ summed fold array.now) }
     {
@@ -228,7 +229,7 @@ impl LineSums {
         }
     }
 
-    /// The trees of the lines.
+    /// Borrows the trees of the lines.
     pub fn trees(&self) -> &FoldTrees
         ensures function { result.now.function ≡ self.now.function }
         ensures lines { StandFor result.now.lines self.now.axis self.now.array }
@@ -236,7 +237,7 @@ impl LineSums {
         &self.lines.trees
     }
 
-    /// Returns the trees of the lines with what was joined for a patch.
+    /// Borrows the trees of the lines, with the parts joined for a patch.
     pub fn trees_with<'a>(&'a self, patch: &'a JoinedPatch) -> JoinedTrees<'a>
         requires { IsJoinedWith self.now patch.now }
         ensures function { result.function ≡ self.now.function }
@@ -250,8 +251,8 @@ impl LineSums {
         }
     }
 
-    /// Returns a patch with what is joined for it, in the memory of the last patch. It takes memory only for the first patch and for longer lines;
-    /// AllocError where that is refused.
+    /// Joins the parts for a patch, in the memory of the last patch. Allocates only for the first patch and for longer lines. Fails with AllocError
+    /// if memory is short.
     pub fn joined(&self, alloc: Global, patch: Patch) -> Result<Box<JoinedPatch>, AllocError>
         ensures patch { IfOk result (λ b. b.value.patch ≡ patch) }
         ensures joined { IfOk result (λ b. IsJoinedWith self.now b.value) }
@@ -267,7 +268,7 @@ impl LineSums {
         Ok(boxed)
     }
 
-    /// Returns a patch in the box that was kept, or in a new one.
+    /// Puts a patch in the kept box, or in a new one.
     fn boxed(&self, alloc: Global, patch: Patch) -> Result<Box<JoinedPatch>, AllocError>
         ensures { IfOk result (λ b. b.value.patch ≡ patch) }
     {
@@ -288,7 +289,7 @@ impl LineSums {
         }
     }
 
-    /// Takes the items of a patch for which parts may have been joined, and keeps its box for the next one. It takes no memory.
+    /// Writes a patch into the lines, reuses its joined parts, and keeps its box for the next patch. Does not allocate.
     pub fn take(&mut self, patch: Box<JoinedPatch>)
         requires fit { FitsPatch self.old.array patch.value.patch }
         requires joined { IsJoinedWith self.old patch.value }
@@ -299,7 +300,7 @@ impl LineSums {
         kept.room.set(Some(patch));
     }
 
-    /// Takes new items for the places of a box. It takes no memory.
+    /// Writes the items of a patch into the lines. Does not allocate.
     pub fn write(&mut self, patch: &Patch)
         requires { FitsPatch self.old.array patch.now }
         ensures { self.new ≡ patched_sums self.old patch.now }
@@ -308,7 +309,7 @@ impl LineSums {
         write_into(&kept.shape, &mut kept.trees, patch);
     }
 
-    /// Takes the trees of new lines behind the others, or one more number for each line. It takes no memory.
+    /// Appends new lines, or one more number to each line. Does not allocate.
     pub fn grow(&mut self, lines: NewLines)
         requires { FitsSums self.old lines }
         ensures { self.new ≡ grown_sums self.old lines.tail.items }

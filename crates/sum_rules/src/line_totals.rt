@@ -1,4 +1,4 @@
-//! Trees that tell the total of a line where one number of it is another, or one more comes behind it.
+//! Trees that compute the total of a line with another number at a place, or one more at its end.
 
 ghost use Rattle.std.specs.Prelude.{◌≡◌, ◌<◌, ◌-◌, ◌/◌, ◌%◌, ◌++◌, ◌∷◌, [], length};
 ghost use Rattle.fold_trees.specs.FoldTrees.{IsWithinDigitsOf, IsReductionBy};
@@ -12,33 +12,33 @@ use arrays_core::Kind;
 use fold_trees::{FoldTrees, Joined, SumTree};
 use std::marker::Model;
 
-/// Trees of the lines of an array along one axis, which are folded by a function.
+/// Trees of the lines of an array along an axis, for one function.
 pub trait LineTotals {
     ghost use Rattle.std.specs.Prelude.{◌<◌, ◌-◌, ◌++◌, ◌∷◌, [], length};
     ghost use Rattle.fold_trees.specs.FoldTrees.{IsWithinDigitsOf, IsReductionBy};
     ghost use Rattle.fold_trees.specs.ArrayLines.{TreesValue, line_count, numbers_of_line, numbers_through, with_number};
     ghost use Rattle.function_names.specs.declared.scalar.Scalar2.{Scalar2 as Function};
 
-    // The function by which the lines are folded.
+    // The function that folds the lines.
     ghost function: { Self → Function };
 
     // The numbers of all lines.
     ghost trees: { Self → TreesValue };
 
-    /// The total of the line that a place is on with another number there, places counted from 0, and how many parts were joined for
-    /// it; or the error that the fold from the right meets.
+    /// Returns the total of the line through a place with another number there, and the number of parts joined for it. Places count from 0. Fails
+    /// with the error that the fold from the right meets.
     fn total_with(&self, place: usize, number: i64) -> (Result<i64, Kind>, u32)
         requires { place < length (trees self.now).numbers }
         ensures total { IsReductionBy (function self.now) (numbers_through (with_number (trees self.now) place number) place) result.0 }
         ensures joins { IsWithinDigitsOf ((trees self.now).count - 1) result.1 }
         ensures some { 1 < (trees self.now).count → 0 < result.1 };
 
-    /// The total of a line, lines counted from 0, which joins nothing; or the error that the fold from the right meets.
+    /// Returns the total of a line without a join; lines count from 0. Fails with the error that the fold from the right meets.
     fn total(&self, line: usize) -> Result<i64, Kind>
         requires { line < line_count (trees self.now) }
         ensures { IsReductionBy (function self.now) (numbers_of_line (trees self.now) line) result };
 
-    /// Returns the line that was remembered last, lines counted from 0: a hint, of which no contract speaks.
+    /// Returns the line that was remembered last, counted from 0. It is a hint without a contract.
     fn failing_line(&self) -> usize {
         0
     }
@@ -46,8 +46,8 @@ pub trait LineTotals {
     /// Remembers a line whose total is an error.
     fn remember_failing(&self, _line: usize) {}
 
-    /// The total of a line and of one more number behind its last one, lines counted from 0, which takes one join of parts; or the error that
-    /// the fold from the right meets.
+    /// Returns the total of a line with one more number at its end, in one join; lines count from 0. Fails with the error that the fold from the
+    /// right meets.
     fn total_behind(&self, line: usize, number: i64) -> Result<i64, Kind>
         requires { line < line_count (trees self.now) }
         ensures { IsReductionBy (function self.now) (numbers_of_line (trees self.now) line ++ number ∷ []) result };
@@ -79,7 +79,7 @@ impl LineTotals for FoldTrees {
     }
 }
 
-/// Trees with what was joined for another number at one place of their lines, if anything was.
+/// Trees, with the parts joined for another number at one place, if any.
 #[derive(Drop)]
 pub struct JoinedTrees<'a> {
     trees: &'a FoldTrees,
@@ -99,7 +99,7 @@ impl<'a> Model for JoinedTrees<'a> {
 }
 
 impl<'a> JoinedTrees<'a> {
-    /// Returns trees with what was joined for another number at a place.
+    /// Combines trees with the parts joined for another number at a place.
     pub(crate) fn of(trees: &'a FoldTrees, joined: &'a Joined) -> JoinedTrees<'a>
         requires { IsJoinedFor trees.now joined.now }
         ensures { result ≡ trees.now }
@@ -110,7 +110,7 @@ impl<'a> JoinedTrees<'a> {
         }
     }
 
-    /// Returns trees for which nothing was joined.
+    /// Wraps trees without joined parts.
     pub fn alone(trees: &'a FoldTrees) -> JoinedTrees<'a>
         ensures { result ≡ trees.now }
     {
@@ -152,7 +152,7 @@ impl<'a> LineTotals for JoinedTrees<'a> {
     }
 }
 
-/// A tree of its own for each line of so many numbers, whose neighbours lie side by side.
+/// One tree for each line of `count` contiguous numbers.
 #[derive(Clone, Copy)]
 pub(crate) struct TreeALine<'a> {
     pub(crate) count: usize,

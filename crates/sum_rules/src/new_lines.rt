@@ -1,4 +1,4 @@
-//! The lines that an array grows by, for the trees of its lines.
+//! The numbers by which an array grows, for the trees of its lines.
 
 ghost use Rattle.std.specs.Prelude.{◌≡◌, ◌<◌, true, length, drop, IfOk};
 ghost use Rattle.arrays_core.specs.declared.item.ItemType.TheVariants.{Nums};
@@ -14,17 +14,17 @@ use item_fns::Scalar2;
 use std::alloc::{AllocError, Global};
 use std::marker::Model;
 
-/// What the lines of an array get where it grows.
+/// The new numbers of lines when their array grows.
 #[derive(Drop)]
 pub(crate) enum Growth {
-    /// New lines behind the others.
+    /// New lines after the others.
     Lines(NewFolds),
-    /// One more place of each line, where they lie along the first axis.
+    /// One more place of each line, if the lines lie along the first axis.
     Places(NextFolds),
 }
 
-/// What the lines of an array of numbers get where it grows, as trees or for the trees that they have, with the shape that the array has
-/// then. It brings the room that the trees of all its lines may need, so that `LineSums::grow` takes no memory.
+/// The new numbers of an array that grows, as trees or for the trees of its lines, and the new shape of the array. It carries all the room that the
+/// trees may need, so that `LineSums::grow` does not allocate.
 #[derive(Drop)]
 pub struct NewLines {
     axis: usize,
@@ -43,8 +43,8 @@ impl Model for NewLines {
 }
 
 impl NewLines {
-    /// What the lines along an axis get by a tail, which is one place of an array that has numbers then. Axes are counted from 0.
-    /// AllocError where memory for it, or for the room, is refused.
+    /// Builds the new lines, or the new places of lines, from a tail of a non-empty array of numbers. Axes count from 0. Fails with AllocError if
+    /// memory is short, for the room too.
     pub fn of(
         alloc: Global,
         function: Scalar2,
@@ -72,7 +72,7 @@ impl NewLines {
     }
 }
 
-/// What the lines along an axis get by these numbers, with which the array has this shape.
+/// Builds the growth of the lines along an axis by these numbers; `shape` is the new shape.
 fn growth_of(
     alloc: Global,
     function: Scalar2,

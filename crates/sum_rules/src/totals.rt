@@ -1,4 +1,4 @@
-//! The change of the totals of lines, from trees of their sums.
+//! The change of the totals of lines, from trees of the lines.
 
 ghost use Rattle.std.specs.Prelude.{◌≡◌, ◌-◌, ◌+◌, ◌≤◌, ◌<◌, ◌∷◌, [], true, false, Some, length, map, remove, IfOk, OnOk, IsTrue};
 ghost use Rattle.arrays_core.specs.declared.item.Item.TheVariants.{Num};
@@ -39,7 +39,7 @@ use item_fns::Scalar2;
 use reduce_fns::Reduce;
 use std::alloc::{AllocError, Global};
 
-/// The box has one place on an axis, axes counted from 0.
+/// Tells if the box has one place on an axis; axes count from 0.
 fn is_one_a_line(axis: usize, region: &IndexBox) -> bool
     ensures { result ≡ is_one_a_line axis region.now }
 {
@@ -49,7 +49,7 @@ fn is_one_a_line(axis: usize, region: &IndexBox) -> bool
     }
 }
 
-/// The total of the line that a place is on with a new item there, and how many parts were joined for it.
+/// Returns the total of the line through a place with a new item there, and the number of parts joined for it.
 fn total_with<S: LineTotals>(sums: &S, place: usize, item: Item) -> (Result<Item, Kind>, u32)
     requires { place < length (S.trees sums.now).numbers }
     ensures total { result.0 ≡ fold_right (S.function sums.now) (map (λ z. Num z) (numbers_through (with_number (S.trees sums.now) place (number_of item)) place)) }
@@ -68,7 +68,7 @@ fn total_with<S: LineTotals>(sums: &S, place: usize, item: Item) -> (Result<Item
     }
 }
 
-/// The total of the line of an array of this shape that a place of the box is on, which has a new number there. It takes no memory.
+/// Returns the total of the line through a place of the patch, with its new number. Does not allocate.
 pub(crate) fn line_total<S: LineTotals>(
     fold: Reduce,
     shape: &Shape,
@@ -90,7 +90,7 @@ pub(crate) fn line_total<S: LineTotals>(
     ensures joins { AreJoinsWithin 1 (length_along fold.along shape.now.items) meter.old.joins meter.new.joins }
     ensures least { AreJoinsFrom 1 (length_along fold.along shape.now.items) meter.old.joins meter.new.joins }
 {
-    // The type of the items says that the patch has one item for each place.
+    // Reading the item type brings in the fact that the patch has one item for each place.
     let _one_item_a_place = patch.item_type();
     let place = places_before(shape, index);
     let item = patch.item(index);
@@ -100,7 +100,7 @@ pub(crate) fn line_total<S: LineTotals>(
     total
 }
 
-/// The totals of the lines of an array of this shape that have a new number each, or the first error among them.
+/// Returns the totals of the lines that get a new number, or the first error among them.
 fn new_totals<S: LineTotals>(
     alloc: Global,
     fold: Reduce,
@@ -135,8 +135,7 @@ fn new_totals<S: LineTotals>(
     Ok(totals)
 }
 
-/// The change of the totals of an array of which a box that has one place on their axis is new, where they were an
-/// array, put in place of another one, and what it costs.
+/// Replaces `change` by the change of the totals, if they were an array and the patch has one place on the axis of the lines. Returns its cost.
 fn change_by_trees<S: LineTotals>(
     alloc: Global,
     fold: Reduce,
@@ -181,7 +180,7 @@ fn change_by_trees<S: LineTotals>(
     }
 }
 
-/// The patch of the total of one line, or the error there, put in place of another change. It takes no memory.
+/// Replaces `change` by the patch of the total of one line, or by its error. Does not allocate.
 fn patch_of_one<S: LineTotals>(
     fold: Reduce,
     region: IndexBox,
@@ -209,7 +208,7 @@ fn patch_of_one<S: LineTotals>(
     }
 }
 
-/// The patch of the totals of the lines of a box, or the first error among them. One total takes no memory.
+/// Replaces `change` by the patch of the totals of the changed lines, or by the first error among them. For one total it does not allocate.
 fn patch_of<S: LineTotals>(
     alloc: Global,
     fold: Reduce,
@@ -242,8 +241,7 @@ fn patch_of<S: LineTotals>(
     Ok(())
 }
 
-/// The totals of lines that get one of these numbers each behind their last one, as an array of this shape, or the first error among
-/// them.
+/// Returns the totals of all lines with one more number after each line, or the first error among them.
 fn totals_behind<S: LineTotals>(
     alloc: Global,
     shape: &Shape,
@@ -275,8 +273,7 @@ fn totals_behind<S: LineTotals>(
     Ok(totals)
 }
 
-/// The change of the totals of an array that grew by one place of each line, where they were an array, and what it costs. It takes one
-/// join of parts a total.
+/// Replaces `change` by all totals of an array whose lines got one more place each. Returns their number as the cost. Takes one join for each total.
 fn change_by_growth<S: LineTotals>(
     alloc: Global,
     fold: Reduce,
@@ -312,8 +309,8 @@ fn change_by_growth<S: LineTotals>(
     Ok(cost)
 }
 
-/// The change of the totals of B by a fold, put in place of another one as `refresh_with_cost` does it, and what it costs: how many totals it works
-/// out at most. Each of these lines is folded, which joins as many numbers as the line has, less one.
+/// Replaces `change` by the change of the totals of B, as `refresh_with_cost` does. Returns the cost: the most totals that it computes. Folds each of
+/// these lines, and counts one join less than the line has numbers.
 pub fn fold_totals_with_cost(
     alloc: Global,
     fold: Reduce,
@@ -344,10 +341,10 @@ pub fn fold_totals_with_cost(
     Ok(cost)
 }
 
-/// The change of the totals of B by a fold, put in place of another one as `refresh_with_cost` does it, and what it costs: how many totals it works
-/// out at most. Where the box of B that changed has one place on their axis, each new total comes from
-/// the tree of its line, in as many joins of parts as the length of the line less one has binary digits; where they held an error the others are read from
-/// their trees, which joins nothing. In one join each comes from its tree where B grew along their axis. In every other case the lines are folded.
+/// Replaces `change` by the change of the totals of B, as `refresh_with_cost` does. Returns the cost: the most totals that it computes. If the
+/// changed box of B has one place on the axis of the lines, each new total comes from the tree of its line. This takes at most as many joins as the
+/// length of the line, less one, has binary digits. After an error the other totals are read from their trees, without joins. If B grew along the
+/// axis of the lines, each total takes one join. In all other cases the lines are folded.
 pub fn refresh_totals_with_cost<S: LineTotals>(
     alloc: Global,
     fold: Reduce,
@@ -371,11 +368,11 @@ pub fn refresh_totals_with_cost<S: LineTotals>(
     ensures whole { OnOk result (BringsUpToDate (total_rule fold) (arg.entry ∷ []) old.now change.new) }
 {
     let (array, delta) = arg;
-    // The shape says that it is an array.
+    // Reading the shape brings in the fact that the argument is an array.
     let rank = array.shape().as_slice().len() as u32;
     if let Delta::Patch(patch) = delta {
         if is_one_a_line(fold.along.axis_at(rank), patch.region()) {
-            // The count says that it is a number of 64 bits.
+            // Reading the count brings in the fact that it fits 64 bits.
             let _counted = meter.ticks();
             if old.is_ok() {
                 return change_by_trees(alloc, fold, &array, patch, sums, change, meter);
@@ -391,7 +388,7 @@ pub fn refresh_totals_with_cost<S: LineTotals>(
     fold_totals_with_cost(alloc, fold, (array, delta), old, change, meter)
 }
 
-/// The change of `+/B` that `refresh_totals_with_cost` puts in place by a tree for each line, without its cost.
+/// Returns the change of `+/B`, as `refresh_totals_with_cost` does with one tree for each line, but without the cost.
 pub fn refresh_sums(
     alloc: Global,
     arg: (Seen, &Delta),

@@ -1,4 +1,4 @@
-//! The totals of all lines of an array, read from the trees of these lines.
+//! All totals of an array, read from the trees of its lines.
 
 ghost use Rattle.std.specs.Prelude.{◌≡◌, ◌+◌, ◌≤◌, ◌<◌, ◌∷◌, [], false, Some, IfOk, OnOk};
 ghost use Rattle.arrays_core.specs.declared.item.ItemType.TheVariants.{Nums};
@@ -22,7 +22,7 @@ use index_region::{Delta, Seen};
 use reduce_fns::Reduce;
 use std::alloc::{AllocError, Global};
 
-/// The totals of all lines of these trees, as an array of this shape, or the first error among them.
+/// Reads all totals from the trees into an array of this shape, or returns the first error among them.
 fn totals_of_all(
     alloc: Global,
     shape: &Shape,
@@ -50,8 +50,7 @@ fn totals_of_all(
     Ok(totals)
 }
 
-/// The totals of an array as a whole, of whose lines these are the folds, and what they cost. They are read from the trees; no join is
-/// counted.
+/// Replaces `change` by all totals of the array, read from the trees, and returns their number as the cost. Counts no joins.
 fn totals_read(
     alloc: Global,
     fold: Reduce,
@@ -81,10 +80,8 @@ fn totals_read(
     Ok(cost)
 }
 
-/// The totals of an array as a whole, as their evaluation answers them, put in place of another change, and what they cost: how many totals there are.
-/// They are read from
-/// the folds of its lines, which were made before: its items are not gone over again. A tree of a line was made in as many joins as the
-/// line has numbers, less one; these are counted here.
+/// Replaces `change` by the evaluation of the totals, read from the trees of the lines; the items are not visited again. Returns the number of totals
+/// as the cost. Also counts the joins that built the trees: one less for each line than it has numbers.
 pub fn read_totals_with_cost(
     alloc: Global,
     fold: Reduce,

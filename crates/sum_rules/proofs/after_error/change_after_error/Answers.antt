@@ -34,7 +34,7 @@ returns-clause-delta g c =
     let whole = whole_now c.args.fold _ _ _ c.requires.lines _ _ (form_is g (goal.at.returns-clause-delta g c).In-Ok) _ c.shape-axes.ensures.is in
     ap Whole (outcome_given _ c.totals_now-totals.result c.in_ok-outcome-in-Inside.field-0 c.totals_now-totals.ensures.totals c.in_ok-outcome-in-Inside.ensures) ∙ sym (ap (λ r. Whole (given r)) whole)
 
--- an error elsewhere is what the whole comes to
+-- an error elsewhere is the error of the whole
 pub returns-in-Some-clause-delta : goal.returns-in-Some-clause-delta
 returns-in-Some-clause-delta g c =
     let whole = whole_now c.args.fold _ _ _ c.requires.lines _ _ (form_is g (goal.at.returns-in-Some-clause-delta g c).In-Ok) _ c.shape-axes.ensures.is in

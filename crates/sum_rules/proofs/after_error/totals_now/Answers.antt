@@ -22,7 +22,7 @@ below g c = omega (arith, c.loop-line-test.true, c.size-line-end.ensures, ap siz
 index_is : (g : Over) (c : After-as_slice-in-loop-line g) → c.as_slice-in-loop-line.result.now ≡ index_after c.args.shape.now.items c.loop-line.line
 index_is g c = c.as_slice-in-loop-line.ensures ∙ c.index_of_position-index.ensures.is ∙ ap (index_after c.args.shape.now.items) (omega arith)
 
--- its total, worked out anew
+-- the total of this line in the patched array
 total_is : (g : Over) (c : After-total_now g)
     → reduce_item c.args.fold.function c.args.fold.along (patched (array_of_shape c.args.axes.now.items (g.S.LineTotals.trees c.args.sums.now).numbers) c.args.patch.now)
     (walk_at (whole_of c.args.shape.now.items) c.loop-line.line) ≡ c.total_now.result

@@ -17,7 +17,7 @@ below g c = omega (arith, c.loop-line-test.true, c.size-lines.ensures, ap box_si
 under : (g : Over) (c : In-loop-line g) → c.loop-line.line < box_size (box_of_lines (axis_at (length c.args.shape.now.items) c.args.fold.along) c.args.patch.now.region)
 under g c = omega (arith, below g c, same_many g (goal.at-In-loop-line g c).Start)
 
--- its total, worked out anew
+-- the total of this line in the patched array
 total_is : (g : Over) (c : After-line_total g)
     → reduce_item c.args.fold.function c.args.fold.along (patched (array_of_shape c.args.shape.now.items (g.S.LineTotals.trees c.args.sums.now).numbers) c.args.patch.now)
     (walk_at (box_of_lines (axis_at (length c.args.shape.now.items) c.args.fold.along) c.args.patch.now.region) c.loop-line.line) ≡ c.line_total.result
