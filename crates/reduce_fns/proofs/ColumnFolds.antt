@@ -34,7 +34,7 @@ module _ (f : ℤ → ℤ → Result ℤ Kind) (xs : List ℤ) (stride count : �
   start_at : (block column : ℕ) → column < stride → line_start stride count (block * stride + column) ≡ block * (count * stride) + column
   start_at block column inside = rw (div-mul-add block stride column inside, mod-mul-add block stride column inside) refl
 
-  -- a block more
+  -- one more block
   pub block_more : (block : ℕ) (before all : List ℤ) → length before ≡ block * stride
       → EndsInFolds f (take (count * stride) (drop (block * (count * stride)) xs)) stride count before all
       → ((place : ℕ) → place < block * stride → at_place place ≡ Ok (get_or before place (pos 0)))
@@ -53,7 +53,7 @@ module _ (f : ℤ → ℤ → Result ℤ Kind) (xs : List ℤ) (stride count : �
             ∙ ap Ok (sym (ap (λ ys. get_or ys place (pos 0)) ends.is ∙ get_or-append_right before ends.folds (block * stride) place (pos 0) long h)))
       ]
 
--- all places have come where as many blocks have
+-- after all blocks, all places are done
 pub all_blocks : (block stride places : ℕ) → block ≤ places / stride → places / stride ≤ block → places % stride ≡ 0 → block * stride ≡ places
 all_blocks block stride places low high even =
     let same : block ≡ places / stride = omega arith in

@@ -1,11 +1,11 @@
--- The sums of the endings of a list of numbers of 64 bits.
+-- Suffix sums of a list of 64-bit numbers.
 use Rattle.std.{proofs.Common.{◌≡◌, suc, ◌<◌, List, [], ◌∷◌, ◌++◌, length, refl, ap, sym, subst, ◌∙◌, arith, ℤ, pos, ◌+ℤ◌, ◌≤ℤ◌, Result, Ok, Err}, specs.Int.{int_max, int_min}, specs.List.{All}, proofs.lemmas.Int.{ints, clamps}}
 use Rattle.arrays_core.{specs.declared.item.Kind.{Kind}, specs.declared.item.Kind.TheVariants.{Limit}, specs.Items.{and_then}}
 use Rattle.function_names.specs.declared.scalar.Scalar2.TheVariants.{Plus}
 use Rattle.item_fns.{specs.Numbers.{dyadic_on_numbers, number_or_limit}, specs.Identities.{least, greatest}, specs.Folds.{folded}, proofs.Within.{Within, held_within, held_ok, held_error}}
 use Rattle.reduce_fns.{specs.LeftFolds.{fold_on, folded_left}, proofs.Firsts.{Given}}
 
--- ---- the sum of a list, and the greatest and the least sum of an ending of it
+-- ---- the sum of a list, and its greatest and least suffix sums
 
 abbrev pub total : ℤ → List ℤ → ℤ
 total x [] = x
@@ -48,7 +48,7 @@ fewest_more x (w ∷ rest) y =
 
 -- ---- the right fold
 
--- the sums of all endings are numbers of 64 bits
+-- all suffix sums fit 64 bits
 pub record Fits (x : ℤ) (rest : List ℤ) : Type 0 where
   pub low : least ≤ℤ fewest x rest
   pub high : most x rest ≤ℤ greatest
@@ -83,7 +83,7 @@ folded_error x (y ∷ rest) k h = decide (folded (dyadic_on_numbers Plus) (y ∷
     decide (Ok z) later h = held_error (x +ℤ z) k h
     decide (Err e) later h = let same : e ≡ k = cc in sym same ∙ later e refl
 
--- ---- the folds from the left that keep the greatest and the least sum of an ending
+-- ---- left folds that keep the greatest and the least suffix sum
 
 abbrev pub greatest_step : ℤ → ℤ → Result ℤ Kind
 greatest_step a b = dyadic_on_numbers Plus (int_max a (pos 0)) b
@@ -116,7 +116,7 @@ fewest_kept x (y ∷ rest) z within h =
     one_step (int_min x (pos 0) +ℤ y) y z (fewest x (y ∷ rest)) rest (number_or_limit (int_min x (pos 0) +ℤ y)) least_step (λ w. fewest w rest) refl
     (λ w inside g. fewest_kept w rest z inside g) (fewest_left x y rest) h
 
--- where both keep to 64 bits, so does the sum between them
+-- if the greatest and the least suffix sum fit 64 bits, so does the sum
 total_left : (x y : ℤ) (rest : List ℤ) → total (x +ℤ y) rest ≡ x +ℤ total y rest
 total_left x y [] = refl
 total_left x y (w ∷ rest) = omega (arith, ints)
@@ -153,7 +153,7 @@ sum_from_left (x ∷ rest) top bottom within g l =
     sum_between rest x x x top bottom (omega (arith, ints)) (omega (arith, ints)) g l
     ∙ sym (folded_sum x rest (record { low = omega (arith, ints); high = omega (arith, ints) }))
 
--- where the sums of all endings keep to 64 bits, so do the next ones of these
+-- if all suffix sums fit 64 bits, so do the next greatest and least
 last_within : (x : ℤ) (rest : List ℤ) (y : ℤ) → All Within (x ∷ (rest ++ y ∷ [])) → Within y
 last_within x [] y h = h 1 y (omega arith)
 last_within x (w ∷ rest) y h = last_within w rest y (λ k d below. h (suc k) d (omega arith))

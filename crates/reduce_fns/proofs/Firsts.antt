@@ -1,4 +1,4 @@
--- Results that a rule gives for n places: all of them, or the first error.
+-- Results of a rule at n places: all of them, or the first error.
 use Rattle.std.{proofs.Common.{◌≡◌, ℕ, zero, suc, ◌+◌, ◌<◌, ◌≤◌, List, [], ◌∷◌, length, get_or, map, refl, ap, sym, ◌∙◌, arith, Result, Ok, Err}, specs.List.{range_with_len}, proofs.lemmas.List.FromFn.{length-map-range_with_len, get_or-map-range_with_len}}
 use Rattle.arrays_core.specs.Items.{after, all_or_first_error}
 
@@ -52,7 +52,7 @@ module _ {A E : Type 0} where
       let rest = error_of rs d e (after_error y (all_or_first_error rs) e h) in
       record { place = suc rest.place; below = omega (arith, rest.below); is = rest.is }
 
-  -- ---- of a rule
+  -- ---- results of a rule
 
   module _ (rule : ℕ → Result A E) (n : ℕ) where
     pub rule_entry : (xs : List A) (k : ℕ) (x : A) → all_or_first_error (map rule (range_with_len 0 n)) ≡ Ok xs → k < n → rule k ≡ Ok (get_or xs k x)
@@ -80,7 +80,7 @@ module _ {A E : Type 0} where
         let inside : f.place < n = omega (arith, f.below) in
         record { place = f.place; below = inside; is = sym (get_or-map-range_with_len rule 0 n f.place f.place (Ok x) inside (omega arith)) ∙ f.is }
 
--- rules that give the same at each of n places
+-- two rules that agree at n places
 pub same_rules : {B : Type 0} (rule other : ℕ → B) (n : ℕ) → ((k : ℕ) → k < n → rule k ≡ other k) → map rule (range_with_len 0 n) ≡ map other (range_with_len 0 n)
 same_rules {B = B} rule other n h = from 0 n (λ k below. h k (omega (arith, below.1)))
   where
@@ -88,7 +88,7 @@ same_rules {B = B} rule other n h = from 0 n (λ k below. h k (omega (arith, bel
     from a zero h = refl
     from a (suc m) h = rw (h a (omega arith, omega arith), from (a + 1) m (λ k below. h k (omega (arith, below.0), omega (arith, below.1)))) refl
 
--- a rule that gives the entries of a list
+-- a rule that yields the entries of a list
 pub all_places : {A E : Type 0} (rule : ℕ → Result A E) (n : ℕ) (xs : List A) (d : A) → length xs ≡ n → ((k : ℕ) → k < n → rule k ≡ Ok (get_or xs k d))
     → all_or_first_error (map rule (range_with_len 0 n)) ≡ Ok xs
 all_places {A = A} {E = E} rule n xs d long h = from 0 n xs long (λ k below. (let z : 0 + k ≡ k = omega arith in ap rule z ∙ h k below))

@@ -13,7 +13,7 @@ remove_inserted (suc axis) j (i ∷ others) h = ap (λ rest. i ∷ rest) (remove
 stride_more : (i s x y t : ℕ) → x ≡ y + t → i * s + x ≡ i * s + y + t
 stride_more i s x y t e = omega arith
 
--- one place further along an axis is as many places as the later axes have
+-- one step along an axis is one stride in the ravel
 pub stride : (axis : ℕ) (shape index : List ℕ) (j : ℕ) → axis < length shape → length index + 1 ≡ length shape
     → places_before shape (insert index axis j) ≡ places_before shape (insert index axis 1) + (j - 1) * size (drop (suc axis) shape)
 stride axis [] index j h e = absurd (omega arith)

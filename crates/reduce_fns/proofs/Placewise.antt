@@ -1,4 +1,4 @@
--- Arrays of numbers that are given place by place.
+-- Arrays of numbers, place by place.
 use Rattle.std.{proofs.Common.{◌≡◌, ℕ, ◌<◌, true, List, [], map, ℤ, pos, Result, Ok, ap, sym, ◌∙◌, arith}, specs.List.{range_with_len}, proofs.lemmas.List.{length-map, ext_get_or, get_or_default}, proofs.lemmas.List.FromFn.{length-map-range_with_len, get_or-map-range_with_len}, proofs.Math.ListN.{get_or-map}}
 use Rattle.arrays_core.{specs.declared.item.Item.{Item}, specs.declared.item.ItemType.{ItemType}, specs.declared.item.ItemType.TheVariants.{Nums}, specs.declared.item.Kind.{Kind}, specs.Items.{all_or_first_error}, specs.Shapes.{size, indices, index_after, is_index_of, places_before}, specs.Arrays.{collect, with_items}}
 use Rattle.arrays_core.proofs.Order.{length-indices, get_or-indices, places_before-index_after, index_after-within}
@@ -15,7 +15,7 @@ numbers_collected shape number =
     ap (λ k. number_item (number k)) (places_before-index_after shape i h)
     ∙ sym (ap number_item (get_or-map-range_with_len number 0 (size shape) i i (Ok (pos 0)) h (omega arith))))
 
--- rules that give the same at each index list give one array
+-- rules that agree at each index list yield the same array
 pub collected_same : (t : ItemType) (shape : List ℕ) (rule other : List ℕ → Result Item Kind)
     → ((index : List ℕ) → is_index_of shape index ≡ true → rule index ≡ other index) → collect t shape rule ≡ collect t shape other
 collected_same t shape rule other same =

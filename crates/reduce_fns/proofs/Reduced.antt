@@ -31,7 +31,7 @@ numbers_folded f xs items first stride count is h =
     ∙ ap (fold_right f) (strided_numbers xs first stride count)
     ∙ number_items_folded f (strided (pos 0) xs first stride count) (omega arith)
 
--- ---- where lines begin
+-- ---- starts of lines
 -- the sizes of a shape and of it without an axis
 pub record Sizes (axis : ℕ) (shape : List ℕ) : Type 0 where
   pub lines : ℕ

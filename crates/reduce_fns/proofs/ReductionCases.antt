@@ -35,7 +35,7 @@ worked_cases : AllSame (
     reduce_whole two.Plus Last (nums [] (5 ∷ [])) ⇒ is (nums [] (5 ∷ [])) ∷
     reduce_whole two.Plus First (chars [] (97 ∷ [])) ⇒ is (chars [] (97 ∷ [])) ∷  -- scalar character
     reduce_whole two.Plus (Axis (pos 1)) (nums [] (5 ∷ [])) ⇒ fails AxisError ∷  -- scalar axis
-    -- one item a line is of its own type
+    -- a line of one item keeps its type
     reduce_whole two.Plus Last (chars (1 ∷ []) (97 ∷ [])) ⇒ is (chars [] (97 ∷ [])) ∷
     reduce_whole two.Plus Last (chars (2 ∷ 1 ∷ []) (97 ∷ 98 ∷ [])) ⇒ is (chars (2 ∷ []) (97 ∷ 98 ∷ [])) ∷  -- characters one a line
     reduce_whole two.Plus First (chars (1 ∷ 2 ∷ []) (97 ∷ 98 ∷ [])) ⇒ is (chars (2 ∷ []) (97 ∷ 98 ∷ [])) ∷  -- characters one a column
@@ -71,7 +71,7 @@ worked_cases : AllSame (
     reduce_whole two.And Last (nums (2 ∷ []) (0 ∷ 2 ∷ [])) ⇒ fails Domain ∷  -- and of 2
     reduce_whole two.And Last (nums (1 ∷ []) (2 ∷ [])) ⇒ is (nums [] (2 ∷ [])) ∷  -- and of 2 alone
     reduce_whole two.Or Last (nums (2 ∷ []) (1 ∷ 2 ∷ [])) ⇒ fails Domain ∷  -- or of 1 and 2
-    -- where lines fail, the first line's error
+    -- if several lines fail, the first gives the error
     reduce_whole two.Divide Last (ints (2 ∷ 2 ∷ []) (least ∷ minus 1 ∷ pos 1 ∷ pos 0 ∷ [])) ⇒ fails Limit ∷
     reduce_whole two.Divide Last (ints (2 ∷ 2 ∷ []) (pos 1 ∷ pos 0 ∷ least ∷ minus 1 ∷ [])) ⇒ fails Domain ∷  -- second line with an error
     reduce_whole two.Divide First (ints (2 ∷ 2 ∷ []) (pos 1 ∷ least ∷ pos 0 ∷ minus 1 ∷ [])) ⇒ fails Domain ∷  -- first column with an error

@@ -1,4 +1,4 @@
--- Small numbers stay within 64 bits, in whatever order they are added.
+-- Sums of small numbers fit 64 bits in any order.
 use Rattle.std.{proofs.Common.{◌≡◌, ℕ, sym, suc, ◌+◌, ◌*◌, ◌<◌, ◌≤◌, ℤ, pos, negsuc, neg_ℤ, ◌+ℤ◌, ◌≤ℤ◌, List, [], ◌∷◌, length, ap, ◌∙◌, Ok, arith, w64, SFits}, specs.List.{All}, proofs.lemmas.Int.{ints, clamps}}
 use Rattle.{arrays_core.specs.Items.{and_then}, function_names.specs.declared.scalar.Scalar2.TheVariants.{Plus}}
 use Rattle.item_fns.{specs.Numbers.{dyadic_on_numbers}, specs.Folds.{folded}, proofs.Within.{held_within}}
@@ -8,7 +8,7 @@ pub sum_total : (x : ℤ) (rest : List ℤ) → total x rest ≡ sum_of (x ∷ r
 sum_total x [] = omega (arith, ints)
 sum_total x (y ∷ rest) = ap (λ z. x +ℤ z) (sum_total y rest)
 
--- the sums of the endings of a list of small numbers
+-- suffix sums of small numbers
 record Bounded (x : ℤ) (rest : List ℤ) : Type 0 where
   total_low : neg_ℤ (pos (8796093022208 * (length rest + 1))) ≤ℤ total x rest
   total_high : total x rest ≤ℤ pos (8796093022207 * (length rest + 1))
@@ -34,7 +34,7 @@ pub fits_between : (z : ℤ) → neg_ℤ (pos 9223372036854775808) ≤ℤ z → 
 fits_between (pos n) low high = record { sfits = omega (arith, ints, high) }
 fits_between (negsuc n) low high = record { sfits = omega (arith, ints, low) }
 
--- from the left, after as many small numbers as are told
+-- the left fold of small numbers, from the sum of n earlier ones
 from_left : (x : ℤ) (rest : List ℤ) (n : ℕ) → neg_ℤ (pos (8796093022208 * n)) ≤ℤ x → x ≤ℤ pos (8796093022207 * n) → All IsSmall rest → n + length rest ≤ 1048576
     → fold_on (dyadic_on_numbers Plus) x rest ≡ Ok (x +ℤ sum_of rest)
 from_left x [] n low high h few = ap Ok (omega (arith, ints))

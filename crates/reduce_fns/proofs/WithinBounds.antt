@@ -1,4 +1,4 @@
--- Numbers within a bound, and the bits of those that are moved up by it.
+-- Numbers within a bound, and the bits of the numbers plus the bound.
 use Rattle.std.{proofs.Common.{ℕ, ◌+◌, ◌%◌, ◌/◌, ◌<◌, ℤ, pos, negsuc, arith, of_z, w64, SFits}, proofs.lemmas.Int.{ints}}
 use Rattle.reduce_fns.specs.Sum.{IsWithinBound}
 

@@ -1,4 +1,4 @@
--- Lists of numbers that are written at their end.
+-- Lists of numbers whose end is overwritten.
 use Rattle.std.{proofs.Common.{◌≡◌, ℕ, ◌+◌, ◌-◌, List, [], ◌++◌, length, drop, take, ℤ, ap, sym, ◌∙◌, arith}, proofs.lemmas.List.{length-append, length-drop, take_at, take_all, drop_at, drop_all, append-nil}}
 
 module _ (front back items : List ℤ) (is : items ≡ front ++ back) where
@@ -11,7 +11,7 @@ module _ (front back items : List ℤ) (is : items ≡ front ++ back) where
       let long : length items ≡ length front + length back = ap length is ∙ length-append front back in
       rw rest (take_all (length items - n) back (omega arith))
 
-  -- the end of a list is written over
+  -- overwriting the end of a list
   pub written : (n : ℕ) (new other : List ℤ) (long : ℕ) → n ≡ length front → length new ≡ length back → long ≡ length items
       → take long ((take n items ++ (new ++ drop (length items - n) (drop n items))) ++ drop (length (take n items ++ (new ++ drop (length items - n) (drop n items)))) other)
       ≡ front ++ new

@@ -11,7 +11,7 @@ position-first_place-requires-clause-in_range c =
     rw (c.shape-shape.ensures.is, c.as_slice.ensures, c.with_axis-first.ensures.is)
     (inside c.args.axis c.args.array.now.shape c.args.index.now 1 c.requires.there c.requires.inside (omega arith) (omega (arith, c.requires.some, c.requires.few)))
 
--- the line whose numbers these are
+-- the line with these numbers
 taken : (c : After-stride-apart) → LineTaken c.args.array.now c.args.axis c.args.index.now c.args.count c.position-first_place.result c.stride-apart.result
 taken c =
     line_taken c.args.array.now c.args.axis c.args.index.now c.requires.there c.requires.inside c.args.count _ _ c.shape-shape.ensures.sound c.requires.some c.requires.few
