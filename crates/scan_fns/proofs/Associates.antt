@@ -1,9 +1,9 @@
--- Folds by associative functions: from the left as from the right.
+-- Folds by associative functions: the left fold is the right fold.
 use Rattle.std.proofs.Common.{◌≡◌, List, [], ◌∷◌, refl, ap, sym, ◌∙◌, ℤ, Result, Ok, Err}
 use Rattle.{arrays_core.{specs.declared.item.Kind.{Kind}, specs.Items.{and_then}}, item_fns.specs.Folds.{folded, IsAssociative}}
 use Rattle.{reduce_fns.specs.LeftFolds.{fold_on, folded_left}, scan_fns.proofs.Runs.{through, as_it_is}}
 
--- one error on the way is the error of all that follows
+-- an error on the way is the error of all that follows, if only this kind is possible
 stopped : (r : Result ℤ Kind) (k : Kind) → ((e : Kind) → r ≡ Err e → e ≡ k) → and_then {A = ℤ} {B = ℤ} r (λ z. Err k) ≡ Err k
 stopped (Ok z) k h = refl
 stopped (Err j) k h = ap Err (h j refl)

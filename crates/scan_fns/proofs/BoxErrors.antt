@@ -7,12 +7,12 @@ use Rattle.index_region.{specs.Boxes.{Interval, interval_length, box_size, box_o
 use Rattle.change_core.specs.Parts.{items_in}
 use Rattle.scan_fns.{specs.Scan.{scan_item, scan_along}, proofs.Scanned.{restored}, specs.Laws.Scan.{put_again}, specs.BoxLines.{Holds, IsOnLine, IsOneError, LineIsIn, line_items}, proofs.BoxTables.{each_result, as_long_as, within_line, between}}
 
--- a place is written, or its line has this error
+-- a place holds its item, or its line has this error
 abbrev pub IsDone : (List ℕ → Result Item Kind) → List Interval → ℕ → ArrayValue → Option Kind → ℕ → Type 0
 IsDone item region axis a None place = Holds item region a place
 IsDone item region axis a (Some kind) place = Holds item region a place ⊎ (line_items item region axis (walk_at region place) ≡ Err kind)
 
--- a line has this error, if there is one
+-- some line has this error, if there is one
 abbrev pub IsMet : (List ℕ → Result Item Kind) → List Interval → ℕ → Option Kind → Type 0
 IsMet item region axis None = Unit {0}
 IsMet item region axis (Some kind) = (place : ℕ) × (place < box_size region) × (line_items item region axis (walk_at region place) ≡ Err kind)
@@ -64,7 +64,7 @@ line_fails f along b region axis index last kind meant there begins ends fails =
 
 -- ---- places of a line
 
--- an earlier place of a line is an earlier one of the box
+-- an earlier place on a line comes earlier in the box
 offset_less : (axis : ℕ) (region : List Interval) (index : List ℕ) (j : ℕ) → axis < length region → is_within region index ≡ true → (get_or region axis (0, 0)).0 ≤ j → j < get_or index axis 1
     → box_offset region (insert (remove index axis) axis j) < box_offset region index
 offset_less axis [] index j there h low less = absurd (omega arith)
@@ -118,7 +118,7 @@ module _ (item : List ℕ → Result Item Kind) (region : List Interval) (axis :
       let given = first.before q earlier in
       (given.0, entry first.place j j_below ∙ ap item (sym (walk_of_offset region (here first.place j) within)) ∙ sym (get_or-map-range_with_len g 0 n q q (Err Domain) (omega (arith, earlier, inside)) (omega arith)) ∙ given.1))
 
-  -- where no place has an error no line has one
+  -- if no place fails, no line fails
   pub no_error : (xs : List Item) → items_in item region ≡ Ok xs → (place : ℕ) → place < box_size region → (e : Kind) → line_items item region axis (walk_at region place) ≡ Err e → ⊥
   no_error xs all place inside e fails =
       let g : ℕ → Result Item Kind = λ p. item (walk_at region p) in
@@ -134,7 +134,7 @@ module _ (item : List ℕ → Result Item Kind) (region : List Interval) (axis :
       let good : item (walk_at region q) ≡ Ok (get_or xs q (Num (pos 0))) = sym (get_or-map-range_with_len g 0 n q q (Err Domain) q_below (omega arith)) ∙ given in
       cc
 
-  -- all lines are done, and those that fail have one error
+  -- if every line is done and one failed, the error of the box is this one
   pub all_fail : (a : ArrayValue) (kind : Kind) → IsMet item region axis (Some kind) → ((place : ℕ) → place < box_size region → IsDone item region axis a (Some kind) place) → items_in item region ≡ Err kind
   all_fail a kind met done = decide (items_in item region) refl
     where

@@ -23,7 +23,7 @@ each_result {A} {E} (Ok x ∷ rs) xs k r d h below = decide (all_or_first_error 
     decide (Ok rest) made h zero below later = let is : x ∷ rest ≡ xs = cc in ap (λ ys. Ok (get_or ys 0 d)) is
     decide (Ok rest) made h (suc k) below later = let is : x ∷ rest ≡ xs = cc in later rest made k (omega arith) ∙ ap (λ ys. Ok (get_or ys (suc k) d)) is
 
--- entries without errors are such a list
+-- entries without errors form a list without errors
 pub all_results : {A E : Type 0} (rs : List (Result A E)) (xs : List A) (r : Result A E) (d : A) → length rs ≡ length xs → ((k : ℕ) → k < length xs → get_or rs k r ≡ Ok (get_or xs k d)) → all_or_first_error rs ≡ Ok xs
 all_results [] [] r d long each = refl
 all_results [] (x ∷ xs) r d long each = absurd (omega arith)
@@ -38,7 +38,7 @@ as_long_as [] (i ∷ index) h = absurd (false≢true h)
 as_long_as (s ∷ region) [] h = absurd (false≢true h)
 as_long_as (s ∷ region) (i ∷ index) h = let rest = as_long_as region index (and_parts _ _ h).1 in omega arith
 
--- an index list of a box goes along its line in the box
+-- moving an index within its interval stays in the box
 pub within_line : (axis : ℕ) (region : List Interval) (index : List ℕ) (j : ℕ) → axis < length region → is_within region index ≡ true → (get_or region axis (0, 0)).0 ≤ j → j ≤ (get_or region axis (0, 0)).1
     → is_within region (insert (remove index axis) axis j) ≡ true
 within_line axis [] index j there h low high = absurd (omega arith)
@@ -48,7 +48,7 @@ within_line (suc axis) (s ∷ region) (i ∷ index) j there h low high =
     let parts = and_parts _ _ h in
     and_from _ _ parts.0 (within_line axis region index j (omega arith) parts.1 low high)
 
--- where its index on an axis lies
+-- the index on an axis lies in the interval of the box
 pub record Between (region : List Interval) (index : List ℕ) (axis : ℕ) : Type 0 where
   pub low : (get_or region axis (0, 0)).0 ≤ get_or index axis 1
   pub high : get_or index axis 1 ≤ (get_or region axis (0, 0)).1

@@ -10,7 +10,7 @@ positive zero h = absurd (h refl)
 positive (suc n) h = omega arith
 
 module _ (zs : List ℤ) (stride count : ℕ) where
-  -- a number that a divisor reaches goes on as its residue
+  -- a divisor of no greater magnitude replaces a value by its residue
   pub divided : (place : ℕ) (d : Divisor) (w : ℤ) → IsDivisor zs stride count place d → place < length zs → IsBeside zs w → FitsSigned w64 w
       → extent_at zs place ≤ unsigned_abs w
       → from zs stride count (Some place) w ≡ from zs stride count d.below (residue (get_or zs place (pos 0)) w)
@@ -22,7 +22,7 @@ module _ (zs : List ℤ) (stride count : ℕ) where
       let again : residue x rest ≡ rest = stays x rest (beside_at zs rest place beside_rest below) near in
       ap (given_at (dyadic_on_numbers ByResidue) zs stride count place) (sym again) ∙ is.below rest beside_rest near
 
-  -- from a place a number goes on to the place before, unless the divisor reaches it
+  -- a value passes a place unchanged, unless the divisor there applies
   module _ (apart : 0 < stride) (some : 1 ≤ count) where
     pub at_place : (place : ℕ) (w : ℤ) → given_at (dyadic_on_numbers ByResidue) zs stride count place w ≡ from zs stride count (place_before stride count place) w
     at_place place w = by_depth (nat_eq (depth stride count place) 0) refl
@@ -54,7 +54,7 @@ pub nearer : (measure : ℕ → ℕ) (most bound : ℕ) (found : Option ℕ) →
 nearer measure most bound None more h = _
 nearer measure most bound (Some q) more h = omega (arith, more, h)
 
--- one more divisor behind the others
+-- one more divisor at the end
 pub next_divisors : (zs : List ℤ) (stride count : ℕ) (ds more : List Divisor) (d : Divisor) → AreDivisors zs stride count ds → IsDivisor zs stride count (length ds) d → more ≡ ds ++ d ∷ []
     → AreDivisors zs stride count more
 next_divisors zs stride count ds more d before next is place below =

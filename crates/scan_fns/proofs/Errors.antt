@@ -11,7 +11,7 @@ fault_passed fold zs stride count wanted fault (Ok v) same is h = absurd h.1
 fault_passed fold zs stride count wanted (KindFault k) (Err e) same is h = rw h.1 (same k is)
 fault_passed fold zs stride count wanted NoMemory (Err e) same is h = rw h.1 tt
 
--- the array of a list's error, or want of memory
+-- the error of the list becomes the error of the array; else memory was short
 pub array_fault : (G : Type 0) (wanted : Result (List ℤ) Kind) (shape : List ℕ) (fault : ApplyFault) (r : Result ArrayValue ApplyFault)
     → IsListAnswerTo {G = G} wanted (Err fault) → IsErr r × IsErrAnd r (λ e. e ≡ fault) → IsAnswerTo (with_items Nums shape (number_items wanted)) r
 array_fault G wanted shape fault (Ok a) is h = absurd h.1

@@ -14,7 +14,7 @@ one_line f lines zs numbers beside count =
     ∙ ap (λ s. scanned (folded f) zs s lines.count) beside
     ∙ ap (scanned (folded f) zs 1) count
 
--- ---- results behind the first ones
+-- ---- results after the first ones
 
 pub later_results : (n : ℕ) (rs : List (Result ℤ Kind)) (zs : List ℤ) → all_or_first_error rs ≡ Ok zs → all_or_first_error (drop n rs) ≡ Ok (drop n zs)
 later_results zero rs zs h = h
@@ -33,7 +33,7 @@ later_error n rs zs k front h =
     failed (Err e) g = g
 
 module _ (f : ℤ → ℤ → Result ℤ Kind) where
-  -- the folds up to each of some places from the first on
+  -- the folds up to each of the first n places
   abbrev first_folds : List ℤ → ℕ → List (Result ℤ Kind)
   first_folds zs n = map (λ place. folded f (take (place + 1) zs)) (range_with_len 0 n)
 
@@ -57,7 +57,7 @@ module _ (f : ℤ → ℤ → Result ℤ Kind) where
       ∙ ap all_or_first_error (same_rules _ _ n (λ place below. ap (folded f) (take-take (place + 1) n zs (omega arith))))
       ∙ ap all_or_first_error (sym (take-map-range_with_len (λ place. folded f (take (place + 1) zs)) 0 (length zs) n few))
 
-  -- the folds from a place on are those behind the first ones
+  -- the folds from a place on are the rest of all folds
   folds_behind : (zs : List ℤ) (first : ℕ) → 1 ≤ first → first ≤ length zs → drop (first - 1) (first_folds zs (length zs)) ≡ map (λ before. folded f (take (first + before) zs)) (range_with_len 0 (length zs + 1 - first))
   folds_behind zs first low high =
       let n = length zs in
@@ -81,7 +81,7 @@ module _ (f : ℤ → ℤ → Result ℤ Kind) where
       ap all_or_first_error (sym (folds_behind zs first low high))
       ∙ later_error (first - 1) (first_folds zs (length zs)) front k (sym (scanned_first zs (first - 1) (omega arith)) ∙ before) (sym (scanned_line zs) ∙ h)
 
-  -- an error of the whole scan, or want of memory, where the places before have none
+  -- an error of the whole scan, or a lack of memory, if the earlier places succeed
   pub later_fault : (zs : List ℤ) (first : ℕ) → 1 ≤ first → first ≤ length zs → (G : Type 0) (fault : ApplyFault) → IsListAnswerTo {G = G} (scanned (folded f) zs 1 (length zs)) (Err fault)
       → (front : List ℤ) × (scanned (folded f) (take (first - 1) zs) 1 (first - 1) ≡ Ok front) → IsListAnswerTo {G = G} (folds_from f zs first) (Err fault)
   later_fault zs first low high G (KindFault k) h before = later_fails zs before.0 first k low high h before.1

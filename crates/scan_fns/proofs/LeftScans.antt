@@ -38,7 +38,7 @@ module _ (f : ℤ → ℤ → Result ℤ Kind) (zs : List ℤ) (stride count : �
             ∙ sym (later (le-ltb block_place stride h))
       ]
 
--- the same on a line of neighbours, from the result before
+-- the same for a contiguous line, from the result before
 pub next_beside : (f : ℤ → ℤ → Result ℤ Kind) (zs : List ℤ) (count : ℕ) (some : 1 ≤ count) (place first : ℕ) (xs : List ℤ) (before : ℤ) (r : Result ℤ Kind) → place < length zs
     → all_or_first_error (take place (map (left_rule f zs 1 count) (range_with_len 0 (length zs)))) ≡ Ok xs
     → first % count ≡ 0 → first ≤ place → place < first + count
@@ -53,7 +53,7 @@ next_beside f zs count some place first xs before r below made begins low high l
     (λ h. let far = ltb-false (place - first) 1 h in
     later (ne_eqb place first (λ e. omega arith)) ∙ ap (λ z. f z (get_or zs place (pos 0))) (sym (last (omega arith))))
 
--- ---- numbers of 64 bits among those that were read
+-- ---- the numbers read fit 64 bits
 
 pub fits_below : (zs : List ℤ) (place : ℕ) → ((k : ℕ) → k < place → FitsSigned w64 (get_or zs k (pos 0))) → FitsSigned w64 (get_or zs place (pos 0))
     → (k : ℕ) → k < place + 1 → FitsSigned w64 (get_or zs k (pos 0))
@@ -105,7 +105,7 @@ module _ {G : Type 0} (rule : ℕ → Result ℤ Kind) (zs : List ℤ) (place : 
     pub fails_here : (kind : Kind) → rule place ≡ Err kind → FailsAt rule zs kind
     fails_here kind given = record { place = place; below = below; is = given; numbers = λ k h. fits_below zs place before.read fit k (omega arith) }
 
--- results so far of whole lines
+-- the results of whole lines so far
 pub record AreLinesTo {G : Type 0} (rule : ℕ → Result ℤ Kind) (zs : List ℤ) (count : ℕ) (results : Vec ℤ G) : Type 0 where
   pub so_far : AreResultsTo (vec_len results) rule zs results
   pub within : vec_len results ≤ length zs

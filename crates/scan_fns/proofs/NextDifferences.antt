@@ -1,4 +1,4 @@
--- A difference of the next number, where one more number comes before it.
+-- The difference for the next number after one more number.
 use Rattle.std.{proofs.Common.{◌≡◌, suc, zero, refl, ap, ◌∙◌, arith, Bool, true, false, not, ◌&&◌, if◌then◌else◌, ℤ, pos, negsuc, ◌+ℤ◌, ◌-ℤ◌, ◌≤ℤ◌, SFits, w64, Err}, specs.Prelude.{int_le}, specs.Int.{saturate_signed}, specs.Bool.{Decides}, proofs.lemmas.Int.{ints}, proofs.lemmas.Bool.{and_parts}}
 use Rattle.std.{proofs.lemmas.Bool.Decides.{same_from_decides}, proofs.Math.Bool.{and_comm}}
 use Rattle.arrays_core.{specs.declared.item.Kind.TheVariants.{Limit}, specs.Items.{and_then}}
@@ -12,7 +12,7 @@ same_order a b c d to from =
     let other = at_most c d in
     same_from_decides (int_le a b) (int_le c d) (at_most a b) (λ e. from (other.0 e), λ h. other.1 (to h))
 
--- a bound of 64 bits in place of one beyond them
+-- a bound saturated to 64 bits in place of one beyond them
 low_of : (z v : ℤ) → Within v → z ≤ℤ pos 0 → int_le (saturate_signed w64 z) v ≡ int_le z v
 low_of (pos zero) v h low = refl
 low_of (pos (suc n)) v h low = absurd (omega (arith, ints))

@@ -1,4 +1,4 @@
--- A truth value from the next number, where one more number comes before it; and the functions that give truth values.
+-- The outcome for the next number after one more number, and the functions with results 0 and 1.
 use Rattle.std.{proofs.Common.{◌≡◌, refl, sym, subst, arith, Bool, true, false, not, ◌&&◌, ◌||◌, ℤ, pos, SFits, w64, Some, None, Result, Ok, Err, ◌⊎◌, inl, inr}, specs.Ordering.{int_eq}, specs.Prelude.{int_lt, int_le}, proofs.lemmas.Bool.Decides.{Decides-int_eq}}
 use Rattle.arrays_core.{specs.declared.item.Kind.{Kind}, specs.Items.{and_then}}
 use Rattle.function_names.specs.declared.scalar.Scalar2.TheVariants.{Less, LessOrEqual, Equal, GreaterOrEqual, Greater, NotEqual, Nand, Nor}
@@ -39,7 +39,7 @@ module _ (f : ℤ → ℤ → Result ℤ Kind) (truths : GivesTruths f) where
     ];
   }
 
--- ---- the functions that give truth values
+-- ---- functions with results 0 and 1
 
 abbrev given : Bool → Result ℤ Kind
 given p = Ok (truth p)

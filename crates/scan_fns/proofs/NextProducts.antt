@@ -1,4 +1,4 @@
--- A product with the next number, where one more number comes before it.
+-- The product for the next number after one more number.
 use Rattle.std.{proofs.Common.{◌≡◌, ℕ, suc, zero, ◌+◌, ◌*◌, ◌/◌, ◌<◌, ◌≤◌, ◌^◌, min, nat_le, nat_lt, refl, ap, sym, ◌∙◌, arith, Bool, true, false, if◌then◌else◌, ℤ, pos, negsuc, neg_ℤ, unsigned_abs, ◌*ℤ◌, ◌≤ℤ◌, ◌<ℤ◌, SFits, w64, Err}, specs.Bool.{Decides}, proofs.lemmas.Int.{ints}}
 use Rattle.std.{proofs.lemmas.Bool.{leb-true, ltb-true, lt-ltb, le-leb}, proofs.lemmas.Bool.Decides.{same_from_decides}, proofs.Math.Nat.{le-div_iff_mul-le}}
 use Rattle.{arrays_core.{specs.declared.item.Kind.TheVariants.{Limit}, specs.Items.{and_then}}, item_fns.specs.Numbers.{is_number, number_or_limit}}
@@ -39,7 +39,7 @@ margin_above low high m (negsuc n) =
     let q = low_quotient low high m n in
     same (nat_lt n (low / suc m)) (lies_within low high (neg_ℤ (pos (suc m * suc n)))) (below n (low / suc m)) (low_margin low high (suc m * suc n) (omega arith)) q.0 q.1
 
--- and by one below 0
+-- a margin divided by a number below 0
 pub margin_below : (low high m : ℕ) (v : ℤ) → SFits w64 v → lies_within (high / suc m) (min (low / suc m) 9223372036854775807) v ≡ lies_within low high (negsuc m *ℤ v)
 margin_below low high m (negsuc n) fits =
     let q = low_quotient high low m n in

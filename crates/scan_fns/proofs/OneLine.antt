@@ -19,7 +19,7 @@ no_less : (e m : ℕ) → 1 ≤ e → m ≤ e * m
 no_less zero m low = absurd (omega arith)
 no_less (suc e) m low = omega arith
 
--- the first interval of a box in a shape has a place
+-- the first interval of a box that fits a shape is not empty
 first_interval : (s : Interval) (region : List Interval) (n : ℕ) (shape : List ℕ) → IsTrue (fits (s ∷ region) (n ∷ shape)) → 1 ≤ interval_length s
 first_interval s region n shape fit =
     let order : s.0 ≤ s.1 = leb-true s.0 s.1 (and_parts _ _ (and_parts _ _ (and_parts _ _ fit).0).0).1 in
@@ -28,7 +28,7 @@ first_interval s region n shape fit =
 rest_fits : (s : Interval) (region : List Interval) (n : ℕ) (shape : List ℕ) → IsTrue (fits (s ∷ region) (n ∷ shape)) → IsTrue (fits region shape)
 rest_fits s region n shape fit = (and_parts _ _ fit).1
 
--- a box has as many places as each of its intervals, or more
+-- a box has at least as many places as each of its intervals
 interval_within : (axis : ℕ) (region : List Interval) (shape : List ℕ) → axis < length region → IsTrue (fits region shape) → interval_length (get_or region axis (0, 0)) ≤ box_size region
 interval_within axis [] shape there fit = absurd (omega arith)
 interval_within axis (s ∷ region) [] there fit = absurd (false≢true fit)
@@ -50,7 +50,7 @@ walk_first (suc axis) (s ∷ region) (n ∷ shape) there fit =
     let left : 0 % box_size region ≡ 0 = mod-eq_of_lt (some_place region shape (rest_fits s region n shape fit)) in
     ap (λ p. get_or (walk_at region p) axis 1) left ∙ walk_first axis region shape (omega arith) (rest_fits s region n shape fit)
 
--- a box with as many places as one of its intervals goes along one line
+-- a box with as many places as one of its intervals lies on one line
 pub line_walk : (axis : ℕ) (region : List Interval) (shape : List ℕ) → axis < length region → IsTrue (fits region shape) → box_size region ≡ interval_length (get_or region axis (0, 0))
     → (p : ℕ) → p < box_size region → walk_at region p ≡ set (walk_at region 0) axis ((get_or region axis (0, 0)).0 + p)
 line_walk axis [] shape there fit one p below = absurd (omega arith)
@@ -125,7 +125,7 @@ holds (Ok xs) shape (Err (KindFault k)) h = cc
 holds (Err e) shape (Err (KindFault k)) h = cc
 holds items shape (Err NoMemory) h = tt
 
--- the items of the one line, where they are answered
+-- the items of the line, if they are answered
 pub holds_line : (items : Result (List Item) Kind) (shape : List ℕ) (wanted : Result ArrayValue Kind) (r : Option (Result ArrayValue ApplyFault)) → with_items Nums shape items ≡ wanted → IfSome r (IsAnswerTo wanted) → IfSome r (HoldsItems Nums items)
 holds_line items shape wanted None e h = tt
 holds_line items shape wanted (Some r) e h = holds items shape r (rw e h)

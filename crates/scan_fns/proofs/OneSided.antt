@@ -37,7 +37,7 @@ not_low a h = let e = leb-true (suc a) 0 h in omega (arith, e)
 high : (n : ℕ) → IsTrue (is_high (pos n))
 high n = le-leb 0 n (omega arith)
 
--- one that is nearer to 0 stays
+-- a value of smaller magnitude stays
 pub stays : (a b : ℤ) → AreBeside a b → unsigned_abs b < extent_of a → residue a b ≡ b
 stays (pos zero) b beside near = refl
 stays (pos (suc a)) (pos b) beside near = positive_residue a b ∙ ap pos (mod-eq_of_lt (omega (arith, near, positive_extent a)))
@@ -62,7 +62,7 @@ rest_high (pos (suc a)) (pos b) left right = rw (positive_residue a b) (high (b 
 rest_high (pos (suc a)) (negsuc b) left right = absurd (let no = right in cc)
 rest_high (negsuc a) b left right = absurd (let no = left in cc)
 
--- any other comes nearer to 0 than the divisor
+-- any other value becomes smaller than the divisor
 pub comes_near : (a b : ℤ) → AreBeside a b → extent_of a ≤ unsigned_abs b → FitsSigned w64 b → unsigned_abs (residue a b) < extent_of a
 comes_near (pos zero) (pos b) beside far fit = omega (arith, fit)
 comes_near (pos zero) (negsuc b) beside far fit = omega (arith, fit)
@@ -74,7 +74,7 @@ comes_near (negsuc a) (pos (suc b)) (inl h) far fit = absurd (not_low b h.1)
 comes_near (negsuc a) (pos (suc b)) (inr h) far fit = absurd (let no = h.0 in cc)
 comes_near (negsuc a) (negsuc b) beside far fit = rw (both_negative b a, distance (suc b % suc a)) (omega (arith, mod_below (suc b) (suc a) (omega arith)))
 
--- ---- among the numbers of a list
+-- ---- numbers of a list
 
 pub beside_at : (zs : List ℤ) (w : ℤ) (q : ℕ) → IsBeside zs w → q < length zs → AreBeside (get_or zs q (pos 0)) w
 beside_at zs w q (inl h) below = inl (AllPass-from_list_all is_low zs h.0 q (pos 0) below, h.1)

@@ -1,4 +1,4 @@
--- Folds of the numbers up to each place, from the numbers before it as a function of the next one.
+-- Folds up to each place, from a prefix as a function of the next number.
 use Rattle.std.{proofs.Common.{◌≡◌, ℕ, zero, suc, ◌+◌, ◌-◌, ◌*◌, ◌/◌, ◌%◌, true, false, nat_lt, ◌≢◌, inl, inr, ◌<◌, ◌≤◌, List, [], ◌∷◌, ◌++◌, length, get_or, refl, ap, sym, subst, ◌∙◌, arith, pos, ℤ, FitsSigned, Result, Ok, Err, append_assoc, length-append}, specs.Int.{w64}, proofs.Math.ListN.{set}}
 use Rattle.std.{proofs.lemmas.Bool.{cases_lt, lt-ltb, le-ltb}, proofs.lemmas.List.{get_or-set_same, get_or-set_other}, proofs.Math.Nat.{mod-add-div, mod-add-mod, mod-eq_of_lt, add-mod_right, mul-le-mul_left}, proofs.lemmas.Nat.{mod_below}}
 use Rattle.{arrays_core.{specs.declared.item.Kind.{Kind}, specs.Items.{and_then}}, item_fns.{specs.Folds.{folded}, proofs.RightFolds.{fold_more}}}
@@ -62,7 +62,7 @@ module _ (f : ℤ → ℤ → Result ℤ Kind) (zs : List ℤ) (stride count : �
 
 -- ---- prefixes kept for one line, and for lines a stride apart
 
--- a line of which these numbers are known so far
+-- a prefix that holds these numbers
 pub record Keeps {A : Type 0} (step : A → ℤ → ℤ → Result ℤ Kind) (gives : A → ℤ → Result ℤ Kind) (f : ℤ → ℤ → Result ℤ Kind) (xs : List ℤ) (line : A) : Type 0 where
   pub same : step line ≡ f
   pub tells : FoldsWithNext f (gives line) xs
@@ -78,12 +78,12 @@ mod_other p q s some low high e =
           | inr h ↦ let near : s * b ≤ s * a = mul-le-mul_left s h in omega arith
         ]
 
--- the lines of the next numbers
+-- the prefixes kept for the lines of the next numbers
 abbrev pub AreFoldsKept : {A : Type 0} → (A → ℤ → ℤ → Result ℤ Kind) → (A → ℤ → Result ℤ Kind) → A → List ℤ → (stride count place : ℕ) → List A → Type 0
 AreFoldsKept step gives none zs stride count place lines = (q : ℕ) → place ≤ q → q < place + stride → 0 < depth stride count q
     → Keeps step gives (step none) (run_to (pos 0) zs stride count (q - stride)) (get_or lines (q % stride) none)
 
--- the line of the next number alone
+-- the prefix of the line of the next number
 pub record IsFoldKept {A : Type 0} (step : A → ℤ → ℤ → Result ℤ Kind) (gives : A → ℤ → Result ℤ Kind) (none : A) (zs : List ℤ) (stride count place : ℕ) (line : A) : Type 0 where
   pub same : step line ≡ step none
   pub fresh : depth stride count place ≡ 0 → IsFresh (gives line)
@@ -114,7 +114,7 @@ module _ {A : Type 0} (step : A → ℤ → ℤ → Result ℤ Kind) (gives : A 
             }
       ]
 
-  -- one number more
+  -- one more number
   module _ (place column : ℕ) (lines : List A) (line after : A) (kept : AreFoldsKept step gives none zs stride count place lines) (it : IsFoldKept step gives none zs stride count place line)
       (fits : FitsSigned w64 (get_or zs place (pos 0))) (closed : IsClosed (step none)) (same : step after ≡ step line)
       (next : Continues (step line (get_or zs place (pos 0))) (gives line) (gives after)) where
@@ -140,7 +140,7 @@ module _ {A : Type 0} (step : A → ℤ → ℤ → Result ℤ Kind) (gives : A 
               (subst (λ p. Keeps step gives (step none) (run_to (pos 0) zs stride count p) after) (sym (omega arith)) after_keeps)
         ]
 
--- ---- a line of neighbours
+-- ---- a contiguous line
 
 pub beside_depth : (count place first : ℕ) → 1 ≤ count → first % count ≡ 0 → first ≤ place → place < first + count → depth 1 count place ≡ place - first
 beside_depth count place first some begins low near =

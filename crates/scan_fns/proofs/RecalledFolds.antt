@@ -1,18 +1,18 @@
--- The right fold up to a place, from the numbers that come to the places before it.
+-- The right fold up to a place, from the values that reach the places before it.
 use Rattle.std.{proofs.Common.{◌≡◌, ℕ, ◌+◌, ◌-◌, ◌<◌, ◌≤◌, List, [], ◌∷◌, ◌++◌, length, get_or, set, refl, inl, inr, ap, sym, ◌∙◌, arith, pos, ℤ, Result, Ok}, proofs.lemmas.Bool.{cases_eq, cases_lt}, proofs.lemmas.List.{length-set, get_or-set_same, get_or-set_other, get_or_append_left, length-append}}
 use Rattle.{std.proofs.Math.Seq.{get_or-append_right}, arrays_core.{specs.declared.item.Kind.{Kind}, specs.Items.{and_then}}, item_fns.specs.Folds.{folded}}
 use Rattle.scan_fns.{specs.LinearScan.{depth}, specs.declared.recalled_scan.Recalled.{Recalled}, specs.Prefixes.{fold_to}, specs.RecalledScan.{run_before, given_at, nothing, IsRecalled, AreRecalled}, proofs.Runs.{run_last, run_before_is}, proofs.Prefixes.{fold_two}}
 
 module _ (f : ℤ → ℤ → Result ℤ Kind) (zs : List ℤ) (stride count : ℕ) (apart : 0 < stride) (some : 1 ≤ count) where
-  -- the number that stands at a place
+  -- the number of the place itself
   pub own_number : (place : ℕ) → given_at f zs stride count place (get_or zs place (pos 0)) ≡ fold_to f zs stride count place
   own_number place = ap (folded f) (sym (run_last stride count apart some (pos 0) zs place))
 
-  -- at the first place of a line a number gives itself
+  -- at the first place of a line, a value is its own fold
   pub at_first : (place : ℕ) (z : ℤ) → depth stride count place ≡ 0 → given_at f zs stride count place z ≡ Ok z
   at_first place z e = rw e refl
 
-  -- a number comes to the place before by the function of the number there
+  -- the value at the place before is f of the number there and the value here
   pub at_later : (place : ℕ) (z : ℤ) → 0 < depth stride count place
       → given_at f zs stride count place z ≡ and_then (f (get_or zs (place - stride) (pos 0)) z) (given_at f zs stride count (place - stride))
   at_later place z h =
@@ -34,7 +34,7 @@ one_recalled f zs stride count rs here r inside before is place below =
       | inr other ↦ rw (get_or-set_other rs here place r nothing other) (before place (omega (arith, below, length-set rs here r)))
     ]
 
--- the entry of the place behind the others: its own number
+-- the new entry holds the number of its own place
 pub next_recalled : (f : ℤ → ℤ → Result ℤ Kind) (zs : List ℤ) (stride count : ℕ) (apart : 0 < stride) (some : 1 ≤ count) (rs more : List Recalled) (r : Recalled)
     → AreRecalled f zs stride count rs → r.number ≡ get_or zs (length rs) (pos 0) → r.later ≡ length rs → more ≡ rs ++ r ∷ [] → AreRecalled f zs stride count more
 next_recalled f zs stride count apart some rs more r before number later is place below =

@@ -1,4 +1,4 @@
--- The sums of the runs of lines, by the greatest and the least sums of their endings.
+-- The running sums of lines, from their greatest and least suffix sums.
 use Rattle.std.{proofs.Common.{◌≡◌, ℕ, zero, suc, ◌+◌, ◌-◌, ◌*◌, ◌<◌, ◌≤◌, List, [], ◌∷◌, ◌++◌, length, get_or, refl, ap, sym, subst, ◌∙◌, arith, pos, ℤ, ◌+ℤ◌, FitsSigned, Result, Ok, Err}, specs.Int.{int_max, int_min, w64}, specs.List.{All}, proofs.Math.Nat.{mul-le-mul_left, mul-le-mul_right}}
 use Rattle.arrays_core.{specs.Items.{all_or_first_error, and_then}, specs.declared.item.Kind.{Kind}, specs.declared.item.Kind.TheVariants.{Limit}}
 use Rattle.function_names.specs.declared.scalar.Scalar2.TheVariants.{Plus}
@@ -25,7 +25,7 @@ module _ (zs : List ℤ) (stride count : ℕ) (apart : 0 < stride) (some : 1 ≤
     run_within : (place : ℕ) → place < end → All Within (run place)
     run_within place inside = run_each Within end numbers place inside
 
-    -- a fold from the left whose steps are numbers where the sum up to the next one is
+    -- a left fold whose steps succeed if the sum up to the next number does
     left_given : (step : ℤ → ℤ → Result ℤ Kind)
         → ((xs : List ℤ) (y z t : ℤ) → 0 < length xs → All Within (xs ++ y ∷ []) → folded (dyadic_on_numbers Plus) (xs ++ y ∷ []) ≡ Ok t → folded_left step xs ≡ Ok z → Given (step z y))
         → (d place : ℕ) → depth stride count place ≡ d → place < end → ((q : ℕ) → q < end → Given (folded (dyadic_on_numbers Plus) (run q)))
@@ -65,7 +65,7 @@ module _ (zs : List ℤ) (stride count : ℕ) (apart : 0 < stride) (some : 1 ≤
     sum_limit [] k long h = absurd (omega arith)
     sum_limit (x ∷ rest) k long h = folded_error x rest k h
 
-    -- where it leaves 64 bits, so does a sum
+    -- if the fold leaves 64 bits, so does a sum
     pub sums_leave : (k : Kind) → FailsAt (λ place. folded_left step (run place)) zs k → scanned (folded (dyadic_on_numbers Plus)) zs stride count ≡ Err k
     sums_leave k fails = decide (scanned (folded (dyadic_on_numbers Plus)) zs stride count) refl
       where
@@ -89,7 +89,7 @@ module _ (zs : List ℤ) (stride count : ℕ) (apart : 0 < stride) (some : 1 ≤
   pub least_leaves : (k : Kind) → FailsAt (λ place. folded_left least_step (run place)) zs k → scanned (folded (dyadic_on_numbers Plus)) zs stride count ≡ Err k
   least_leaves k h = sums_leave least_step more_fewest (λ a b k e. held_error (int_min a (pos 0) +ℤ b) k e) k h
 
-  -- where neither does, the sums are those from the left
+  -- if neither fold leaves 64 bits, the right folds are the left folds
   pub sums_stay : (tops bottoms : List ℤ) → All (FitsSigned w64) zs → scanned (folded_left greatest_step) zs stride count ≡ Ok tops
       → scanned (folded_left least_step) zs stride count ≡ Ok bottoms → scanned (folded_left (dyadic_on_numbers Plus)) zs stride count ≡ scanned (folded (dyadic_on_numbers Plus)) zs stride count
   sums_stay tops bottoms fit g l =

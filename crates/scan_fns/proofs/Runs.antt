@@ -32,7 +32,7 @@ module _ {A : Type 0} (f : A → A → Result A Kind) where
 -- ---- the run to a place
 
 module _ (stride count : ℕ) (apart : 0 < stride) (some : 1 ≤ count) where
-  -- how far a place lies in its block
+  -- the position of a place in its block
   pub in_block : (place : ℕ) → place % (count * stride) ≡ depth stride count place * stride + place % stride
   in_block place = mod-mul place (omega (arith, some)) apart
 
@@ -79,7 +79,7 @@ module _ (stride count : ℕ) (apart : 0 < stride) (some : 1 ≤ count) where
     pub run_first : (place : ℕ) → depth stride count place ≡ 0 → run_to d xs stride count place ≡ get_or xs place d ∷ []
     run_first place e = rw e (ap (λ k. get_or xs k d ∷ []) (omega arith))
 
-    -- the run to a place is the entries before it and the one there
+    -- the run to a place is the entries before it, then its own
     pub run_last : (place : ℕ) → run_to d xs stride count place ≡ strided d xs (place - depth stride count place * stride) stride (depth stride count place) ++ get_or xs place d ∷ []
     run_last place =
         let k = depth stride count place in
@@ -109,7 +109,7 @@ module _ (stride count : ℕ) (apart : 0 < stride) (some : 1 ≤ count) where
     pub run_some : (place : ℕ) → 0 < length (run_to d xs stride count place)
     run_some place = omega (arith, length-strided d xs (place - depth stride count place * stride) stride (depth stride count place + 1))
 
-    -- each fold from the left is made from the one before it on the line
+    -- each left fold follows from the one before it on the line
     module _ (f : A → A → Result A Kind) where
       pub left_first : (place : ℕ) → depth stride count place ≡ 0 → folded_left f (run_to d xs stride count place) ≡ Ok (get_or xs place d)
       left_first place e = ap (folded_left f) (run_first place e)

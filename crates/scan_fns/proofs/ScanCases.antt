@@ -60,7 +60,7 @@ worked_cases : AllSame (
     scan_whole two.Plus (Axis (pos 3)) (nums (2 ∷ 1 ∷ 2 ∷ 2 ∷ []) (1 ∷ 2 ∷ 3 ∷ 4 ∷ 5 ∷ 6 ∷ 7 ∷ 8 ∷ [])) ⇒ is (nums (2 ∷ 1 ∷ 2 ∷ 2 ∷ []) (1 ∷ 2 ∷ 4 ∷ 6 ∷ 5 ∷ 6 ∷ 12 ∷ 14 ∷ [])) ∷
     -- rank 4 axis 1
     scan_whole two.Plus (Axis (pos 1)) (nums (2 ∷ 1 ∷ 2 ∷ 2 ∷ []) (1 ∷ 2 ∷ 3 ∷ 4 ∷ 5 ∷ 6 ∷ 7 ∷ 8 ∷ [])) ⇒ is (nums (2 ∷ 1 ∷ 2 ∷ 2 ∷ []) (1 ∷ 2 ∷ 3 ∷ 4 ∷ 6 ∷ 8 ∷ 10 ∷ 12 ∷ [])) ∷
-    -- a scalar and lines below two are the array itself
+    -- a scalar, and an array with lines shorter than two, yield themselves
     scan_whole two.Plus Last (nums [] (5 ∷ [])) ⇒ is (nums [] (5 ∷ [])) ∷
     scan_whole two.Plus First (chars [] (97 ∷ [])) ⇒ is (chars [] (97 ∷ [])) ∷  -- scalar character
     scan_whole two.Plus (Axis (pos 1)) (nums [] (5 ∷ [])) ⇒ fails AxisError ∷  -- scalar axis
@@ -78,7 +78,7 @@ worked_cases : AllSame (
     scan_whole two.Plus First (chars (2 ∷ 0 ∷ []) []) ⇒ is (nums (2 ∷ 0 ∷ []) []) ∷  -- columns without characters
     scan_whole two.Plus (Axis (pos 2)) (chars (2 ∷ []) (97 ∷ 98 ∷ [])) ⇒ fails AxisError ∷  -- axis before domain
     scan_whole two.Plus Last (nums (1048577 ∷ 0 ∷ []) []) ⇒ fails Limit ∷  -- great axes
-    -- a sum is in range where the fold from the right is, at each place
+    -- a sum is in range if the fold from the right is, at each place
     scan_whole two.Plus Last (ints (3 ∷ []) (minus 5 ∷ greatest ∷ pos 0 ∷ [])) ⇒ is (ints (3 ∷ []) (minus 5 ∷ pos 9223372036854775802 ∷ pos 9223372036854775802 ∷ [])) ∷
     scan_whole two.Plus Last (ints (3 ∷ []) (minus 5 ∷ greatest ∷ pos 1 ∷ [])) ⇒ fails Limit ∷  -- sum out at the third
     scan_whole two.Plus Last (ints (3 ∷ []) (pos 1 ∷ greatest ∷ minus 1 ∷ [])) ⇒ fails Limit ∷  -- sum out though it comes back

@@ -15,7 +15,7 @@ restored [] k d h = absurd (omega arith)
 restored (i ∷ index) zero d h = refl
 restored (i ∷ index) (suc k) d h = ap (λ xs. i ∷ xs) (restored index k d (omega arith))
 
--- how deep a place lies in its line
+-- the depth of a place on its line
 pub depth_at : (s n q i : ℕ) → 0 < s → i < n → depth s n (line_start s n q + i * s) ≡ i
 depth_at s n q i some below =
     ap (λ p. p / s % n) (omega arith) ∙ ap (λ m. m % n) (div-mul-add (q / s * n + i) s (q % s) (mod_below q s some)) ∙ mod-mul-add (q / s) n i below
@@ -117,12 +117,12 @@ scan_typed along b index (Ok item) sound h there one several =
     (typed_check (nat_lt (places_along b.shape axis) 2 || counts_as_numbers b) Domain (limited b.shape (scan_type b axis)) item
     (typed_limited b.shape (scan_type b axis) item t))
 
--- a block of lines lies in an array that has items
+-- a result of an array of numbers is of numbers
 of_numbers : (w : Bool) (t : ItemType) → t ≡ Nums → (if w then t else Nums) ≡ Nums
 of_numbers true t h = h
 of_numbers false t h = refl
 
--- the array of the folds up to each place, as the list of them
+-- collecting the folds over the shape is the array of their list
 scan_collected : (f : ℤ → ℤ → Result ℤ Kind) (xs : List ℤ) (s n : ℕ) (shape : List ℕ) → size shape ≡ length xs
     → collect Nums shape (λ index. number_item (folded f (run_to (pos 0) xs s n (places_before shape index)))) ≡ with_items Nums shape (number_items (scanned (folded f) xs s n))
 scan_collected f xs s n shape long =
@@ -144,7 +144,7 @@ module _ (f : Scalar2) (b : ArrayValue) (xs : List ℤ) (items : b.items ≡ map
       ∙ (rw (n_is, s_is, facts.shaped) refl))
       ∙ scan_collected (dyadic_on_numbers f) xs s n shape long
 
--- characters along an axis of two or more
+-- characters along an axis of two or more fail
 pub characters_fail : (along : Along) (b : ArrayValue) (axis : ℕ) → is_axis (length b.shape) along ≡ true → axis ≡ axis_at (length b.shape) along → axis < length b.shape
     → 2 ≤ get_or b.shape axis 0 → counts_as_numbers b ≡ false → scan_form along b ≡ Err Domain
 characters_fail along b axis on_axis meant there many characters =

@@ -1,4 +1,4 @@
--- The items of a scan on one line, taken from the numbers of the line.
+-- The items of a scan on one line, from the numbers of the line.
 use Rattle.std.{proofs.Common.{◌≡◌, ℕ, zero, suc, ◌+◌, ◌-◌, ◌<◌, ◌≤◌, List, [], ◌∷◌, length, get_or, map, take, set, insert, remove, ℤ, Result, Ok, Err, refl, ap, sym, ◌∙◌, arith}, specs.List.{range_with_len}, proofs.lemmas.Bool.{le-leb}}
 use Rattle.std.{proofs.lemmas.List.{length-map, length-take, take-take, take-map, get_or-set_same, get_or_default}, proofs.lemmas.List.FromFn.{length-map-range_with_len}, proofs.lemmas.Simd.{map-map}}
 use Rattle.arrays_core.{specs.declared.item.Item.TheVariants.{Num}, specs.declared.item.ItemType.TheVariants.{Nums}, specs.declared.item.Kind.{Kind}, specs.Limits.{longest_axis}, specs.Items.{all_or_first_error, after}, specs.Arrays.{ArrayValue, item_of, with_items, vector_of}}
@@ -21,11 +21,11 @@ results_as_items (Ok z ∷ rs) = moved z (all_or_first_error rs) ∙ ap (after (
 pub vector_is : (zs : List ℤ) (n : ℕ) → length zs ≡ n → n ≤ longest_axis → vector_of zs ≡ with_items Nums (n ∷ []) (Ok (map (λ z. Num z) zs))
 vector_is zs n long few = rw (long, le-leb n longest_axis few) refl
 
--- as many folds as there are places
+-- the number of folds
 pub folds_from_long : (f : ℤ → ℤ → Result ℤ Kind) (zs folds : List ℤ) (first : ℕ) → folds_from f zs first ≡ Ok folds → length folds ≡ length zs + 1 - first
 folds_from_long f zs folds first h = as_many_as _ folds h ∙ length-map-range_with_len (λ before. folded f (take (first + before) zs)) 0 (length zs + 1 - first)
 
--- as many numbers of a line as were read
+-- the number of numbers read from a line
 pub as_many : (zs : List ℤ) (b : ArrayValue) (axis : ℕ) (others : List ℕ) (last : ℕ) → axis < length b.shape → map (λ z. Num z) zs ≡ take last (line b axis others) → last ≤ get_or b.shape axis 0 → length zs ≡ last
 as_many zs b axis others last there read high =
     let places = length-map-range_with_len (λ j. item_of b (insert others axis j)) 1 (places_along b.shape axis) in

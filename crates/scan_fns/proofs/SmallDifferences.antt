@@ -1,4 +1,4 @@
--- Small numbers stay within 64 bits where they are added and taken off in turn.
+-- Small numbers stay within 64 bits if they are added and subtracted in turn.
 use Rattle.std.{proofs.Common.{◌≡◌, ℕ, zero, suc, ◌+◌, ◌-◌, ◌*◌, ◌/◌, ◌%◌, ◌<◌, ◌≤◌, nat_eq, true, false, Bool, if◌then◌else◌, List, [], ◌∷◌, ◌++◌, length, get_or, map, take, refl, ap, sym, ◌∙◌, arith, pos, ℤ, neg_ℤ, ◌+ℤ◌, ◌-ℤ◌, ◌≤ℤ◌, ◌<ℤ◌, SFits, w64, Ok}, specs.List.{All, range_with_len}, proofs.lemmas.Int.{ints}}
 use Rattle.std.{proofs.Math.Nat.{mul-le-mul_left, mod-add-mod, add-mul-div_left}, proofs.lemmas.Nat.{div-mul-add}}
 use Rattle.{arrays_core.specs.Items.{all_or_first_error, and_then}, function_names.specs.declared.scalar.Scalar2.TheVariants.{Minus}}
@@ -11,7 +11,7 @@ abbrev pub signed_sum : List ℤ → ℤ
 signed_sum [] = pos 0
 signed_sum (x ∷ rest) = x -ℤ signed_sum rest
 
--- a total with one more number, as many numbers come before it
+-- the total with one more number, added or subtracted by the count before it
 abbrev pub next_total : (before : ℕ) → ℤ → ℤ → ℤ
 next_total before total z = if nat_eq (before % 2) 0 then total +ℤ z else total -ℤ z
 
@@ -119,14 +119,14 @@ pub next_beside : (zs : List ℤ) (count : ℕ) → 1 ≤ count → (place first
 next_beside zs count some place first total begins low near fresh last =
     next_sum zs 1 count (omega arith) some place (place - first) total (beside_depth count place first some begins low near) (λ e. fresh (omega arith)) (λ h. last (omega arith))
 
--- a place on the row that begins at another
+-- a place on the same row as an earlier one
 pub row_depth : (stride count place first : ℕ) → first % stride ≡ 0 → first ≤ place → place < first + stride → depth stride count place ≡ depth stride count first
 row_depth stride count place first begins low near =
     let q = first / stride in
     let same : place / stride ≡ q = ap (λ n. n / stride) (omega arith) ∙ div-mul-add q stride (place - first) (omega arith) in
     ap (λ n. n % count) same
 
--- the row after one
+-- the next row of a block
 pub next_row : (stride count place : ℕ) → 0 < stride → (depth stride count place + 1) % count ≡ depth stride count (place + stride)
 next_row stride count place apart =
     mod-add-mod (place / stride) count 1 ∙ ap (λ n. n % count) (sym (add-mul-div_left place 1 apart)) ∙ ap (λ n. n / stride % count) (sym (omega arith))

@@ -9,7 +9,7 @@ use Rattle.scan_fns.proofs.box_lines.items_by_lines.Goals as goal
 on : (c : After-as_slice) → OnAxis c.args.region.now c.args.region.now c.args.array.now.shape c.args.axis
 on c = on_axis c.args.axis c.args.region.now c.args.region.now c.args.array.now.shape refl c.requires.there c.requires.fit
 
--- the place that the walk has come to
+-- the current place of the walk
 module _ (c : In-loop-place) where
   below : c.loop-place._place < box_size c.args.region.now
   below = omega (arith, c.loop-place-test.true, c.size-places.ensures)

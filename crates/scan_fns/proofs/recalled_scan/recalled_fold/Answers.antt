@@ -19,7 +19,7 @@ module _ (g : Over) (c : After-at g) where
   read : to_z w64 (of_z w64 (get_or c.args.numbers.now before (pos 0))) ≡ get_or c.args.numbers.now before (pos 0)
   read = to_z-of_z w64 _ (search rules)
 
-  -- the fold goes on from the place before
+  -- the fold continues from the place before
   came : (r : Result ℤ Kind) → r ≡ g.S.TwoNumbers.gives c.args.step.now (to_z w64 (of_z w64 (get_or c.args.numbers.now before (pos 0)))) (to_z w64 c.loop.number-bits)
       → and_then r given_before ≡ fold_to (g.S.TwoNumbers.gives c.args.step.now) c.args.numbers.now c.args.stride c.args.count (length c.args.results.now)
   came r gave =
