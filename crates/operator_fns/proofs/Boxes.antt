@@ -6,7 +6,7 @@ use Rattle.{change_core.{specs.declared.reach.Reach.TheVariants.{Unmoved, Inside
 use Rattle.{scan_fns.specs.Scan.{scan_rule}, operator_fns.{specs.OuterProduct.{outer_rule}, specs.InnerProduct.{inner_rule}}}
 use Rattle.function_names.specs.declared.scalar.Scalar2.TheVariants as two
 
--- an array of this shape, all of noughts
+-- an array of zeros of this shape
 abbrev array : List ℕ → ArrayValue
 array shape = nums shape (replicate (size shape) 0)
 
@@ -24,7 +24,7 @@ reduction_cases : AllSame (
     -- a vector and a scalar, of one place each
     reach_of (reduce_rule two.Plus Last) (array (5 ∷ []) ∷ []) (box ((2, 3) ∷ []) ∷ []) ⇒ Inside [] ∷
     reach_of (reduce_rule two.Plus Last) (array [] ∷ []) (box [] ∷ []) ⇒ Inside [] ∷  -- scalar
-    -- nothing changed; the axis is not one of the array's
+    -- nothing changed; the array has no such axis
     reach_of (reduce_rule two.Plus Last) (array (5 ∷ []) ∷ []) (None ∷ []) ⇒ Unmoved ∷
     reach_of (reduce_rule two.Plus (Axis (pos 3))) (array (3 ∷ 4 ∷ []) ∷ []) (box ((2, 3) ∷ (1, 2) ∷ []) ∷ []) ⇒ Anew ∷  -- no such axis
     -- a result without items
@@ -73,7 +73,7 @@ inner_product_cases : AllSame (
     reach_of (inner_rule two.Plus two.Times) (array [] ∷ array (3 ∷ 4 ∷ []) ∷ []) (None ∷ box ((2, 2) ∷ (3, 3) ∷ []) ∷ []) ⇒ Inside ((3, 3) ∷ []) ∷
     -- one column
     reach_of (inner_rule two.Plus two.Times) (array (2 ∷ 3 ∷ []) ∷ array (1 ∷ 1 ∷ []) ∷ []) (None ∷ box ((1, 1) ∷ (1, 1) ∷ []) ∷ []) ⇒ Inside ((1, 2) ∷ (1, 1) ∷ []) ∷
-    -- no items meet, and there are no columns
+    -- no pairs, and no columns
     reach_of (inner_rule two.Plus two.Times) (array (2 ∷ 3 ∷ []) ∷ array (3 ∷ 0 ∷ []) ∷ []) (box ((1, 1) ∷ (1, 1) ∷ []) ∷ None ∷ []) ⇒ Unmoved ∷
     [])
 inner_product_cases = refl

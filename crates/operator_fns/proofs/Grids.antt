@@ -51,7 +51,7 @@ axis_some (suc n ∷ shape) (suc k) h = axis_some shape k (rest_some (size shape
     rest_some zero e = absurd (omega arith)
     rest_some (suc s) e = omega arith
 
--- where a is one item, its rows are one
+-- an array of one item has one row
 one_row : (shape : List ℕ) → size shape ≡ 1 → size (take (length shape - 1) shape) ≤ 1
 one_row [] h = omega arith
 one_row (n ∷ shape) h =
@@ -62,12 +62,12 @@ one_row (n ∷ shape) h =
 
 -- ---- entries of a row and of a column
 
--- an entry of a row or of a column lies in the numbers, and is the item that is meant
+-- an entry of a row or of a column lies in the list, and is the right item
 record Entry (a : ArrayValue) (xs : List ℤ) (index : List ℕ) (place : ℕ) : Type 0 where
   there : place < length xs
   is : Num (get_or xs place (pos 0)) ≡ extended a index
 
--- where one item stands still, and where an entry of many stands
+-- the entry of an array of one item, and of any other
 entry_at : (a : ArrayValue) (xs : List ℤ) → length a.items ≡ size a.shape → a.items ≡ map (λ z. Num z) xs → 0 < length xs
     → (index : List ℕ) (place : Bool → ℕ) → (size a.shape ≡ 1 → place true ≡ 0)
     → (length a.items ≢ 1 → size a.shape ≢ 1 → (place false ≡ places_before a.shape index) × (places_before a.shape index < size a.shape))

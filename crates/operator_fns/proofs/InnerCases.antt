@@ -22,7 +22,7 @@ worked_cases : AllSame (
     -- rank 3 right
     inner_whole two.Plus two.Times (nums (2 ∷ []) (1 ∷ 10 ∷ [])) (nums (2 ∷ 2 ∷ 2 ∷ []) (1 ∷ 2 ∷ 3 ∷ 4 ∷ 5 ∷ 6 ∷ 7 ∷ 8 ∷ [])) ⇒ is (nums (2 ∷ 2 ∷ []) (51 ∷ 62 ∷ 73 ∷ 84 ∷ [])) ∷
     inner_whole two.Plus two.Times (nums (1 ∷ 1 ∷ 1 ∷ 1 ∷ []) (1 ∷ [])) (nums (1 ∷ 1 ∷ 1 ∷ []) (1 ∷ [])) ⇒ fails Limit ∷  -- rank 5
-    -- the fold is from the right, and the functions are not exchanged
+    -- the fold goes from the right, and the arguments keep their sides
     inner_whole two.Minus two.Times (nums (3 ∷ []) (1 ∷ 2 ∷ 3 ∷ [])) (nums (3 ∷ []) (1 ∷ 1 ∷ 1 ∷ [])) ⇒ is (nums [] (2 ∷ [])) ∷
     inner_whole two.Times two.Plus (nums (3 ∷ []) (1 ∷ 2 ∷ 3 ∷ [])) (nums (3 ∷ []) (4 ∷ 5 ∷ 6 ∷ [])) ⇒ is (nums [] (315 ∷ [])) ∷  -- functions in order
     inner_whole two.Plus two.Minus (nums (2 ∷ []) (10 ∷ 20 ∷ [])) (nums (2 ∷ []) (1 ∷ 2 ∷ [])) ⇒ is (nums [] (27 ∷ [])) ∷  -- sides in order
@@ -34,7 +34,7 @@ worked_cases : AllSame (
     inner_whole two.And two.Equal (chars (2 ∷ 2 ∷ []) (97 ∷ 98 ∷ 97 ∷ 99 ∷ [])) (chars (2 ∷ []) (97 ∷ 98 ∷ [])) ⇒ is (nums (2 ∷ []) (1 ∷ 0 ∷ [])) ∷  -- all equal
     inner_whole two.Plus two.Times (chars (2 ∷ []) (97 ∷ 98 ∷ [])) (nums (2 ∷ []) (1 ∷ 2 ∷ [])) ⇒ fails Domain ∷  -- letters multiplied
     inner_whole two.Plus two.Times (chars (1 ∷ []) (97 ∷ [])) (chars (1 ∷ []) (97 ∷ [])) ⇒ fails Domain ∷  -- one letter
-    -- one item on a side extends, of whatever rank
+    -- one item on a side extends, at any rank
     inner_whole two.Plus two.Times (nums [] (2 ∷ [])) (nums (3 ∷ []) (1 ∷ 2 ∷ 3 ∷ [])) ⇒ is (nums [] (12 ∷ [])) ∷
     inner_whole two.Plus two.Times (nums (3 ∷ []) (1 ∷ 2 ∷ 3 ∷ [])) (nums [] (2 ∷ [])) ⇒ is (nums [] (12 ∷ [])) ∷  -- scalar right
     inner_whole two.Plus two.Times (nums [] (2 ∷ [])) (nums [] (3 ∷ [])) ⇒ is (nums [] (6 ∷ [])) ∷  -- scalars
@@ -45,7 +45,7 @@ worked_cases : AllSame (
     inner_whole two.Plus two.Times (nums (1 ∷ 1 ∷ 1 ∷ []) (2 ∷ [])) (nums (1 ∷ []) (3 ∷ [])) ⇒ is (nums (1 ∷ 1 ∷ []) (6 ∷ [])) ∷  -- both one item
     inner_whole two.Minus two.Minus (nums (1 ∷ []) (5 ∷ [])) (nums (2 ∷ []) (1 ∷ 2 ∷ [])) ⇒ is (nums [] (1 ∷ [])) ∷  -- one item beside two
     inner_whole two.Plus two.Times (nums (2 ∷ []) (1 ∷ 2 ∷ [])) (nums (3 ∷ []) (1 ∷ 2 ∷ 3 ∷ [])) ⇒ fails Length ∷  -- lengths apart
-    -- lengths apart matrix
+    -- matrices of different lengths
     inner_whole two.Plus two.Times (nums (2 ∷ 3 ∷ []) (1 ∷ 2 ∷ 3 ∷ 4 ∷ 5 ∷ 6 ∷ [])) (nums (2 ∷ 3 ∷ []) (1 ∷ 2 ∷ 3 ∷ 4 ∷ 5 ∷ 6 ∷ [])) ⇒ fails Length ∷
     inner_whole two.Plus two.Times (nums [] (2 ∷ [])) (nums (3 ∷ []) (1 ∷ 2 ∷ 3 ∷ [])) ⇒ is (nums [] (12 ∷ [])) ∷  -- length of the scalar is one
     -- no items give the identity of the fold
@@ -59,7 +59,7 @@ worked_cases : AllSame (
     inner_whole two.Plus two.Times (nums (0 ∷ 2 ∷ []) []) (nums (2 ∷ []) (1 ∷ 2 ∷ [])) ⇒ is (nums (0 ∷ []) []) ∷  -- no rows
     inner_whole two.Plus two.Times (nums (0 ∷ []) []) (nums (2 ∷ []) (1 ∷ 2 ∷ [])) ⇒ fails Length ∷  -- none and two
     inner_whole two.Plus two.Times (chars (0 ∷ []) []) (chars (0 ∷ []) []) ⇒ is (nums [] (0 ∷ [])) ∷  -- no letters
-    -- all the items of the second function are looked at from the last, and their error wins
+    -- the second function is applied to all pairs from the last, and its error wins
     inner_whole two.Plus two.Divide (ints (2 ∷ []) (least ∷ pos 1 ∷ [])) (ints (2 ∷ []) (minus 1 ∷ pos 0 ∷ [])) ⇒ fails Domain ∷
     inner_whole two.Plus two.Divide (ints (2 ∷ []) (pos 1 ∷ least ∷ [])) (ints (2 ∷ []) (pos 0 ∷ minus 1 ∷ [])) ⇒ fails Limit ∷  -- last error of each limit
     -- error of each before fold

@@ -4,7 +4,7 @@ use Rattle.std.proofs.lemmas.List.FromFn.{length-map-range_with_len, get_or-map-
 use Rattle.{arrays_core.{specs.declared.item.Kind.{Kind}, specs.Items.{and_then}}, item_fns.{specs.Folds.{folded}, proofs.RightFolds.{fold_more}}}
 use Rattle.operator_fns.{specs.InnerProduct.{all_or_last_error}, specs.RowByColumn.{all_met, last_error_or, folded_all}}
 
--- ---- the error of the last that has one
+-- ---- the error of the last entry that fails
 
 module _ {A : Type 0} where
   pub last_fine : (e : Kind) (rs : List (Result A Kind)) (x : A) → last_error_or e (rs ++ Ok x ∷ []) ≡ last_error_or e rs
@@ -17,7 +17,7 @@ module _ {A : Type 0} where
   last_failed e (Ok y ∷ rs) k = last_failed e rs k
   last_failed e (Err j ∷ rs) k = last_failed j rs k
 
-  -- an error of the rest stands
+  -- an error of a suffix is the error of the whole
   pub later_error : (rs : List (Result A Kind)) (k : ℕ) (e : Kind) → k < length rs → all_or_last_error (drop k rs) ≡ Err e → all_or_last_error rs ≡ Err e
   later_error [] k e h g = absurd (omega arith)
   later_error (x ∷ rs) zero e h g = g
@@ -60,7 +60,7 @@ module _ {A : Type 0} (rule : ℕ → Result A Kind) where
   firsts_more : (place : ℕ) → 0 < place → firsts place ≡ firsts (place - 1) ++ rule (place - 1) ∷ []
   firsts_more place some = let next : place ≡ place - 1 + 1 = omega arith in ap firsts next ∙ map-range_with_len_more rule 0 (place - 1) (place - 1) (omega arith)
 
-  -- one entry fewer that is fine, or that has the error
+  -- one entry fewer, which succeeds or fails with the error
   pub fine_entry : (e : Kind) (place : ℕ) (x : A) → 0 < place → rule (place - 1) ≡ Ok x → last_error_or e (firsts place) ≡ last_error_or e (firsts (place - 1))
   fine_entry e place x some here = ap (last_error_or e) (firsts_more place some ∙ ap (λ r. firsts (place - 1) ++ r ∷ []) here) ∙ last_fine e (firsts (place - 1)) x
 
@@ -71,7 +71,7 @@ module _ {A : Type 0} (rule : ℕ → Result A Kind) where
     pub none_after : drop n (firsts n) ≡ []
     none_after = drop_all n (firsts n) (omega (arith, length-firsts n))
 
-    -- the rest from the entry before a place on
+    -- the suffix from the entry before a place
     pub rest_from : (place : ℕ) (r : Result A Kind) → 0 < place → place ≤ n → rule (place - 1) ≡ r → drop (place - 1) (firsts n) ≡ r ∷ drop place (firsts n)
     rest_from place r some inside here =
         drop_more (firsts n) (place - 1) r (omega (arith, length-firsts n)) ∙ ap (λ m. get_or (firsts n) (place - 1) r ∷ drop m (firsts n)) (omega arith)
@@ -82,7 +82,7 @@ module _ {A : Type 0} (rule : ℕ → Result A Kind) where
     rest_failed place e later some inside here made =
         later_error (firsts n) (place - 1) e (omega (arith, length-firsts n)) (rw (rest_from place (Err e) some inside here, made) refl)
 
-    -- a list that is written from its last entry to its first has one more
+    -- a list written from its end has one more entry
     pub one_written : (xs : List A) (place : ℕ) (x : A) → 0 < place → place ≤ n → place ≤ length xs → rule (place - 1) ≡ Ok x
         → all_or_last_error (drop place (firsts n)) ≡ Ok (drop place xs) → all_or_last_error (drop (place - 1) (firsts n)) ≡ Ok (drop (place - 1) (set xs (place - 1) x))
     one_written xs place x some inside in_xs here later =
@@ -99,7 +99,7 @@ still_fails f (x ∷ front) later e h g =
     (fold_more f x (front ++ later) rest.1 ∙ ap (λ r. and_then r (f x)) rest.0, omega (arith, rest.1))
 
 module _ {A : Type 0} (f : A → A → Result A Kind) (rule : ℕ → Result A Kind) (n : ℕ) where
-  -- the rest from an entry on is fine, and folds to y
+  -- the suffix from a place succeeds, and folds to y
   pub record FoldedTo (place : ℕ) (y : A) : Type 0 where
     pub later : List A
     pub made : all_or_last_error (drop place (firsts rule n)) ≡ Ok later

@@ -5,7 +5,7 @@ use Rattle.std.specs.Result.{IsErr, IsErrAnd}
 use Rattle.arrays_core.{specs.declared.item.Kind.{Kind}, specs.declared.fault.ApplyFault.{ApplyFault}, specs.declared.fault.ApplyFault.TheVariants.{Kind as KindFault, NoMemory}, specs.Items.{all_or_first_error}}
 use Rattle.{item_fns.specs.NumberLists.{IsListAnswerTo}, operator_fns.specs.OuterResults.{outer_results, LeavesOrFails}}
 
--- the first results of a list stand after some numbers
+-- some numbers, followed by the first k results of a list
 pub record RowTo (old : List ℤ) (rs : List (Result ℤ Kind)) (k : ℕ) (items : List ℤ) : Type 0 where
   pub new : List ℤ
   pub made : all_or_first_error (take k rs) ≡ Ok new
@@ -14,7 +14,7 @@ pub record RowTo (old : List ℤ) (rs : List (Result ℤ Kind)) (k : ℕ) (items
 -- ---- the rows of an outer product
 
 module _ (f : ℤ → ℤ → Result ℤ Kind) (ys : List ℤ) where
-  -- one row more
+  -- one more row
   pub row_more : (xs : List ℤ) (i : ℕ) → i < length xs → outer_results f (take (i + 1) xs) ys ≡ outer_results f (take i xs) ys ++ map (f (get_or xs i (pos 0))) ys
   row_more xs i h =
       ap (λ zs. outer_results f zs ys) (take_more xs i (pos 0) h)

@@ -39,7 +39,7 @@ module _ (grid : Grid) (places n m : ℕ) (fits : IsGridOf grid places n m) (pla
       let parts = one_more grid.count c fits.some in
       omega arith
 
--- the numbers at the places are the sums of products
+-- the number at a place is its sum of products
 pub product_there : (xs ys : List ℤ) (grid : Grid) (places : ℕ) → IsGridOf grid places (length xs) (length ys) → IsPlain grid places → AddUp grid.count xs ys
     → (place : ℕ) (z : ℤ) → place < places → IsProduct xs ys grid.columns grid.count place z
     → cell (dyadic_on_numbers Plus) (dyadic_on_numbers Times) xs ys grid place ≡ Ok z

@@ -1,4 +1,4 @@
--- The sum of products of small numbers, whose fold is that sum.
+-- Sums of products of small numbers: the fold is the sum.
 use Rattle.std.{proofs.Common.{◌≡◌, ℕ, suc, ◌+◌, ◌-◌, ◌*◌, ◌/◌, ◌%◌, inl, inr, ◌^◌, ◌<◌, ◌≤◌, List, [], ◌∷◌, ◌++◌, length, get_or, take, drop, map, refl, ap, subst, sym, ◌∙◌, arith, ℤ, pos, negsuc, ◌+ℤ◌, ◌*ℤ◌, unsigned_abs, FitsSigned, Ok}, specs.Int.{w64}, specs.List.{All, range_with_len}}
 use Rattle.std.{proofs.lemmas.Int.{ints, unsigned_abs-mul, fits_signed_from_abs}, proofs.lemmas.List.FromFn.{length-map-range_with_len, get_or-map-range_with_len, map-range_with_len_more}, proofs.Math.Nat.{mul-le-mul, mul-le-mul_left, mul-le-mul_right}}
 use Rattle.std.{proofs.lemmas.List.{get_or-take, get_or-drop, get_or_append_left, get_or-append_right, length-take, length-drop}, proofs.lemmas.List.Elements.{All-take, All-drop}, proofs.lemmas.Bool.{cases_lt}, proofs.lemmas.Nat.{div-mul-add, mod-mul-add}}
@@ -10,14 +10,14 @@ use Rattle.operator_fns.{specs.InnerProduct.{all_or_last_error}, specs.RowByColu
 abs_add : (a b : ℤ) → unsigned_abs (a +ℤ b) ≤ unsigned_abs a + unsigned_abs b
 abs_add a b = omega (arith, ints)
 
--- a number that is near enough is one of 64 bits
+-- a number of small magnitude fits 64 bits
 pub near_fits : (z : ℤ) (most : ℕ) → unsigned_abs z ≤ most → most < 2 ^ 63 → FitsSigned w64 z
 near_fits z most near few = fits_signed_from_abs w64 z (omega arith)
 
 near_held : (z : ℤ) (most : ℕ) → unsigned_abs z ≤ most → most < 2 ^ 63 → number_or_limit z ≡ Ok z
 near_held z most near few = held_within z (within_of z (near_fits z most near few))
 
--- ---- the sum of numbers that are near
+-- ---- sums of numbers of small magnitude
 
 sum_more : (xs : List ℤ) (z : ℤ) → sum_of (xs ++ z ∷ []) ≡ sum_of xs +ℤ z
 sum_more [] z = omega (arith, ints)
@@ -55,7 +55,7 @@ pub next_sum : (row column : ℕ → ℤ) (k : ℕ) → sum_of_products row colu
 next_sum row column k =
     ap sum_of (map-range_with_len_more (λ k. row k *ℤ column k) 0 k k (omega arith)) ∙ sum_more (map (λ k. row k *ℤ column k) (range_with_len 0 k)) (row k *ℤ column k)
 
--- the first entries of a row and of a column are near enough
+-- the first entries of a row and of a column have small magnitudes
 pub record AreSmall (row column : ℕ → ℤ) (n : ℕ) : Type 0 where
   pub most_x : ℕ
   pub most_y : ℕ
@@ -63,7 +63,7 @@ pub record AreSmall (row column : ℕ → ℤ) (n : ℕ) : Type 0 where
   pub near_y : (k : ℕ) → k < n → unsigned_abs (column k) ≤ most_y
   pub few : most_x * most_y * n < 2 ^ 63
 
--- where they are taken from two lists whose numbers are
+-- entries of two lists with small magnitudes
 pub small_entries : (xs ys : List ℤ) (n : ℕ) (row column : ℕ → ℕ) → AddUp n xs ys → ((k : ℕ) → k < n → row k < length xs) → ((k : ℕ) → k < n → column k < length ys)
     → AreSmall (λ k. get_or xs (row k) (pos 0)) (λ k. get_or ys (column k) (pos 0)) n
 small_entries xs ys n row column small rows columns =
@@ -118,7 +118,7 @@ module _ (row column : ℕ → ℤ) (n : ℕ) (small : AreSmall row column n) wh
       ∙ ap (λ r. and_then r (folded (dyadic_on_numbers Plus))) (all_fine (λ k. row k *ℤ column k) (range_with_len 0 n))
       ∙ near_folded most (products n) (omega arith) (subst (λ m. most * m < 2 ^ 63) (sym long) small.few) (near_products n (omega arith))
 
--- ---- places in rows that lie one after another
+-- ---- places in consecutive rows
 
 pub row_high : (row count rows : ℕ) → row < rows → row * count + count ≤ rows * count
 row_high row count rows inside =
@@ -139,7 +139,7 @@ row_entry rows columns row column below =
     ∙ get_or-drop (row * columns) rows column (pos 0)
     ∙ ap (λ p. get_or rows p (pos 0)) (omega arith)
 
--- numbers of parts of two lists
+-- parts of two lists
 pub parts_add_up : (xs ys : List ℤ) (first long count most : ℕ) → AddUp count xs ys → length (take long (drop first xs)) ≡ count
     → AddUp (length (take long (drop first xs))) (take long (drop first xs)) (take most ys)
 parts_add_up xs ys first long count most small same =
@@ -152,7 +152,7 @@ parts_add_up xs ys first long count most small same =
     }
 
 module _ (xs ys : List ℤ) (columns count : ℕ) where
-  -- a row more
+  -- one more row
   pub row_more : (row : ℕ) (before all : List ℤ) → row * count + count ≤ length xs → length before ≡ row * columns
       → EndsInSums (take (row * count + count - row * count) (drop (row * count) xs)) (take (count * columns) ys) columns before all
       → ((place : ℕ) → place < row * columns → IsProduct xs ys columns count place (get_or before place (pos 0)))

@@ -4,7 +4,7 @@ use Rattle.arrays_core.{specs.declared.item.Kind.{Kind}, specs.declared.item.Ite
 use Rattle.index_region.{specs.ArgumentLists.{of_two_arguments}, specs.Boxes.{Interval}, specs.Checks.{Form, check, form_of, is_within_limits, limited}, proofs.Boxes.{fits_length}}
 use Rattle.{change_core.specs.RuleModels.{FitsAt, HasShape}, operator_fns.specs.InnerProduct.{row_rank, inner_form}}
 
--- checks that give a shape have passed
+-- checks that yield a shape have passed
 rest_of_checks : (holds : Bool) (kind : Kind) (rest : Result Form Kind) (shape : List ℕ) → HasShape (check holds kind rest) shape → HasShape rest shape
 rest_of_checks true kind rest shape h = h
 rest_of_checks false kind rest shape h = absurd h
@@ -13,7 +13,7 @@ passed_limits : (holds : Bool) (kind : Kind) (form : Form) (shape : List ℕ) �
 passed_limits true kind form shape h = refl
 passed_limits false kind form shape h = absurd h
 
--- a result is of few axes
+-- a result has at most `most_axes` axes
 few_axes : (axes : List ℕ) (item_type : ItemType) (shape : List ℕ) → HasShape (limited axes item_type) shape → length axes ≤ most_axes
 few_axes axes item_type shape h = leb-true _ _ (and_parts _ _ (and_parts _ _ (passed_limits (is_within_limits axes) _ (form_of axes item_type) shape h)).0).0
 
