@@ -1,8 +1,8 @@
--- Arrays that stand for arguments.
+-- Copies of arguments.
 use Rattle.std.{proofs.Common.{◌≡◌, ℕ, zero, suc, ◌+◌, ◌<◌, List, [], ◌∷◌, ◌++◌, length, take, get_or, ap, sym, subst, ◌∙◌, Option, Some, None, IfSome, arith, true, nat_lt}, proofs.lemmas.Bool.{ltb-true}, proofs.lemmas.List.{get_or_default, take_more}}
 use Rattle.{arrays_core.specs.Arrays.{ArrayValue}, change_rules.specs.Copies.{AreCopies}}
 
--- one more argument
+-- one more copy
 pub push_copy : (k : ℕ) (args : List ArrayValue) (copies : List (Option ArrayValue)) (x : Option ArrayValue) → k < length args → AreCopies (take k args) copies → IfSome x (λ b. b ≡ get_or args k b)
     → AreCopies (take (suc k) args) (copies ++ x ∷ [])
 push_copy zero (a ∷ args) [] x l h e = (e, tt)

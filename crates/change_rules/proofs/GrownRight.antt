@@ -1,4 +1,4 @@
--- A node that grows: its new places make of the old whole evaluation the new one.
+-- A node that grows: its new place completes the old evaluation to the new one.
 use Rattle.std.{proofs.Common.{◌≡◌, ℕ, zero, suc, ◌+◌, ◌*◌, ◌/◌, ◌%◌, ◌<◌, ◌≤◌, List, [], ◌∷◌, ◌++◌, length, map, max, min, refl, ap, ◌∙◌, sym, subst, arith, true, Bool, nat_lt, Some, Result, Ok, Err, is_ok, IfOk, inl, inr, add-zero}, specs.List.{range_with_len, flat_map, list_all}}
 use Rattle.std.{proofs.lemmas.Bool.{cases_Bool, cond-true, cond-false, false≢true, ltb-true}, proofs.lemmas.List.{append-nil, append_assoc, map-append}, proofs.lemmas.Nat.{div-mul-add, mod-mul-add}}
 use Rattle.arrays_core.{specs.declared.item.Item.{Item}, specs.declared.item.ItemType.{ItemType}, specs.declared.item.Kind.{Kind}, specs.Arrays.{ArrayValue, IsArray, with_items}, specs.Items.{after, all_or_first_error}, proofs.Growing.{fits_growth}, specs.Shapes.{indices, is_index_of}}
@@ -158,7 +158,7 @@ grown_right p law marks olds news old grew so sn listed h ok = by_forms (p.form 
 
 -- ---- the arguments before
 
--- the old arguments, as arrays, of which some grew
+-- the old arguments, as arrays, some of which grew
 pub record BeforeGrowth (os : List Outcome) (ds : List Delta) (ns : List ArrayValue) : Type 0 where
   pub olds : List ArrayValue
   pub old : os ≡ map (λ a. Ok a) olds

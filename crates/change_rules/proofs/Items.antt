@@ -1,16 +1,16 @@
--- The items of a box that is all of a result.
+-- The items of a box that is the whole result.
 use Rattle.std.{proofs.Common.{◌≡◌, ℕ, ◌+◌, ◌-◌, ◌*◌, ◌<◌, ◌≤◌, List, [], ◌∷◌, length, map, Result, Ok, Err, IsTrue, refl, ap, ◌∙◌, sym, subst, arith, inl, inr}, specs.List.{range_with_len}, proofs.lemmas.Bool.{and_parts, leb-true, false≢true, cases_order}, proofs.lemmas.Nat.{mul-le}}
 use Rattle.arrays_core.{specs.declared.fault.ApplyFault.{ApplyFault}, specs.declared.fault.ApplyFault.TheVariants.{Kind as KindFault, NoMemory}, specs.declared.item.Item.{Item}, specs.declared.item.ItemType.{ItemType}, specs.declared.item.Kind.{Kind}, specs.Arrays.{ArrayValue, IsAnswerTo, with_items}}
 use Rattle.arrays_core.{specs.Outcomes.{Outcome, IsOutcomeOf}, specs.Items.{all_or_first_error}, specs.Shapes.{size, indices}}
 use Rattle.index_region.{specs.Boxes.{Interval, interval_length, box_size, fits, walk_at, whole_of}, specs.Checks.{Form, form_of, whole}, proofs.Patched.{box_within_size}, proofs.Walks.{some_place}}
 use Rattle.change_core.{specs.declared.reach.Reach.{Reach}, specs.declared.reach.Reach.TheVariants.{Inside}, specs.Parts.{HoldsItems, items_in}, specs.Reaches.{LiesInResult}, proofs.Collected.{items_are}, proofs.Walking.{walk_is, length-along}}
 
--- the items that a call answered, where it gave an array
+-- the items of a call that returned an array
 pub given_items : (t : ItemType) (wanted : Result (List Item) Kind) (applied : Result ArrayValue ApplyFault) (o : Outcome) (a : ArrayValue)
     → HoldsItems t wanted applied → IsOutcomeOf applied o → o ≡ Ok a → wanted ≡ Ok a.items
 given_items t wanted applied o a holds is gave = (subst (HoldsItems t wanted) (subst (IsOutcomeOf applied) gave is) holds).0
 
--- factors are the greatest where their product is
+-- two factors are greatest if their product is
 both_greatest : (a b n m : ℕ) → 0 < a → 0 < b → a ≤ n → b ≤ m → a * b ≡ n * m → (a ≡ n) × (b ≡ m)
 both_greatest a b n m ha hb la lb e =
     let less : a < n → ⊥ = λ h.
@@ -25,7 +25,7 @@ both_greatest a b n m ha hb la lb e =
       elim (cases_order b m) [ inl s ↦ s | inr o ↦ elim o [ inl l ↦ absurd (fewer l) | inr l ↦ absurd (omega arith) ] ],
     )
 
--- a box with as many places as the result is all of it
+-- a box with as many places as the result is the whole result
 pub all_places : (region : List Interval) (shape : List ℕ) → IsTrue (fits region shape) → box_size region ≡ size shape → region ≡ whole_of shape
 all_places [] [] fit e = refl
 all_places (s ∷ region) (n ∷ shape) fit e =

@@ -1,4 +1,4 @@
--- The change of a node makes the whole evaluation of the new arguments.
+-- The change of a node yields the evaluation of the new arguments.
 use Rattle.std.{proofs.Common.{◌≡◌, List, [], ◌∷◌, length, map, ap, sym, ◌∙◌, subst, true, Bool, not, Option, inl, inr, is_ok}, proofs.lemmas.List.{length-map}, proofs.lemmas.List.Folds.{list_all-map}, proofs.lemmas.Simd.{map-map}, specs.List.{list_any}}
 use Rattle.std.proofs.lemmas.Bool.{and_parts, or_parts, cases_Bool, cond-true, cond-false, not-false}
 use Rattle.{arrays_core.{specs.Arrays.{IsArray}, specs.Outcomes.{Outcome}}, index_region.{specs.Boxes.{Interval}, specs.declared.delta.Delta.{Delta}}}
@@ -22,7 +22,7 @@ grown_case p law os args old all axes sound evaluated ok = elim (cases_Bool (nod
   | inr f ↦ ap (λ (d : Delta). applied d old) (cond-false _ _ _ f)
 ]
 
--- the change of a node makes of the old whole evaluation the new one
+-- the change, applied to the old evaluation, yields the new one
 pub brings_up_to_date : (p : RuleModel) → ReachCovers p → IsGrowing p p.grows → (args : List Argument) (old : Outcome) → length args ≡ length p.selectors → LiesInResult (p.form (views args)) (reach_of p (views args) (moved args)) → AllFit (views args) (moved args)
     → HasAxis args → Each IsArray (views args) → BringsUpToDate p args old (node_delta p args old)
 brings_up_to_date p law growing args old count lies fit axes sound os shows evaluated =

@@ -4,7 +4,7 @@ use Rattle.index_region.{specs.Patches.{PatchValue}, specs.declared.delta.Delta.
 use Rattle.{change_core.specs.RuleModels.{RuleModel}, arrays_core.specs.Outcomes.{Outcome}}
 use Rattle.change_rules.{specs.Nodes.{Argument, views, all_same, any_grown, all_patched_at_most, is_grown, is_whole, is_patched_at_most, grown_delta, grown_cost, starts_anew, node_delta, node_cost, moved, reached_delta, reached_cost}, proofs.Refreshed.{deltas, any_delta}}
 
--- where arguments were patched at most, none changed in another way
+-- if arguments were at most patched, none changed in another way
 none_else : (is_else : Delta → Bool) → is_else Same ≡ false → ((p : PatchValue) → is_else (Patch p) ≡ false) → (ds : List Delta) → list_all is_patched_at_most ds ≡ true → list_any is_else ds ≡ false
 none_else is_else same patch [] h = refl
 none_else is_else same patch (Same ∷ ds) h = rw same (none_else is_else same patch ds h)

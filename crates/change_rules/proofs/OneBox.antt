@@ -1,4 +1,4 @@
--- The change of a node of which one place alone changes.
+-- The change of a node with a single changed place.
 use Rattle.std.{proofs.Common.{◌≡◌, ◌≤◌, ◌<◌, ℕ, ◌*◌, List, [], ◌∷◌, length, get_or, Option, None, Some, refl, ap, ◌∙◌, sym, subst, arith, true, false, Bool, Result, Ok, Err, IsTrue, inl, inr}, specs.List.{list_all}, specs.Prelude.{◌==◌, is_ok, is_err}}
 use Rattle.std.proofs.lemmas.Bool.{and_parts, eqb-true, false≢true, cond-false, cases_Bool}
 use Rattle.arrays_core.{specs.Arrays.{ArrayValue}, specs.declared.item.Kind.{Kind}, specs.declared.item.ItemType.{ItemType}, specs.Outcomes.{Outcome}}
@@ -7,7 +7,7 @@ use Rattle.index_region.{specs.Checks.{Form, form_of}, specs.Moves.{Tells, chang
 use Rattle.change_core.{specs.declared.reach.Reach.{Reach}, specs.declared.reach.Reach.TheVariants.{Unmoved, Inside}, specs.Parts.{items_in}, specs.Reaches.{LiesInResult, as_reach, changed, changed_by, is_anew, reach_by, reach_of}, specs.RuleModels.{Passes, RuleModel, Use}, proofs.Covers.{reaches_inside}}
 use Rattle.change_rules.{specs.Nodes.{Argument, views, moved, moved_by, is_same, all_same, all_patched_at_most, delta_in, size_in, patch_delta, reached_delta, reached_cost, node_delta, node_cost}, proofs.Nodes.{delta_reached, cost_reached}}
 
--- the box of an argument that changed there
+-- a move and its change have the same box
 pub tells_box : (m : Moved) (d : Delta) → Tells m d → changed_box m ≡ moved_by d
 tells_box Not Same h = refl
 tells_box (Within region) (Patch p) h = ap (λ (r : List Interval). Some r) h
@@ -26,7 +26,7 @@ tells_box Anew Same h = absurd h
 tells_box Anew (Patch p) h = absurd h
 tells_box Anew (Grown t) h = absurd h
 
--- the boxes of one, two and three arguments that changed there
+-- the changed boxes of one, two and three arguments
 pub moved_of_one : (args : List Argument) (x : Argument) (a : Moved) → 1 ≤ length args → length args < 2 → Tells a (get_or args 0 x).1.now → changed_box a ∷ [] ≡ moved args
 moved_of_one [] x a low high h = absurd (omega (arith, low))
 moved_of_one (p ∷ []) x a low high h = ap (λ (box : Option (List Interval)). box ∷ []) (tells_box a p.1.now h)
@@ -60,7 +60,7 @@ single (s ∷ region) h =
     let here : interval_length s ≡ 1 = omega arith in
     λ i. here i * rest i
 
--- where no argument changed, nothing of the result may change
+-- if no argument changed, the result stays the same
 same_box : (d : Delta) → is_same d ≡ true → moved_by d ≡ None
 same_box Same h = refl
 same_box (Patch p) h = absurd (false≢true h)
@@ -81,7 +81,7 @@ none_changed shape [] args h = refl
 none_changed shape (u ∷ uses) [] h = refl
 none_changed shape (u ∷ uses) (a ∷ args) h = let parts = and_parts _ _ h in λ i. join_boxes (changed_by shape u (same_box a.1.now parts.0 i)) (none_changed shape uses args parts.1 i)
 
--- where a box lies in the form that the checks give, it lies in the shape of that
+-- a box that fits the form of the checks fits its shape
 pub fits_shape : (r : Result Form Kind) (region : List Interval) (shape : List ℕ) (t : ItemType) → ((f : Form) × (r ≡ Ok f) × IsTrue (fits region f.shape)) → r ≡ Ok (form_of shape t) → IsTrue (fits region shape)
 fits_shape r region shape t checked e =
     let given : Ok checked.0 ≡ Ok (form_of shape t) = sym checked.1 ∙ e in
@@ -90,7 +90,7 @@ fits_shape r region shape t checked e =
 
 -- a box of the result may change, where the checks pass
 module _ (p : RuleModel) (seen : List ArrayValue) (boxes : List (Option (List Interval))) (region : List Interval) (passes : Passes (p.form seen)) (inside : Inside region ≡ reach_of p seen boxes) where
-  -- it lies in the result
+  -- the box lies in the result
   pub box_checked : (f : Form) × (p.form seen ≡ Ok f) × IsTrue (fits region f.shape)
   box_checked = (passes.0, passes.1, subst (λ (r : Reach). LiesInResult (Ok passes.0) r) (sym inside) (subst (λ (x : Result Form Kind). LiesInResult x (reach_of p seen boxes)) passes.1 (reaches_inside p seen boxes)))
 
@@ -119,7 +119,7 @@ module _ (p : RuleModel) (seen : List ArrayValue) (boxes : List (Option (List In
         nothing e = let no : ⊥ = cc in no
 
     module _ (old : Outcome) (ok : is_ok old ≡ true) (patched : all_patched_at_most args ≡ true) where
-      -- it is the patch of the box
+      -- the change is the patch of the box
       pub node_box_delta : (d : Delta) → ((f : Form) → p.form seen ≡ Ok f → d ≡ patch_delta f.item_type region (items_in (p.item seen) region)) → d ≡ node_delta p args old
       node_box_delta d is = is passes.0 passes.1 ∙ sym box_delta ∙ (λ i. reached_delta p (is_seen i) (are_moved i)) ∙ delta_reached p args old some_changed ok patched
 

@@ -1,4 +1,4 @@
--- A patch of the announced box makes the whole evaluation.
+-- A patch of the announced box yields the evaluation.
 use Rattle.index_region.{proofs.Walks.{walk_within, offset_below, walk_of_offset, offset_of_walk}, proofs.Patched.{fits_within}, specs.Boxes.{Interval, box_offset, box_size, fits, is_within, walk_at, whole_of}, specs.Checks.{Form}, specs.Patches.{PatchValue, patched, patched_item}}
 use Rattle.std.{proofs.Common.{◌≡◌, ℕ, suc, zero, ◌+◌, ◌-◌, ◌*◌, ◌<◌, ◌≤◌, List, [], ◌∷◌, map, get_or, refl, ap, ◌∙◌, sym, subst, arith, IsTrue, true, false, Result, Ok, Err, ◌⊎◌, inl, inr, add-zero}, specs.List.{range_with_len}}
 use Rattle.std.{proofs.lemmas.Bool.{and_parts, leb-true, false≢true, cases_Bool, cond-true, cond-false, cases_order}, proofs.lemmas.Nat.{mul-le}}
@@ -34,7 +34,7 @@ array_parts : (f : Form) (r : Result (List Item) Kind) (a : ArrayValue) → arra
 array_parts f (Ok ys) a e = let s : record { item_type = f.item_type; shape = f.shape; items = ys } ≡ a = cc in (ys, refl, sym s)
 array_parts f (Err k) a e = absurd cc
 
--- the box's items are new, the others as before: then the patch makes the whole evaluation
+-- new items in the box and old ones outside it: the patch yields the evaluation
 pub patch_right : (f : Form) (old new : List ℕ → Result Item Kind) (region : List Interval) (a : ArrayValue) (xs : List Item) → ((index : List ℕ) → IsTrue (is_index_of f.shape index) → is_within region index ≡ false → old index ≡ new index) → Ok a ≡ walked (Ok f) old → collected (along new region) ≡ Ok xs → Ok (patched a (record { region = region; item_type = f.item_type; items = xs })) ≡ walked (Ok f) new
 patch_right f old new region a xs outside e c =
     let parts = array_parts f (collected (along old (whole_of f.shape))) a (sym e) in
@@ -103,7 +103,7 @@ from_first h (suc n) a k (suc p) l e f =
     let later = from_first h n (a + 1) k p (omega arith) (ap h i ∙ e) (λ q m. let j : a + 1 + q ≡ a + suc q = omega arith in let y = f (suc q) (omega arith) in (y.0, ap h j ∙ y.1)) in
     λ t. put_first ((ap h (sym (add-zero a)) ∙ x.1) t) (later t)
 
--- a row before another row is wholly before it
+-- all of a row comes before any later row
 rows_apart : (i j w a b : ℕ) → i < j → a < w → i * w + a < j * w + b
 rows_apart i j w a b h k =
     let next : (i + 1) * w ≤ j * w = mul-le (i + 1) w j w (omega arith) (omega arith) in
@@ -145,7 +145,7 @@ offset_order (n ∷ axes) region [] js hi hj wi wj l = absurd (false≢true hi)
 offset_order (n ∷ axes) region (i ∷ is) [] hi hj wi wj l = absurd (false≢true hj)
 offset_order (n ∷ axes) [] (i ∷ is) (j ∷ js) hi hj wi wj l = absurd (false≢true wi)
 
--- an error in the box is the first of the whole
+-- the first error in the box is the first error of the whole
 pub error_right : (f : Form) (old new : List ℕ → Result Item Kind) (region : List Interval) (a : ArrayValue) (k : Kind) → ((index : List ℕ) → IsTrue (is_index_of f.shape index) → is_within region index ≡ false → old index ≡ new index) → fits region f.shape ≡ true → Ok a ≡ walked (Ok f) old → collected (along new region) ≡ Err k → failing k ≡ walked (Ok f) new
 error_right f old new region a k outside fit e c =
     let parts = array_parts f (collected (along old (whole_of f.shape))) a (sym e) in

@@ -103,7 +103,7 @@ same_whole f old new h = ap (λ (rs : List (Result Item Kind)). array_of f (coll
     same_along : (axes : List ℕ) (old new : List ℕ → Result Item Kind) → ((index : List ℕ) → IsTrue (is_index_of axes index) → old index ≡ new index) → along old (whole_of axes) ≡ along new (whole_of axes)
     same_along axes old new h = same_map (λ p. old (walk_at (whole_of axes) p)) (λ p. new (walk_at (whole_of axes) p)) (box_size (whole_of axes)) 0 (λ p l. h (walk_at (whole_of axes) p) (sym (within-whole axes (walk_at (whole_of axes) p)) ∙ walk_within (whole_of axes) p (omega arith)))
 
--- with one form before and after, and one item outside the announced box
+-- the same form before and after, and equal items outside the announced box
 pub reached_right : (form : Result Form Kind) (old new : List ℕ → Result Item Kind) (reach : Reach) (a : ArrayValue) → LiesInResult form reach → ((f : Form) → form ≡ Ok f → reach ≢ Anew → (index : List ℕ) → IsTrue (is_index_of f.shape index) → is_reached reach index ≡ false → old index ≡ new index) → ((f : Form) → form ≡ Ok f → reach ≢ Anew → Ok a ≡ walked (Ok f) old) → applied (walked_delta form new reach) (Ok a) ≡ walked form new
 reached_right (Err k) old new reach a lies outside e = refl
 reached_right (Ok f) old new Anew a lies outside e = refl
@@ -114,7 +114,7 @@ reached_right (Ok f) old new (Inside region) a lies outside e = by_items (collec
     by_items (Ok xs) c = ap (λ (r : Result (List Item) Kind). applied (patch_delta f.item_type region r) (Ok a)) c ∙ patch_right f old new region a xs (λ index p u. outside f refl (λ h. cc) index p u) (e f refl (λ h. cc)) c
     by_items (Err k) c = ap (λ (r : Result (List Item) Kind). applied (patch_delta f.item_type region r) (Ok a)) c ∙ error_right f old new region a k (λ index p u. outside f refl (λ h. cc) index p u) lies (e f refl (λ h. cc)) c
 
--- an evaluation with an array had a form
+-- an evaluation that is an array has a form
 form_is_ok : (form : Result Form Kind) (item : List ℕ → Result Item Kind) (a : ArrayValue) → Ok a ≡ walked form item → IsOk form
 form_is_ok (Ok f) item a e = refl
 form_is_ok (Err k) item a e = absurd cc

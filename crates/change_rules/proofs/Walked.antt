@@ -1,4 +1,4 @@
--- The whole evaluation along the box of all places.
+-- The evaluation as a walk along the box of all places.
 use Rattle.std.proofs.Common.{◌≡◌, ℕ, List, map, refl, ap, ◌∙◌, Result, Ok, Err}
 use Rattle.arrays_core.{specs.declared.item.Item.{Item}, specs.declared.item.Kind.{Kind}, specs.Items.{all_or_first_error}, specs.Arrays.{with_items}, specs.Shapes.{indices}, specs.Outcomes.{Outcome, fault, given}}
 use Rattle.index_region.{specs.declared.delta.Delta.{Delta}, specs.declared.delta.Delta.TheVariants.{Same, Whole}, specs.Boxes.{whole_of}, specs.Checks.{Form, whole}}
@@ -28,7 +28,7 @@ walked_is (Ok f) item =
     ∙ array_is f (all_or_first_error (map item (indices f.shape)))
 walked_is (Err k) item = refl
 
--- the change of a node, an item at a time
+-- the change of a node, item by item
 abbrev pub walked_delta : Result Form Kind → (List ℕ → Result Item Kind) → Reach → Delta
 walked_delta (Err k) item reach = Whole (failing k)
 walked_delta (Ok f) item Unmoved = Same

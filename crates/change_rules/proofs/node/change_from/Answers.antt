@@ -17,7 +17,7 @@ returns-then-patched_at_most-clause-ticks g c =
     subst (λ (n : ℕ). c.reached.new.meter.ticks ≤ c.args.meter.now.ticks + n) (cost_reached (g.R.Rule.model c.args.rule.now) c.args.args.now c.args.old.now c.requires.some (sym c.is_ok.ensures.value ∙ c.if-is_ok.true) (sym c.patched_at_most.ensures ∙ c.if-patched_at_most.true))
     (rw (c.requires.seen, c.requires.moves) at c.reached.ensures.ticks)
 
--- an argument changed otherwise than by a patch, as the node held an array
+-- an argument changed by more than a patch, since the node held an array
 otherwise : (g : Over) (c : goal.After-change_grown g) → all_patched_at_most c.args.args.now ≡ false
 otherwise g c = elim c.else-is_ok.branch [
   | else-is_ok-via-then-is_ok+else-patched_at_most w ↦ sym w.patched_at_most.ensures ∙ w.if-patched_at_most.false

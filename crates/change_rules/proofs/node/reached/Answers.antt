@@ -7,7 +7,7 @@ use Rattle.change_rules.proofs.node.reached.Goals as goal
 reach : (g : Over) (c : In-Inside g) → Inside c.in-Inside.region ≡ reach_of (g.R.Rule.model c.args.rule.now) c.args.args.now (map changed_box c.args.moves.now)
 reach g c = sym c.in-Inside.is ∙ c.in-Ok.ensures.reach
 
--- it costs as many items as it has places
+-- the cost is the number of places of the box
 cost_is : (g : Over) (c : In-Inside g) → reached_cost (g.R.Rule.model c.args.rule.now) c.args.args.now (map changed_box c.args.moves.now) ≡ box_size c.in-Inside.region
 cost_is g c = box_cost (g.R.Rule.model c.args.rule.now) c.args.args.now (map changed_box c.args.moves.now) c.in-Inside.region c.in-Ok.ensures.passes (reach g c)
 
