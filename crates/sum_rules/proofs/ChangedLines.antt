@@ -1,4 +1,4 @@
--- The lines of an array in which each of some lines has one new number.
+-- The lines of an array, some of which have one new number.
 use Rattle.std.{proofs.Common.{◌≡◌, ◌≢◌, ℕ, ◌+◌, ◌-◌, ◌*◌, ◌/◌, ◌<◌, ◌≤◌, ℤ, pos, true, false, List, length, get_or, set, map, remove, insert, refl, ap, sym, subst, ◌∙◌, arith, nat_eq, inl, inr}, proofs.lemmas.Bool.{cases_Bool, cond-true, cond-false, eqb-true, eqb-false}}
 use Rattle.std.{proofs.lemmas.List.{length-map, get_or_default, get_or-set_same, get_or-set_other}, proofs.Math.ListN.{get_or-map}, proofs.Math.Nat.{mul-div_cancel}}
 use Rattle.arrays_core.{specs.declared.item.Item.{Item}, specs.declared.item.Item.TheVariants.{Num, Char}, specs.declared.item.ItemType.TheVariants.{Nums}, specs.Arrays.{ArrayValue, item_of}, specs.Items.{fill, type_of}, specs.Shapes.{size, is_index_of, places_before}, proofs.Shapes.{places_below}}
@@ -15,7 +15,7 @@ number_item_is : (x : Item) → type_of x ≡ Nums → x ≡ Num (number_of x)
 number_item_is (Num z) h = refl
 number_item_is (Char c) h = absurd (let no : ⊥ = cc in no)
 
--- steps of one place are told apart by their number
+-- equal places have equal steps
 same_steps : (first step i j : ℕ) → 0 < step → first + i * step ≡ first + j * step → i ≡ j
 same_steps first step i j some e =
     sym (mul-div_cancel i some) ∙ ap (λ k. k / step) (omega (arith, e)) ∙ mul-div_cancel j some
@@ -54,7 +54,7 @@ module _ (axis : ℕ) (t : TreesValue) (a : ArrayValue) (p : PatchValue) (stand 
   pub as_many_lines : box_size p.region ≡ box_size region
   as_many_lines = size_with_one axis p.region on_region same_last
 
-  -- the line that a place of the box is on
+  -- the line through a place of the box
   module _ (before : ℕ) (below : before < box_size region) where
     on_others : is_index_of others (walk_at region before) ≡ true
     on_others = fits_within region others (walk_at region before) fits_axes.rest (walk_within region before below)
@@ -68,7 +68,7 @@ module _ (axis : ℕ) (t : TreesValue) (a : ArrayValue) (p : PatchValue) (stand 
     pub line_there : remove (walk_at p.region before) axis ≡ walk_at region before
     line_there = ap (λ (i : List ℕ). remove i axis) new_index ∙ remove_inserted axis s.0 (walk_at region before) (omega (arith, long, stand.there))
 
-  -- and its total
+  -- the total of this line
   module _ (sound : IsPatch p) (before : ℕ) (below : before < box_size region) where
     abbrev index : List ℕ
     index = walk_at region before
@@ -92,12 +92,12 @@ module _ (axis : ℕ) (t : TreesValue) (a : ArrayValue) (p : PatchValue) (stand 
     place_at k =
         stride axis a.shape index (k + 1) stand.there (long before below) ∙ ap (λ m. first + m * step) (omega arith)
 
-    -- where the new number lies
+    -- the place of the new number
     new_place : place ≡ first + (s.0 - 1) * step
     new_place =
         ap (places_before a.shape) (new_index before below ∙ ap (insert index axis) (omega (arith, low_high.0))) ∙ place_at (s.0 - 1)
 
-    -- the line on which it lies
+    -- the start of its line
     first_is : line_start t.step t.count (line_through t.count t.step place) ≡ first
     first_is =
         let which = places_before others index in
@@ -160,7 +160,7 @@ module _ (axis : ℕ) (t : TreesValue) (a : ArrayValue) (p : PatchValue) (stand 
           ∙ ap (λ (y : ℤ). Num y) (sym (get_or-set_other t.numbers place (first + k * step) z (pos 0) apart))
     ]
 
-    -- the line, as the numbers tell it
+    -- the line, from the numbers of the trees
     changed_line : line (patched a p) axis index ≡ map (λ (y : ℤ). Num y) (strided (pos 0) numbers_now first step n)
     changed_line = line_of_numbers (patched a p) axis index numbers_now first step n (get_or_default a.shape axis 1 0 stand.there) item_now
 

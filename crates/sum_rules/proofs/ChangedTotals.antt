@@ -1,4 +1,4 @@
--- The totals of which one number of the line is new.
+-- The totals of lines with one new number each.
 use Rattle.std.{proofs.Common.{◌≡◌, ℕ, ◌-◌, ◌*◌, ◌≤◌, Bool, true, false, ◌&&◌, not, if◌then◌else◌, nat_eq, is_ok, List, [], ◌∷◌, length, map, remove, Option, Some, None, Result, Ok, Err, IfOk, OnOk, refl, ap, sym, subst, ◌∙◌, arith}, specs.Prelude.{◌==◌}, specs.List.{range_with_len}}
 use Rattle.std.{specs.declared.alloc.AllocError.{AllocError}, proofs.lemmas.Bool.{cond-false, false≢true}}
 use Rattle.arrays_core.{specs.Arrays.{ArrayValue, collect}, specs.Items.{all_or_first_error, and_then}, specs.declared.item.ItemType.TheVariants.{Nums}, specs.declared.item.Item.{Item}, specs.declared.item.Kind.{Kind}, specs.declared.item.ItemType.{ItemType}, specs.Outcomes.{Outcome}}
@@ -10,7 +10,7 @@ use Rattle.change_core.{specs.declared.reach.Reach.TheVariants.{Inside, Unmoved}
 use Rattle.change_rules.{specs.Nodes.{Argument, all_patched_at_most, all_same, is_patched_at_most, is_same, is_error, moved_by, node_cost, node_delta, node_grows, reached_cost, reached_delta, size_in}, specs.Evaluation.{evaluation}, proofs.Nodes.{delta_reached}}
 use Rattle.sum_rules.{specs.LineSums.{array_of_shape, length_along}, specs.Totals.{AreFolds, HasAllJoins, StoodFor, is_by_trees, is_narrow, is_one_a_line, box_of_lines, total_rule}, proofs.ChangedLines.{as_many_lines, fits_axes, line_there, now_is}}
 
--- the axis that is meant stays under a patch
+-- the axis stays the same under a patch
 axis_before : (along : Along) (t : TreesValue) (p : PatchValue) (now : ArrayValue) (stood : StoodFor along t p now) → axis_at (length now.shape) along ≡ axis_at (length stood.before.shape) along
 axis_before along t p now stood = ap (λ (a : ArrayValue). axis_at (length a.shape) along) stood.is
 
@@ -32,11 +32,11 @@ module _ (fold : Reduce) (t : TreesValue) (p : PatchValue) (now : ArrayValue) (s
   one_before : is_one_a_line axis p.region ≡ true
   one_before = subst (λ k. is_one_a_line k p.region ≡ true) axis_is one
 
-  -- the lines of the box are as many as its places
+  -- the box has one line for each of its places
   pub as_many_lines_now : box_size p.region ≡ box_size (box_of_lines (axis_at (length now.shape) fold.along) p.region)
   as_many_lines_now = as_many_lines axis t stood.before p stood.lines stood.fit one_before ∙ ap (λ k. box_size (box_of_lines k p.region)) (sym axis_is)
 
-  -- so a box of one line has one place
+  -- a box of one line has one place
   pub one_place : (region : List Interval) → region ≡ box_of_lines (axis_at (length now.shape) fold.along) p.region → box_size region ≡ 1 → box_size p.region ≡ 1
   one_place region is single = as_many_lines_now ∙ sym (ap box_size is) ∙ single
 
@@ -84,7 +84,7 @@ module _ (fold : Reduce) (t : TreesValue) (p : PatchValue) (now : ArrayValue) (s
     few_lines region is =
         omega (arith, few_places p.region stood.before.shape stood.fit.inside stood.lines.sound.within, ap box_size (reached_box region is), as_many_lines_now)
 
--- the change of the totals where they were an array and a box of the argument is new
+-- the change of totals that were an array, after a patch of the argument
 pub delta_is : (fold : Reduce) (arg : Argument) (p : PatchValue) (old : Outcome) → arg.1.now ≡ Patch p → is_ok old ≡ true
     → reached_delta (total_rule fold) (arg.0 ∷ []) (Some p.region ∷ []) ≡ node_delta (total_rule fold) (arg ∷ []) old
 delta_is fold arg p old is ok =
@@ -92,7 +92,7 @@ delta_is fold arg p old is ok =
     let patched : all_patched_at_most (arg ∷ []) ≡ true = ap (λ (d : Delta). is_patched_at_most d && true) is in
     ap (λ (d : Delta). reached_delta (total_rule fold) (arg.0 ∷ []) (moved_by d ∷ [])) (sym is) ∙ delta_reached (total_rule fold) (arg ∷ []) old some ok patched
 
--- totals of lines that are summed up, where the trees do not serve
+-- the joins of totals that are folded, if the trees do not apply
 pub folded : (fold : Reduce) (arg : Argument) (held : Outcome) (before after : ℕ) (change : Delta) (r : Result ℕ AllocError) → is_by_trees fold.along arg ≡ false
     → IfOk r (λ n. n ≡ node_cost (total_rule fold) (arg ∷ []) held) → IfOk r (λ n. is_error change ≡ false → AreFolds n (length_along fold.along arg.0.shape) before after)
     → OnOk r (is_error change ≡ false → HasAllJoins fold arg held before after)
@@ -102,28 +102,27 @@ folded fold arg held before after change (Ok n) none cost counted = λ sound. re
   folds = λ _. counted sound ∙ ap (λ k. ticked before (k * (length_along fold.along arg.0.shape - 1))) cost;
 }
 
--- the trees do not serve where no box changed and the array did not grow
+-- the trees do not apply if the argument was neither patched nor grew
 pub not_patched : (axis : ℕ) (d : Delta) → ((p : PatchValue) → d ≡ Patch p → ⊥) → ((t : TailValue) → d ≡ Grown t → ⊥) → is_narrow axis d ≡ false
 not_patched _ (Patch p) none still = absurd (none p refl)
 not_patched _ Same none still = refl
 not_patched _ (Grown t) none still = absurd (still t refl)
 not_patched _ (Whole r) none still = refl
 
--- nor where one of both is not so
 pub not_both : (a b : Bool) → b ≡ false → (a && b) ≡ false
 not_both true b none = none
 not_both false b none = refl
 
 -- ---- an argument that grew along the axis of its lines
 
--- the totals do not grow by new lines then
+-- the totals then do not grow by new lines
 stay_as_many : (along : Along) (a : ArrayValue) → axis_at (length a.shape) along ≡ 0 → is_along_a_later_axis along a ≡ false
 stay_as_many along a first = not_both (is_axis (length a.shape) along) (not (axis_at (length a.shape) along == 0)) (ap (λ k. not (k == 0)) first)
 
 abbrev grown_to : Argument → TailValue → Argument
 grown_to arg tail = (arg.0, record { ref_ptr = arg.1.ref_ptr; now = Grown tail })
 
--- so they are worked out as a whole
+-- so they are computed as a whole
 pub delta_grown : (fold : Reduce) (arg : Argument) (tail : TailValue) (old : Outcome) → arg.1.now ≡ Grown tail → axis_at (length arg.0.shape) fold.along ≡ 0
     → node_delta (total_rule fold) (arg ∷ []) old ≡ Whole (evaluation (total_rule fold) (arg.0 ∷ []))
 delta_grown fold arg tail (Err e) is first = ap (λ (d : Delta). node_delta (total_rule fold) ((arg.0, record { ref_ptr = arg.1.ref_ptr; now = d }) ∷ []) (Err e)) is
@@ -147,7 +146,7 @@ same_type : (b : Bool) (t : ItemType) → t ≡ Nums → (if b then t else Nums)
 same_type true t h = h
 same_type false t h = refl
 
--- the totals of all lines, by the array as its trees and the patch tell it
+-- all totals of the patched array, from its trees
 pub whole_now : (fold : Reduce) (t : TreesValue) (p : PatchValue) (now : ArrayValue) → StoodFor fold.along t p now → (shape : List ℕ) (type : ItemType) → reduce_form fold.along now ≡ Ok (form_of shape type)
     → (axes : List ℕ) → axes ≡ now.shape → reduce_whole fold.function fold.along now ≡ collect Nums shape (reduce_item fold.function fold.along (patched (array_of_shape axes t.numbers) p))
 whole_now fold t p now stood shape type form axes shaped =

@@ -8,7 +8,7 @@ use Rattle.item_fns.{specs.Identities.{identity_of}, specs.Items.{dyadic_on_item
 use Rattle.{index_region.specs.Axes.{places_along}, reduce_fns.specs.Reduce.{reduce_item}, fold_trees.specs.FoldTrees.{has_trees}}
 
 -- ---- one fold has one error
--- a number, a truth value or an item that is a number, or this error
+-- a result that is not an error, or is this error
 abbrev FailsSo : {A : Type 0} → Kind → Result A Kind → Type 0
 FailsSo failure (Ok x) = Unit {0}
 FailsSo failure (Err k) = k ≡ failure
@@ -18,7 +18,7 @@ IsNumberOr failure (Ok (Num z)) = Unit {0}
 IsNumberOr failure (Ok (Char c)) = ⊥
 IsNumberOr failure (Err k) = k ≡ failure
 
--- the error of the folds of a function that are kept as trees
+-- the error of a fold that keeps trees
 abbrev failure_of : Scalar2 → Kind
 failure_of And = Domain
 failure_of Or = Domain
@@ -89,7 +89,7 @@ this_error : (failure : Kind) (r : Result Item Kind) (k : Kind) → IsNumberOr f
 this_error failure (Ok x) k h e = absurd cc
 this_error failure (Err j) k h e = let same : j ≡ k = cc in sym same ∙ h
 
--- ---- and one failing line decides
+-- ---- one failing line decides
 decided : (rs : List (Result Item Kind)) (n : ℕ) (k : Kind) (d : Result Item Kind) → n < length rs → get_or rs n d ≡ Err k
     → ((m : ℕ) (j : Kind) → m < length rs → get_or rs m d ≡ Err j → j ≡ k) → all_or_first_error rs ≡ Err k
 decided [] n k d below here alike = absurd (omega arith)
@@ -97,7 +97,7 @@ decided (Err e ∷ rs) n k d below here alike = ap Err (alike 0 e (omega arith) 
 decided (Ok x ∷ rs) zero k d below here alike = absurd cc
 decided (Ok x ∷ rs) (suc n) k d below here alike = ap (after x) (decided rs n k d (omega arith) here (λ m j h e. alike (suc m) j (omega arith) e))
 
--- an array of numbers shows a number at each index list
+-- an item of an array of numbers is a number
 number_at : (a : ArrayValue) → IsArray a → a.item_type ≡ Nums → (index : List ℕ) → type_of (item_of a index) ≡ Nums
 number_at a sound numbers index =
     let place = places_before a.shape index in
@@ -106,7 +106,7 @@ number_at a sound numbers index =
       | inr o ↦ ap type_of (get_or_past a.items place (fill a.item_type) (ltb-false _ _ o)) ∙ ap (λ t. type_of (fill t)) numbers
     ]
 
--- the totals of an array of numbers, of which one fails
+-- the totals of an array of numbers when one line fails
 pub one_decides : (f : Scalar2) (along : Along) (a : ArrayValue) (shape : List ℕ) (line : ℕ) (k : Kind) → has_trees f ≡ true → IsArray a → a.item_type ≡ Nums → line < size shape
     → reduce_item f along a (index_after shape line) ≡ Err k → collect Nums shape (reduce_item f along a) ≡ Err k
 one_decides f along a shape line k h sound numbers below failed =

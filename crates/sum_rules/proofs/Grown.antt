@@ -28,7 +28,7 @@ fits_trees axis old new t (Places m) stand made fits =
           (subst (λ k. FitsSums (held k old t) (lines_behind k new (Places m))) first fits);
     }
 
--- they stand for the lines of the array that grew
+-- the trees hold the lines of the grown array
 pub stands : (axis : ℕ) (old new : List ℕ) (t : FoldsValue) (g : Growth) → StandFor t.lines axis (array_of_shape old t.lines.numbers) → AreNewLinesOf axis new g → FitsSums (held axis old t) (lines_behind axis new g)
     → StandFor (trees_grown t g).lines axis (array_of_shape new (t.lines.numbers ++ new_numbers g))
 stands axis old new t (Lines m) stand made fits = stand_grown axis old new t m stand made fits
@@ -43,11 +43,11 @@ pub numbers_grown : (t : FoldsValue) (g : Growth) → (trees_grown t g).lines.nu
 numbers_grown t (Lines m) = refl
 numbers_grown t (Places m) = refl
 
--- the function stays
+-- the function stays the same
 pub function_stays : (t : FoldsValue) (g : Growth) → (trees_grown t g).function ≡ t.function
 function_stays t (Lines m) = refl
 function_stays t (Places m) = refl
 
--- the array of both is the one that grew
+-- the array of the old and the new numbers is the grown array
 pub array_grown : (old new : List ℕ) (numbers more : List ℤ) → new ≡ one_longer old → array_of_shape new (numbers ++ more) ≡ grown_by (array_of_shape old numbers) (map (λ (z : ℤ). Num z) more)
 array_grown old new numbers more shaped i = record { item_type = Nums; shape = shaped i; items = map-append (λ (z : ℤ). Num z) numbers more i }

@@ -5,7 +5,7 @@ use Rattle.index_region.{specs.Arguments.{number_of}, specs.Boxes.{box_size, wal
 use Rattle.fold_trees.{specs.ArrayLines.{TreesValue}, specs.FoldTrees.{FoldsValue}}
 use Rattle.sum_rules.{specs.LineSums.{StandFor, array_of_shape}, specs.JoinedPatches.{IsJoinedIn, IsJoinedWith}, specs.declared.joined_patch.JoinedPatch.{JoinedPatch}}
 
--- a patch of one number puts it at its place
+-- a patch of one place sets one number
 pub one_written : (shape : List ℕ) (numbers : List ℤ) (p : PatchValue) (number : ℤ) → IsArray (array_of_shape shape numbers) → FitsPatch (array_of_shape shape numbers) p → box_size p.region ≡ 1
     → get_or p.items 0 (fill p.item_type) ≡ Num number
     → array_of_shape shape (set numbers (places_before shape (walk_at p.region 0)) number) ≡ patched (array_of_shape shape numbers) p
@@ -18,7 +18,7 @@ one_written shape numbers p number sound fit one item =
     map-set (λ z. Num z) numbers place number ∙ ap (set a.items place) (sym item) in
     ap here items ∙ written_all a p (here (set a.items place (get_or p.items 0 (fill p.item_type)))) (subst (λ (n : ℕ). IsWritten a p n (here (set a.items place (get_or p.items 0 (fill p.item_type))))) (sym one) more)
 
--- trees that stand for the same array are the same
+-- trees of the same array are the same
 pub same_lines : (t u : TreesValue) (axis : ℕ) (a : ArrayValue) → StandFor t axis a → StandFor u axis a → t ≡ u
 same_lines t u axis a of_t of_u = λ i. record { count = count i; step = step i; numbers = numbers i }
   where

@@ -1,4 +1,4 @@
--- The lines of an array in which a patch that has one place a line changes nothing.
+-- The lines that a patch with one place for each line leaves alone.
 use Rattle.std.{proofs.Common.{◌≡◌, ◌∙◌, ℕ, zero, suc, ◌+◌, ◌*◌, ◌/◌, ◌<◌, ℤ, pos, true, false, List, [], ◌∷◌, length, get_or, map, remove, insert, refl, ap, sym, subst, arith, inl, inr, Result}, specs.List.{range_with_len}, proofs.lemmas.Bool.{and_from, and_parts, cases_Bool, cond-false, eqb-true, false≢true}}
 use Rattle.std.{proofs.lemmas.List.{length-map, ext_get_or, get_or_default}, proofs.lemmas.List.FromFn.{length-map-range_with_len, get_or-map-range_with_len}, proofs.Math.ListN.{get_or-map}, proofs.Math.Nat.{mul-div_cancel}}
 use Rattle.arrays_core.{specs.declared.item.Kind.{Kind}, specs.Items.{all_or_first_error, fill}, specs.declared.item.Item.{Item}, specs.declared.item.Item.TheVariants.{Num}, specs.Arrays.{ArrayValue, item_of}, specs.Shapes.{indices, is_index_of, places_before, size}, proofs.Shapes.{places_below}}
@@ -10,7 +10,7 @@ use Rattle.fold_trees.specs.ArrayLines.{TreesValue, line_count, numbers_of_line}
 use Rattle.reduce_fns.{specs.Laws.LineIndices.{inside}, proofs.Lines.{long_with_axis, stride}, proofs.Reduced.{lines_whole, start_is}, specs.Lines.{line}}
 use Rattle.sum_rules.{specs.LineSums.{StandFor, line_length, line_step}, specs.Totals.{box_of_lines, is_one_a_line}, proofs.OneAxis.{size_with_one, walk_with_one}, proofs.Lines.{some_step}}
 
--- a place of a box is in it on the other axes
+-- an index list in a box is in it on the other axes
 within_rest : (axis : ℕ) (region : List Interval) (index : List ℕ) (j : ℕ) → axis < length region → length index + 1 ≡ length region → is_within region (insert index axis j) ≡ true → is_within (remove region axis) index ≡ true
 within_rest axis [] index j h e inside = absurd (omega arith)
 within_rest zero (s ∷ region) index j h e inside = (and_parts _ _ inside).1
@@ -19,7 +19,7 @@ within_rest (suc axis) (s ∷ region) (i ∷ index) j h e inside =
     let here = and_parts _ _ inside in
     and_from _ _ here.0 (within_rest axis region index j (omega arith) (omega arith) here.1)
 
--- and where it has one place on that axis, each that it has on the others is in it there
+-- a box with one place on the axis holds every index list that it holds on the others
 pub within_one : (axis : ℕ) (region : List Interval) (index : List ℕ) → axis < length region → is_one_a_line axis region ≡ true → is_within (box_of_lines axis region) index ≡ true
     → is_within region (insert index axis (get_or region axis (1, 0)).0) ≡ true
 within_one axis region index on one within =
@@ -31,7 +31,7 @@ within_one axis region index on one within =
     walk_with_one axis region before on same below ∙ ap (λ (i : List ℕ). insert i axis (get_or region axis (1, 0)).0) (walk_of_offset rest index within) in
     subst (λ (i : List ℕ). is_within region i ≡ true) at (walk_within region before (omega (arith, below, size_with_one axis region on same)))
 
--- each line has a tree
+-- the number of trees is the number of lines
 pub lines_counted : (axis : ℕ) (t : TreesValue) (a : ArrayValue) → StandFor t axis a → line_count t ≡ size (remove a.shape axis)
 lines_counted axis t a stand =
     let others = remove a.shape axis in
@@ -40,7 +40,7 @@ lines_counted axis t a stand =
     sym (length-map t.numbers (λ (y : ℤ). Num y)) ∙ sym (ap (λ (b : ArrayValue). length b.items) stand.is) ∙ stand.sound.one_item_a_place ∙ sym parts.1 in
     ap (λ k. k / t.count) places ∙ mul-div_cancel (size others) parts.0
 
--- a line is one of those that have trees
+-- a line has a tree
 pub line_below : (axis : ℕ) (t : TreesValue) (a : ArrayValue) → StandFor t axis a → (index : List ℕ) → is_index_of (remove a.shape axis) index ≡ true → places_before (remove a.shape axis) index < line_count t
 line_below axis t a stand index on = omega (arith, lines_counted axis t a stand, places_below (remove a.shape axis) index on)
 
@@ -51,7 +51,7 @@ items_walked shape item =
     ∙ sym (collected_is (items_along item (whole_of shape)))
     ∙ ap (λ k. collected (map (λ (q : ℕ). item (walk_at (whole_of shape) q)) (range_with_len 0 k))) (box_size-whole shape)
 
--- a line whose items are numbers, as many steps apart in a list
+-- a line of numbers, at a fixed distance in a list
 pub line_of_numbers : (a : ArrayValue) (axis : ℕ) (index : List ℕ) (numbers : List ℤ) (first step n : ℕ) → places_along a.shape axis ≡ n
     → ((k : ℕ) → k < n → item_of a (insert index axis (k + 1)) ≡ Num (get_or numbers (first + k * step) (pos 0)))
     → line a axis index ≡ map (λ (y : ℤ). Num y) (strided (pos 0) numbers first step n)
@@ -119,7 +119,7 @@ some_factor : (n m k : ℕ) → n * m ≡ k → 0 < k → 0 < n
 some_factor zero m k e h = absurd (omega (arith, e, h))
 some_factor (suc n) m k e h = omega arith
 
--- there are some lines
+-- the array has lines
 pub some_lines : (axis : ℕ) (t : TreesValue) (a : ArrayValue) → StandFor t axis a → 0 < size (remove a.shape axis)
 some_lines axis t a stand =
     let parts = lines_whole axis a.shape (remove a.shape axis) t.count t.step stand.there refl stand.counted stand.apart stand.some in

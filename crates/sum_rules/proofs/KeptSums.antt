@@ -1,4 +1,4 @@
--- The arrays of whose lines sums are kept.
+-- The arrays whose lines keep trees.
 use Rattle.std.{proofs.Common.{◌≡◌, ℕ, ◌<◌, true, List, length, refl, subst, inl, inr, arith, Some, None, sym, ◌∙◌}, proofs.lemmas.Bool.{and_parts, cases_Bool, cond-true, cond-false, false≢true, ltb-true}}
 use Rattle.arrays_core.{specs.Arrays.{ArrayValue}, specs.Shapes.{size}, specs.declared.item.ItemType.{ItemType}, specs.declared.item.ItemType.TheVariants.{Nums, Chars}}
 use Rattle.index_region.{specs.Arguments.{is_of_numbers}, specs.Patches.{PatchValue, FitsPatch, patched}}
@@ -18,7 +18,7 @@ of_numbers : (t : ItemType) → is_of_numbers t ≡ true → t ≡ Nums
 of_numbers Nums h = refl
 of_numbers Chars h = absurd (false≢true h)
 
--- the length of lines along an axis that is one
+-- the length of lines along an axis of the array
 pub along_axis : (along : Along) (shape : List ℕ) → is_axis (length shape) along ≡ true → length_along along shape ≡ line_length (axis_at (length shape) along) shape
 along_axis along shape on = cond-true (is_axis (length shape) along) (line_length (axis_at (length shape) along) shape) 0 on
 

@@ -3,7 +3,7 @@ use Rattle.std.{proofs.Common.{◌≡◌, ℕ, zero, suc, ◌+◌, ◌*◌, ◌/
 use Rattle.{arrays_core.specs.Shapes.{size}, item_fns.specs.Folds.{line_start}, fold_trees.specs.ArrayLines.{line_through}}
 use Rattle.{reduce_fns.{proofs.Lines.{size-drop-le}, proofs.Reduced.{sizes}}, sum_rules.specs.LineSums.{line_length, line_step}}
 
--- lines that have items lie along an axis that there is
+-- non-empty lines have an axis
 pub has_axis : (axis : ℕ) (shape : List ℕ) → 0 < line_length axis shape → axis < length shape
 has_axis axis [] h = absurd (omega arith)
 has_axis zero (n ∷ shape) h = omega arith
@@ -13,11 +13,11 @@ some_factor : (n s l t : ℕ) → t ≡ l * (n * s) → 0 < t → 0 < n
 some_factor zero s l t e h = absurd (omega arith)
 some_factor (suc n) s l t e h = omega arith
 
--- where there are items, a line has some
+-- the lines of a non-empty array are not empty
 pub some_in_line : (axis : ℕ) (shape : List ℕ) → axis < length shape → 0 < size shape → 0 < line_length axis shape
 some_in_line axis shape there some = let parts = sizes axis shape there in some_factor (line_length axis shape) (line_step axis shape) parts.lines (size shape) parts.all some
 
--- and neighbours are apart
+-- neighbours are apart
 pub some_step : (axis : ℕ) (shape : List ℕ) → 0 < size shape → 0 < line_step axis shape
 some_step axis shape some = (size-drop-le (suc axis) shape some).0
 
@@ -40,7 +40,7 @@ factor_divides x a b even =
     let order : x / (a * b) * (a * b) ≡ x / (a * b) * b * a = grind arith in
     ap (λ k. k % a) (sym all ∙ order) ∙ mul-mod_left (x / (a * b) * b) a
 
--- the lines along an axis are all whole
+-- the array consists of whole lines
 pub whole_lines : (axis : ℕ) (shape : List ℕ) → axis < length shape → size shape % (line_length axis shape * line_step axis shape) ≡ 0
 whole_lines axis shape there =
     let parts = sizes axis shape there in

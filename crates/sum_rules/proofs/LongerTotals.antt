@@ -1,4 +1,4 @@
--- The totals of lines that got one more number each.
+-- The totals of lines with one more number each.
 use Rattle.std.{proofs.Common.{◌≡◌, ◌∙◌, ℕ, zero, suc, ◌+◌, ◌-◌, ◌*◌, ◌/◌, ◌<◌, ◌≤◌, ℤ, pos, List, [], ◌∷◌, ◌++◌, length, drop, get_or, map, remove, refl, ap, sym, subst, arith, inl, inr, Result, Ok}, specs.List.{range_with_len}, proofs.lemmas.Bool.{cases_lt}}
 use Rattle.std.{proofs.lemmas.List.{ext_get_or, length-append, length-map, map-append, get_or_append_left, get_or-append_right}, proofs.lemmas.List.FromFn.{length-map-range_with_len, get_or-map-range_with_len}, proofs.Math.ListN.{get_or-map}}
 use Rattle.std.{proofs.Math.Nat.{div-eq_of_lt, mod-eq_of_lt, mul-div_cancel, mul-le-mul_left}, proofs.lemmas.Nat.{mul-add-lt}}
@@ -11,11 +11,11 @@ use Rattle.reduce_fns.{specs.Reduce.{reduce_form, reduce_whole}, specs.declared.
 use Rattle.fold_trees.specs.ArrayLines.{TreesValue, line_count, numbers_of_line}
 use Rattle.sum_rules.{specs.LineSums.{StandFor, length_along, line_length, line_step}, specs.Totals.{StoodBefore, AreJoinsWithin, longer_totals}, proofs.KeptSums.{along_axis}, proofs.Lines.{some_in_line, some_step}, proofs.MorePlaces.{between, longer, same_step}}
 
--- the total of one of them
+-- the total of one line
 abbrev pub longer_total : Scalar2 → TreesValue → List ℤ → ℕ → Result Item Kind
 longer_total f t numbers line = fold_right f (map (λ (z : ℤ). Num z) (numbers_of_line t line ++ get_or numbers line (pos 0) ∷ []))
 
--- items that are given by places lie in their order
+-- items computed from places come in the order of the places
 pub items_by_place : (shape : List ℕ) (f : ℕ → Result Item Kind) → map (λ index. f (places_before shape index)) (indices shape) ≡ map f (range_with_len 0 (size shape))
 items_by_place shape f =
     let rule = λ (index : List ℕ). f (places_before shape index) in
@@ -27,12 +27,12 @@ items_by_place shape f =
     ∙ ap f (places_before-index_after shape i below)
     ∙ sym (get_or-map-range_with_len f 0 (size shape) i i (rule []) below (omega arith)))
 
--- where all lines lie between one another, one begins at its own place
+-- if the lines are interleaved, line n begins at place n
 first_of_line : (step count line : ℕ) → line < step → line_start step count line ≡ line
 first_of_line step count line below =
     (λ i. (div-eq_of_lt below) i * (count * step) + (mod-eq_of_lt below) i) ∙ omega arith
 
--- its numbers with the one behind them
+-- the numbers of a line, with the one after them
 line_longer : (t : TreesValue) (numbers : List ℤ) (line : ℕ) → 0 < t.step → length t.numbers ≡ t.count * t.step → line < t.step
     → numbers_of_line t line ++ get_or numbers line (pos 0) ∷ [] ≡ strided (pos 0) (t.numbers ++ numbers) (line_start t.step (t.count + 1) line) t.step (t.count + 1)
 line_longer t numbers line apart all below =
@@ -112,7 +112,7 @@ module _ (fold : Reduce) (t : TreesValue) (tail : TailValue) (now : ArrayValue) 
       sym (length-map t.numbers (λ (z : ℤ). Num z)) ∙ sym (ap (λ (a : ArrayValue). length a.items) stand.is) ∙ stand.sound.one_item_a_place
       ∙ between b.shape stand.there ∙ (λ i. sym stand.counted i * sym stand.apart i)
 
-  -- there are as many lines as items of the tail
+  -- the tail has one item for each line
   items_are : length tail.items ≡ t.step
   items_are = stood.fit.one_place ∙ sym apart
 
@@ -120,14 +120,14 @@ module _ (fold : Reduce) (t : TreesValue) (tail : TailValue) (now : ArrayValue) 
   lines_are =
       ap (λ k. k / t.count) (old_places ∙ (grind arith)) ∙ mul-div_cancel t.step some_count ∙ sym items_are
 
-  -- and as many numbers
+  -- the number of new numbers is the number of lines
   pub as_many_numbers : (numbers : List ℤ) → tail.items ≡ map (λ (z : ℤ). Num z) numbers → length numbers ≡ length tail.items
   as_many_numbers numbers are = sym (ap (λ (l : List Item). length l) are ∙ length-map numbers (λ (z : ℤ). Num z))
 
   now_longer : line_length 0 now.shape ≡ t.count + 1
   now_longer = ap (line_length 0) shape_now ∙ longer b.shape stand.there ∙ ap (λ k. k + 1) (sym counted)
 
-  -- the lines have two numbers and more
+  -- each line has at least two numbers
   pub long_now : 1 < length_along fold.along now.shape
   long_now =
       omega (arith, along_axis fold.along now.shape (ap (λ n. is_axis n fold.along) rank ∙ stood.on_axis), ap (λ k. line_length k now.shape) first, now_longer, some_count)
@@ -145,11 +145,11 @@ module _ (fold : Reduce) (t : TreesValue) (tail : TailValue) (now : ArrayValue) 
     shaped : shape ≡ drop 1 b.shape
     shaped = (reduce_facts fold.along now shape type form).shaped ∙ (λ i. remove (shape_now i) (first i)) ∙ without_first b.shape stand.there
 
-    -- the result has a place for each of them
+    -- the result has one place for each line
     pub places_are : size shape ≡ length tail.items
     places_are = ap size shaped ∙ sym apart ∙ sym items_are
 
-    -- and these are its totals
+    -- the result is the list of these totals
     pub whole_is : (f : Scalar2) → (numbers : List ℤ) → tail.items ≡ map (λ (z : ℤ). Num z) numbers
         → reduce_whole f fold.along now ≡ with_items Nums shape (all_or_first_error (longer_totals f t numbers))
     whole_is f numbers are =

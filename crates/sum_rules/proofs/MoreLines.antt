@@ -4,7 +4,7 @@ use Rattle.arrays_core.{specs.declared.item.Item.TheVariants.{Num}, specs.declar
 use Rattle.fold_trees.{specs.ArrayLines.{with_lines}, specs.FoldTrees.{FoldsValue, NewFoldsValue}}
 use Rattle.sum_rules.{specs.LineSums.{line_length, line_step, array_of_shape, StandFor}, specs.NewLines.{lines_behind, AreNewLinesOf, FitsSums}, specs.declared.new_lines.Growth.TheVariants.{Lines}, proofs.Lines.{factor_divides, some_in_line, whole_lines}}
 
--- ---- the first axis alone grows
+-- ---- only the first axis grows
 
 later_length : (axis : ℕ) (shape : List ℕ) → 0 < axis → line_length axis (one_longer shape) ≡ line_length axis shape
 later_length axis [] h = refl
@@ -15,19 +15,19 @@ later_step : (axis : ℕ) (shape : List ℕ) → line_step axis (one_longer shap
 later_step axis [] = refl
 later_step axis (n ∷ shape) = refl
 
--- the lines of one place of the first axis are all whole
+-- one place of the first axis holds whole lines
 pub whole_below : (axis : ℕ) (shape : List ℕ) → 0 < axis → axis < length shape → size (drop 1 shape) % (line_length axis shape * line_step axis shape) ≡ 0
 whole_below axis [] h there = absurd (omega arith)
 whole_below zero (n ∷ shape) h there = absurd (omega arith)
 whole_below (suc axis) (n ∷ shape) h there = whole_lines axis shape (omega (arith, there))
 
--- lines behind others are as many as all without these
+-- the number of old lines is the number of all lines less the new ones
 pub lines_behind_others : (old more count : ℕ) → 0 < count → more % count ≡ 0 → (old + more) / count - more / count ≡ old / count
 lines_behind_others old more count some whole =
     let parts : more ≡ more / count * count = omega (arith, div-add-mod' more count, whole) in
     omega (arith, ap (λ m. (old + m) / count) parts ∙ add-mul-div_right old (more / count) some)
 
--- ---- an array of lines that grows by more of them
+-- ---- an array that grows by more lines
 
 module _ (axis : ℕ) (old new : List ℕ) (t : FoldsValue) (more : NewFoldsValue) (stand : StandFor t.lines axis (array_of_shape old t.lines.numbers)) (made : AreNewLinesOf axis new (Lines more))
     (fits : FitsSums (record { function = t.function; axis = axis; array = array_of_shape old t.lines.numbers }) (lines_behind axis new (Lines more))) where
@@ -49,7 +49,7 @@ module _ (axis : ℕ) (old new : List ℕ) (t : FoldsValue) (more : NewFoldsValu
   places : size new ≡ length t.lines.numbers + length more.lines.numbers
   places = ap size fits.tail.shaped ∙ size_longer old fits.tail.some_axis ∙ (λ i. sym old_places i + sym more_places i)
 
-  -- the lines that come before the new ones are the old ones
+  -- the number of lines before the new ones is the number of old lines
   pub old_lines : more.lines.old_lines ≡ length t.lines.numbers / t.lines.count
   old_lines =
       let below = whole_below axis old made.new.0 stand.there in
@@ -59,7 +59,7 @@ module _ (axis : ℕ) (old new : List ℕ) (t : FoldsValue) (more : NewFoldsValu
       ∙ lines_behind_others (length t.lines.numbers) (length more.lines.numbers) (line_length axis old) (some_in_line axis old stand.there stand.some) whole
       ∙ ap (λ k. length t.lines.numbers / k) (sym stand.counted)
 
-  -- the trees stand for the lines of the array that grew
+  -- the trees hold the lines of the grown array
   pub stand_grown : StandFor (with_lines t.lines more.lines.numbers) axis (array_of_shape new (t.lines.numbers ++ more.lines.numbers))
   stand_grown = record {
     sound = record {

@@ -1,4 +1,4 @@
--- One more place of each line of an array that grows, where the lines lie along the first axis.
+-- One more place of each line of an array that grows, for lines along the first axis.
 use Rattle.std.{proofs.Common.{◌≡◌, ℕ, ◌+◌, ◌-◌, ◌*◌, ◌<◌, ◌≤◌, ℤ, max, List, [], ◌∷◌, ◌++◌, length, drop, refl, ap, sym, ◌∙◌, arith}, proofs.lemmas.List.{length-append, length-map}, proofs.lemmas.List.Elements.{All-map}, proofs.Math.Nat.{mul-le-mul_right}}
 use Rattle.arrays_core.{specs.declared.item.Item.TheVariants.{Num}, specs.declared.item.ItemType.TheVariants.{Nums}, specs.Growth.{one_longer}, specs.Items.{type_of}, specs.Shapes.{size}, proofs.Growing.{size_longer}}
 use Rattle.fold_trees.{specs.ArrayLines.{FitNext, with_places}, specs.FoldTrees.{FoldsValue, NextFoldsValue}}
@@ -12,12 +12,12 @@ pub same_step : (shape : List ℕ) → line_step 0 (one_longer shape) ≡ line_s
 same_step [] = refl
 same_step (n ∷ shape) = refl
 
--- the lines along the first axis lie between one another
+-- the lines along the first axis are interleaved
 pub between : (shape : List ℕ) → 0 < length shape → size shape ≡ line_length 0 shape * line_step 0 shape
 between [] h = absurd (omega arith)
 between (n ∷ shape) h = refl
 
--- one more place of each takes few more items
+-- a bound on the items with one more place of each line
 pub few_with_place : (shape : List ℕ) (old : ℕ) → 0 < length shape → 0 < size shape → size shape ≤ 1048576 → old ≡ max 1 (line_length 0 shape - 1) → (old + 1) * size (drop 1 shape) ≤ 2097152
 few_with_place shape old there some few is =
     let n = line_length 0 shape in
@@ -48,7 +48,7 @@ module _ (old new : List ℕ) (t : FoldsValue) (more : NextFoldsValue) (stand : 
     between = old_places ∙ between old stand.there ∙ (λ i. sym stand.counted i * sym stand.apart i);
   }
 
-  -- the trees stand for the longer lines
+  -- the trees hold the longer lines
   pub stand_longer : StandFor (with_places t.lines more.places.numbers) 0 (array_of_shape new (t.lines.numbers ++ more.places.numbers))
   stand_longer = record {
     sound = record {

@@ -1,4 +1,4 @@
--- One axis of boxes, shapes and index lists, and the others.
+-- One axis of boxes, shapes and index lists, and the other axes.
 use Rattle.std.{proofs.Common.{◌≡◌, ℕ, zero, suc, ◌+◌, ◌*◌, ◌/◌, ◌%◌, ◌<◌, ◌≤◌, true, List, [], ◌∷◌, length, get_or, insert, remove, ap, ◌∙◌, arith}, proofs.Math.Nat.{div-eq_of_lt, mod-eq_of_lt}, proofs.lemmas.Bool.{and_parts, and_from, leb-true, false≢true}, proofs.lemmas.Nat.{mod_below}}
 use Rattle.index_region.{specs.Boxes.{Interval, box_size, interval_length, is_within, walk_at, fits}, proofs.Walks.{rest_positive}}
 
@@ -6,14 +6,14 @@ use Rattle.index_region.{specs.Boxes.{Interval, box_size, interval_length, is_wi
 abbrev pub on_axis : List Interval → ℕ → Interval
 on_axis region axis = get_or region axis (1, 0)
 
--- where a box has one place on an axis, it has as many as without that axis
+-- a box with one place on an axis has as many places as without that axis
 pub size_with_one : (axis : ℕ) (region : List Interval) → axis < length region → (on_axis region axis).0 ≡ (on_axis region axis).1 → box_size region ≡ box_size (remove region axis)
 size_with_one axis [] h one = absurd (omega arith)
 size_with_one zero (s ∷ region) h one =
     ap (λ k. k * box_size region) (omega arith) ∙ (let all : 1 * box_size region ≡ box_size region = omega arith in all)
 size_with_one (suc axis) (s ∷ region) h one = ap (λ k. interval_length s * k) (size_with_one axis region (omega arith) one)
 
--- its walk is the walk without that axis
+-- its walk is the walk without that axis, with the index inserted
 pub walk_with_one : (axis : ℕ) (region : List Interval) (before : ℕ) → axis < length region → (on_axis region axis).0 ≡ (on_axis region axis).1 → before < box_size (remove region axis)
     → walk_at region before ≡ insert (walk_at (remove region axis) before) axis (on_axis region axis).0
 walk_with_one axis [] before h one below = absurd (omega arith)

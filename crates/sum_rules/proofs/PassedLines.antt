@@ -33,7 +33,7 @@ module _ (lines : List Interval) (shape : List ℕ) (fit : fits lines shape ≡ 
     abbrev index : List ℕ
     index = index_after shape line
 
-    -- a line that is not of the box
+    -- a line outside the box
     pub over_other : is_within lines index ≡ false → now ≡ mid → Passed lines shape long (line + 1) old now
     over_other away same = record {
       done = passed.done;
@@ -113,7 +113,7 @@ module _ (lines : List Interval) (shape : List ℕ) (fit : fits lines shape ≡ 
   most_passed long line old now passed = λ digits h.
       omega (arith, passed.most digits h, mul-le-mul_right digits passed.few)
 
-  -- and where all lines are passed, all of these
+  -- after all lines, all lines of the box are passed
   pub all_passed : (long line old now : ℕ) → size shape ≤ line → Passed lines shape long line old now → AreJoinsFrom (box_size lines) long old now
   all_passed long line old now ended passed = λ two.
       omega (arith, passed.least two, every (box_size lines) refl)

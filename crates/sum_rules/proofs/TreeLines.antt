@@ -1,4 +1,4 @@
--- The numbers of lines that are all as long, one line after another.
+-- The numbers of lines of equal length, one line after another.
 use Rattle.std.{proofs.Common.{◌≡◌, ℕ, zero, suc, ◌+◌, ◌*◌, ◌/◌, ◌%◌, ◌<◌, ℤ, pos, List, [], ◌∷◌, ◌++◌, length, get_or, set, ap, sym, ◌∙◌, arith}, proofs.lemmas.List.{length-append, length-set, set-append_left, set-append_right, get_or_append_left, get_or-append_right, get_or-set_same, ext_get_or}}
 use Rattle.std.{proofs.lemmas.List.Elements.{All-head, All-tail, All-get_or, All-set}, proofs.Math.Nat.{mul-div_cancel}, specs.List.{flat_map}, proofs.lemmas.Nat.{div-add-mod', mod_below, div_below}}
 use Rattle.item_fns.{specs.Folds.{strided, line_start}, proofs.RightFolds.{length-strided, get_or-strided}}
@@ -7,7 +7,7 @@ use Rattle.{fold_trees.specs.ArrayLines.{line_through, numbers_of_line, numbers_
 abbrev pub all_numbers : List (List ℤ) → List ℤ
 all_numbers lines = flat_map (λ (line : List ℤ). line) lines
 
--- how many numbers the lines have together
+-- the number of numbers in all lines
 pub length-all_numbers : (count : ℕ) (lines : List (List ℤ)) → AreAllAsLong count lines → length (all_numbers lines) ≡ length lines * count
 length-all_numbers count [] h = omega arith
 length-all_numbers count (line ∷ lines) h =
@@ -17,7 +17,7 @@ length-all_numbers count (line ∷ lines) h =
 further : (count which place : ℕ) → suc which * count + place ≡ count + (which * count + place)
 further count which place = omega arith
 
--- a number of a line is as many places further as the lines before it have
+-- the place of a number of a line among all numbers
 pub number_of_line : (count : ℕ) (lines : List (List ℤ)) (which place : ℕ) (none : List ℤ) (d : ℤ) → AreAllAsLong count lines → which < length lines → place < count
     → get_or (all_numbers lines) (which * count + place) d ≡ get_or (get_or lines which none) place d
 number_of_line count [] which place none d h there below = absurd (omega arith)
@@ -30,7 +30,7 @@ number_of_line count (line ∷ lines) (suc which) place none d h there below =
     ∙ ap (λ k. get_or (all_numbers lines) k d) (omega arith)
     ∙ number_of_line count lines which place none d (All-tail (λ (l : List ℤ). length l ≡ count) line lines h) (omega arith) below
 
--- a number put into a line is put into them all
+-- setting a number of a line sets it among all numbers
 pub set_at : (count : ℕ) (lines : List (List ℤ)) (which place : ℕ) (none : List ℤ) (z : ℤ) → AreAllAsLong count lines → which < length lines → place < count
     → all_numbers (set lines which (set (get_or lines which none) place z)) ≡ set (all_numbers lines) (which * count + place) z
 set_at count [] which place none z h there below = absurd (omega arith)
@@ -43,7 +43,7 @@ set_at count (line ∷ lines) (suc which) place none z h there below =
     ∙ set-append_right line (all_numbers lines) count (count + (which * count + place)) z (All-head (λ (l : List ℤ). length l ≡ count) line lines h) (omega arith)
     ∙ ap (λ k. line ++ set (all_numbers lines) k z) (omega arith))
 
--- a line, taken out of all numbers
+-- a line, taken from all numbers
 line_of : (count : ℕ) (lines : List (List ℤ)) (which : ℕ) → AreAllAsLong count lines → which < length lines
     → strided (pos 0) (all_numbers lines) (line_start 1 count which) 1 count ≡ get_or lines which []
 line_of count lines which each there =
@@ -63,17 +63,17 @@ line_of count lines which each there =
     ∙ number_of_line count lines which k [] (pos 0) each there under)
 
 module _ (count : ℕ) (lines : List (List ℤ)) (line : ℕ) (each : AreAllAsLong count lines) (some : 0 < count) (below : line < length (all_numbers lines) / count) where
-  -- a line is there
+  -- the line exists
   pub line_below : line < length lines
   line_below =
       omega (arith, below, ap (λ k. k / count) (length-all_numbers count lines each) ∙ mul-div_cancel (length lines) some)
 
-  -- as all numbers tell it
+  -- the line, from all numbers
   pub line_told : numbers_of_line (all_trees count lines) line ≡ get_or lines line []
   line_told = line_of count lines line each line_below
 
 module _ (count : ℕ) (lines : List (List ℤ)) (place : ℕ) (z : ℤ) (each : AreAllAsLong count lines) (some : 0 < count) (below : place < length (all_numbers lines)) where
-  -- the line in which the place lies
+  -- the line that holds the place
   pub line_there : place / count < length lines
   line_there = div_below place count (length lines) some (let e = length-all_numbers count lines each in omega (arith, e, below))
 
@@ -83,7 +83,7 @@ module _ (count : ℕ) (lines : List (List ℤ)) (place : ℕ) (z : ℤ) (each :
   abbrev pub changed : List ℤ
   changed = set (get_or lines (place / count) []) (place % count) z
 
-  -- the line with the number, as all numbers tell it
+  -- the line with the new number, from all numbers
   pub through_line : numbers_through (with_number (all_trees count lines) place z) place ≡ changed
   through_line =
       let which = place / count in

@@ -1,4 +1,4 @@
--- The totals of all lines of an array, as the trees of the lines tell them.
+-- All totals of an array, from the trees of its lines.
 use Rattle.std.{proofs.Common.{◌≡◌, ◌∙◌, ℕ, ◌*◌, ◌%◌, ◌<◌, ◌≤◌, ℤ, pos, List, length, map, refl, ap, sym, subst, arith, Result, Ok, Some}, specs.List.{range_with_len}}
 use Rattle.arrays_core.{specs.declared.item.Item.{Item}, specs.declared.item.Item.TheVariants.{Num}, specs.declared.item.ItemType.{ItemType}, specs.declared.item.ItemType.TheVariants.{Nums}, specs.declared.item.Kind.{Kind}, specs.Arrays.{ArrayValue, with_items}, specs.Items.{all_or_first_error}}
 use Rattle.{arrays_core.specs.Shapes.{size, places_before}, function_names.{specs.declared.scalar.Scalar2.{Scalar2}, specs.Axes.{axis_at}}}
@@ -8,7 +8,7 @@ use Rattle.reduce_fns.{specs.Reduce.{reduce_form, reduce_whole}, specs.declared.
 use Rattle.fold_trees.specs.ArrayLines.{TreesValue, line_count, numbers_of_line}
 use Rattle.sum_rules.{specs.LineSums.{StandFor, SummedValue, summed}, specs.Totals.{all_totals}, proofs.KeptLines.{lines_counted, some_lines as some_kept}, proofs.KeptSums.{summed_is}, proofs.LongerTotals.{items_by_place}}
 
--- the total of one of them
+-- the total of one line
 abbrev pub total_of_line : Scalar2 → TreesValue → ℕ → Result Item Kind
 total_of_line f t line = fold_right f (map (λ (z : ℤ). Num z) (numbers_of_line t line))
 
@@ -23,7 +23,7 @@ module _ (fold : Reduce) (a : ArrayValue) (s : SummedValue) (t : TreesValue) (is
   stand : StandFor t axis a
   stand = subst (λ (v : SummedValue). StandFor t v.axis v.array) kept stands
 
-  -- the trees are of the function that folds the lines
+  -- the trees have the function of the fold
   pub function_is : s.function ≡ fold.function
   function_is = ap (λ (v : SummedValue). v.function) kept
 
@@ -34,11 +34,11 @@ module _ (fold : Reduce) (a : ArrayValue) (s : SummedValue) (t : TreesValue) (is
   pub places_are : size shape ≡ line_count t
   places_are = ap size (reduce_facts fold.along a shape type form).shaped ∙ sym (lines_counted axis t a stand)
 
-  -- and there are some
+  -- the result is not empty
   pub some_lines : 0 < line_count t
   some_lines = rw (lines_counted axis t a stand) (some_kept axis t a stand)
 
-  -- and these are its totals
+  -- the whole result is the list of totals
   pub whole_is : reduce_whole fold.function fold.along a ≡ with_items Nums shape (all_or_first_error (all_totals fold.function t))
   whole_is =
       let f = fold.function in

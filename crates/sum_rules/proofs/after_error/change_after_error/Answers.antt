@@ -10,7 +10,7 @@ use Rattle.sum_rules.proofs.after_error.change_after_error.Goals as goal
 form_is : (g : Over) (c : In-Ok g) → reduce_form c.args.fold.along c.args.array.now ≡ Ok (form_of c.in-Ok.form.0.items c.in-Ok.form.1)
 form_is g c = subst (λ (a : ArrayValue). reduce_form c.args.fold.along a ≡ Ok (form_of c.in-Ok.form.0.items c.in-Ok.form.1)) c.again.ensures c.in-Ok.ensures.0
 
--- the lines of the box that changed
+-- the lines of the changed box
 lines_are : (g : Over) (c : After-shape-axes g) → c.in-Inside.lines ≡ box_of_lines (axis_at (length c.shape-axes.result.now.items) c.args.fold.along) c.args.patch.now.region
 lines_are g c =
     let reach = c.in-Inside.ensures ∙ (λ i. reach_of (total_rule c.args.fold) (c.again.ensures i ∷ []) (Some (c.region.ensures i) ∷ [])) in

@@ -5,7 +5,7 @@ use Rattle.{item_fns.{specs.Items.{number_item}, specs.RightFold.{fold_right}}, 
 use Rattle.sum_rules.{proofs.KeptLines.{kept_total, line_below}, proofs.Failures.{one_decides}, proofs.after_error.failure_elsewhere.Given.{Over}, proofs.after_error.failure_elsewhere.Goals.{Else-line-size}}
 use Rattle.sum_rules.proofs.after_error.failure_elsewhere.Goals as goal
 
--- the line that failed is one of those
+-- the remembered line is a line of the array
 below : (g : Over) (c : Else-line-size g) → c.failing_line-line.result < size c.args.shape.now.items
 below g c = omega (arith, c.if-line-size.false, c.size.ensures, ap size c.as_slice.ensures)
 

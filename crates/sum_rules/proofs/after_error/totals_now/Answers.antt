@@ -48,7 +48,7 @@ one_more g c =
       | inr f ↦ over_other lines shape inside long line c.args.meter.now.joins c.loop-line.meter.joins c.total_now.new.meter.joins (below g here) c.loop-line.invariant.passed f (c.total_now.ensures.none (told ∙ f))
     ]
 
--- at the end each line is passed
+-- at the end all lines are passed
 ended : (g : Over) (c : After-loop-line g) → c.loop-line.line ≡ size c.args.shape.now.items
 ended g c = omega (arith, c.loop-line-test.false, c.size-line-end.ensures, ap size c.as_slice.ensures)
 
