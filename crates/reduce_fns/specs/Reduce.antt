@@ -27,7 +27,7 @@ reduce_whole f along b = whole (reduce_form along b) (reduce_item f along b)
 
 -- Effect of a change of the argument on the result.
 
--- each item reads its line along an axis (from 0); a scalar is a line of one item: a changed box maps to itself without that axis
+-- each item reads its line along an axis (from 0), and a scalar its one item. A changed box maps to itself without that axis.
 abbrev pub line_use : ℕ → ArrayValue → Use
 line_use axis b = record {
   reads = λ index. if is_scalar b then [] ∷ [] else map (insert index axis) (range_with_len 1 (places_along b.shape axis));

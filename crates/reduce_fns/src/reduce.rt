@@ -149,10 +149,10 @@ fn folds(
     with_function(function, foldable)
 }
 
-/// Reduction, `f/B` and `f⌿B` (ISO/IEC 13751, "Reduction"): folds each line along an axis from its last item to its first, `x1 f (x2 f (..))`, and
-/// stops at the first error. A line of one item yields that item. An empty line yields the identity of the function, or DOMAIN if it has none. A
-/// scalar yields itself. The result is of numbers, but of B's type if each line is one item. Fails with AXIS if the array has no such axis, with
-/// LIMIT beyond the limits of arrays.
+/// Reduction, `f/B` and `f⌿B` (ISO/IEC 13751, "Reduction"): folds each line along an axis. The fold goes from the last item to the first, `x1 f (x2 f
+/// (..))`, and stops at the first error. A line of one item yields that item. An empty line yields the identity of the function, or DOMAIN if it has
+/// none. A scalar yields itself. The result is of numbers, but of B's type if each line is one item. Fails with AXIS if the array has no such axis,
+/// with LIMIT beyond the limits of arrays.
 #[derive(Clone, Copy, PartialEq, Eq, Debug)]
 pub struct Reduce {
     /// The function that combines the items of a line.
