@@ -38,7 +38,7 @@ scan_whole f along b = whole (scan_form along b) (scan_item f along b)
 
 -- Effect of a change of the argument on the result.
 
--- each item reads its line along an axis (from 0) up to its own place: a changed interval on that axis maps to itself and all later places
+-- each item reads its line along an axis (from 0) up to its own place. A changed interval on that axis maps to itself and all later places.
 abbrev pub run_use : ℕ → ArrayValue → Use
 run_use axis b = on_own_line axis (λ index. range_with_len 1 (get_or index axis 1)) (λ s. (s.0, places_along b.shape axis))
 

@@ -9,8 +9,8 @@ use crate::prefix::Prefix;
 use arrays_core::Kind;
 use item_fns::kernels::{Minus, Plus, TwoNumbers};
 
-/// `x1 - (x2 - (.. (xk - v)))` of v: `total + v` and `total - v` in turn. Every intermediate difference fits 64 bits exactly if `low <= v <= high`.
-/// The bounds always admit 0.
+/// `x1 - (x2 - (.. (xk - v)))` of v: `total + v` and `total - v` in turn. Intermediate differences fit 64 bits exactly if `low <= v <= high`. The
+/// bounds always admit 0.
 #[derive(Clone, Copy)]
 pub(crate) struct Differences {
     total: i64,

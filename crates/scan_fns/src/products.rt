@@ -74,8 +74,7 @@ impl Margin {
     }
 }
 
-/// `x1 × (x2 × (.. (xk × v)))` of v: `total × v`. Every intermediate product fits 64 bits exactly if v is within the margin. The margin always admits
-/// 0.
+/// `x1 × (x2 × (.. (xk × v)))` of v: `total × v`. Intermediate products fit 64 bits exactly if v is within the margin. The margin always admits 0.
 #[derive(Clone, Copy)]
 pub(crate) struct Products {
     total: i64,

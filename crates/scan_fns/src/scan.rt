@@ -64,10 +64,10 @@ fn later_vector(
     }
 }
 
-/// Scan, `f\B` and `f⍀B` (ISO/IEC 13751, "Scan"): folds each line along an axis up to each of its places, from that item to the first, `x1 f (x2 f
-/// (.. xk))`, and stops at the first error. A scalar yields itself. The result has B's shape and is of numbers; it is B itself if the axis is shorter
-/// than 2. Fails with AXIS if the array has no such axis. Fails with DOMAIN if the axis has 2 or more places and B has items that are characters.
-/// Fails with LIMIT beyond the limits of arrays.
+/// Scan, `f\B` and `f⍀B` (ISO/IEC 13751, "Scan"): folds each line along an axis up to each of its places. The fold goes from that item to the first,
+/// `x1 f (x2 f (.. xk))`, and stops at the first error. A scalar yields itself. The result has B's shape and is of numbers; it is B itself if the
+/// axis is shorter than 2. Fails with AXIS if the array has no such axis. Fails with DOMAIN if the axis has 2 or more places and B has items that are
+/// characters. Fails with LIMIT beyond the limits of arrays.
 ///
 /// By any function but `÷ * |` the time is proportional to the length of a line. By `|` it is too, up to a logarithm, if no number is below 0 or none
 /// above. By `÷ *` and other `|`, a fold ends at a place that the same value reached before. That is usually proportional, at worst quadratic.
