@@ -51,16 +51,14 @@ inner_whole f g a b = whole (inner_form a b) (inner_item f g a b)
 abbrev pub extended_line : ArrayValue → List (List ℕ) → List (List ℕ)
 extended_line a places = if size a.shape == 1 then map (λ _. 1) a.shape ∷ [] else places
 
--- each item reads a row of the left argument: a changed box maps to itself without its last axis, then the whole axes of the right argument but the
--- first
+-- each item reads a row of the left argument. A changed box maps to itself without its last axis, then all of the right axes but the first.
 abbrev pub row_use : List ℕ → ArrayValue → ArrayValue → Use
 row_use shape a b = record {
   reads = λ index. extended_line a (map (λ j. take (row_rank a) index ++ j ∷ []) (range_with_len 1 (inner_length a b)));
   box = λ region. Some (take (row_rank a) region ++ whole_of (drop 1 b.shape));
 }
 
--- each item reads a column of the right argument: a changed box maps to the whole axes of the left argument but the last, then itself without its
--- first axis
+-- each item reads a column of the right argument. A changed box maps to all of the left axes but the last, then itself without its first axis.
 abbrev pub column_use : List ℕ → ArrayValue → ArrayValue → Use
 column_use shape a b = record {
   reads = λ index. extended_line b (map (λ j. j ∷ drop (row_rank a) index) (range_with_len 1 (inner_length a b)));

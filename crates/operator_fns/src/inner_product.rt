@@ -137,7 +137,7 @@ fn grid(left: &Seen, right: &Seen) -> Grid
     }
 }
 
-/// Inner product, `A f.g B` (ISO/IEC 13751, "Inner Product"): the result has the axes of A but the last, then the axes of B but the first. Each item
+/// Inner product, `A f.g B` (ISO/IEC 13751, "Inner Product"). The result has the axes of A but the last, then the axes of B but the first. Each item
 /// combines a row of A, along its last axis, with a column of B, along its first. It applies g to the paired items, then folds the results by f from
 /// the last to the first. g is applied to all pairs, from the last to the first. If g fails, the last pair that fails gives the error, ahead of any
 /// error of f. Empty lines yield the identity of f, or DOMAIN if it has none. A side of one item extends to the length of the other, also to length

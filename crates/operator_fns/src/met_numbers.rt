@@ -20,8 +20,7 @@ use item_fns::kernels::TwoNumbers;
 use item_fns::{Scalar2, WithFunction, with_function};
 use std::alloc::Global;
 
-/// Applies a function to each number of a row and its partner in a column, from the last to the first. Writes the results to `met`, and stops at the
-/// first error.
+/// Applies a function to each number of a row and its partner in a column, from the last to the first, into `met`. Stops at the first error.
 fn meet<G: TwoNumbers>(
     each: &G,
     left: &[i64],

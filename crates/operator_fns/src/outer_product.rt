@@ -84,9 +84,8 @@ impl<'a> WithFunction for OuterNumbers<'a> {
     }
 }
 
-/// Outer product, `A∘.fB` (ISO/IEC 13751, "Outer Product"): the result has the axes of A, then the axes of B. Each item is f of an item of A and an
-/// item of B. The result is of numbers. Fails with LIMIT beyond the limits of arrays. If f fails at several places, the first in row-major order
-/// gives the error.
+/// Outer product, `A∘.fB` (ISO/IEC 13751, "Outer Product"): the result has A's axes, then B's. Each item is f of an item of A and one of B. The
+/// result is of numbers. Fails with LIMIT beyond the limits of arrays, or with the error of the first place in row-major order where f fails.
 #[derive(Clone, Copy, PartialEq, Eq, Debug)]
 pub struct Outer {
     /// The function that is applied to each pair of items.

@@ -65,8 +65,7 @@ fn last_error<M: Meeting>(lines: &M, count: usize, error: Kind) -> Kind
     error
 }
 
-/// Folds the results of all pairs from the last to the first. If the fold fails, it still evaluates the earlier pairs, since an error of a pair comes
-/// first.
+/// Folds the results of all pairs from the last to the first. If the fold fails, it still evaluates the earlier pairs: their errors come first.
 pub(crate) fn fold_row<M: Meeting>(lines: &M) -> Result<M::Output, Kind>
     requires { 1 ≤ M.places lines.now }
     ensures is { result ≡ folded_all (M.fold lines.now) (map (M.met lines.now) (range_with_len 0 (M.places lines.now))) }
