@@ -332,8 +332,7 @@ fn change_of_more<R: Rule>(
 }
 
 /// Returns the change of a node from the changes of its arguments. If `old` was the evaluation of the old arguments, applying the change yields the
-/// evaluation of the new ones. Without a changed argument it returns `Same`. Ticks once for each item that it computes. Fails only for lack of
-/// memory.
+/// evaluation of the new ones. Returns `Same` if no argument changed. Ticks once for each computed item. Fails only for lack of memory.
 pub fn refresh<R: Rule>(
     alloc: Global,
     rule: &R,

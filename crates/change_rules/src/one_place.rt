@@ -66,8 +66,8 @@ pub(crate) fn is_one_place(region: &IndexBox) -> bool
     region.as_slice().iter().all(|(first, last)| first == last)
 }
 
-/// Returns the only place that changes, if the node held an array, its arguments were at most patched, and the rule tells that the place reads few
-/// items. Otherwise returns None and leaves the meter alone.
+/// Returns the only place that changes, if the rule tells it at once. The node must have held an array, and its arguments been at most patched.
+/// Otherwise returns None and leaves the meter alone.
 #[inline(always)]
 fn changed_place<R: Rule>(
     rule: &R,

@@ -19,8 +19,7 @@ use std::alloc::{AllocError, Global};
 /// The most places of a small argument.
 const FEW_PLACES: u32 = 16;
 
-/// Returns the items of a box of the result. If the box is the whole result, it evaluates the rule at once, unless each item reads few items of the
-/// arguments.
+/// Returns the items of a box of the result. If the box is the whole result, it evaluates the whole rule, unless items read few items.
 fn items_of<R: Rule>(
     alloc: Global,
     rule: &R,
@@ -46,7 +45,7 @@ fn items_of<R: Rule>(
     }
 }
 
-/// Tells if the only item of a result is computed as fast from the views as from copies: it reads few items, or all arguments are small.
+/// Tells if the only item of a result is computed as fast from views as from copies. Either it reads few items, or all arguments are small.
 fn goes_item_by_item<R: Rule>(rule: &R, args: &[Seen]) -> bool {
     !rule.reads_many_items() || args.iter().all(|arg| arg.places() <= FEW_PLACES)
 }
