@@ -47,7 +47,7 @@ AreAllAsLong count lines = All (λ line. length line ≡ count) lines
 abbrev pub all_trees : ℕ → List (List ℤ) → TreesValue
 all_trees count lines = record { count = count; step = 1; numbers = flat_map (λ line. line) lines }
 
--- if a box of the argument changed, or it is a vector with numbers that grew, these lists are its old lines along the last axis
+-- if a box of the argument changed, or it is a non-empty vector that grew, these lists are its old lines along the last axis
 pub record IsSummedByLines (arg : Argument) (lines : List (List ℤ)) : Type 0 where
   pub changed : (p : PatchValue) → arg.1.now ≡ Patch p → AreAllAsLong (length_along Last arg.0.shape) lines × StoodFor Last (all_trees (length_along Last arg.0.shape) lines) p arg.0
   pub grew : (tail : TailValue) → arg.1.now ≡ Grown tail → length arg.0.shape ≡ 1 → 1 < length_along Last arg.0.shape
@@ -100,14 +100,14 @@ is_narrow axis _ = false
 abbrev pub is_by_trees : Along → Argument → Bool
 is_by_trees along arg = is_narrow (axis_at (length arg.0.shape) along) arg.1.now
 
--- the most joins for the change of the totals: by trees as many for each new item as the length of a line, less one, has binary digits; else one less
--- for each folded line than it has numbers
+-- the most joins for the change of the totals. By trees, each new item takes as many as the length of a line, less one, has binary digits. Otherwise
+-- each folded line takes one less than it has numbers.
 pub record HasJoins (fold : Reduce) (arg : Argument) (held : Outcome) (old new : ℕ) : Type 0 where
   pub trees : is_by_trees fold.along arg ≡ true → AreJoinsWithin (new_items arg.1.now) (length_along fold.along arg.0.shape) old new
   pub folds : is_by_trees fold.along arg ≡ false → AreFoldsWithin (node_cost (total_rule fold) (arg ∷ []) held) (length_along fold.along arg.0.shape) old new
 
--- the joins if no total fails: by trees at least one for each new item of lines with two numbers or more; else exactly one less for each folded line
--- than it has numbers
+-- the joins if no total fails. By trees, each new item of a line with two numbers or more takes at least one. Otherwise each folded line takes
+-- exactly one less than it has numbers.
 pub record HasAllJoins (fold : Reduce) (arg : Argument) (held : Outcome) (old new : ℕ) : Type 0 where
   pub trees : is_by_trees fold.along arg ≡ true → AreJoinsFrom (new_items arg.1.now) (length_along fold.along arg.0.shape) old new
   pub folds : is_by_trees fold.along arg ≡ false → AreFolds (node_cost (total_rule fold) (arg ∷ []) held) (length_along fold.along arg.0.shape) old new

@@ -182,8 +182,8 @@ fn totals_now<S: LineTotals>(
     Ok(totals)
 }
 
-/// Replaces `change` by all totals, after an error. The patch has one place on the axis of the lines. Returns the number of totals as the cost.
-/// Totals of unchanged lines are read from their trees without a join.
+/// Replaces `change` by the evaluation of all totals, after an error. The patch has one place on the axis of the lines. Returns the number of totals
+/// as the cost. Totals of unchanged lines are read from their trees without a join.
 pub(crate) fn change_after_error<S: LineTotals>(
     alloc: Global,
     fold: Reduce,

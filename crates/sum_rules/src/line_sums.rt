@@ -120,7 +120,7 @@ fn write_into(shape: &Shape, trees: &mut FoldTrees, patch: &Patch)
     ensures count { trees.new.lines.count ≡ trees.old.lines.count }
     ensures step { trees.new.lines.step ≡ trees.old.lines.step }
 {
-    // The type of the items says that the patch has one item for each place.
+    // Reading the item type brings in the fact that the patch has one item for each place.
     let _one_item_a_place = patch.item_type();
     let region = patch.region();
     let mut index = region.index_at(0);
@@ -215,8 +215,7 @@ impl Model for LineSums {
 }
 
 impl LineSums {
-    /// Builds the trees of the lines, or returns None unless `keeps_sums` holds. Copies an array that carries a patch. Fails with AllocError if
-    /// memory is short.
+    /// Builds the trees of the lines, or returns None unless `keeps_sums` holds. Copies an array that carries a patch. AllocError if memory is short.
     pub fn of(alloc: Global, fold: Reduce, array: &Seen) -> Result<Option<LineSums>, AllocError>
         ensures { IfOk result (λ s. s ≡ summed fold array.now) }
     {

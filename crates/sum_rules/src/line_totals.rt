@@ -26,19 +26,19 @@ pub trait LineTotals {
     ghost trees: { Self → TreesValue };
 
     /// Returns the total of the line through a place with another number there, and the number of parts joined for it. Places count from 0. Fails
-    /// with the error that the fold from the right meets.
+    /// with the error of the right fold.
     fn total_with(&self, place: usize, number: i64) -> (Result<i64, Kind>, u32)
         requires { place < length (trees self.now).numbers }
         ensures total { IsReductionBy (function self.now) (numbers_through (with_number (trees self.now) place number) place) result.0 }
         ensures joins { IsWithinDigitsOf ((trees self.now).count - 1) result.1 }
         ensures some { 1 < (trees self.now).count → 0 < result.1 };
 
-    /// Returns the total of a line without a join; lines count from 0. Fails with the error that the fold from the right meets.
+    /// Returns the total of a line without a join; lines count from 0. Fails with the error of the right fold.
     fn total(&self, line: usize) -> Result<i64, Kind>
         requires { line < line_count (trees self.now) }
         ensures { IsReductionBy (function self.now) (numbers_of_line (trees self.now) line) result };
 
-    /// Returns the line that was remembered last, counted from 0. It is a hint without a contract.
+    /// Returns the line that was remembered last, counted from 0. The line is a hint that no contract mentions.
     fn failing_line(&self) -> usize {
         0
     }
@@ -46,8 +46,7 @@ pub trait LineTotals {
     /// Remembers a line whose total is an error.
     fn remember_failing(&self, _line: usize) {}
 
-    /// Returns the total of a line with one more number at its end, in one join; lines count from 0. Fails with the error that the fold from the
-    /// right meets.
+    /// Returns the total of a line with one more number at its end, in one join; lines count from 0. Fails with the error of the right fold.
     fn total_behind(&self, line: usize, number: i64) -> Result<i64, Kind>
         requires { line < line_count (trees self.now) }
         ensures { IsReductionBy (function self.now) (numbers_of_line (trees self.now) line ++ number ∷ []) result };
