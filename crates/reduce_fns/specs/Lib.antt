@@ -8,5 +8,5 @@ pub mod Columns
 pub mod LeftFolds
 -- Effect of changes on results.
 pub mod Growth
--- Proofs that impls supply with their functions: changes stay inside the boxes, and growth is preserved.
+-- Proofs that impls supply with their functions: changes stay inside the boxes, and results grow as announced.
 pub mod Laws
