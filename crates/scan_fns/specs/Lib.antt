@@ -7,5 +7,5 @@ pub mod RecalledScan
 pub mod ResidueScan
 -- Effect of changes on results.
 pub mod BoxLines
--- Proofs that impls supply with their functions: changes stay inside the boxes, and growth is preserved.
+-- Proofs that impls supply with their functions: changes stay inside the boxes, and results grow as announced.
 pub mod Laws

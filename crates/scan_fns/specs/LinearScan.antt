@@ -35,7 +35,7 @@ pub record AreResultsTo {G : Type 0} (place : ℕ) (rule : ℕ → Result ℤ Ki
   pub made : all_or_first_error (take place (map rule (range_with_len 0 (length zs)))) ≡ Ok results.items
   pub read : (k : ℕ) → k < place → FitsSigned w64 (get_or zs k (pos 0))
 
--- the first error seen is at this place, and the numbers up to it fit 64 bits
+-- the rule fails with this error at some place, and the numbers up to there fit 64 bits
 pub record FailsAt (rule : ℕ → Result ℤ Kind) (zs : List ℤ) (kind : Kind) : Type 0 where
   pub place : ℕ
   pub below : place < length zs
