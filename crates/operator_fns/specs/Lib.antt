@@ -5,5 +5,5 @@ pub mod InnerProduct
 pub mod SmallProducts
 pub mod RowByColumn
 pub mod OuterResults
--- Proofs that impls supply with their functions: changes stay inside the boxes, and growth is preserved.
+-- Proofs that impls supply with their functions: changes stay inside the boxes, and results grow as announced.
 pub mod Laws
