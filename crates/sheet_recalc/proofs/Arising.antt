@@ -13,12 +13,12 @@ given_fresh : (r : Result ArrayValue Kind) (e : Fault) → given r ≡ Err e →
 given_fresh (Ok a) e h = absurd cc
 given_fresh (Err kind) e h = let this : fault kind ≡ e = cc in ap (λ (f : Fault). f.origin) (sym this)
 
--- what comes next fails, or what came before did
+-- the next part fails, or one before it did
 and_then_fails : {A B : Type 0} (r : Result A Fault) (next : A → Result B Fault) (e : Fault) → and_then r next ≡ Err e → (r ≡ Err e) ⊎ ((a : A) × (next a ≡ Err e))
 and_then_fails (Ok a) next e h = inr (a, h)
 and_then_fails (Err d) next e h = let this : d ≡ e = cc in inl (ap Err this)
 
--- the positions fail, or what they index does, or the index itself, whose error is new
+-- the positions fail, or the array does, or the index itself, whose error is new
 indexed_fails : {P A : Type 0} (others : Result P Fault) (operand : Result A Fault) (index : A → P → Result ArrayValue Kind) (e : Fault)
     → and_then others (λ positions. and_then operand (λ a. given (index a positions))) ≡ Err e → (others ≡ Err e) ⊎ ((operand ≡ Err e) ⊎ (e.origin ≡ None))
 indexed_fails others operand index e h =

@@ -1,8 +1,8 @@
--- What names are bound to after one is bound anew, or removed.
+-- The bindings of names after one is rebound or removed.
 use Rattle.std.{proofs.Common.{◌≡◌, ◌≢◌, ℕ, Bool, true, false, List, Option, Some, None, refl, sym, ◌∙◌}, specs.Str.{bytes_eq}}
 use Rattle.sheet_recalc.{specs.Names.{Names, Binding, binding, put, without, rebound}, proofs.NameEquality.{equal-true, equal-same}, proofs.Putting.{lookup_put}, proofs.Removing.{lookup_others}}
 
--- what a name is bound to, after one is bound anew
+-- the binding of a name, after one is rebound
 pub bound_same : (old : Names) (name : List ℕ) (b : Binding) (q : List ℕ) → q ≢ name → binding (put old name b) q ≡ binding old q
 bound_same old name b q apart = by (bytes_eq name q) refl
   where

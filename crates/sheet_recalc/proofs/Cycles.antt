@@ -1,10 +1,10 @@
--- A cycle that a new binding makes goes through the name that is bound, and can be walked.
+-- A cycle made by a new binding passes through the bound name, and can be walked.
 use Rattle.std.{proofs.Common.{◌≡◌, ◌≢◌, ℕ, ◌<◌, ◌≤◌, ◌⊎◌, Bool, true, false, not, List, [], ◌∷◌, length, Option, Some, refl, sym, ap, ◌∙◌, subst, arith, ⊎_elim}, specs.Str.{bytes_eq}, specs.List.{Contains, position_or_len}, specs.Option.{option_map_or}, proofs.lemmas.Bool.{false≢true}}
 use Rattle.std.proofs.lemmas.List.Sums.{prefix_len-le-length}
 use Rattle.dep_order.{specs.Reachability.{Chain, IsAcyclic}, specs.Follows.{Follows}, proofs.Following.{contains_none, contains_cases, follows_has}}
 use Rattle.sheet_recalc.{specs.Names.{Names, Binding, Formula, binding, rebound, Refers, referred}, specs.ProposedSheet.{IsReaching}, proofs.NameEquality.{equal-true, equal-same}, proofs.Binding.{rebound_same, rebound_own}, proofs.Keeping.{cases_name}}
 
--- what one of these needs stands before it
+-- the references of one of these stand before it
 pub stands_before : (Needs : List ℕ → List ℕ → Type 0) (Done : List ℕ → Type 0) (found : List (List ℕ)) (x y : List ℕ) → Follows Needs Done found → Contains found y → Needs y x → (Done x → ⊥)
     → position_or_len (bytes_eq x) found < position_or_len (bytes_eq y) found
 stands_before Needs Done [] x y follows c needs none = absurd (contains_none y c)

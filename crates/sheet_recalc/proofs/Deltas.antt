@@ -1,4 +1,4 @@
--- What changed of each name is one step from what changed of all names; of what the changed name does not reach, nothing did.
+-- The change of each name is one step from the changes of all names; names that the changed name does not reach stay the same.
 use Rattle.std.{proofs.Common.{◌≡◌, ℕ, zero, suc, false, List, Option, Some, None, length, refl, sym, ap, ◌∙◌, subst, ⊎_elim, if◌then◌else◌}, specs.Str.{bytes_eq}, specs.List.{Contains}, proofs.lemmas.Bool.{cond-true, cond-false, false_from_ne_true}}
 use Rattle.{apl_expr.specs.Trees.{Tree}, index_region.{specs.declared.delta.Delta.{Delta}, specs.declared.delta.Delta.TheVariants.{Same}}}
 use Rattle.formula_core.{specs.Meaning.{names_in}, proofs.Alike.{change_alike, unchanged_costs_nothing}}
@@ -8,7 +8,7 @@ use Rattle.formula_core.specs.Changes as formula
 
 -- `found` are the name and all that reach it
 module _ (new : Names) (name : List ℕ) (found : List (List ℕ)) (closed : Follows (λ a b. Refers new b a) (λ x. ⊥) found) (named : Contains found name) where
-  -- what is not found refers to nothing that is found
+  -- names outside refer to no found name
   pub apart_from_found : (a b : List ℕ) → (Contains found a → ⊥) → Refers new a b → Contains found b → ⊥
   apart_from_found a b none r c = none (⊎_elim (λ l. absurd l) (λ d. d) (follows_has (λ x y. Refers new y x) (λ x. ⊥) found b a closed c r))
 
@@ -17,7 +17,7 @@ module _ (new : Names) (name : List ℕ) (found : List (List ℕ)) (closed : Fol
   not_named q none = false_from_ne_true (bytes_eq q name) (λ e. none (subst (λ z. Contains found z) (sym (equal-true q name e)) named))
 
 module _ (old new : Names) (name : List ℕ) (own : Delta) where
-  -- only what changed of the names in what it is bound to matters
+  -- only the changes of the names in its binding matter
   delta_same : (q : List ℕ) (b : Option Binding) (f g : List ℕ → Delta) → ((t : Tree) (x : List ℕ) → b ≡ Some (Formula t) → Contains (names_in t) x → f x ≡ g x)
       → delta_by q b (names_change old new f) ≡ delta_by q b (names_change old new g)
   delta_same q None f g h = refl
@@ -29,14 +29,14 @@ module _ (old new : Names) (name : List ℕ) (own : Delta) where
   delta_absent zero q none = refl
   delta_absent (suc d) q none = ap (λ b. if bytes_eq q name then own else delta_by q b (names_change old new (delta_at d old new name own))) none
 
-  -- what changed of a name is one step from what changed of all names
+  -- the change of a name is one step from the changes of all names
   pub delta_is : (order : List (List ℕ)) → IsNameOrder new order → (q : List ℕ)
       → name_delta old new name own q ≡ (if bytes_eq q name then own else delta_by q (binding new q) (sheet_change old new name own))
   delta_is order o q = settles new order o (λ d. delta_at d old new name own) (λ x f. if bytes_eq x name then own else delta_by x (binding new x) (names_change old new f)) (λ d x. refl)
       (λ x f g h. ap (λ d. if bytes_eq x name then own else d) (delta_same x (binding new x) f g (λ t y is stands. h y (t, is, stands))))
       (λ d e x none. delta_absent d x none ∙ sym (delta_absent e x none)) q
 
-  -- of the name that the change is about, what is told
+  -- the change of the changed name
   pub delta_own : name_delta old new name own name ≡ own
   delta_own = by (length new)
     where
@@ -55,6 +55,6 @@ module _ (old new : Names) (name : List ℕ) (own : Delta) where
     unreached_at (suc d) q none = cond-false _ _ _ (not_named new name found closed named q none)
         ∙ unreached_by (names_change old new (delta_at d old new name own)) q (binding new q) refl none (unreached_at d)
 
-    -- nothing changed of what is not found
+    -- names outside stay the same
     pub delta_unreached : (q : List ℕ) → (Contains found q → ⊥) → name_delta old new name own q ≡ Same
     delta_unreached q none = unreached_at (length new) q none

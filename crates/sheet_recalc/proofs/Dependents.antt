@@ -36,7 +36,7 @@ sum_filtered f test nothing (x ∷ xs) = by (test x) refl (sum_filtered f test n
         let first = sum_by-cons f x xs in
         rw is (omega (arith, none, first, rest))
 
--- a sum of what is the same at each
+-- a sum of equal terms
 sum_same : {A : Type 0} (f g : A → ℕ) (xs : List A) → ((x : A) → f x ≡ g x) → sum_by f xs ≡ sum_by g xs
 sum_same f g [] same = refl
 sum_same f g (x ∷ xs) same =
@@ -84,7 +84,7 @@ module _ (old new : Names) (name : List ℕ) (own : Delta) where
     independent true t none = absurd (false≢true (sym none))
     independent false t none = none_stands t none
 
-    -- the nodes that depend cost what all nodes cost
+    -- the dependent nodes cost as much as all nodes
     at_binding : (q : List ℕ) (b : Binding) → dependent_cost name c found (q, b) ≡ binding_cost name c (q, b)
     at_binding q (Data a) = refl
     at_binding q (Formula t) = sum_filtered (node_cost_at (bytes_eq q name) c) (node_depends (bytes_eq q name) found) (independent (bytes_eq q name)) (subtrees t)

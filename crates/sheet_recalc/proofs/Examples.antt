@@ -63,7 +63,7 @@ rows : AllSame (
     [])
 rows = refl
 
--- the kinds of errors, each with the name in whose formula it arose
+-- the kinds of errors, each with the name where it arose
 abbrev error_in : Kind → List ℕ → Outcome
 error_in k name = Err (record { kind = k; origin = Some name })
 

@@ -1,4 +1,4 @@
--- How the plans of a change come forward.
+-- The progress of the plans of a change.
 use Rattle.std.{proofs.Common.{◌≡◌, ◌+◌, ◌-◌, ◌≤◌, ◌<◌, ℕ, Bool, true, false, min, List, [], ◌∷◌, ◌++◌, length, take, get_or, cond, Option, Some, None, refl, sym, ap, ◌∙◌, subst, arith}, specs.Str.{bytes_eq}, specs.Map.{lookup, keys_of}, specs.Option.{option_map_or, unwrap_or}, specs.List.{IsDistinct, sum_by}}
 use Rattle.std.{proofs.lemmas.Bool.{false≢true}, proofs.lemmas.List.{length-append, take_all}, proofs.lemmas.List.Sums.{sum_by_push}, proofs.Math.Seq.{get_or-append_seam}}
 use Rattle.{change_core.specs.Meters.{ticked}, dep_order.specs.Users.{HasNothing}}
@@ -81,11 +81,11 @@ module _ (o : Outline) where
           whole = λ _. even ∙ sym spent;
         }
 
-    -- what the whole plans cost fits
+    -- the cost of the whole plans fits
     costs_fit : (w : Plans) (told : ℕ) → AreMade o base w told → w.cost < 18446744073709551616
     costs_fit w told made = omega (arith, made.cost_is)
 
-    -- where no plan is on its way, what is counted is what the whole ones cost
+    -- with no plan under way, the count is the cost of the whole plans
     rests_whole : (w : Plans) (ticks : ℕ) {told : ℕ} → AreMade o base w told → w.current ≡ None → ticks ≡ w.cost → ticks ≡ ticked w.cost (coming_cost w.current)
     rests_whole w ticks {told} made none is = omega (arith, is, costs_fit w told made, ap coming_cost none)
 
@@ -321,7 +321,7 @@ module _ (o : Outline) where
           let k = coming_for (waiting_names w) front name split true p now.done now.begun (some_coming (waiting_names w) true w.current p now.done now.begun current now.coming) f held in
           (k.0, left_at f p.changes k.0.next (k.3 refl) k.0.begun.known)
 
-      -- the function that comes next costs what some one node does
+      -- the next function costs as much as some one node
       pub next_cost : (w : Plans) (name : List ℕ) (front : List (List ℕ)) (p : PlanValue) → IsOnTheWay o base w true ticks → w.current ≡ Some p → waiting_names w ≡ front ++ name ∷ []
           → (f : FormulaValue) → entry_of o name ≡ Some (entry.Formula f) → IsNodeCost o.name c new (node_cost_at f.is_new c (tree_at (subtrees f.tree) (length p.changes)))
       next_cost w name front p now current split f held =

@@ -1,4 +1,4 @@
--- How an order of the names is kept when a name is bound anew, and what stays as it was.
+-- How the names keep an order when a name is rebound, and the parts that stay the same.
 use Rattle.std.{proofs.Common.{◌≡◌, ◌≢◌, ℕ, zero, suc, ◌<◌, ◌≤◌, ◌⊎◌, inl, inr, Bool, true, false, not, List, [], ◌∷◌, ◌++◌, length, slice_index_or, filter, None, is_some, IsSome, refl, sym, ap, ◌∙◌, subst, arith, ⊎_elim}, specs.Str.{bytes_eq}, specs.List.{Contains, IsDistinct, list_any, AllByRecursion}}
 use Rattle.std.{proofs.lemmas.Bool.{false≢true}, proofs.lemmas.List.{get_or_default}, proofs.lemmas.Map.Steps.{length-le_from_keys}, proofs.lemmas.Map.Views.{Contains-from_any, list_any-from_Contains}, proofs.lemmas.List.Elements.{Contains-append_left, Contains-append_right, Contains-append_cases}, specs.Prelude.{Vec}}
 use Rattle.dep_order.{specs.Reachability.{Chain}, specs.Follows.{Follows, IsOnce}, specs.Users.{Uses, IsWithin}, proofs.Following.{contains_here, contains_there, contains_one, contains_cases, contains_none, follows_append, follows_at, follows_has, follows_kept, follows_backward, backward, backward_has, backward_only}}
@@ -125,10 +125,10 @@ module _ {S : Type 0} (names : Names) (table : List (List ℕ × Vec (List ℕ) 
       let low = falls at.0 via b at.1 (subst (λ y. Chain (Uses bytes_eq table) y via b) (sym is) c) in
       omega (arith, low, at.1, o.short)
 
--- a name is bound anew, or removed; `found` are the name and all that reach it, each after those that refer to it
+-- a name is rebound or removed; `found` are the name and all that reach it, each after those that refer to it
 module _ (old new : Names) (name : List ℕ) (same : (q : List ℕ) → q ≢ name → binding new q ≡ binding old q)
     (found : List (List ℕ)) (closed : Follows (λ a b. Refers old b a) (λ x. ⊥) found) (named : Contains found name) where
-  -- what refers to one that is found is found
+  -- names that refer to a found name are found
   pub refers_found : (a b : List ℕ) → Contains found b → Refers old a b → Contains found a
   refers_found a b c r = ⊎_elim (λ l. absurd l) (λ d. d) (follows_has (λ a b. Refers old b a) (λ x. ⊥) found b a closed c r)
 
@@ -138,7 +138,7 @@ module _ (old new : Names) (name : List ℕ) (same : (q : List ℕ) → q ≢ na
   refers_old : (a b : List ℕ) → a ≢ name → Refers new a b → Refers old a b
   refers_old a b apart r = (r.0, sym (same a apart) ∙ r.1, r.2)
 
-  -- what is not found refers to nothing that is found
+  -- names outside refer to no found name
   pub refers_apart : (a b : List ℕ) → (Contains found a → ⊥) → Refers new a b → Contains found b → ⊥
   refers_apart a b none r c = none (refers_found a b c (refers_old a b (apart_from a none) r))
 
@@ -216,7 +216,7 @@ module _ (old new : Names) (name : List ℕ) (same : (q : List ℕ) → q ≢ na
       follows = follows_append (Needs new) (λ x. ⊥) (filter keep order) turned kept_first found_then;
     }
 
-  -- what is not found shows what it did
+  -- names outside keep their values
   module _ (order : List (List ℕ)) (o : IsNameOrder new order) (step : (q : List ℕ) → val old q ≡ shown_beside q (binding old q) (val old)) where
     absent_same : (x : List ℕ) → x ≢ name → binding new x ≡ None → val new x ≡ val old x
     absent_same x apart none = val_absent new (length new) x none ∙ sym (val_absent old (length old) x (sym (same x apart) ∙ none))

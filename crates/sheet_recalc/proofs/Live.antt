@@ -1,4 +1,4 @@
--- Entries, the names that they stand for, and what they show.
+-- Entries, their names, and their values.
 use Rattle.std.{proofs.Common.{◌≡◌, ℕ, zero, suc, ◌+◌, ◌-◌, ◌<◌, ◌≤◌, Bool, true, false, cond, List, [], ◌∷◌, ◌++◌, length, take, get_or, slice_get, ⊎_elim, ◌⊎◌, Option, Some, None, Ok, IsSome, is_some, refl, sym, ap, ◌∙◌, subst, arith, not, if◌then◌else◌}, specs.Str.{bytes_eq}, specs.Map.{lookup, keys_of, set_value}}
 use Rattle.std.{specs.Option.{option_map, unwrap_or}, specs.List.{IsDistinct, Contains}, specs.Prelude.{Vec}, proofs.lemmas.Bool.{false≢true}, proofs.lemmas.List.{take_all, take_more, length-map, same_from_push}, proofs.lemmas.List.Elements.{Contains-push_cases}, proofs.lemmas.Map.Views.{Contains-keys_from_lookup}}
 use Rattle.{indexmap.specs.IndexMap.{insert_entry, set_value_at}, arrays_core.{specs.Arrays.{ArrayValue}, specs.Outcomes.{Outcome}}}
@@ -58,7 +58,7 @@ adopting_binding : (e : Entry) (p : PlanValue) → binding_of (adopting e p) ≡
 adopting_binding (entry.Data a) p = refl
 adopting_binding (entry.Formula f) p = refl
 
--- an entry that takes a plan keeps what it is bound to
+-- an entry that takes a plan keeps its binding
 pub names_of_adopting : (name : List ℕ) (p : PlanValue) (found : Entry) (es : List (List ℕ × Entry)) → lookup (bytes_eq name) es ≡ Some found → names_of (set_value (bytes_eq name) es (adopting found p)) ≡ names_of es
 names_of_adopting name p found [] h = refl
 names_of_adopting name p found (e ∷ es) h = by (bytes_eq name e.0) refl (names_of_adopting name p found es)
@@ -108,12 +108,12 @@ pub live_empty : {S : Type 0} (es : List (List ℕ × Entry)) (users : List (Lis
 live_empty {S} es users none empty =
     subst (λ (fs : List (List ℕ × Entry)). IsLive fs users) (sym none) (subst (λ (us : List (List ℕ × Vec (List ℕ) S)). IsLive [] us) (sym empty) (live_none {S = S}))
 
--- an entry that is right shows what its name shows
+-- a right entry has the value of its name
 pub right_shows : (names : List ℕ → Outcome) (q : List ℕ) (e : Entry) → IsRightEntry names q e → entry_outcome q e ≡ names q
 right_shows names q (entry.Data a) right = right
 right_shows names q (entry.Formula f) right = right.1
 
--- what `value` answers
+-- the answer of `value`
 pub value_is : (es : List (List ℕ × Entry)) → IsCurrent es → (q : List ℕ) (o : Option Entry) → o ≡ lookup (bytes_eq q) es
     → option_map (entry_outcome q) o ≡ (if is_some (binding (names_of es) q) then Some (val (names_of es) q) else None)
 value_is es current q (Some e) is = rw (binding_of_name es q, ← is) (ap Some (right_shows (val (names_of es)) q e (current q e (sym is))))
@@ -130,7 +130,7 @@ put_beside es new k p put q = ap (λ o. unwrap_or o None) (put q) ∙ by (bytes_
 
 -- ---- plans are taken one after another
 
--- where it has no plan, the plans are as they were
+-- with no plan, the plans stay the same
 pub adopting_same : (names : Names) (es : List (List ℕ × Entry)) (plans plans' : List ℕ → Option PlanValue) (name : List ℕ) → plans name ≡ None → ((q : List ℕ) → plans' q ≡ cond (bytes_eq name q) None (plans q))
     → IsAdopting names es plans → IsAdopting names es plans'
 adopting_same names es plans plans' name none taken now = record {
@@ -221,7 +221,7 @@ adopting_either names es es' plans plans' name p this taken now present absent =
     by (Some e) is = adopting_some names es es' plans plans' name p this taken now e is (present e is).0 (present e is).1
     by None is = adopting_none names es es' plans plans' name p this taken now is (absent is)
 
--- the plans are taken down to a place: what does not stand before it has none
+-- the plans are taken down to a place: names at it or behind have none
 pub record AreTaken (names : Names) (es : List (List ℕ × Entry)) (found : List (List ℕ × Option PlanValue)) (place : ℕ) : Type 0 where
   pub within : place ≤ length found
   pub adopting : IsAdopting names es (plan_in found)
@@ -275,7 +275,7 @@ current_at_end names es found place end now = λ q e h.
 pub nothing_at_end : (names : Names) (es : List (List ℕ × Entry)) (found : List (List ℕ × Option PlanValue)) (place : ℕ) → place ≡ 0 → AreTaken names es found place → HasNothing bytes_eq found
 nothing_at_end names es found place end now = λ a v there. sym (ap (λ o. unwrap_or o None) there) ∙ now.rest a (subst (λ n. Contains (take n (keys_of found)) a → ⊥) (sym end) (contains_none a))
 
--- what a name reaches is the same while the table and the names that were found stay
+-- the reach of a name stays while the table and the found names stay
 pub reach_kept : {S : Type 0} (users users' : List (List ℕ × Vec (List ℕ) S)) (name : List ℕ) (found found' : List (List ℕ × Option PlanValue))
     → users' ≡ users → keys_of found' ≡ keys_of found → HasNothing bytes_eq found' → IsReach users name found → IsReach users' name found'
 reach_kept {S} users users' name found found' same keys none reach =
@@ -313,7 +313,7 @@ ends_with_last (x ∷ y ∷ names) name is =
 ends_once : (names : List (List ℕ)) (a b : List ℕ) → EndsWith names a → EndsWith names b → b ≡ a
 ends_once names a b one other = sym (same_from_push one.0 other.0 a b (sym one.1 ∙ other.1)).1
 
--- what an edit of the last name reaches is known after an edit of this name, if it is the last
+-- after an edit of the last name its reach is known
 pub reached_after : {S : Type 0} (users : List (List ℕ × Vec (List ℕ) S)) (name : List ℕ) (found : List (List ℕ × Option PlanValue)) (edited : Bool)
     → (edited ≡ true → EndsWith (keys_of found) name × IsReach users name found) → edited ≡ true → (n : List ℕ) → EndsWith (keys_of found) n → IsReach users n found
 reached_after users name found edited known is n ends =
@@ -331,7 +331,7 @@ adopting_after es after name own names plans is same planned = record {
   rest = λ q e there none. planned.rest q e (sym (same q) ∙ there) none;
 }
 
--- once the name is bound anew
+-- after the name is rebound
 pub adopting_planned : (es : List (List ℕ × Entry)) (name : List ℕ) (own : Entry) (plans : List ℕ → Option PlanValue)
     → AreRightOnceTaken es name (Some own) (put (names_of es) name (binding_of own)) plans
     → IsAdopting (put (names_of es) name (binding_of own)) (insert_entry bytes_eq es name own) plans

@@ -4,17 +4,17 @@ use Rattle.dep_order.specs.Reachability.{IsAcyclic}
 use Rattle.sheet_recalc.{specs.Names.{Names, Binding, Data, Formula, binding, rebound, Refers, referred}, specs.Meaning.{val, shown_beside}, specs.Changes.{SheetChange, Accepts, Define, Store, Put, SetCell, AddRow, Erase}, specs.Costs.{changed_name}, specs.Locality.{IsApartFrom, StaysWhereUnreached}}
 use Rattle.sheet_recalc.{proofs.Binding.{rebound_same}, proofs.Cycles.{no_cycle_anew}, proofs.Scratch.{shown_same}, proofs.Solution.{by_references, acyclic_settled}}
 
--- what a name that is apart refers to is apart
+-- the references of a name apart are apart
 pub refers_apart : (names : Names) (name q x : List ℕ) → IsApartFrom names name q → Refers names q x → IsApartFrom names name x
 refers_apart names name q x apart r = ((λ e. apart.1 ([], subst (λ y. Refers names q y) e r)), (λ w. apart.1 (x ∷ w.0, (r, w.1))))
 
--- the change binds the changed name anew, or removes it, and makes no cycle
+-- the change rebinds or removes the changed name, and makes no cycle
 record IsMade (old : Names) (change : SheetChange) (new : Names) : Type 0 where
   pub bound : Option Binding
   pub names : new ≡ rebound old (changed_name change) bound
   pub acyclic : IsAcyclic (Refers new)
 
--- no name stands in what is bound
+-- no name stands in the binding
 plain_made : (old : Names) (change : SheetChange) (new : Names) (b : Option Binding) → IsAcyclic (Refers old) → option_map_or referred b [] ≡ [] → new ≡ rebound old (changed_name change) b → IsMade old change new
 plain_made old change new b acyclic none is = record {
   bound = b;

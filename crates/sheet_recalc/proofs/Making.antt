@@ -3,13 +3,13 @@ use Rattle.{std.{proofs.Common.{◌≡◌, ◌<◌, ◌∙◌, ℕ, false, sym, 
 use Rattle.sheet_recalc.{specs.Names.{SheetValue}, specs.Tables.{Tables}, specs.Changes.{SheetChange}, specs.Costs.{AreAllThatReach}, specs.Planning.{AllWait, CanBe, IsPlanning, IsProposed}, specs.Pending.{HasPlace, IsLaidOut, IsLaidOutOn, IsPendingOn, names_after, outline_for, steps_left}}
 use Rattle.sheet_recalc.{specs.declared.pending.Pending.{Pending}, specs.declared.plans.Plans.{Plans}, proofs.Forward.{all_made}, proofs.Stepped.{begun_of_laid_out, of_laid_out, is_ready, IsAllReady}}
 
--- what was found for a proposal is laid out
+-- the pending change of a proposal is laid out
 pub laid_out : (t : Tables) (p : Pending) (spent : ℕ) → IsProposed (outline_for t p) → CanBe (outline_for t p) → HasPlace t p.growth p.proposal → IsPlanning (outline_for t p) spent p.plans p.meter.ticks → AllWait p.plans
     → AreAllThatReach (names_after t p) p.name (keys_of p.plans.found.entries) → p.is_cut ≡ false → p.ticks ≡ p.meter.ticks → p.ticks < 18446744073709551616 → IsLaidOut t p spent
 laid_out t p spent proposed can place way first all whole told small =
     record { proposed = proposed; kept = can.kept; sheet = can.sheet; place = place; way = way; first = first; all = all; whole = whole; told = told; small = small }
 
--- what was laid out, with the plans of all that it reaches
+-- a laid out change, with the plans of all that it reaches
 module _ (t : Tables) (p : Pending) (w : Plans) (ticks : ℕ) (m : MeterValue) (told : ticks ≡ m.ticks) (small : ticks < 18446744073709551616)
     (way : (base : ℕ) → IsPlanning (outline_for t p) base p.plans p.meter.ticks → IsPlanning (outline_for t p) base w m.ticks) (all : w.waiting ≡ 0) (left : w.left ≡ p.plans.left) (current : w.current ≡ p.plans.current) where
   abbrev pub worked_out : Pending

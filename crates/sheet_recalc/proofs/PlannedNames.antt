@@ -1,4 +1,4 @@
--- What a plan makes of a formula makes the name show what it is to show.
+-- A formula that adopts its plan gives its name the value it shall show.
 use Rattle.std.{proofs.Common.{◌≡◌, ℕ, zero, suc, ◌<◌, ◌-◌, Bool, true, false, List, [], ◌∷◌, ◌++◌, length, map, get_or, Option, Some, None, IsSome, Ok, Err, IfOk, refl, sym, ap, ◌∙◌, subst, arith, ⊎_elim}, specs.Borrow.{Bor}, specs.Str.{bytes_eq}, specs.Map.{lookup}, specs.List.{Contains}}
 use Rattle.std.{specs.Option.{option_map, option_map_or}, proofs.lemmas.Bool.{false≢true}, proofs.lemmas.List.{length-map, length-append, map-append, get_or-map}, proofs.lemmas.List.Elements.{Contains-append_cases}, proofs.Math.Seq.{get_or-append_seam}}
 use Rattle.{dep_order.proofs.Following.{contains_one}, apl_expr.specs.Trees.{Tree}}
@@ -65,11 +65,11 @@ bad_origin x d held e f changed from i = record {
   delta = all_by_origin x d i.delta;
 }
 
--- what is told of something that did not change
+-- the change of something that did not change
 pub rest_input : (d : Delta) → d ≡ Same → (r o : Outcome) → r ≡ o → (i : Input) → IsInput (applied d r) d i → IsInput o Same i
 rest_input d same r o is i told = subst (λ s. IsInput s Same i) is (subst (λ e. IsInput (applied e r) e i) same told)
 
--- the last of what a function gives for the subtrees is what it gives for the tree
+-- the last result over the subtrees is the result for the tree
 pub at_root : {X : Type 0} (g : Tree → X) (t : Tree) (d : X) → get_or (map g (subtrees t)) (length (map g (subtrees t)) - 1) d ≡ g t
 at_root g t d =
     let all : map g (subtrees t) ≡ map g (before_root t) ++ g t ∷ [] = ap (map g) (root_last t) ∙ map-append g (before_root t) (t ∷ []) in
@@ -86,7 +86,7 @@ adopted_at (d ∷ ds) [] k long = absurd (omega (arith, long))
 adopted_at (d ∷ ds) (h ∷ hs) zero long = refl
 adopted_at (d ∷ ds) (h ∷ hs) (suc k) long = adopted_at ds hs k (omega (arith, long))
 
--- a plan has a change for each tree that has a node, and the last is that of the tree
+-- a plan has a change for each tree with a node, and the last belongs to the whole tree
 module _ (f : FormulaValue) (c : NamesChange) (p : PlanValue) (planned : IsPlanned f c p) where
   pub each_changed : length p.changes ≡ length (subtrees f.tree)
   each_changed = sym (length-map p.changes (λ (d : NodeChange). d.delta)) ∙ (ap (λ (ds : List Delta). length ds) planned.changes ∙ length-map (subtrees f.tree) (node_change f.is_new c))
@@ -103,7 +103,7 @@ no_formula : (r : Outcome) (f : FormulaValue) → data_entry r ≡ Some (entry.F
 no_formula (Ok a) f is = let never : Some (entry.Data a) ≡ Some (entry.Formula f) = is in absurd cc
 no_formula (Err e) f is = let never : None ≡ Some (entry.Formula f) = is in absurd cc
 
--- data that may be proposed is an array that its change makes of what the name shows
+-- proposed data is an array: its change applied to the value of the name
 pub data_made : (es : List (List ℕ × Entry)) (name : List ℕ) (d : Delta) → IsProposalAt es name (proposed.Data d) → (a : ArrayValue) × (applied d (val (names_of es) name) ≡ Ok a) × FitsIn d (val (names_of es) name)
 data_made es name (Whole (Ok a)) h = (a, refl, tt)
 data_made es name (Whole (Err e)) h = absurd h
@@ -128,7 +128,7 @@ module _ (o : Outline) where
   abbrev c : NamesChange
   c = proposed_change o
 
-  -- what a name's entry is then, and what it is bound to
+  -- the entry of a name after the change, and its binding
   pub entry_own : (q : List ℕ) (r : Option Entry) → bytes_eq q o.name ≡ true → entry_of o q ≡ r → own_entry o ≡ r
   entry_own q r same is = rw same at is
 
@@ -143,7 +143,7 @@ module _ (o : Outline) where
       by false is = rw is (bound_other es o.name (option_map binding_of (own_entry o)) q (lookup (bytes_eq q) es) is refl)
 
   module _ (ready : IsProposed o) where
-    -- what changes of the name that is bound anew, and of others
+    -- the change of the rebound name, and of others
     pub delta_own : (q : List ℕ) → bytes_eq q o.name ≡ true → c.delta q ≡ proposed_delta o.name new o.proposal
     delta_own q is = rw is at (ready.deltas q)
 
@@ -192,7 +192,7 @@ module _ (o : Outline) where
       pub shows_formula : val new q ≡ with_origin q (eval f.tree (val new))
       shows_formula = ready.settled q ∙ ap (λ b. shown_beside q b (val new)) bound_to
 
-      -- it holds what it gave before, unless it is new
+      -- it holds its old result, unless it is new
       formula_holds : f.is_new ≡ false → f.nodes ≡ map (holding_at (val old)) (subtrees f.tree)
       formula_holds worked_out = by (bytes_eq q o.name) refl
         where
@@ -200,7 +200,7 @@ module _ (o : Outline) where
           by true is = absurd (false≢true (sym worked_out ∙ formula_new is))
           by false is = (formula_old is).0.nodes
 
-      -- what is told of the names in it
+      -- the inputs of its names
       pub formula_told : (names : List (List ℕ)) (inputs : List Input) → names ≡ names_in f.tree → AreInputs c names inputs
           → ((x : List ℕ) → Contains names x → IsNameChanged c x) → ((x : List ℕ) → Contains names x → IsNameSound c x) → IsTold f c inputs
       formula_told names inputs is told changed sound =
@@ -212,7 +212,7 @@ module _ (o : Outline) where
             sound = λ x h. sound x (there x h);
           }
 
-      -- what its plan costs
+      -- the cost of its plan
       pub formula_cost : tree_cost f.is_new c f.tree ≡ name_cost o.name c new q
       formula_cost = ap (λ b. tree_cost b c f.tree) is_new_own ∙ ap (λ (b : Option Binding). option_map_or (λ d. binding_cost o.name c (q, d)) b 0) (sym bound_to)
 
@@ -299,7 +299,7 @@ module _ (o : Outline) where
       pub untouched_input : (i : Input) → IsInput (val old q) Same i → IsInput (val new q) (c.delta q) i
       untouched_input i told = subst (λ d. IsInput (val new q) d i) (sym still.same) (subst (λ r. IsInput r Same i) (sym still.shows) told)
 
-    -- the name that is bound anew
+    -- the rebound name
     own_bound : (s : Proposal) → o.proposal ≡ s → binding new o.name ≡ option_map binding_of (proposed_entry (val old o.name) s)
     own_bound s is = bound_own es o.name (option_map binding_of (own_entry o)) o.name (equal-same o.name o.name refl) ∙ ap (λ p. option_map binding_of (proposed_entry (val old o.name) p)) is
 

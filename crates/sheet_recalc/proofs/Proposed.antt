@@ -1,4 +1,4 @@
--- What names are bound to once one of a sheet's is bound anew, or removed, by its entries.
+-- The bindings of names after one is rebound or removed, by the entries.
 use Rattle.std.{proofs.Common.{◌≡◌, ℕ, false, true, List, Option, sym, ap, ◌∙◌}, specs.Str.{bytes_eq}, specs.Map.{lookup}, specs.Option.{option_map}, proofs.lemmas.Bool.{false≢true}}
 use Rattle.sheet_recalc.{specs.Names.{Binding, binding, rebound}, specs.Entries.{names_of, binding_of}, specs.declared.entry.Entry.{Entry}, proofs.NameEquality.{equal-true, equal-same}, proofs.Binding.{rebound_same, rebound_own}, proofs.Live.{binding_of_name}}
 

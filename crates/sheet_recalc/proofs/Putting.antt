@@ -1,4 +1,4 @@
--- What a list of names is with one of them bound anew.
+-- A list of names with one of them rebound.
 use Rattle.std.{proofs.Common.{◌≡◌, ℕ, Bool, true, false, cond, List, [], ◌∷◌, ◌++◌, Some, None, IsSome, refl, sym, ap, ◌∙◌}, specs.Str.{bytes_eq}, specs.Map.{lookup, keys_of}, specs.List.{IsDistinct, AllByRecursion}, proofs.lemmas.Bool.{false≢true}}
 use Rattle.{indexmap.specs.IndexMap.{insert_entry}, sheet_recalc.proofs.NameEquality.{names_equal, equal-true, equal-same}}
 

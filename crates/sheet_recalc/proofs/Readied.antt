@@ -1,4 +1,4 @@
--- A change is ready to be planned, its plans cost what it costs, and the sheet can be so.
+-- A change is ready to be planned, its plans have its cost, and the sheet can become so.
 use Rattle.std.{proofs.Common.{◌≡◌, ◌≤◌, false, ℕ, List, [], length, Option, Some, None, Ok, Err, IfOk, subst, refl, arith, ◌⊎◌}, specs.Str.{bytes_eq}, specs.List.{Contains, IsDistinct}, specs.Map.{keys_of}, specs.Option.{option_map, option_map_or}, specs.Prelude.{Vec}}
 use Rattle.{arrays_core.{specs.Arrays.{IsArray}, specs.Outcomes.{Outcome}}, change_rules.specs.Currency.{applied}}
 use Rattle.{dep_order.{specs.Reachability.{Reaches, IsAcyclic}, specs.Users.{Uses, EachFollowsUsers}}, index_region.specs.declared.delta.Delta.{Delta}}
@@ -8,7 +8,7 @@ use Rattle.sheet_recalc.{proofs.Keeping.{name_order, distinct_once}, proofs.Putt
 use Rattle.sheet_recalc.{proofs.Sums.{cost_found}, proofs.Working.{IsAffected}}
 use Rattle.sheet_recalc.specs.declared.proposal.Proposal.TheVariants as proposed
 
--- the names that stand in what a proposal makes are those that stand in it
+-- the names in the binding of a proposal are the names in the proposal
 pub references_made : (shown : Outcome) (p : Proposal) → option_map_or referred (option_map binding_of (proposed_entry shown p)) [] ≡ proposed_references p
 references_made shown (proposed.Formula f) = refl
 references_made shown (proposed.Data d) = by (applied d shown)
@@ -18,7 +18,7 @@ references_made shown (proposed.Data d) = by (applied d shown)
     by (Err e) = refl
 references_made shown proposed.Removed = refl
 
--- names with one of them bound anew, or without it, are still each once, and not too many
+-- names with one rebound or removed are still distinct, and not too many
 pub distinct_rebound : (names : Names) (name : List ℕ) (b : Option Binding) → IsDistinct bytes_eq (keys_of names) → IsDistinct bytes_eq (keys_of (rebound names name b))
 distinct_rebound names name (Some b) distinct = distinct_put name b names distinct
 distinct_rebound names name None distinct = distinct_others name names distinct

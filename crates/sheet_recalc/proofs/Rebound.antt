@@ -1,15 +1,15 @@
--- A name is bound anew, or removed: the names that reach it, and itself, are found; either it would reach itself, or the order is kept.
+-- A name is rebound or removed: it and the names that reach it are found; either it would reach itself, or the order is kept.
 use Rattle.std.{proofs.Common.{◌≡◌, ◌≢◌, ℕ, ◌⊎◌, ◌↔◌, inl, inr, List, [], ◌∷◌, Option, Some, None, refl, sym, ◌∙◌, subst, arith, ⊎_elim}, specs.Str.{bytes_eq}, specs.List.{Contains, IsDistinct}, specs.Prelude.{Vec}, specs.Option.{option_map_or}}
 use Rattle.dep_order.{specs.Reachability.{Chain, Reaches, IsAcyclic}, specs.Follows.{Follows}, specs.Users.{Uses, EachFollowsUsers, HasNoEmptyBut}, proofs.Following.{contains_none, follows_weaker, follows_has}}
 use Rattle.sheet_recalc.{specs.Names.{Names, Binding, Data, Formula, binding, put, rebound, Refers, referred, referred_by, IsSheet}, specs.Meaning.{val, IsSettled}, specs.Costs.{AreAllThatReach}, specs.Entries.{names_of}, specs.Live.{IsLive, IsCurrent, TellsUsers}, specs.ProposedSheet.{IsReaching}}
 use Rattle.sheet_recalc.{specs.NameOrder.{IsKeptOrder, HasOrder}, specs.declared.entry.Entry.{Entry}, proofs.Binding.{rebound_same, rebound_own}, proofs.Scratch.{val_is, acyclic_from_order}, proofs.Keeping.{cases_name, distinct_once, name_order, kept_order, unaffected}}
 
--- what a name refers to
+-- the references of a name
 pub refers_to : (names : Names) (a : List ℕ) (b : Binding) (c : List ℕ) → binding names a ≡ Some b → Contains (referred b) c → Refers names a c
 refers_to names a (Data d) c is h = absurd (omega (arith, h.1))
 refers_to names a (Formula t) c is h = (t, is, h)
 
--- the names that stand in what a name is bound to are those that it refers to
+-- the names in the binding of a name are its references
 pub refers_referred : (names : Names) (a c : List ℕ) → Refers names a c → Contains (referred_by names a) c
 refers_referred names a c r = subst (λ (o : Option Binding). Contains (option_map_or referred o []) c) (sym r.1) r.2
 
@@ -71,7 +71,7 @@ module _ {S : Type 0} (es : List (List ℕ × Entry)) (users : List (List ℕ ×
         (λ x y c r. cases_name (Refers old y x) name y (λ e. absurd (free x (subst (λ z. Refers new z x) e r) c)) (λ apart. (r.0, sym (same y apart) ∙ r.1, r.2)))
         (λ x d. d) closed_old
 
-    -- what reaches the name is found
+    -- names that reach the name are found
     reached : (q : List ℕ) (via : List (List ℕ)) → Chain (Refers new) q via name → Contains found q
     reached q [] refers = ⊎_elim (λ none. absurd none) (λ c. c) (follows_has (λ x y. Refers new y x) (λ x. ⊥) found name q closed_new named refers)
     reached q (x ∷ via) chain = ⊎_elim (λ none. absurd none) (λ c. c) (follows_has (λ x y. Refers new y x) (λ x. ⊥) found x q closed_new (reached x via chain.1) chain.0)
@@ -83,11 +83,11 @@ module _ {S : Type 0} (es : List (List ℕ × Entry)) (users : List (List ℕ ×
       exact = λ q. (reaching_new.leads q, ⊎_elim (λ (e : q ≡ name). subst (λ x. Contains found x) (sym e) named) (λ (r : Reaches (Refers new) q name). reached q r.0 r.1));
     }
 
-    -- what is not found shows what it did
+    -- names outside keep their values
     pub shown_still : (q : List ℕ) → (Contains found q → ⊥) → val new q ≡ val old q
     shown_still q apart = unaffected old new name same found closed_old named has_order.0 (name_order new has_order.0 has_order.1) (λ x. val_is old live.order (name_order old live.order live.kept) x) q apart
 
--- the table, once the name refers to what it is bound to now, and no longer to what stood before
+-- the table, with the references of the new binding in place of the old ones
 pub table_after : {S : Type 0} (old : Names) (name : List ℕ) (b : Option Binding) (users after : List (List ℕ × Vec (List ℕ) S)) → TellsUsers old users
     → ((x y : List ℕ) → Uses bytes_eq after x y ↔ ((Uses bytes_eq users x y × ((x ≡ name) → Contains (referred_by old name) y → ⊥)) ⊎ ((x ≡ name) × Contains (option_map_or referred b []) y)))
     → TellsUsers (rebound old name b) after
@@ -107,7 +107,7 @@ table_after {S} old name b users after tells change x y = (to, from)
         (λ e. (change x y).1 (inr (e, subst (λ (o : Option Binding). Contains (option_map_or referred o []) y) (rebound_own old name b) (refers_referred (rebound old name b) name y (subst (λ z. Refers (rebound old name b) z y) e r)))))
         (λ apart. (change x y).1 (inl ((tells x y).1 (r.0, sym (rebound_same old name b x apart) ∙ r.1, r.2), λ e. absurd (apart e))))
 
--- the table stays where a name refers to what it referred to
+-- the table stays where the references stay
 pub table_stays : {S : Type 0} (old : Names) (name : List ℕ) (b : Binding) (users : List (List ℕ × Vec (List ℕ) S)) → TellsUsers old users → referred_by old name ≡ referred b → TellsUsers (put old name b) users
 table_stays {S} old name b users tells same = table_after old name (Some b) users users tells (λ x y. (
   λ u. cases_name ((Uses bytes_eq users x y × ((x ≡ name) → Contains (referred_by old name) y → ⊥)) ⊎ ((x ≡ name) × Contains (referred b) y)) name x
@@ -116,13 +116,13 @@ table_stays {S} old name b users tells same = table_after old name (Some b) user
   ⊎_elim (λ l. l.0) (λ r. (tells x y).1 (subst (λ z. Refers old z y) (sym r.0) (referred_refers old name y (subst (λ zs. Contains zs y) (sym same) r.1)))),
 ))
 
--- and no list of it is empty, as the name is in those of what it refers to
+-- and no list of it is empty, as the name is in the lists of its references
 pub used_still : {S : Type 0} (old : Names) (name : List ℕ) (b : Binding) (users : List (List ℕ × Vec (List ℕ) S)) → TellsUsers old users → referred_by old name ≡ referred b
     → HasNoEmptyBut bytes_eq users (referred b) → HasNoEmptyBut bytes_eq users []
 used_still old name b users tells same used y some = ⊎_elim
     (λ c. inr (name, (tells name y).1 (referred_refers old name y (subst (λ zs. Contains zs y) (sym same) c)))) (λ r. inr r) (used y some)
 
--- what the entries keep, after a change
+-- the invariant of the entries, after a change
 pub live_after : {S : Type 0} (es : List (List ℕ × Entry)) (users : List (List ℕ × Vec (List ℕ) S)) (new : Names) → names_of es ≡ new → IsSheet new → HasOrder new → TellsUsers new users → HasNoEmptyBut bytes_eq users [] → IsCurrent es → IsLive es users
 live_after {S} es users names is sheet order tells used current = record {
   sheet = subst IsSheet (sym is) sheet;

@@ -137,7 +137,7 @@ refused_tail names name literal a t held is acyclic cause h =
     ap (λ r. rebound names name (option_map binding_of (data_entry (applied (Grown t) r)))) (val_data names name a held) in
     refused_row names name literal longer is cause (refused_put names name longer acyclic cause (subst (λ ns. CannotBecome names ns name cause) grown_names h))
 
--- how many names there are once one is bound anew
+-- the number of names after one is rebound
 module _ (names : Names) (name : List ℕ) (b : Binding) where
   present_long : IsSome (binding names name) → length (put names name b) ≡ length names
   present_long there =

@@ -1,4 +1,4 @@
--- What a list of names is without one of them.
+-- A list of names without one of them.
 use Rattle.std.{proofs.Common.{◌≡◌, ℕ, ◌≤◌, Bool, true, false, not, cond, List, [], ◌∷◌, length, filter, None, refl, sym, ap, ◌∙◌, arith}, specs.Str.{bytes_eq}, specs.Map.{lookup, keys_of, remove_entry}, specs.List.{IsDistinct, AllByRecursion}}
 use Rattle.sheet_recalc.{specs.Entries.{names_of, binding_of}, specs.Names.{without}, specs.declared.entry.Entry.{Entry}, proofs.NameEquality.{equal-true, equal-same}}
 

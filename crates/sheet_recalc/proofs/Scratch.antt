@@ -1,4 +1,4 @@
--- Where each name stands after all that it refers to, one step from what the names show gives what they show: a greater depth
+-- Where each name stands after its references, one step from the values of the names gives these values: a greater depth
 -- changes nothing. And then nothing reaches itself.
 use Rattle.std.{proofs.Common.{◌≡◌, ℕ, zero, suc, ◌<◌, List, [], ◌∷◌, take, length, slice_index_or, Option, Some, None, Err, IsSome, refl, sym, ap, ◌∙◌, subst, arith, ◌≤◌}, specs.List.{Contains}, proofs.lemmas.List.{get_or-take, get_or_default, length-take}}
 use Rattle.{dep_order.specs.Reachability.{Chain, IsAcyclic}, apl_expr.specs.Trees.{Tree}}
@@ -40,7 +40,7 @@ module _ (names : Names) where
         let at = o.all name present in
         (at.0, at.1, get_or_default order at.0 [] name at.1 ∙ at.2)
 
-    -- what is worked out of each name to a depth: one step more each time, from what was worked out of the names that it refers to
+    -- the value of each name to a depth: one step more each time, from the values of its references
     module _ {A : Type 0} (worked : ℕ → List ℕ → A) (step : List ℕ → (List ℕ → A) → A)
         (deeper : (d : ℕ) (q : List ℕ) → worked (suc d) q ≡ step q (worked d))
         (same : (q : List ℕ) (f g : List ℕ → A) → ((x : List ℕ) → Refers names q x → f x ≡ g x) → step q f ≡ step q g)
@@ -73,7 +73,7 @@ module _ (names : Names) where
   val_absent (suc d) x e = ap (λ b. shown_beside x b (val_at d names)) e
 
   module _ (order : List (List ℕ)) (o : IsNameOrder names order) where
-    -- what a name shows is one step from what all names show
+    -- the value of a name is one step from the values of all names
     pub val_is : (name : List ℕ) → val names name ≡ shown_beside name (binding names name) (val names)
     val_is name = settles order o (λ d. val_at d names) (λ q f. shown_beside q (binding names q) f) (λ d q. refl)
         (λ q f g h. shown_same q (binding names q) f g (λ t x is stands. h x (t, is, stands)))

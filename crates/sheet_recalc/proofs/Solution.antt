@@ -37,13 +37,13 @@ module _ (names : Names) where
     path_once x [] p = ((λ c. contains_none x c), tt)
     path_once x (y ∷ ys) p = ((λ c. acyclic x (path_reaches x (y ∷ ys) p x c)), path_once y ys p.1)
 
-    -- a path has no more names than the sheet
+    -- a path has at most as many names as the sheet
     within_names : (x : List ℕ) → IsWithin (length names) x
     within_names x ys p =
         let few = length-le_from_keys names_equal (x ∷ ys) names (once_distinct (x ∷ ys) (path_once x ys p)) (λ q h. path_present x ys p q (Contains-from_any equal-true q (x ∷ ys) h)) in
         omega (arith, few)
 
-    -- what holds of a name where it holds of all that it refers to holds of every name
+    -- a property holds of every name if it passes from the references of a name to the name
     module _ (P : List ℕ → Type 0) (step : (x : List ℕ) → ((y : List ℕ) → Refers names x y → P y) → P x) where
       by_paths : (n : ℕ) (x : List ℕ) → IsWithin n x → P x
       by_paths zero x within = step x (λ y r. let some = some_path zero x within (present_of x y r) in absurd (omega (arith, some)))

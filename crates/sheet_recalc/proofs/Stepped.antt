@@ -71,7 +71,7 @@ module _ (p : Pending) (w : Plans) (cut : Bool) (ticks : ℕ) (m : MeterValue) w
   abbrev after : Pending
   after = record p { plans = w; is_cut = cut; ticks = ticks; meter = m }
 
-  -- what is not told yet is what one node has computed
+  -- the untold count is the count of one node
   abbrev IsUntold : Tables → Type 0
   IsUntold t = cut ≡ true → (cost : ℕ) × IsNodeCost p.name (proposed_change (outline_for t p)) (names_after t p) cost × (m.ticks ≤ ticks + cost)
 
@@ -107,7 +107,7 @@ of_laid_out s change p h w ticks m way told small = record {
   makes = h.makes;
 }
 
--- what was not told yet of a change is what some one node of it has cost at most
+-- the untold count of a change is at most the cost of some one node
 pub step_cost : (s : SheetValue) (change : SheetChange) (p : Pending) → IsPendingOn s change p → p.is_cut ≡ true → (cost : ℕ) × IsStepCost s.names change cost × (p.meter.ticks ≤ p.ticks + cost)
 step_cost s change p h cut =
     let new = names_after s.tables p in

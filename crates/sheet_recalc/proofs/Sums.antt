@@ -1,4 +1,4 @@
--- What a change costs is what it costs at the names that are found; and counts that stay at the greatest number.
+-- The cost of a change is its cost at the found names; and counts that stop at the greatest number.
 use Rattle.std.{proofs.Common.{◌≡◌, ℕ, ◌+◌, Bool, true, false, List, [], ◌∷◌, Some, refl, sym, ap, ◌∙◌, subst, arith, ⊎_elim, if◌then◌else◌}, specs.Str.{bytes_eq}, specs.Map.{lookup, keys_of}, specs.Option.{option_map_or}, specs.List.{Contains, IsDistinct, AllByRecursion, sum_by}}
 use Rattle.std.{proofs.lemmas.Bool.{cond-false, false≢true}, proofs.lemmas.List.Sums.{sum_by-cons}, proofs.lemmas.Map.Views.{lookup-from_Contains}}
 use Rattle.{index_region.specs.declared.delta.Delta.TheVariants.{Same}, formula_core.{specs.Plans.{tree_cost}, proofs.Alike.{unchanged_tree_costs_nothing}}}
@@ -50,7 +50,7 @@ sum_nothing f (x ∷ xs) e =
     let a = sum_by-cons f x xs in
     omega (arith, here, rest, a)
 
--- what an entry counts under a name, and nothing where the name is absent
+-- the count of the entry of a name, 0 for an absent name
 module _ {X : Type 0} (f : List ℕ × X → ℕ) where
   abbrev pub at_name : List (List ℕ × X) → List ℕ → ℕ
   at_name es q = option_map_or (λ x. f (q, x)) (lookup (bytes_eq q) es) 0
@@ -93,7 +93,7 @@ module _ (new : Names) (name : List ℕ) (c : formula.NamesChange) (found : List
       ap (λ is_new. tree_cost is_new c t) (not_named new name found closed named q none)
       ∙ unchanged_tree_costs_nothing t c (λ x o. unreached x (apart_from_found new name found closed named q x none (t, is, o)))
 
-  -- so all names cost what those that are found cost
+  -- all names cost as much as the found ones
   pub cost_found : IsDistinct bytes_eq (keys_of new) → IsOnce found
       → formulas_cost name c new ≡ sum_by (λ q. option_map_or (λ b. binding_cost name c (q, b)) (binding new q) 0) found
   cost_found distinct once = sum_found (binding_cost name c) new found distinct once

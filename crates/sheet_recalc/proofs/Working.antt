@@ -11,7 +11,7 @@ use Rattle.sheet_recalc.{proofs.Scratch.{val_absent}, proofs.Keeping.{once_disti
 use Rattle.apl_expr.specs.declared.functions.Function1.TheVariants as function1
 use Rattle.sheet_recalc.specs.declared.entry.Entry.TheVariants as entry
 
--- the name that is bound anew is among these, each stands after all others that refer to it, and what is not among them is as it was
+-- the rebound name is among these, each after all others that refer to it, and names outside keep their values
 pub record IsAffected (o : Outline) (found : List (List ℕ)) : Type 0 where
   pub named : Contains found o.name
   pub closed : Follows (λ a b. Refers (proposed_names o) b a) (λ x. ⊥) found
@@ -20,7 +20,7 @@ pub record IsAffected (o : Outline) (found : List (List ℕ)) : Type 0 where
 append_same : {X Y : Type 0} (f g : X → Y) (xs ys : List X) → map f xs ≡ map g xs → map f ys ≡ map g ys → map f (xs ++ ys) ≡ map g (xs ++ ys)
 append_same f g xs ys left right = map-append f xs ys ∙ (ap (λ l. l ++ map f ys) left ∙ (ap (λ r. map g xs ++ r) right ∙ sym (map-append g xs ys)))
 
--- where what is so of the names in a tree settles something of it, it does that for each tree in it
+-- a property that the names of a tree settle holds for each of its subtrees
 module _ (X : Type 0) (by_f by_g : Tree → X) (P : List ℕ → Type 0) (same : (t : Tree) → ((x : List ℕ) → Contains (names_in t) x → P x) → by_f t ≡ by_g t) where
   mutual
     inside_same : (t : Tree) → ((x : List ℕ) → Contains (names_in t) x → P x) → map by_f (inside t) ≡ map by_g (inside t)
@@ -191,7 +191,7 @@ module _ (o : Outline) where
               by true e = inr (subst (λ y. NeedsNoPlan o y) (equal-true x q e) (plain_needs_none x plain))
               by false e = now.done q (not_left q none e)
 
-      -- what its formula refers to is done
+      -- the references of its formula are done
       pub reads_done : (f : FormulaValue) → entry_of o x ≡ Some (entry.Formula f) → (y : List ℕ) → Contains (names_in f.tree) y → HasItsPlan o made y
       reads_done f held y stands =
           now.done y (λ c. last_apart new front x once_now.0 closed_now y (f.tree, binding_entry o x ∙ ap (option_map binding_of) held, stands) (subst (λ xs. Contains xs y) split c))
@@ -225,7 +225,7 @@ module _ (o : Outline) where
           ap (λ hs. with_origin q (root_result hs)) made.1.right ∙ (ap (λ (h : Holding). with_origin q h.result) (at_root (holding_at (val new)) f.tree _) ∙ sym (shows_formula o ready q f held)),
         )
 
-    -- what needs no plan is right as it is
+    -- a name that needs no plan is right
     still_right : (q : List ℕ) (e : Entry) → NeedsNoPlan o q → entry_of o q ≡ Some e → IsRightEntry (val new) q e
     still_right q (entry.Data a) n is = sym (val_data new q a (binding_entry o q ∙ ap (option_map binding_of) is))
     still_right q (entry.Formula f) n is = by (bytes_eq q o.name) refl
@@ -241,7 +241,7 @@ module _ (o : Outline) where
               was.1 ∙ sym (n.others reads.0).shows,
             )
 
-    -- in the end the plans are those of the change
+    -- with no name left, the plans are those of the change
     pub planned_in_the_end : (left : List (List ℕ)) (made : List ℕ → Option PlanValue) → IsUnderWay o left made → (0 < length left → ⊥) → AreRightOnceTaken es o.name (own_entry o) new made
     planned_in_the_end (x ∷ left) made now none = absurd (none (omega arith))
     planned_in_the_end [] made now none = record { can = can; right = right; rest = rest }

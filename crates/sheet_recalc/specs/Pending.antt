@@ -1,12 +1,12 @@
 -- A pending change: computed, but not made yet.
 use Rattle.std.{specs.Prelude.{◌≡◌, ◌≤◌, ◌<◌, ◌+◌, ℕ, List, [], length, true, false, not, Option, Some, None, Box, if◌then◌else◌}, specs.Str.{bytes_eq}, specs.Map.{keys_of}}
 use Rattle.indexmap.specs.IndexMap.{spare}
-use Rattle.dep_order.{specs.Room.{FindRoom, AreListsFor}, specs.Users.{HasRoomFor}}
+use Rattle.dep_order.{specs.Reachability.{IsAcyclic}, specs.Room.{FindRoom, AreListsFor}, specs.Users.{HasRoomFor}}
 use Rattle.change_core.specs.Meters.{ticked}
 use Rattle.index_region.specs.declared.delta.Delta.TheVariants.{Whole}
 use Rattle.formula_core.{specs.Meaning.{names_in}, specs.Plans.{PlanValue}}
-use Rattle.sheet_recalc.{specs.Names.{Names, SheetValue, IsSheet}, specs.NameOrder.{HasOrder}, specs.Changes.{SheetChange, Accepts, HasRoomForName}, specs.Costs.{changed_name, asked_change, expression_cost, AreAllThatReach, IsNodeCost}, specs.Entries.{names_of}, specs.Live.{AreRightOnceTaken, plan_in}}
-use Rattle.sheet_recalc.{specs.Planning.{IsProposalAt, IsProposed, IsPlanning, AllWait, IsOnTheWay}, specs.ProposedSheet.{Outline, own_entry, proposed_names, proposed_change}, specs.Tables.{Tables}, specs.declared.growth.Growth.{Growth}, specs.declared.pending.Pending.{Pending}}
+use Rattle.sheet_recalc.{specs.Names.{Names, SheetValue, Refers, IsSheet}, specs.NameOrder.{HasOrder}, specs.Changes.{SheetChange, Accepts, Refuses, CannotBecome, HasRoomForName}, specs.Costs.{changed_name, asked_change, expression_cost, AreAllThatReach, IsNodeCost}, specs.Entries.{names_of}, specs.Live.{AreRightOnceTaken, plan_in}}
+use Rattle.sheet_recalc.{specs.Planning.{IsProposalAt, IsProposed, IsPlanning, AllWait, IsOnTheWay}, specs.ProposedSheet.{Outline, own_entry, names_with, proposed_names, proposed_change}, specs.Tables.{Tables}, specs.declared.growth.Growth.{Growth}, specs.declared.pending.Pending.{Pending}, specs.declared.refusal.Refusal.{Refusal}}
 use Rattle.sheet_recalc.specs.declared.proposal.Proposal.{Proposal}
 use Rattle.sheet_recalc.specs.declared.proposal.Proposal.TheVariants as proposed
 
@@ -114,6 +114,10 @@ pub record IsProposedOn (s : SheetValue) (name : List ℕ) (proposal : Proposal)
   pub even : p.ticks ≡ spent
   pub room : HasRoomForName s.names name
 
--- whatever is laid out for the name by this proposal is this change
-abbrev pub LaysOut : SheetValue → List ℕ → Proposal → ℕ → SheetChange → Type 0
-LaysOut s name proposal spent change = (p : Pending) → IsProposedOn s name proposal spent p → IsLaidOutOn s change p
+-- the change asks for this proposal for this name, and finding it has cost this much: it fits the entries, its pending change is the change, and
+-- whatever keeps the name from it refuses the change
+pub record IsProposalOf (s : SheetValue) (change : SheetChange) (name : List ℕ) (proposal : Proposal) (spent : ℕ) : Type 0 where
+  pub fits : IsProposalAt s.tables.entries.entries name proposal
+  pub lays_out : (p : Pending) → IsProposedOn s name proposal spent p → IsLaidOutOn s change p
+  pub refuses : IsAcyclic (Refers s.names) → (cause : Refusal) → CannotBecome s.names (names_with s.names name proposal) name cause → Refuses s.names change cause
+  pub spent_is : spent ≡ ticked 0 (expression_cost s.names change)

@@ -1,4 +1,4 @@
-//! What names show ahead of a change.
+//! The values of names after a change, before it is made.
 
 ghost use Rattle.std.specs.Prelude.{◌≡◌, ◌∷◌, [], ℕ, IfOk, IfSome, MatchOption, get_or, Some, None, List};
 ghost use Rattle.std.specs.List.{Contains};
@@ -27,16 +27,16 @@ use index_region::Delta;
 use smallvec::SmallVec;
 use std::alloc::{AllocError, Global};
 
-/// What names show ahead of a change: what stands, with the plans that are made so far.
+/// The values of names after a change: the sheet as it is, and the plans so far.
 #[derive(Drop)]
 pub(crate) struct Ahead<'a, 'b> {
     pub(crate) proposed: &'b ProposedSheet<'a>,
     pub(crate) found: &'b Found,
-    /// What changes of a name that shows what it did: nothing.
+    /// The change of a name that shows the same as before: none.
     pub(crate) unchanged: &'b Delta,
 }
 
-/// The plan that stands beside a name, if there is one. Where there is one name, that is compared.
+/// Returns the plan of a name. Compares the name where the map has only one, and hashes it otherwise.
 fn plan_in<'a>(found: &'a Found, name: &Name) -> Option<&'a Plan>
     ensures { MatchOption result (plan_in found.now.entries name.now ≡ None) (λ plan. plan_in found.now.entries name.now ≡ Some plan.now) }
 {
@@ -52,7 +52,7 @@ fn plan_in<'a>(found: &'a Found, name: &Name) -> Option<&'a Plan>
 }
 
 impl<'a, 'b> Ahead<'a, 'b> {
-    /// What the names show that stand in the formula of a name.
+    /// Returns an input for each reference of a formula.
     pub(crate) fn inputs_of<'c>(
         &'c self,
         alloc: Global,
@@ -67,8 +67,8 @@ impl<'a, 'b> Ahead<'a, 'b> {
         self.all_inputs(alloc, formula.references())
     }
 
-    /// What the name shows that alone stands in the formula of a name. It takes no memory. If the plan at this place of the list is one of a
-    /// formula that is told, that name is looked at first.
+    /// Returns the input of a formula with one reference. It takes no memory. With `last`, the plan at `place` of the map is one of this formula, and
+    /// the reference is compared with that name first.
     pub(crate) fn input_of_one<'c>(
         &'c self,
         name: Name,
@@ -87,7 +87,7 @@ impl<'a, 'b> Ahead<'a, 'b> {
         [self.input_near(one, place, last)]
     }
 
-    /// What a name shows, with what changed of it: if it is the one at this place, by the plan of its formula, which is told.
+    /// Returns the input of a name: by the plan at `place`, of the formula `last`, if the name is there; by a lookup otherwise.
     fn input_near<'c>(
         &'c self,
         name: &'c Name,
@@ -109,7 +109,7 @@ impl<'a, 'b> Ahead<'a, 'b> {
         }
     }
 
-    /// What the two names show that stand in the formula of a name. It takes no memory.
+    /// Returns the inputs of a formula with two references. They take no memory.
     pub(crate) fn inputs_of_two<'c>(
         &'c self,
         name: Name,
@@ -126,7 +126,7 @@ impl<'a, 'b> Ahead<'a, 'b> {
         [self.input_of(one), self.input_of(two)]
     }
 
-    /// What each of these names shows, with what changed of it.
+    /// Returns an input for each of these names.
     fn all_inputs<'c>(
         &'c self,
         alloc: Global,
@@ -145,7 +145,7 @@ impl<'a, 'b> Ahead<'a, 'b> {
         Ok(inputs)
     }
 
-    /// What a name shows, with what changed of it.
+    /// Returns the input of a name: its value and its change.
     #[inline(always)]
     fn input_of<'c>(&'c self, name: &'c Name) -> Input<'c>
         requires ahead { IsAhead self.now }
@@ -163,7 +163,7 @@ impl<'a, 'b> Ahead<'a, 'b> {
         }
     }
 
-    /// What a name shows by the plan of its formula.
+    /// Returns the input of a name that has a plan.
     #[inline(always)]
     fn planned<'c>(&'c self, name: &'c Name, plan: &'c Plan) -> Input<'c>
         requires ahead { IsAhead self.now }
@@ -178,7 +178,7 @@ impl<'a, 'b> Ahead<'a, 'b> {
         }
     }
 
-    /// What a name shows by the plan of its formula, which is this.
+    /// Returns the input of a name by its formula and plan.
     fn by_plan<'c>(&self, name: &'c Name, formula: &'c Formula, plan: &'c Plan) -> Input<'c>
         requires ahead { IsAhead self.now }
         requires held { entry_of (outline_of self.now.proposed.now) name.now ≡ Some (FormulaEntry formula.now) }
@@ -190,7 +190,7 @@ impl<'a, 'b> Ahead<'a, 'b> {
         with_origin(name, Input::of(formula.lent(), plan.delta()))
     }
 
-    /// What a name shows that has no plan.
+    /// Returns the input of a name without a plan.
     #[inline(always)]
     fn standing<'c>(&'c self, name: &'c Name) -> Input<'c>
         requires ahead { IsAhead self.now }
@@ -205,7 +205,7 @@ impl<'a, 'b> Ahead<'a, 'b> {
         Input::of(lent(self.proposed.entries, name), self.unchanged)
     }
 
-    /// What the name shows that is bound anew, where that is no formula, or removed.
+    /// Returns the input of the name that the change binds to data or removes.
     #[inline(always)]
     fn own(&self) -> Input<'_>
         requires ahead { IsAhead self.now }
@@ -227,7 +227,7 @@ impl<'a, 'b> Ahead<'a, 'b> {
     }
 }
 
-/// What a name shows whose formula gives this: an error gets its origin there.
+/// Gives the error of a formula's result the name as its origin.
 fn with_origin<'a>(name: &'a Name, input: Input<'a>) -> Input<'a>
     ensures { (held : Outcome) (d : AnyDelta) → IsInput (applied d held) d input.entry → IsInput (with_origin name.now (applied d held)) (origin_delta name.now d) result }
 {

@@ -21,7 +21,7 @@ use index_region::{IndexBox, Patch};
 use indexmap::IndexMap;
 use smallvec::SmallVec;
 
-/// The patch of the data of a name that puts a literal in one cell, or why there is none. It takes no memory.
+/// Returns the patch that puts a literal into one cell of the data of a name, or refuses it. It takes no memory.
 #[inline(always)]
 pub(crate) fn cell_patch(
     entries: &IndexMap<Name, Entry>,
@@ -41,7 +41,7 @@ pub(crate) fn cell_patch(
     }
 }
 
-/// The patch of an array that puts a literal in one cell, or why there is none.
+/// Returns the patch that puts a literal into one cell of an array, or refuses it.
 fn patch_of(array: &Array, positions: &[i64], literal: &Literal) -> Result<Patch, Refusal>
     ensures put { IfOk result (λ patch. cell_put (Some (Data array.now)) positions.now (literal_of literal.now) ≡ Ok (patched array.now patch)) }
     ensures fits { IfOk result (λ patch. FitsPatch array.now patch) }
@@ -57,7 +57,7 @@ fn patch_of(array: &Array, positions: &[i64], literal: &Literal) -> Result<Patch
     patch_with(array, &index, literal)
 }
 
-/// The patch of an array that puts a literal of one item of its type at an index list.
+/// Returns the patch that puts a literal at an index list; refuses a literal of several items or of the other type.
 fn patch_with(array: &Array, index: &Shape, literal: &Literal) -> Result<Patch, Refusal>
     requires { is_index_of array.now.shape index.now.items ≡ true }
     ensures put { IfOk result (λ patch. item_put array.now index.now.items (literal_items (literal_of literal.now)) ≡ Ok (patched array.now patch)) }
@@ -74,7 +74,7 @@ fn patch_with(array: &Array, index: &Shape, literal: &Literal) -> Result<Patch, 
     Ok(patch_at(array.shape(), index, item))
 }
 
-/// The patch of one place of a shape, with this item.
+/// Returns the patch of one place of a shape, with this item.
 fn patch_at(shape: &Shape, index: &Shape, item: Item) -> Patch
     requires within { IsWithinLimits shape.now.items }
     requires inside { is_index_of shape.now.items index.now.items ≡ true }
@@ -83,7 +83,7 @@ fn patch_at(shape: &Shape, index: &Shape, item: Item) -> Patch
     Patch::one(IndexBox::at(shape.as_slice(), index.as_slice()), item)
 }
 
-/// The item of a literal that has one item.
+/// Returns the item of a literal that has one item.
 fn only_item(literal: &Literal) -> Option<Item>
     ensures { IsOnlyItem (literal_items (literal_of literal.now)) result }
 {
@@ -107,7 +107,7 @@ fn only_item(literal: &Literal) -> Option<Item>
     }
 }
 
-/// Positions as an index list, where each lies on its axis.
+/// Returns positions as an index list, if each lies on its axis.
 fn index_of(shape: &Shape, positions: &[i64]) -> Option<Shape>
     requires rank { length positions.now ≡ length shape.now.items }
     requires inline { length shape.now.items ≤ most_axes }
@@ -124,7 +124,7 @@ fn index_of(shape: &Shape, positions: &[i64]) -> Option<Shape>
     Some(index)
 }
 
-/// A position as an index, where it lies on an axis of this length.
+/// Returns a position as an index, if it lies on an axis of this length.
 fn index_on_axis(number: i64, axis: u32) -> Option<u32>
     ensures { MatchOption result (lies_on_axis axis (index_of_number number) ≡ false)
         (λ index. (index ≡ index_of_number number) × (lies_on_axis axis (index_of_number number) ≡ true)) }

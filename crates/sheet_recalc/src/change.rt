@@ -1,21 +1,23 @@
-//! Changes as lines ask for them: one that is begun, one that is made, and a list of them.
+//! Changes of a sheet: begun, made, and made in a list.
 
 ghost use Rattle.std.specs.Prelude.{◌≡◌, ◌≤◌, IfOk, IfErr, OnOk, OnErr, map};
 ghost use Rattle.sheet_recalc.specs.Changes.{Accepts, Refuses};
 ghost use Rattle.sheet_recalc.specs.Costs.{HasCost, HasTicks, changed_name, expression_cost, IsStepCount};
 ghost use Rattle.sheet_recalc.specs.Names.{Names};
 ghost use Rattle.sheet_recalc.specs.History.{Run, change_of, sheet_state_of};
-ghost use Rattle.sheet_recalc.specs.Pending.{IsBetweenSteps, IsLaidOutOn, IsPendingOn, steps_left};
+ghost use Rattle.sheet_recalc.specs.Pending.{IsBetweenSteps, IsPendingOn, steps_left};
 
 use crate::pending::Pending;
 use crate::refusal::Refusal;
 use crate::sheet::Sheet;
 use apl_expr::Change;
+use apl_tokens::Name;
+use change_core::Meter;
 use std::alloc::{AllocError, Global};
 use std::collections::VecDeque;
 
 impl Sheet {
-    /// Begins a change: it is refused here, or worked out by steps (`advance`) and then made (`adopt`). Nothing of the sheet is changed.
+    /// Begins a change, which `advance` works out by steps and `adopt` makes, or refuses it. The sheet stays the same.
     pub fn begin(&self, change: Change) -> Result<Pending, Refusal>
         ensures ok { IfOk result (IsPendingOn self.now (change_of change)) }
         ensures steps { IfOk result (λ pending. (new : Names) × Accepts self.now.names (change_of change) new × IsStepCount new (changed_name (change_of change)) (steps_left pending)) }
@@ -26,7 +28,7 @@ impl Sheet {
         self.begin_lent(&change)
     }
 
-    /// Begins a change that is lent: it is refused here, or worked out by steps (`advance`) and then made (`adopt`).
+    /// Begins a borrowed change, as `begin` does.
     pub fn begin_lent(&self, change: &Change) -> Result<Pending, Refusal>
         ensures ok { IfOk result (IsPendingOn self.now (change_of change.now)) }
         ensures steps { IfOk result (λ pending. (new : Names) × Accepts self.now.names (change_of change.now) new × IsStepCount new (changed_name (change_of change.now)) (steps_left pending)) }
@@ -34,27 +36,14 @@ impl Sheet {
         ensures between { IfOk result IsBetweenSteps }
         ensures refused { IfErr result (Refuses self.now.names (change_of change.now)) }
     {
-        let mut pending = self.laid_out(change)?;
+        let mut meter = Meter::new();
+        let proposal = self.proposal_of(change, &mut meter)?;
+        let mut pending = self.propose(name_of(change), proposal, meter)?;
         self.count(&mut pending)?;
         Ok(pending)
     }
 
-    /// Lays a change out, or says why not.
-    fn laid_out(&self, change: &Change) -> Result<Pending, Refusal>
-        ensures ok { IfOk result (IsLaidOutOn self.now (change_of change.now)) }
-        ensures ticks { IfOk result (λ pending. pending.ticks ≤ expression_cost self.now.names (change_of change.now)) }
-        ensures refused { IfErr result (Refuses self.now.names (change_of change.now)) }
-    {
-        match change {
-            Change::Define(name, tree) => self.begin_define(*name, tree),
-            Change::Data(name, tree) => self.begin_data(*name, tree),
-            Change::Cell(name, positions, literal) => self.begin_cell(*name, positions, literal),
-            Change::Row(name, literal) => self.begin_row(*name, literal),
-            Change::Erase(name) => self.begin_erase(*name),
-        }
-    }
-
-    /// Makes one change, or says why not: what `define`, `data`, `set_cell`, `add_row` and `erase` do.
+    /// Makes a change as `define`, `data`, `set_cell`, `add_row` and `erase` do, or refuses it.
     pub fn apply(&mut self, change: Change) -> Result<(), Refusal>
         ensures ok { OnOk result (Accepts self.old.names (change_of change) self.new.names) }
         ensures cost { OnOk result (HasCost self.old.names (change_of change) self.new.names self.new.cost) }
@@ -65,7 +54,7 @@ impl Sheet {
         self.apply_lent(&change)
     }
 
-    /// Makes one change that is lent, or says why not.
+    /// Makes a borrowed change, as `apply` does.
     #[inline(always)]
     pub fn apply_lent(&mut self, change: &Change) -> Result<(), Refusal>
         ensures ok { OnOk result (Accepts self.old.names (change_of change.now) self.new.names) }
@@ -74,16 +63,12 @@ impl Sheet {
         ensures refused { IfErr result (Refuses self.old.names (change_of change.now)) }
         ensures err { OnErr result (self.new ≡ self.old) }
     {
-        match change {
-            Change::Define(name, tree) => self.define_lent(*name, tree),
-            Change::Data(name, tree) => self.data_lent(*name, tree),
-            Change::Cell(name, positions, literal) => self.set_cell(*name, positions, literal),
-            Change::Row(name, literal) => self.add_row(*name, literal),
-            Change::Erase(name) => self.erase(*name),
-        }
+        let mut meter = Meter::new();
+        let proposal = self.proposal_of(change, &mut meter)?;
+        self.make_change(name_of(change), proposal, meter)
     }
 
-    /// Makes changes in their order, and tells the answer to each. Where the answers themselves cannot be held, nothing is changed.
+    /// Makes changes in their order, and returns the answer to each. With no memory for the list of answers, nothing changes.
     pub fn apply_all(
         &mut self,
         mut changes: VecDeque<Change>,
@@ -97,5 +82,18 @@ impl Sheet {
             answers.push(answer).unwrap();
         }
         Ok(answers)
+    }
+}
+
+/// Returns the name that a change is about.
+fn name_of(change: &Change) -> Name
+    ensures { result ≡ changed_name (change_of change.now) }
+{
+    match change {
+        Change::Define(name, _) => *name,
+        Change::Data(name, _) => *name,
+        Change::Cell(name, _, _) => *name,
+        Change::Row(name, _) => *name,
+        Change::Erase(name) => *name,
     }
 }

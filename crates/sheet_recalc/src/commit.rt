@@ -27,8 +27,8 @@ use formula_core::Plan;
 use index_region::{Delta, Patch, Tail};
 use indexmap::IndexMap;
 
-/// Makes a change that is worked out for what a name is to be bound to. The map of what it reached is lent, and keeps its memory. No memory is
-/// asked for.
+/// Makes a planned change: binds the name to its proposal and gives each formula its new results. It takes no memory, and empties the map `found`
+/// but keeps its memory.
 #[inline(always)]
 pub(crate) fn make(
     entries: &mut IndexMap<Name, Entry>,
@@ -65,7 +65,7 @@ pub(crate) fn make(
     }
 }
 
-/// Puts an entry under a name, in the room that the sheet has or that is brought along.
+/// Binds a name to an entry, in the memory that the sheet has or that `growth` brings.
 fn commit_with(
     entries: &mut IndexMap<Name, Entry>,
     users: &mut Users<Name>,
@@ -98,7 +98,7 @@ fn commit_with(
     }
 }
 
-/// Puts an entry under a name, in room that is brought along.
+/// Binds a name to an entry, in the memory that `growth` brings.
 fn commit_brought(
     entries: &mut IndexMap<Name, Entry>,
     users: &mut Users<Name>,
@@ -123,7 +123,7 @@ fn commit_brought(
     commit(entries, users, name, entry, found, places);
 }
 
-/// Puts an entry under a name, in the room that was made for it, and gives each formula its new results.
+/// Binds a name to an entry, in memory that is there, and gives each formula its new results.
 fn commit(
     entries: &mut IndexMap<Name, Entry>,
     users: &mut Users<Name>,
@@ -147,7 +147,7 @@ fn commit(
     adopt_all(entries, found, places);
 }
 
-/// The table where a name is to be bound to this entry. Where the same names stand in it as in what stood there, the table stays.
+/// Updates the table of users for a name with a new entry. The table stays the same where the references do.
 fn refer_anew(entries: &IndexMap<Name, Entry>, users: &mut Users<Name>, name: Name, entry: &Entry)
     requires tells { TellsUsers (names_of entries.now.entries) users.old.entries }
     requires lists { HasRoomFor bytes_eq users.old.entries (referred (binding_of entry.now)) }
@@ -163,7 +163,7 @@ fn refer_anew(entries: &IndexMap<Name, Entry>, users: &mut Users<Name>, name: Na
     refer(users, name, before, references);
 }
 
-/// Takes a name out, and gives each formula its new results.
+/// Removes a name, and gives each formula its new results.
 fn commit_removal(
     entries: &mut IndexMap<Name, Entry>,
     users: &mut Users<Name>,
@@ -180,13 +180,13 @@ fn commit_removal(
     ensures used { HasNoEmptyBut bytes_eq users.new.entries [] }
 {
     refer(users, name, references_of(entries, name), &[]);
-    // The length brings the fact that no two names are equal, so that one entry is all that goes.
+    // The length brings the fact that no two names are equal, so one entry goes.
     let _unique = entries.len();
     let _removed = entries.shift_remove(&name);
     adopt_all(entries, found, places);
 }
 
-/// Writes new items into the data of a name, where it lies, and gives each formula its new results.
+/// Writes new items into the data of a name in place, and gives each formula its new results.
 fn commit_patch(
     entries: &mut IndexMap<Name, Entry>,
     name: Name,
@@ -215,7 +215,7 @@ fn write_patch(entries: &mut IndexMap<Name, Entry>, name: Name, patch: &Patch)
     }
 }
 
-/// Puts a row behind the data of a name, where it lies, and gives each formula its new results.
+/// Appends a row to the data of a name in place, and gives each formula its new results.
 fn commit_row(
     entries: &mut IndexMap<Name, Entry>,
     name: Name,
@@ -234,7 +234,7 @@ fn commit_row(
     adopt_all(entries, found, places);
 }
 
-/// Puts items behind the data of a name.
+/// Appends items to the data of a name.
 fn put_behind(entries: &mut IndexMap<Name, Entry>, name: Name, tail: Tail)
     requires { (a : ArrayValue) × HasData entries.old.entries name a × FitsTail a tail }
     ensures { (a : ArrayValue) → HasData entries.old.entries name a → entries.new.entries ≡ insert_entry bytes_eq entries.old.entries name (DataEntry (grown_by a tail.items)) }
@@ -245,7 +245,7 @@ fn put_behind(entries: &mut IndexMap<Name, Entry>, name: Name, tail: Tail)
     }
 }
 
-/// The names that stand in what a name is bound to.
+/// Returns the references of the entry of a name.
 fn references_of(entries: &IndexMap<Name, Entry>, name: Name) -> &[Name]
     ensures { result.now ≡ referred_by (names_of entries.now.entries) name }
 {
@@ -255,7 +255,7 @@ fn references_of(entries: &IndexMap<Name, Entry>, name: Name) -> &[Name]
     }
 }
 
-/// Gives each formula that has a plan its new results, and takes the plans out of the map, whose names stay.
+/// Gives each formula its new results, and takes the plans out of the map, which keeps its names.
 fn adopt_all(entries: &mut IndexMap<Name, Entry>, found: &mut Found, places: &[usize])
     requires { IsAdopting (names_of entries.old.entries) entries.old.entries (plan_in found.old.entries) }
     ensures names { names_of entries.new.entries ≡ names_of entries.old.entries }
@@ -269,7 +269,7 @@ fn adopt_all(entries: &mut IndexMap<Name, Entry>, found: &mut Found, places: &[u
     }
 }
 
-/// Gives the formula of the name at a place its new results, if it has a plan, which is taken out from where it lies.
+/// Takes the plan at a place out of the map, and gives its formula the new results.
 #[inline(always)]
 fn adopt_at(entries: &mut IndexMap<Name, Entry>, found: &mut Found, place: usize, places: &[usize])
     requires place { place < length found.old.entries }
@@ -290,7 +290,7 @@ fn adopt_at(entries: &mut IndexMap<Name, Entry>, found: &mut Found, place: usize
     }
 }
 
-/// The entry of a name stands at this place.
+/// Returns true if the entry of a name stands at this place.
 #[inline(always)]
 fn stands_at(entries: &IndexMap<Name, Entry>, place: usize, name: &Name) -> bool
     ensures { IsTrue result → (e : EntryValue) × ((slice_get entries.now.entries place ≡ Some (name.now, e)) × (lookup (bytes_eq name.now) entries.now.entries ≡ Some e)) }
@@ -301,7 +301,7 @@ fn stands_at(entries: &IndexMap<Name, Entry>, place: usize, name: &Name) -> bool
     }
 }
 
-/// Gives the formula of a name its new results. If the name stands at the place that is told, it is not looked for.
+/// Gives the formula of a name its new results. Tries the place `hint` before a lookup.
 #[inline(always)]
 fn adopt_one(entries: &mut IndexMap<Name, Entry>, name: &Name, hint: usize, plan: Plan)
     requires { (e : EntryValue) → lookup (bytes_eq name.now) entries.old.entries ≡ Some e → CanAdopt e plan }
@@ -318,7 +318,7 @@ fn adopt_one(entries: &mut IndexMap<Name, Entry>, name: &Name, hint: usize, plan
     }
 }
 
-/// Gives the formula of a name, which is looked for, its new results.
+/// Gives the formula of a name its new results, by a lookup.
 fn adopt_by_name(entries: &mut IndexMap<Name, Entry>, name: Name, plan: Plan)
     requires { (e : EntryValue) → lookup (bytes_eq name) entries.old.entries ≡ Some e → CanAdopt e plan }
     ensures present { (e : EntryValue) → lookup (bytes_eq name) entries.old.entries ≡ Some e → (entries.new.entries ≡ set_value (bytes_eq name) entries.old.entries (adopting e plan))

@@ -1,4 +1,4 @@
-//! A change that is being worked out, and not made yet.
+//! Changes in steps.
 
 ghost use Rattle.std.specs.Prelude.{◌≡◌, min};
 ghost use Rattle.sheet_recalc.specs.Pending.{steps_left};
@@ -9,23 +9,23 @@ use crate::proposal::Proposal;
 use apl_tokens::Name;
 use change_core::Meter;
 
-/// A change of a sheet that is being worked out, with all the memory that making it takes.
+/// A change that is worked out by steps, with all the memory of making it.
 #[derive(Drop)]
 pub struct Pending {
     pub(crate) name: Name,
     pub(crate) proposal: Proposal,
     pub(crate) plans: Plans,
     pub(crate) growth: Option<Box<Growth>>,
-    /// A step has applied its function, and could not do what comes after that for want of memory.
+    /// A step applied its function, and had no memory to plan what follows.
     pub(crate) is_cut: bool,
-    /// How many items the steps that were done have computed.
+    /// The number of items that the finished steps have computed.
     pub(crate) ticks: u64,
-    /// The items that were computed, also by a step that was cut off.
+    /// The items computed, a step that was cut off included.
     pub(crate) meter: Meter,
 }
 
 impl Pending {
-    /// How many steps are left, each of which applies one function; the greatest number of 32 bits where there are more.
+    /// Returns the number of steps left, one for each function; at most the greatest number of 32 bits.
     pub fn left(&self) -> u32
         ensures { result ≡ min (steps_left self.now) 4294967295 }
     {

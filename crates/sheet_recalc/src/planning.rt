@@ -1,4 +1,4 @@
-//! The plans of a change, made a function at a time, in an order in which each formula comes after all that it refers to.
+//! The planner: makes the plan of each formula that a change reaches, references first.
 
 ghost use Rattle.std.specs.Prelude.{◌≡◌, ◌+◌, ◌≤◌, ◌<◌, ◌∷◌, ◌++◌, ℕ, [], true, false, length, get_or, take, IfOk, IfSome, IfErr, OnOk, OnErr, Some, None, List, IsTrue, MatchBool};
 ghost use Rattle.std.specs.List.{Contains, sum_by};
@@ -36,7 +36,7 @@ use index_region::Delta;
 use indexmap::IndexMap;
 use std::alloc::{AllocError, Global};
 
-/// What a change reaches, put into a map that is lent for its memory. Where the map is known to hold that, nothing is looked for.
+/// Finds the names that a change reaches, in the memory of `found`. With `is_known` that map has them already, and the call returns at once.
 #[inline(always)]
 fn reach(
     proposed: &ProposedSheet<'_>,
@@ -54,9 +54,8 @@ fn reach(
     affected(users, proposed.name, proposed.entries.len(), found)
 }
 
-/// What a change reaches, of which no plan is made yet and no function counted, where this was spent before, or why it is refused: the
-/// name would reach itself, or there is no room for it. It takes the place of the plans that are lent, in their memory; or it is known that these
-/// have it.
+/// Begins to plan: finds the names that the change reaches, in the memory of `plans`, and clears the plans. `spent` is the cost so far. With `is_known`
+/// the names are there already. Refuses a change by which the name would reach itself, and a new name for which the sheet has no room.
 pub(crate) fn begun(
     alloc: Global,
     proposed: &ProposedSheet<'_>,
@@ -93,8 +92,7 @@ pub(crate) fn begun(
     Ok(())
 }
 
-/// What the name shows that is to be bound to a formula, or removed, is an array, if it is no error: it says so itself. Where data is put under it,
-/// nothing is looked up.
+/// Brings the fact that the name shows an array or an error. It looks a name up that is bound to a formula or removed; data needs no lookup.
 fn shown_is_sound(proposed: &ProposedSheet<'_>)
     requires { IsCurrent proposed.now.entries.now.entries }
     ensures { is_data proposed.now.proposal.now ≡ false → IfOk (val (names_of proposed.now.entries.now.entries) proposed.now.name) IsArray }
@@ -104,14 +102,14 @@ fn shown_is_sound(proposed: &ProposedSheet<'_>)
     }
 }
 
-/// There is room for a name: it is present, or fewer than `MOST_NAMES` names are.
+/// Returns true if there is room for a name: it is present, or fewer than `MOST_NAMES` names are.
 fn has_room(entries: &IndexMap<Name, Entry>, name: Name) -> bool
     ensures { MatchBool result (HasRoomForName (names_of entries.now.entries) name) (IsFullFor (names_of entries.now.entries) name) }
 {
     entries.len() < MOST_NAMES || entries.contains_key(&name)
 }
 
-/// How many functions the formulas of these names apply.
+/// Counts the functions that the formulas of the names in the map apply.
 pub(crate) fn functions_in(proposed: &ProposedSheet<'_>, found: &Found) -> u128
     ensures { result ≡ sum_by (functions_at (outline_of proposed.now)) (keys_of found.now.entries) }
 {
@@ -122,7 +120,7 @@ pub(crate) fn functions_in(proposed: &ProposedSheet<'_>, found: &Found) -> u128
     count
 }
 
-/// How many functions the formula of the name at a place applies.
+/// Counts the functions of the formula of the name at a place.
 fn functions_at(proposed: &ProposedSheet<'_>, found: &Found, place: usize) -> u64
     requires { place < length found.now.entries }
     ensures { result ≡ functions_at (outline_of proposed.now) (get_or (keys_of found.now.entries) place []) }
@@ -133,7 +131,7 @@ fn functions_at(proposed: &ProposedSheet<'_>, found: &Found, place: usize) -> u6
     }
 }
 
-/// How many functions the formula of a name applies.
+/// Counts the functions of the formula of a name.
 fn functions_of(proposed: &ProposedSheet<'_>, name: Name) -> u64
     ensures { result ≡ functions_at (outline_of proposed.now) name }
 {
@@ -143,7 +141,7 @@ fn functions_of(proposed: &ProposedSheet<'_>, name: Name) -> u64
     }
 }
 
-/// Plans what comes next, as far as no function is to be applied. Where memory is refused, what was planned stays.
+/// Plans until a function has to be applied. With no memory, the plans made so far stay.
 pub(crate) fn settle(
     alloc: Global,
     proposed: &ProposedSheet<'_>,
@@ -171,7 +169,7 @@ pub(crate) fn settle(
     Ok(())
 }
 
-/// The plan of the last name that waits, as far as it goes.
+/// Takes the current plan, or starts a plan of the last name that waits.
 fn taken(
     alloc: Global,
     proposed: &ProposedSheet<'_>,
@@ -198,7 +196,7 @@ fn taken(
     }
 }
 
-/// The plan of a name's formula of which no function is applied yet, where all that it refers to is done.
+/// Starts the plan of a formula: no function is applied. The references have their plans.
 fn started(
     alloc: Global,
     proposed: &ProposedSheet<'_>,
@@ -224,7 +222,7 @@ fn started(
     formula.start(inputs.as_slice())
 }
 
-/// Applies the next function of the plan that is on its way. Where memory is refused, nothing is changed.
+/// Applies the next function of the current plan. With no memory, nothing changes.
 pub(crate) fn apply_next(
     alloc: Global,
     proposed: &ProposedSheet<'_>,
@@ -256,7 +254,7 @@ pub(crate) fn apply_next(
     Ok(())
 }
 
-/// Applies the next function of the plan of a name's formula, where all that it refers to is done.
+/// Applies the next function of the plan of a formula. The references have their plans.
 fn apply_to(
     alloc: Global,
     proposed: &ProposedSheet<'_>,
@@ -312,7 +310,7 @@ pub(crate) fn plan_all(
     plan_each(alloc, proposed, &Delta::Same, plans, meter)
 }
 
-/// Makes all plans, a formula at a time. What changes of a name that shows what it did is told: nothing.
+/// Makes all plans, a formula at a time. `unchanged` is the change of a name that shows the same as before.
 #[inline(always)]
 fn plan_each(
     alloc: Global,
@@ -354,8 +352,8 @@ fn plan_each(
     Ok(())
 }
 
-/// The whole plan of a name's formula, where all that it refers to is done. What up to two names show takes no memory. The plan at this place of
-/// the list was made last, of this formula, if one is told: most often the next formula refers to its name.
+/// Returns the whole plan of a formula. The references have their plans. Inputs of up to two names take no memory. With `last`, the plan at `place` of
+/// the map is the newest, of this formula, and most often the next formula refers to its name.
 fn whole_plan(
     alloc: Global,
     proposed: &ProposedSheet<'_>,
@@ -393,8 +391,7 @@ fn whole_plan(
     }
 }
 
-/// The whole plan of a name's formula, in which any number of names stands, where all that it refers to is done. It stands alone, since what two names
-/// show takes room that need not be cleared for one.
+/// Returns the whole plan of a formula with any number of references. Not inlined: the path of one reference must not clear two inputs on its stack.
 #[inline(never)]
 fn plan_of_many(
     alloc: Global,

@@ -1,4 +1,4 @@
-//! The plans of a change, as far as they are made.
+//! The plans of a change.
 
 ghost use Rattle.std.specs.Prelude.{◌≡◌, ◌+◌, ◌-◌, ◌<◌, ◌≤◌, ◌∷◌, ◌++◌, ℕ, [], List, true, Some, IsTrue, MatchOption, length, min, take, get_or, if◌then◌else◌};
 ghost use Rattle.std.specs.Str.{bytes_eq};
@@ -12,29 +12,28 @@ use formula_core::Plan;
 use indexmap::IndexMap;
 use std::alloc::Global;
 
-/// What a change reaches, each name after all that refer to it, with the plan of its formula, once that is whole.
+/// The names that a change reaches, each after all that refer to it, with the plans that are whole.
 pub(crate) type Found = IndexMap<Name, Option<Plan>>;
 
-/// The plans of a change, as far as they are made.
+/// The plans of a change, whole or under way.
 #[derive(Drop)]
 pub(crate) struct Plans {
-    /// What the change reaches.
+    /// The names that the change reaches.
     pub(crate) found: Found,
-    /// How many of these names, from the first on, wait for their plans.
+    /// The number of names, from the first, that wait for their plans.
     pub(crate) waiting: usize,
-    /// The plan of the last that waits, as far as it goes.
+    /// The plan of the last name that waits, if it is begun.
     pub(crate) current: Option<Plan>,
-    /// How many functions are left to apply, of all that wait.
+    /// The number of functions that the waiting names have left to apply.
     pub(crate) left: u128,
-    /// What the whole plans cost, with what was spent before; the greatest number of 64 bits where it is more.
+    /// The cost of the whole plans, with the cost before them; at most the greatest number of 64 bits.
     pub(crate) cost: u64,
-    /// For each name that is reached, the place at which it stood in the sheet when it was looked for last. It most likely stands there still, so that is
-    /// looked at first; nothing need hold of it.
+    /// For each name, its place in the sheet at the last lookup. A hint: a lookup tries it first, and nothing depends on it.
     pub(crate) places: Vec<usize>,
 }
 
 impl Plans {
-    /// No plans: nothing is reached, and no name waits.
+    /// Makes plans of no name.
     pub(crate) fn none(alloc: Global) -> Plans {
         Plans {
             found: IndexMap::new(alloc),
@@ -46,7 +45,7 @@ impl Plans {
         }
     }
 
-    /// They keep what an edit of this name reaches: the change that they were made for was an edit, of the last name that it found.
+    /// Returns true if these plans have the names that an edit of this name reaches: they were made for an edit of their last name.
     #[inline(always)]
     pub(crate) fn keep_reach(&self, of_edit: bool, name: &Name) -> bool
         ensures { IsTrue result → (of_edit ≡ true) × EndsWith (keys_of self.now.found.entries) name.now }
@@ -57,7 +56,7 @@ impl Plans {
         }
     }
 
-    /// The last name that waits for its plan.
+    /// Returns the last name that waits for its plan.
     #[inline(always)]
     pub(crate) fn next_name(&self) -> Option<&Name>
         requires { self.now.waiting ≤ length self.now.found.entries }
@@ -74,13 +73,13 @@ impl Plans {
         }
     }
 
-    /// The place at which the last name that waits most likely stands in the sheet.
+    /// Returns the hint of the last name that waits: its likely place in the sheet.
     #[inline(always)]
     pub(crate) fn hint(&self) -> usize {
         hint_at(self.places.as_slice(), self.waiting.saturating_sub(1))
     }
 
-    /// The last name that waits has its plan. It stands at this place in the sheet, as far as that is known.
+    /// Stores the plan of the last name that waits, and its place in the sheet as a hint.
     pub(crate) fn keep(&mut self, plan: Plan, place: usize)
         requires waits { 0 < self.old.waiting }
         requires few { self.old.waiting ≤ length self.old.found.entries }
@@ -100,7 +99,7 @@ impl Plans {
     }
 }
 
-/// The place at which a name most likely stands in the sheet, the first where that is not known.
+/// Returns the hint at a place of the list, or 0.
 #[inline(always)]
 pub(crate) fn hint_at(places: &[usize], which: usize) -> usize {
     match places.get(which) {
@@ -109,7 +108,7 @@ pub(crate) fn hint_at(places: &[usize], which: usize) -> usize {
     }
 }
 
-/// Notes a place for a name.
+/// Stores a hint.
 #[inline(always)]
 fn note_at(places: &mut Vec<usize>, which: usize, place: usize) {
     if let Some(there) = places.get_mut(which) {

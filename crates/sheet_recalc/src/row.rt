@@ -22,7 +22,7 @@ use index_region::Tail;
 use indexmap::IndexMap;
 use std::alloc::{AllocError, Global};
 
-/// What the data of a name grows by with a literal as its last row, or why not.
+/// Returns the tail that appends a literal to the data of a name as its last row, or refuses it.
 #[inline(always)]
 pub(crate) fn row_behind(
     alloc: Global,
@@ -42,7 +42,7 @@ pub(crate) fn row_behind(
     }
 }
 
-/// What an array grows by with a literal as its last row, or why not.
+/// Returns the tail that appends a literal to an array as its last row, or refuses it.
 #[inline(always)]
 fn tail_of(alloc: Global, array: &Array, literal: &Literal) -> Result<Tail, Refusal>
     ensures put { IfOk result (λ tail. row_put (Some (Data array.now)) (literal_of literal.now) ≡ Ok (grown_by array.now tail.items)) }
@@ -66,8 +66,8 @@ fn tail_of(alloc: Global, array: &Array, literal: &Literal) -> Result<Tail, Refu
     Ok(tail_to(alloc, shape, literal, array.item_type())?)
 }
 
-/// What an array grows by to a shape, which lies inline and within the limits: by the items of a literal, which has no more than an array may have, and
-/// only of this type. One item takes no memory but where the array needs another piece for its items.
+/// Returns the tail that makes an array this shape: the items of a literal, all of this type. One item takes memory only where the array has to move
+/// its items.
 fn tail_to(
     alloc: Global,
     shape: Shape,
@@ -89,7 +89,7 @@ fn tail_to(
     }
 }
 
-/// How many items a row of an array of this shape has, if it has rows.
+/// Returns the number of items in a row of an array of this shape, if it has rows.
 fn items_in_row(shape: &[u32]) -> Option<usize>
     ensures { result ≡ items_in_row shape.now }
 {
@@ -100,7 +100,7 @@ fn items_in_row(shape: &[u32]) -> Option<usize>
     }
 }
 
-/// How many items a literal has.
+/// Counts the items of a literal.
 fn items_in(literal: &Literal) -> usize
     ensures { result ≡ length (literal_items (literal_of literal.now)) }
 {
@@ -111,7 +111,7 @@ fn items_in(literal: &Literal) -> usize
     }
 }
 
-/// Each item of a literal is of this type.
+/// Returns true if each item of a literal has this type.
 #[tactic(auto, using(crate::proofs::Rows::are_numbers, crate::proofs::Rows::are_characters))]
 fn is_of_type(literal: &Literal, item_type: ItemType) -> bool
     ensures { result ≡ are_of_type item_type (literal_items (literal_of literal.now)) }
@@ -124,7 +124,7 @@ fn is_of_type(literal: &Literal, item_type: ItemType) -> bool
     }
 }
 
-/// The shape with one more place along its first axis.
+/// Returns the shape with one more place along its first axis.
 fn one_longer(shape: &Shape) -> Shape
     requires rank { 0 < length shape.now.items }
     requires within { IsWithinLimits shape.now.items }
@@ -136,7 +136,7 @@ fn one_longer(shape: &Shape) -> Shape
     longer
 }
 
-/// The items of a literal that has no more than an array may have, which are of this type, as an array of it.
+/// Returns the items of a literal as an array of this type. The literal has at most as many as an array may have, all of the type.
 fn row_of(alloc: Global, literal: &Literal, item_type: ItemType) -> Result<Array, AllocError>
     requires few { length (literal_items (literal_of literal.now)) ≤ most_places }
     requires typed { are_of_type item_type (literal_items (literal_of literal.now)) ≡ true }

@@ -5,19 +5,14 @@ ghost use Rattle.std.specs.Map.{keys_of};
 ghost use Rattle.std.specs.Option.{option_map};
 ghost use Rattle.apl_expr.specs.Trees.{tree_of, literal_of};
 ghost use Rattle.arrays_core.specs.Arrays.{ArrayValue};
-ghost use Rattle.change_core.specs.Meters.{ticked};
-ghost use Rattle.index_region.specs.declared.delta.Delta.TheVariants.{Whole};
 ghost use Rattle.formula_core.specs.Outcomes.{read};
 ghost use Rattle.formula_core.specs.Meaning.{eval};
-ghost use Rattle.formula_core.specs.Plans.{tree_cost};
 ghost use Rattle.sheet_recalc.specs.Names.{Names, binding, IsSheet};
 ghost use Rattle.sheet_recalc.specs.Meaning.{val, IsOnlySolution};
-ghost use Rattle.sheet_recalc.specs.ProposedSheet.{names_with};
-ghost use Rattle.sheet_recalc.specs.Planning.{IsProposalAt};
-ghost use Rattle.sheet_recalc.specs.declared.proposal.Proposal.TheVariants.{Removed};
-ghost use Rattle.sheet_recalc.specs.Pending.{IsBetweenSteps, IsLaidOutOn, IsPendingOn, IsProposedOn, LaysOut, steps_left};
-ghost use Rattle.sheet_recalc.specs.Changes.{SheetChange, Accepts, Refuses, Define, Store, Put, SetCell, AddRow, Erase, CannotBecome};
-ghost use Rattle.sheet_recalc.specs.Costs.{HasCost, HasTicks, names_at_rest, changed_name, expression_cost, IsStepCost, IsStepCount};
+ghost use Rattle.sheet_recalc.specs.Pending.{IsBetweenSteps, IsLaidOutOn, IsPendingOn, IsProposalOf, steps_left};
+ghost use Rattle.sheet_recalc.specs.Changes.{SheetChange, Accepts, Refuses, Define, Store, Put, SetCell, AddRow, Erase};
+ghost use Rattle.sheet_recalc.specs.Costs.{HasCost, HasTicks, changed_name, IsStepCost, IsStepCount};
+ghost use Rattle.sheet_recalc.specs.History.{change_of};
 
 use crate::cell::cell_patch;
 use crate::commit::make;
@@ -30,7 +25,7 @@ use crate::proposal::Proposal;
 use crate::proposed_sheet::ProposedSheet;
 use crate::refusal::Refusal;
 use crate::row::row_behind;
-use apl_expr::{Expr, Literal};
+use apl_expr::{Change, Expr, Literal};
 use apl_tokens::Name;
 use arrays_core::{Array, Fault};
 use change_core::Meter;
@@ -43,7 +38,7 @@ use std::alloc::{AllocError, Global};
 use std::cell::Cell;
 use std::marker::Model;
 
-/// The most names of a sheet: a new name is refused where this many are present.
+/// The most names of a sheet. A new name is refused where this many are present.
 pub const MOST_NAMES: usize = 1024;
 
 /// Names bound to data or to formulas, in the order in which they were first bound. Each result of each formula is current.
@@ -53,16 +48,15 @@ pub struct Sheet {
     alloc: Global,
     entries: IndexMap<Name, Entry>,
     users: Users<Name>,
-    /// What the last change cost.
+    /// The cost of the last change.
     cost: u64,
-    /// How many items of results were computed in it.
+    /// The number of items computed in the last change.
     ticks: u64,
-    /// The last change edited the data of the last name in `room`.
+    /// The last change was an edit of the last name in `room`.
     edited: bool,
-    /// Room for the plans of the next change, kept from the last one that was made, with what that reached: where it was an edit, the next edit of the
-    /// same name reaches the same.
+    /// The memory of the plans of the next change, with the names that the last change reached: an edit of the same name reaches the same.
     room: Plans,
-    /// Room for the plans of the next change that is laid out, kept from the last one. What it holds is of no account.
+    /// The memory of the plans of the next change in steps. Its contents do not matter.
     lent: Cell<Plans>,
 }
 
@@ -101,7 +95,7 @@ impl Shows for Sheet {
 }
 
 impl Sheet {
-    /// A sheet without names.
+    /// Makes a sheet without names.
     pub fn new(alloc: Global) -> Sheet
         ensures names { result.names ≡ [] }
         ensures cost { result.cost ≡ 0 }
@@ -119,8 +113,8 @@ impl Sheet {
         }
     }
 
-    /// What a name shows: exactly what evaluating all the formulas from scratch gives for it, the array or the error with the
-    /// name where it arose. An absent name shows nothing. No other assignment of outcomes to names satisfies all formulas.
+    /// Returns the value of a name: the array or the error, with the name where it arose, that evaluating all formulas from scratch gives. None for an
+    /// absent name. No other assignment of values to names satisfies all formulas.
     pub fn value(&self, name: Name) -> Option<Result<&Array, Fault>>
         ensures is { option_map read result ≡ (if is_some (binding self.now.names name) then Some (val self.now.names name) else None) }
         ensures solution { IsOnlySolution self.now.names }
@@ -132,8 +126,8 @@ impl Sheet {
         }
     }
 
-    /// The names, in the order in which they were first bound: no two are one, none reaches itself by references, and there
-    /// are at most `MOST_NAMES`.
+    /// Returns the names, in the order in which they were first bound: no two are equal, none reaches itself by references, and there are at most
+    /// `MOST_NAMES`.
     #[tactic(auto, using(crate::proofs::Live::keys_of_names))]
     pub fn names(&self) -> Keys<'_, Name, Entry>
         ensures names { result ≡ keys_of self.now.names }
@@ -142,15 +136,15 @@ impl Sheet {
         self.entries.keys()
     }
 
-    /// What the last change that was made has cost: for each result of each formula the places of it that were worked out
-    /// anew, at most; 0 where none was made yet. It stays at the greatest number of 64 bits.
+    /// Returns the cost of the last change: for each result of each formula the places worked out again, at most. 0 before the first change; at most the
+    /// greatest number of 64 bits.
     pub fn last_cost(&self) -> u64
         ensures { result ≡ self.now.cost }
     {
         self.cost
     }
 
-    /// How many items of results were computed in the last change that was made, however long it takes to compute one.
+    /// Returns the number of items of results computed in the last change, however long one takes.
     pub fn last_ticks(&self) -> u64
         ensures is { result ≡ self.now.ticks }
         ensures at_most { self.now.ticks ≤ self.now.cost }
@@ -158,14 +152,14 @@ impl Sheet {
         self.ticks
     }
 
-    /// What an expression gives, where the names show what they show.
+    /// Evaluates an expression with the values of the names.
     pub fn show(&self, tree: &Expr) -> Result<Result<Array, Fault>, AllocError>
         ensures { IfOk result (λ outcome. outcome ≡ eval (tree_of tree.now) (val self.now.names)) }
     {
         evaluate(self.alloc, tree, self)
     }
 
-    /// Binds a name to a formula. This is no assignment of ISO/IEC 13751: the name follows what the formula refers to.
+    /// Binds a name to a formula. This is no assignment of ISO/IEC 13751: the name follows its references.
     pub fn define(&mut self, name: Name, tree: Expr) -> Result<(), Refusal>
         ensures ok { OnOk result (Accepts self.old.names (Define name (tree_of tree)) self.new.names) }
         ensures cost { OnOk result (HasCost self.old.names (Define name (tree_of tree)) self.new.names self.new.cost) }
@@ -173,34 +167,12 @@ impl Sheet {
         ensures refused { IfErr result (Refuses self.old.names (Define name (tree_of tree))) }
         ensures err { OnErr result (self.new ≡ self.old) }
     {
-        self.define_lent(name, &tree)
+        self.apply_lent(&Change::Define(name, tree))
     }
 
-    /// Binds a name to a formula that is lent.
-    pub(crate) fn define_lent(&mut self, name: Name, tree: &Expr) -> Result<(), Refusal>
-        ensures ok { OnOk result (Accepts self.old.names (Define name (tree_of tree.now)) self.new.names) }
-        ensures cost { OnOk result (HasCost self.old.names (Define name (tree_of tree.now)) self.new.names self.new.cost) }
-        ensures ticks { OnOk result (HasTicks self.old.names (Define name (tree_of tree.now)) self.new.names self.new.ticks) }
-        ensures refused { IfErr result (Refuses self.old.names (Define name (tree_of tree.now))) }
-        ensures err { OnErr result (self.new ≡ self.old) }
-    {
-        let formula = Formula::of(self.alloc, tree)?;
-        self.make_change(name, Proposal::Formula(formula), 0, Meter::new())
-    }
-
-    /// Lays a definition out: it is refused here, or worked out and then made.
-    pub(crate) fn begin_define(&self, name: Name, tree: &Expr) -> Result<Pending, Refusal>
-        ensures ok { IfOk result (IsLaidOutOn self.now (Define name (tree_of tree.now))) }
-        ensures ticks { IfOk result (λ pending. pending.ticks ≤ expression_cost self.now.names (Define name (tree_of tree.now))) }
-        ensures refused { IfErr result (Refuses self.now.names (Define name (tree_of tree.now))) }
-    {
-        let formula = Formula::of(self.alloc, tree)?;
-        self.propose(name, Proposal::Formula(formula), 0, Meter::new())
-    }
-
-    /// Does one more step of a change that was begun on the sheet as it is: applies one function, and plans what comes after that as far as
-    /// no function is to be applied. It answers how many steps are left; where none was, nothing is done. It computes no more items than
-    /// some one function of the change costs. Where memory is refused, what is left and the items counted are as they were.
+    /// Does one step of a change begun on this sheet: applies one function, and plans until the next has to be applied. Returns the number of steps
+    /// left; where none was, does nothing. The step computes no more items than some one function of the change costs. With no memory, the number of
+    /// steps left and the items counted stay the same.
     pub fn advance(&self, pending: &mut Pending) -> Result<u32, AllocError>
         requires { (change : SheetChange) × IsPendingOn self.now change pending.old }
         ensures left { IfOk result (λ n. n ≡ min (steps_left pending.new) 4294967295) }
@@ -221,7 +193,7 @@ impl Sheet {
         Ok(pending.left())
     }
 
-    /// Applies the next function of a change, unless a step that was cut off has done so.
+    /// Applies the next function of a change, unless a step that was cut off has.
     fn apply_function(&self, pending: &mut Pending) -> Result<(), AllocError>
         requires begun { (change : SheetChange) × IsPendingOn self.now change pending.old }
         requires left { 0 < steps_left pending.old }
@@ -248,7 +220,7 @@ impl Sheet {
         Ok(())
     }
 
-    /// Plans what comes after the function that a step has applied, which ends the step.
+    /// Plans what follows the function that a step applied, which ends the step.
     fn plan_ahead(&self, pending: &mut Pending) -> Result<(), AllocError>
         requires begun { (change : SheetChange) × IsPendingOn self.now change pending.old }
         requires cut { pending.old.is_cut ≡ true }
@@ -271,7 +243,7 @@ impl Sheet {
         Ok(())
     }
 
-    /// Counts the functions of a change that is laid out, and plans what comes before the first.
+    /// Counts the functions of a change, and plans what precedes the first.
     pub(crate) fn count(&self, pending: &mut Pending) -> Result<(), AllocError>
         requires { (change : SheetChange) × IsLaidOutOn self.now change pending.old }
         ensures begun { OnOk result ((change : SheetChange) → IsLaidOutOn self.now change pending.old → IsPendingOn self.now change pending.new) }
@@ -289,7 +261,7 @@ impl Sheet {
         Ok(())
     }
 
-    /// Makes a change that was begun on the sheet as it is, and of which no step is left. No memory is asked for.
+    /// Makes a change begun on this sheet, with no step left. It takes no memory.
     #[inline(always)]
     pub fn adopt(&mut self, pending: Pending)
         requires begun { (change : SheetChange) × IsPendingOn self.old change pending }
@@ -322,29 +294,26 @@ impl Sheet {
         self.lent.set(plans);
     }
 
-    /// Works out what a name is to be bound to as a proposal says, formula by formula, where finding that has cost so much and the meter shows so
-    /// many items, and makes the change. No function is counted.
-    fn make_change(
+    /// Plans a proposal formula by formula, and makes it. The meter has the cost of finding the proposal.
+    pub(crate) fn make_change(
         &mut self,
         name: Name,
         proposal: Proposal,
-        spent: u64,
         meter: Meter,
     ) -> Result<(), Refusal>
-        requires proposal { IsProposalAt self.old.tables.entries.entries name proposal }
-        requires even { meter.ticks ≡ spent }
-        ensures made { OnOk result ((change : SheetChange) → LaysOut self.old name proposal spent change
+        requires { (change : SheetChange) × IsProposalOf self.old change name proposal meter.ticks }
+        ensures made { OnOk result ((change : SheetChange) → IsProposalOf self.old change name proposal meter.ticks
             → Accepts self.old.names change self.new.names × HasCost self.old.names change self.new.names self.new.cost × HasTicks self.old.names change self.new.names self.new.ticks) }
-        ensures refused { IfErr result (CannotBecome self.old.names (names_with self.old.names name proposal) name) }
-        ensures sound { IsSheet self.old.names }
+        ensures refused { IfErr result (λ cause. (change : SheetChange) → IsProposalOf self.old change name proposal meter.ticks → Refuses self.old.names change cause) }
         ensures err { OnErr result (self.new ≡ self.old) }
     {
+        let spent = meter.ticks();
         let proposed = ProposedSheet {
             entries: &self.entries,
             name,
             proposal: &proposal,
         };
-        // The plans are made where they lie.
+        // The plans are made in place.
         let plans = &mut self.room;
         let is_edit = proposal.is_edit();
         let is_known = plans.keep_reach(self.edited, &name);
@@ -368,8 +337,8 @@ impl Sheet {
         Ok(())
     }
 
-    /// Binds a name to the array that an expression has now, as an assignment does (ISO/IEC 13751,
-    /// "Evaluate-Assignment"). What working out the expression costs counts.
+    /// Binds a name to the value that an expression has now, as an assignment does (ISO/IEC 13751, "Evaluate-Assignment"). The cost of the
+    /// expression counts.
     pub fn data(&mut self, name: Name, tree: Expr) -> Result<(), Refusal>
         ensures ok { OnOk result (Accepts self.old.names (Store name (tree_of tree)) self.new.names) }
         ensures cost { OnOk result (HasCost self.old.names (Store name (tree_of tree)) self.new.names self.new.cost) }
@@ -377,49 +346,10 @@ impl Sheet {
         ensures refused { IfErr result (Refuses self.old.names (Store name (tree_of tree))) }
         ensures err { OnErr result (self.new ≡ self.old) }
     {
-        self.data_lent(name, &tree)
+        self.apply_lent(&Change::Data(name, tree))
     }
 
-    /// Binds a name to the array that an expression that is lent has now.
-    pub(crate) fn data_lent(&mut self, name: Name, tree: &Expr) -> Result<(), Refusal>
-        ensures ok { OnOk result (Accepts self.old.names (Store name (tree_of tree.now)) self.new.names) }
-        ensures cost { OnOk result (HasCost self.old.names (Store name (tree_of tree.now)) self.new.names self.new.cost) }
-        ensures ticks { OnOk result (HasTicks self.old.names (Store name (tree_of tree.now)) self.new.names self.new.ticks) }
-        ensures refused { IfErr result (Refuses self.old.names (Store name (tree_of tree.now))) }
-        ensures err { OnErr result (self.new ≡ self.old) }
-    {
-        let mut meter = Meter::new();
-        let change = self.evaluated(tree, &mut meter)?;
-        let spent = meter.ticks();
-        self.make_change(name, Proposal::Data(change), spent, meter)
-    }
-
-    /// Lays out to store what an expression has now; the expression itself is worked out here.
-    pub(crate) fn begin_data(&self, name: Name, tree: &Expr) -> Result<Pending, Refusal>
-        ensures ok { IfOk result (IsLaidOutOn self.now (Store name (tree_of tree.now))) }
-        ensures ticks { IfOk result (λ pending. pending.ticks ≤ expression_cost self.now.names (Store name (tree_of tree.now))) }
-        ensures refused { IfErr result (Refuses self.now.names (Store name (tree_of tree.now))) }
-    {
-        let mut meter = Meter::new();
-        let change = self.evaluated(tree, &mut meter)?;
-        let spent = meter.ticks();
-        self.propose(name, Proposal::Data(change), spent, meter)
-    }
-
-    /// What an expression has now, as another array for a name; an error in its place is a refusal.
-    fn evaluated(&self, tree: &Expr, meter: &mut Meter) -> Result<Delta, Refusal>
-        ensures is { IfOk result (λ change. (a : ArrayValue) × (eval (tree_of tree.now) (val self.now.names) ≡ Ok a) × (change ≡ Whole (Ok a))) }
-        ensures ticks { OnOk result (meter.new.ticks ≡ ticked meter.old.ticks (tree_cost true (names_at_rest self.now.names) (tree_of tree.now))) }
-        ensures refused { IfErr result (λ cause. (name : List ℕ) → Refuses self.now.names (Store name (tree_of tree.now)) cause) }
-    {
-        match evaluate_counted(self.alloc, tree, self, meter)? {
-            Ok(array) => Ok(Delta::Whole(Ok(array))),
-            Err(fault) => Err(Refusal::Fault(fault)),
-        }
-    }
-
-    /// Replaces one item of data, the indexed assignment of one item (ISO/IEC 13751, "Indexed Assignment"). The data is
-    /// not copied.
+    /// Replaces one item of data, in place: the indexed assignment of one item (ISO/IEC 13751, "Indexed Assignment").
     #[inline(always)]
     pub fn set_cell(
         &mut self,
@@ -433,31 +363,13 @@ impl Sheet {
         ensures refused { IfErr result (Refuses self.old.names (SetCell name positions.now (literal_of literal.now))) }
         ensures err { OnErr result (self.new ≡ self.old) }
     {
-        let patch = cell_patch(&self.entries, name, positions, literal)?;
-        self.make_change(name, Proposal::Data(Delta::Patch(patch)), 0, Meter::new())
+        let proposal = self.cell_proposal(name, positions, literal)?;
+        self.make_change(name, proposal, Meter::new())
     }
 
-    /// Lays out to replace one item of data.
-    #[inline(always)]
-    pub(crate) fn begin_cell(
-        &self,
-        name: Name,
-        positions: &[i64],
-        literal: &Literal,
-    ) -> Result<Pending, Refusal>
-        ensures ok { IfOk result (IsLaidOutOn self.now (SetCell name positions.now (literal_of literal.now))) }
-        ensures ticks { IfOk result (λ pending. pending.ticks ≤ expression_cost self.now.names (SetCell name positions.now (literal_of literal.now))) }
-        ensures refused { IfErr result (Refuses self.now.names (SetCell name positions.now (literal_of literal.now))) }
-    {
-        let patch = cell_patch(&self.entries, name, positions, literal)?;
-        let change = Delta::Patch(patch);
-        self.propose(name, Proposal::Data(change), 0, Meter::new())
-    }
-
-    /// Puts a literal at the end of data: one more item of a vector, one more row of a table. The first of these refuses it:
-    /// the name is absent, or bound to a formula; the data is of another rank; the literal has not as many items as a row, or
-    /// items of the other type; the data would go beyond the limits of arrays. The items lie behind those of the data: these are moved only
-    /// where no room is left behind them, and then into room for the next power of two as many.
+    /// Appends a literal to data in place: one more item of a vector, one more row of a table. The first of these refuses it: the name is absent,
+    /// or bound to a formula; the data has another rank; the literal has another number of items than a row, or items of the other type; the data
+    /// would exceed the limits of arrays. Items are moved only where their memory is full, into memory for the next power of two.
     #[inline(always)]
     pub fn add_row(&mut self, name: Name, literal: &Literal) -> Result<(), Refusal>
         ensures ok { OnOk result (Accepts self.old.names (AddRow name (literal_of literal.now)) self.new.names) }
@@ -466,24 +378,12 @@ impl Sheet {
         ensures refused { IfErr result (Refuses self.old.names (AddRow name (literal_of literal.now))) }
         ensures err { OnErr result (self.new ≡ self.old) }
     {
-        let tail = row_behind(self.alloc, &self.entries, name, literal)?;
-        self.make_change(name, Proposal::Data(Delta::Grown(tail)), 0, Meter::new())
+        let proposal = self.row_proposal(name, literal)?;
+        self.make_change(name, proposal, Meter::new())
     }
 
-    /// Lays out to put a row at the end of data.
-    #[inline(always)]
-    pub(crate) fn begin_row(&self, name: Name, literal: &Literal) -> Result<Pending, Refusal>
-        ensures ok { IfOk result (IsLaidOutOn self.now (AddRow name (literal_of literal.now))) }
-        ensures ticks { IfOk result (λ pending. pending.ticks ≤ expression_cost self.now.names (AddRow name (literal_of literal.now))) }
-        ensures refused { IfErr result (Refuses self.now.names (AddRow name (literal_of literal.now))) }
-    {
-        let tail = row_behind(self.alloc, &self.entries, name, literal)?;
-        let change = Delta::Grown(tail);
-        self.propose(name, Proposal::Data(change), 0, Meter::new())
-    }
-
-    /// Removes a name, as the command `)ERASE` does (ISO/IEC 13751, "System Commands"). The names after it move up, and
-    /// what refers to it shows VALUE ERROR from then on.
+    /// Removes a name, as the command `)ERASE` does (ISO/IEC 13751, "System Commands"). The names after it move up, and formulas that refer to it
+    /// show VALUE ERROR from then on.
     pub fn erase(&mut self, name: Name) -> Result<(), Refusal>
         ensures ok { OnOk result (Accepts self.old.names (Erase name) self.new.names) }
         ensures cost { OnOk result (HasCost self.old.names (Erase name) self.new.names self.new.cost) }
@@ -491,23 +391,90 @@ impl Sheet {
         ensures refused { IfErr result (Refuses self.old.names (Erase name)) }
         ensures err { OnErr result (self.new ≡ self.old) }
     {
-        let proposal = self.removal_of(name)?;
-        self.make_change(name, proposal, 0, Meter::new())
+        self.apply_lent(&Change::Erase(name))
     }
 
-    /// Lays out to remove a name.
-    pub(crate) fn begin_erase(&self, name: Name) -> Result<Pending, Refusal>
-        ensures ok { IfOk result (IsLaidOutOn self.now (Erase name)) }
-        ensures ticks { IfOk result (λ pending. pending.ticks ≤ expression_cost self.now.names (Erase name)) }
-        ensures refused { IfErr result (Refuses self.now.names (Erase name)) }
+    /// Binds a name to an array. Refuses only a new name where `MOST_NAMES` names are present, or with no memory.
+    pub fn put_array(&mut self, name: Name, array: Array) -> Result<(), Refusal>
+        ensures ok { OnOk result (Accepts self.old.names (Put name array) self.new.names) }
+        ensures cost { OnOk result (HasCost self.old.names (Put name array) self.new.names self.new.cost) }
+        ensures ticks { OnOk result (HasTicks self.old.names (Put name array) self.new.names self.new.ticks) }
+        ensures refused { IfErr result (Refuses self.old.names (Put name array)) }
+        ensures err { OnErr result (self.new ≡ self.old) }
     {
-        let proposal = self.removal_of(name)?;
-        self.propose(name, proposal, 0, Meter::new())
+        let proposal = Proposal::Data(Delta::Whole(Ok(array)));
+        self.make_change(name, proposal, Meter::new())
     }
 
-    /// What removes a name that is present.
-    fn removal_of(&self, name: Name) -> Result<Proposal, Refusal>
-        ensures there { IfOk result (λ proposal. (proposal ≡ Removed) × IsSome (binding self.now.names name)) }
+    /// Returns the proposal of a change. The meter counts the items of the expression of stored data.
+    #[inline(always)]
+    pub(crate) fn proposal_of(
+        &self,
+        change: &Change,
+        meter: &mut Meter,
+    ) -> Result<Proposal, Refusal>
+        requires { meter.old.ticks ≡ 0 }
+        ensures is { IfOk result (λ proposal. IsProposalOf self.now (change_of change.now) (changed_name (change_of change.now)) proposal meter.new.ticks) }
+        ensures refused { IfErr result (Refuses self.now.names (change_of change.now)) }
+    {
+        match change {
+            Change::Define(_, tree) => self.definition(tree),
+            Change::Data(_, tree) => self.stored(tree, meter),
+            Change::Cell(name, positions, literal) => self.cell_proposal(*name, positions, literal),
+            Change::Row(name, literal) => self.row_proposal(*name, literal),
+            Change::Erase(name) => self.removal(*name),
+        }
+    }
+
+    /// Returns a new formula of an expression.
+    fn definition(&self, tree: &Expr) -> Result<Proposal, Refusal>
+        ensures is { IfOk result (λ proposal. (name : List ℕ) → IsProposalOf self.now (Define name (tree_of tree.now)) name proposal 0) }
+        ensures refused { IfErr result (λ cause. (name : List ℕ) → Refuses self.now.names (Define name (tree_of tree.now)) cause) }
+    {
+        let formula = Formula::of(self.alloc, tree)?;
+        Ok(Proposal::Formula(formula))
+    }
+
+    /// Returns the array that an expression has now; an error of the expression is the refusal.
+    fn stored(&self, tree: &Expr, meter: &mut Meter) -> Result<Proposal, Refusal>
+        requires { meter.old.ticks ≡ 0 }
+        ensures is { IfOk result (λ proposal. (name : List ℕ) → IsProposalOf self.now (Store name (tree_of tree.now)) name proposal meter.new.ticks) }
+        ensures refused { IfErr result (λ cause. (name : List ℕ) → Refuses self.now.names (Store name (tree_of tree.now)) cause) }
+    {
+        match evaluate_counted(self.alloc, tree, self, meter)? {
+            Ok(array) => Ok(Proposal::Data(Delta::Whole(Ok(array)))),
+            Err(fault) => Err(Refusal::Fault(fault)),
+        }
+    }
+
+    /// Returns the patch of one item of data.
+    #[inline(always)]
+    fn cell_proposal(
+        &self,
+        name: Name,
+        positions: &[i64],
+        literal: &Literal,
+    ) -> Result<Proposal, Refusal>
+        ensures is { IfOk result (λ proposal. IsProposalOf self.now (SetCell name positions.now (literal_of literal.now)) name proposal 0) }
+        ensures refused { IfErr result (Refuses self.now.names (SetCell name positions.now (literal_of literal.now))) }
+    {
+        let patch = cell_patch(&self.entries, name, positions, literal)?;
+        Ok(Proposal::Data(Delta::Patch(patch)))
+    }
+
+    /// Returns the row that data grows by.
+    #[inline(always)]
+    fn row_proposal(&self, name: Name, literal: &Literal) -> Result<Proposal, Refusal>
+        ensures is { IfOk result (λ proposal. IsProposalOf self.now (AddRow name (literal_of literal.now)) name proposal 0) }
+        ensures refused { IfErr result (Refuses self.now.names (AddRow name (literal_of literal.now))) }
+    {
+        let tail = row_behind(self.alloc, &self.entries, name, literal)?;
+        Ok(Proposal::Data(Delta::Grown(tail)))
+    }
+
+    /// Returns the removal of a name that is present.
+    fn removal(&self, name: Name) -> Result<Proposal, Refusal>
+        ensures is { IfOk result (λ proposal. IsProposalOf self.now (Erase name) name proposal 0) }
         ensures refused { IfErr result (Refuses self.now.names (Erase name)) }
     {
         if !self.entries.contains_key(&name) {
@@ -516,33 +483,19 @@ impl Sheet {
         Ok(Proposal::Removed)
     }
 
-    /// Binds a name to an array. It is refused where the name is new and `MOST_NAMES` names are present, or for want of memory, and
-    /// for nothing else.
-    pub fn put_array(&mut self, name: Name, array: Array) -> Result<(), Refusal>
-        ensures ok { OnOk result (Accepts self.old.names (Put name array) self.new.names) }
-        ensures cost { OnOk result (HasCost self.old.names (Put name array) self.new.names self.new.cost) }
-        ensures ticks { OnOk result (HasTicks self.old.names (Put name array) self.new.names self.new.ticks) }
-        ensures refused { IfErr result (Refuses self.old.names (Put name array)) }
-        ensures err { OnErr result (self.new ≡ self.old) }
-    {
-        let change = Delta::Whole(Ok(array));
-        self.make_change(name, Proposal::Data(change), 0, Meter::new())
-    }
-
-    /// Lays out to bind a name as a proposal says, where finding that has cost so much and the meter shows so many items.
-    fn propose(
+    /// Finds the names that a proposal reaches, and allocates the memory of making it. The meter has the cost of finding the proposal.
+    pub(crate) fn propose(
         &self,
         name: Name,
         proposal: Proposal,
-        spent: u64,
         meter: Meter,
     ) -> Result<Pending, Refusal>
-        requires proposal { IsProposalAt self.now.tables.entries.entries name proposal }
-        requires even { meter.ticks ≡ spent }
-        ensures ok { IfOk result (IsProposedOn self.now name proposal spent) }
-        ensures refused { IfErr result (CannotBecome self.now.names (names_with self.now.names name proposal) name) }
-        ensures sound { IsSheet self.now.names }
+        requires { (change : SheetChange) × IsProposalOf self.now change name proposal meter.ticks }
+        ensures ok { IfOk result (λ pending. (change : SheetChange) → IsProposalOf self.now change name proposal meter.ticks → IsLaidOutOn self.now change pending) }
+        ensures ticks { IfOk result (λ pending. pending.ticks ≡ meter.ticks) }
+        ensures refused { IfErr result (λ cause. (change : SheetChange) → IsProposalOf self.now change name proposal meter.ticks → Refuses self.now.names change cause) }
     {
+        let spent = meter.ticks();
         let proposed = ProposedSheet {
             entries: &self.entries,
             name,
@@ -557,12 +510,12 @@ impl Sheet {
             plans,
             growth,
             is_cut: false,
-            ticks: meter.ticks(),
+            ticks: spent,
             meter,
         })
     }
 
-    /// The allocator that it takes memory from.
+    /// Returns the allocator of the sheet.
     pub(crate) fn alloc(&self) -> Global {
         self.alloc
     }

@@ -4,7 +4,7 @@ use Rattle.formula_core.specs.Plans.{PlanValue}
 use Rattle.sheet_recalc.{specs.Live.{plan_in}, proofs.NameEquality.{names_equal}, proofs.Entered.{name_at}, proofs.Live.{put_beside, adopting_same, adopting_either}}
 use Rattle.sheet_recalc.proofs.commit.adopt_at.Goals as goal
 
--- what lies at a place, and what is left there
+-- the plan at a place, and the rest
 module _ {S : Type 0} (m : IndexMap (List ℕ) (Option PlanValue) S) (i : ℕ) (name : List ℕ) (v lies left : Option PlanValue) (at : slice_get m.entries i ≡ Some (name, v)) where
   plan_there : get bytes_eq m name ≡ Some v → Some lies ≡ slice_get (values_of m.entries) i → plan_in m.entries name ≡ lies
   plan_there held there =

@@ -3,7 +3,7 @@ use Rattle.indexmap.{specs.IndexMap.{set_value_at}, proofs.CallerLemmas.{updates
 use Rattle.sheet_recalc.{specs.Entries.{names_of, adopting}, specs.Live.{CanAdopt}, specs.declared.entry.Entry.{Entry}, proofs.NameEquality.{names_equal}, proofs.Live.{names_of_adopting, names_of_adopting_at}}
 use Rattle.sheet_recalc.proofs.commit.adopt_one.Goals as goal
 
--- what a place holds is the value there
+-- a place holds its value
 held_at : (es : List (List ℕ × Entry)) (i : ℕ) (k : List ℕ) (e : Entry) → slice_get es i ≡ Some (k, e) → slice_get (values_of es) i ≡ Some e
 held_at es i k e at = slice_get-map (λ (x : List ℕ × Entry). x.1) es i ∙ ap (option_map (λ (x : List ℕ × Entry). x.1)) at
 

@@ -1,19 +1,17 @@
+use Rattle.sheet_recalc.{specs.History.{change_of}, proofs.Asked.{on_ok_map, if_err_map, of_name}}
 use Rattle.sheet_recalc.proofs.sheet.Sheet.apply_lent.Goals as goal
 
-pub returns-in-Define-clause-cost : goal.returns-in-Define-clause-cost
-returns-in-Define-clause-cost c = rw c.in-Define.is c.define_lent.ensures.cost
+pub make_change-requires : goal.make_change-requires
+make_change-requires c = (change_of c.args.change.now, of_name _ _ _ _ _ c.name_of.ensures c.in_ok-proposal.ensures.is)
 
-pub returns-in-Data-clause-ok : goal.returns-in-Data-clause-ok
-returns-in-Data-clause-ok c = rw c.in-Data.is c.data_lent.ensures.ok
+pub returns-clause-ok : goal.returns-clause-ok
+returns-clause-ok c = on_ok_map c.make_change.result _ _ (λ all. (all (change_of c.args.change.now) (of_name _ _ _ _ _ c.name_of.ensures c.in_ok-proposal.ensures.is)).0) c.make_change.ensures.made
 
-pub returns-in-Data-clause-cost : goal.returns-in-Data-clause-cost
-returns-in-Data-clause-cost c = rw c.in-Data.is c.data_lent.ensures.cost
+pub returns-clause-cost : goal.returns-clause-cost
+returns-clause-cost c = on_ok_map c.make_change.result _ _ (λ all. (all (change_of c.args.change.now) (of_name _ _ _ _ _ c.name_of.ensures c.in_ok-proposal.ensures.is)).1) c.make_change.ensures.made
 
-pub returns-in-Cell-clause-cost : goal.returns-in-Cell-clause-cost
-returns-in-Cell-clause-cost c = rw (c.in-Cell.is, ← c.deref.ensures) c.set_cell.ensures.cost
+pub returns-clause-ticks : goal.returns-clause-ticks
+returns-clause-ticks c = on_ok_map c.make_change.result _ _ (λ all. (all (change_of c.args.change.now) (of_name _ _ _ _ _ c.name_of.ensures c.in_ok-proposal.ensures.is)).2) c.make_change.ensures.made
 
-pub returns-in-Row-clause-cost : goal.returns-in-Row-clause-cost
-returns-in-Row-clause-cost c = rw c.in-Row.is c.add_row.ensures.cost
-
-pub returns-in-Erase-clause-cost : goal.returns-in-Erase-clause-cost
-returns-in-Erase-clause-cost c = rw c.in-Erase.is c.erase.ensures.cost
+pub returns-clause-refused : goal.returns-clause-refused
+returns-clause-refused c = if_err_map c.make_change.result _ _ (λ cause why. why (change_of c.args.change.now) (of_name _ _ _ _ _ c.name_of.ensures c.in_ok-proposal.ensures.is)) c.make_change.ensures.refused

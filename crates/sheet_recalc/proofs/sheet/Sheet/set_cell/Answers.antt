@@ -1,41 +1,17 @@
-use Rattle.std.{proofs.Common.{◌≡◌, ◌∙◌, ap, subst, Ok, Some}, specs.Option.{option_map}, proofs.lemmas.Result.{IfErr-weaker}}
-use Rattle.{apl_expr.specs.Trees.{literal_of}, arrays_core.specs.Arrays.{ArrayValue}, index_region.specs.Patches.{FitsPatch, patched}}
-use Rattle.sheet_recalc.{specs.Names.{SheetValue, Data, binding}, specs.Cells.{cell_put}, specs.Changes.{SetCell}, specs.Entries.{binding_of, HasData}, proofs.Live.{binding_of_name}, proofs.Refused.{refused_patch}, proofs.Asked.{on_ok_map, cell_pending}}
+use Rattle.{apl_expr.specs.Trees.{literal_of}, sheet_recalc.{specs.Changes.{SetCell}, proofs.Asked.{on_ok_map, if_err_map, at_first}}}
 use Rattle.sheet_recalc.proofs.sheet.Sheet.set_cell.Goals as goal
 
-pub make_change-requires-clause-proposal : goal.make_change-requires-clause-proposal
-make_change-requires-clause-proposal c =
-    let h = c.in_ok-patch.ensures.put in
-    subst (λ (s : SheetValue). (a : ArrayValue) × HasData s.tables.entries.entries c.args.name a × FitsPatch a c.in_ok-patch.patch) c.self.view_is (h.0, h.1, h.2)
+pub make_change-requires : goal.make_change-requires
+make_change-requires c = (SetCell c.args.name c.args.positions.now (literal_of c.args.literal.now), at_first _ _ _ _ _ c.new.ensures c.in_ok-proposal.ensures.is)
 
 pub returns-clause-ok : goal.returns-clause-ok
-returns-clause-ok c =
-    let literal = literal_of c.args.literal.now in
-    let p = c.in_ok-patch.patch in
-    let h = subst (λ (s : SheetValue). (a : ArrayValue) × HasData s.tables.entries.entries c.args.name a × FitsPatch a p × (cell_put (binding s.names c.args.name) c.args.positions.now literal ≡ Ok (patched a p))) c.self.view_is c.in_ok-patch.ensures.put in
-    on_ok_map c.make_change.result _ _ (λ all. (all (SetCell c.args.name c.args.positions.now literal) (λ pending told. cell_pending c.args.self.now c.args.name c.args.positions.now literal p h.0 h.1 h.3 c.in_ok-patch.ensures.delta pending told)).0) c.make_change.ensures.made
+returns-clause-ok c = on_ok_map c.make_change.result _ _ (λ all. (all (SetCell c.args.name c.args.positions.now (literal_of c.args.literal.now)) (at_first _ _ _ _ _ c.new.ensures c.in_ok-proposal.ensures.is)).0) c.make_change.ensures.made
 
 pub returns-clause-cost : goal.returns-clause-cost
-returns-clause-cost c =
-    let literal = literal_of c.args.literal.now in
-    let p = c.in_ok-patch.patch in
-    let h = subst (λ (s : SheetValue). (a : ArrayValue) × HasData s.tables.entries.entries c.args.name a × FitsPatch a p × (cell_put (binding s.names c.args.name) c.args.positions.now literal ≡ Ok (patched a p))) c.self.view_is c.in_ok-patch.ensures.put in
-    on_ok_map c.make_change.result _ _ (λ all. (all (SetCell c.args.name c.args.positions.now literal) (λ pending told. cell_pending c.args.self.now c.args.name c.args.positions.now literal p h.0 h.1 h.3 c.in_ok-patch.ensures.delta pending told)).1) c.make_change.ensures.made
+returns-clause-cost c = on_ok_map c.make_change.result _ _ (λ all. (all (SetCell c.args.name c.args.positions.now (literal_of c.args.literal.now)) (at_first _ _ _ _ _ c.new.ensures c.in_ok-proposal.ensures.is)).1) c.make_change.ensures.made
 
 pub returns-clause-ticks : goal.returns-clause-ticks
-returns-clause-ticks c =
-    let literal = literal_of c.args.literal.now in
-    let p = c.in_ok-patch.patch in
-    let h = subst (λ (s : SheetValue). (a : ArrayValue) × HasData s.tables.entries.entries c.args.name a × FitsPatch a p × (cell_put (binding s.names c.args.name) c.args.positions.now literal ≡ Ok (patched a p))) c.self.view_is c.in_ok-patch.ensures.put in
-    on_ok_map c.make_change.result _ _ (λ all. (all (SetCell c.args.name c.args.positions.now literal) (λ pending told. cell_pending c.args.self.now c.args.name c.args.positions.now literal p h.0 h.1 h.3 c.in_ok-patch.ensures.delta pending told)).2) c.make_change.ensures.made
+returns-clause-ticks c = on_ok_map c.make_change.result _ _ (λ all. (all (SetCell c.args.name c.args.positions.now (literal_of c.args.literal.now)) (at_first _ _ _ _ _ c.new.ensures c.in_ok-proposal.ensures.is)).2) c.make_change.ensures.made
 
 pub returns-clause-refused : goal.returns-clause-refused
-returns-clause-refused c =
-    let literal = literal_of c.args.literal.now in
-    let p = c.in_ok-patch.patch in
-    let a = c.in_ok-patch.ensures.put.0 in
-    let es = c.self.inside.entries.entries in
-    let held = subst (λ (s : SheetValue). binding s.names c.args.name ≡ Some (Data a)) c.self.view_is (binding_of_name es c.args.name ∙ ap (option_map binding_of) c.in_ok-patch.ensures.put.1) in
-    let is = subst (λ (s : SheetValue). cell_put (binding s.names c.args.name) c.args.positions.now literal ≡ Ok (patched a p)) c.self.view_is c.in_ok-patch.ensures.put.3 in
-    IfErr-weaker c.make_change.result _ _
-    (λ cause h. refused_patch c.args.self.now.names c.args.name c.args.positions.now literal a p held is c.make_change.ensures.sound.acyclic cause h) c.make_change.ensures.refused
+returns-clause-refused c = if_err_map c.make_change.result _ _ (λ cause why. why (SetCell c.args.name c.args.positions.now (literal_of c.args.literal.now)) (at_first _ _ _ _ _ c.new.ensures c.in_ok-proposal.ensures.is)) c.make_change.ensures.refused
