@@ -28,7 +28,7 @@
   pager       values beyond the screen
   progress    how much of a long task is done
   interrupts  the signals that stop a line or end the session
-  version     the version, as CHANGELOG.md says it
+  version     the version of aplsheet
   view        the sheet in a browser: a package, whose first file names its modules
   starting    the words of bin/sheet
 """

@@ -1,18 +1,10 @@
-"""The version of aplsheet, which the line `Version N` of CHANGELOG.md says."""
+"""The version of aplsheet. Only this file states it for programs; tests/documents compares CHANGELOG.md and the manual pages with it."""
 
 from __future__ import annotations
 
-import contextlib
-import re
-from pathlib import Path
-
-SHARE = Path(__file__).resolve().parent.parent  # share/aplsheet where bin/install put it, else share of the repository
-FILE = SHARE.parent / ("doc/aplsheet/CHANGELOG.md" if SHARE.name == "aplsheet" else "CHANGELOG.md")
+VERSION = "1.0.0"
 
 
 def version_line() -> str:
-    """Returns the line that --version prints; it says so where no file has the version."""
-    number = None
-    with contextlib.suppress(OSError):
-        number = re.search(r"^Version (\d\S*)$", FILE.read_text("utf-8"), re.M)
-    return f"aplsheet {number[1]}" if number else "aplsheet, version unknown"
+    """Returns the line that --version prints."""
+    return f"aplsheet {VERSION}"
