@@ -1,0 +1,1 @@
+"""The checks of tests/documents, a module for each subject."""
