@@ -2,6 +2,7 @@
 
 from __future__ import annotations
 
+from .claims import PROVED
 from .front_end import ANSWERS, CHARACTERS, COMMANDS, DESK, FAULT_NAMES, PROGRAM_WORDS, REFUSAL_TEXTS, SHEET, STARTING, TYPING
 from .texts import ARCHITECTURE, DEFINITIONS, RELIABILITY, RUN_LOOP, THEOREM
 
@@ -19,6 +20,9 @@ FAULTS = {
     "a wide page": (A_PAGE, "## Example", "## Example" + " " * 120, "a line has more than 120 columns"),
     "a page with a call that is gone": (A_PAGE, CALLS_HEAD, CALLS_HEAD + "| `kept_sums` | line_sums.rt | none |\n", "kept_sums is no public function"),
     "a page with a definition that is gone": (A_PAGE, "| `keeps_sums` |", "| `kept_sums` |", "kept_sums is not in LineSums"),
+    "a claim without a clause": (PROVED, " (`Sheet::apply_all`: `run`, `err`)", "", "names no clause"),
+    "a claim by a clause that is gone": (PROVED, "(`Sheet::value`: `is`)", "(`Sheet::value`: `as`)", "`Sheet::value`: `as`, which is in no contract"),
+    "a claim by a function of another crate": (PROVED, "(`Formula::adopt`)", "(`Sheet::adopt`: `made`)", "`Sheet::adopt`: `made`, which is in no contract"),
     "a marked line in a script": ("bin/install", "\nTOP = ", "\n# Returns what is there." * 99 + "\nTOP = ", "tests/marks.txt: bin has"),
     "a marked line in a docstring": ("bin/install", '"""Writes a file', '"""' + "It writes a file.\n\n" * 99 + "A file", "tests/marks.txt: bin has"),
     "a marked line in a document": ("README.md", "## Read on", "A table is told what it bears.\n\n" * 99 + "## Read on", "tests/marks.txt: . has"),
@@ -47,7 +51,7 @@ FAULTS = {
     "a folder that is gone": ("CONTRIBUTING.md", "| `bench/` | benchmarks", "| `benchmarks/` and `bench/all` | benchmarks", "there is no bench/all"),
     "a crate that is not described": (ARCHITECTURE, "| `sheet_desk` | the desk:", "| the desk | the desk:", "has not each crate"),
     "a clause that is gone": (RELIABILITY, "clause `memory`", "clause `memory_wanted`", "there is no memory_wanted"),
-    "a function that has another name": ("docs/PROVED.md", "`apply_all` says", "`apply_each` says", "apply_each stands nowhere"),
+    "a function that has another name": (PROVED, "`apply_all` says", "`apply_each` says", "apply_each stands nowhere"),
     "a key that is missing": ("share/aplsheet_utf-8.vim", "\n`m  |\n", "\n", "share/aplsheet_utf-8.vim: the keys are not those"),
     "a key with another symbol": ("share/aplsheet.XCompose", '"⌈"', '"⌊"', "share/aplsheet.XCompose: the keys are not those"),
     "a key that the map has not": (TYPING, "│M   │", "│Z   │", "share/aplsheet.el: the keys are not those"),
