@@ -1,4 +1,4 @@
-//! Plain Rust for bench/program/whole: what each expression gives, again and again. Called with the name of an expression, a count, and the
+//! Plain Rust for bench/program/whole: repeated results of one expression. The arguments are the name of the expression, a count, and the
 //! path of a table.
 use std::hint::black_box;
 use std::io::Write;
@@ -70,7 +70,7 @@ fn copied(source: &[i64], counts: &[i64]) -> Vec<i64> {
     made
 }
 
-/// The fold of the row and the column at each place, of what `each` gives for the pairs from the last to the first.
+/// Returns for each place the fold of the results of `each` for a row and a column, from the last pair to the first.
 fn inner(square: &[i64], side: usize, fold: impl Fn(i64, i64) -> i64, each: impl Fn(i64, i64) -> i64) -> Vec<i64> {
     let mut made = Vec::with_capacity(side * side);
     for row in square.chunks(side) {
@@ -86,7 +86,7 @@ fn folded(numbers: &[i64], step: impl Fn(i64, i64) -> i64) -> Vec<i64> {
     vec![numbers.iter().rev().copied().reduce(|total, number| step(number, total)).unwrap()]
 }
 
-/// The alternating sums of the numbers of each line, added from the left and taken off in turn: the numbers are small.
+/// Returns the alternating sums of each line, from the left. The numbers are small.
 fn differences(source: &[i64], width: usize) -> Vec<i64> {
     rows(source, width, |row, made| {
         let (mut total, mut sign) = (0i64, 1);
@@ -98,7 +98,7 @@ fn differences(source: &[i64], width: usize) -> Vec<i64> {
     })
 }
 
-/// The same of any numbers: each must lie between two others, or a difference on the way from the last number to the first would leave 64 bits.
+/// Returns the same for any numbers: each must lie between two others, or a difference from the right would exceed 64 bits.
 fn far_differences(source: &[i64]) -> Vec<i64> {
     let (mut total, mut is_added, mut low, mut high) = (0i64, true, i64::MIN, i64::MAX);
     let mut made = Vec::with_capacity(source.len());
@@ -112,7 +112,7 @@ fn far_differences(source: &[i64]) -> Vec<i64> {
     made
 }
 
-/// The numbers of a table in a file.
+/// Returns the numbers of a table in a file.
 fn read(path: &str) -> Vec<i64> {
     let text = std::fs::read_to_string(path).unwrap();
     text.lines().flat_map(|line| line.split(',')).map(|field| field.parse().unwrap()).collect()
@@ -298,7 +298,7 @@ fn made(name: &str, given: &Given) -> Vec<i64> {
     }
 }
 
-/// The line that a vector prints, its digits by hand.
+/// Returns the printed line of a vector; the digits are written by hand.
 fn text_of(numbers: &[i64]) -> Vec<u8> {
     let mut text = Vec::new();
     for (place, number) in numbers.iter().enumerate() {

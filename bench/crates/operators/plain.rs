@@ -1,4 +1,4 @@
-//! The same in plain Rust: checked loops over slices.
+//! The same work in plain Rust: checked loops over slices.
 use std::hint::black_box;
 use std::time::Instant;
 
@@ -12,7 +12,7 @@ fn numbers(places: usize) -> Vec<i64> {
         .collect()
 }
 
-/// The total from the last number to the first.
+/// Returns the total from the last number to the first.
 fn total(numbers: impl DoubleEndedIterator<Item = i64>) -> Option<i64> {
     numbers.rev().try_fold(0i64, |sum, number| number.checked_add(sum))
 }
@@ -25,7 +25,7 @@ fn sums_of_rows(numbers: &[i64], columns: usize) -> Option<Vec<i64>> {
     numbers.chunks_exact(columns).map(|row| total(row.iter().copied())).collect()
 }
 
-/// A row at a time is added to the totals, the last row first.
+/// Adds row after row to the totals, the last row first.
 fn sums_of_columns(numbers: &[i64], columns: usize) -> Option<Vec<i64>> {
     let mut totals = vec![0i64; columns];
     for row in numbers.chunks_exact(columns).rev() {
@@ -56,7 +56,7 @@ fn running_maximum(numbers: &[i64]) -> Option<Vec<i64>> {
     Some(maxima)
 }
 
-/// `x1 - (x2 - (.. xk))` for each k: added and taken off in turn.
+/// Returns `x1 - (x2 - (.. xk))` for each k, by alternating sums.
 fn running_difference(numbers: &[i64]) -> Option<Vec<i64>> {
     let (mut total, mut sign) = (0i64, 1i64);
     let mut totals = Vec::with_capacity(numbers.len());
@@ -68,7 +68,7 @@ fn running_difference(numbers: &[i64]) -> Option<Vec<i64>> {
     Some(totals)
 }
 
-/// The same of each column, a row at a time.
+/// Returns the same for each column, row after row.
 fn running_differences_of_columns(numbers: &[i64], columns: usize) -> Option<Vec<i64>> {
     let mut totals = Vec::with_capacity(numbers.len());
     for (row, line) in numbers.chunks_exact(columns).enumerate() {
@@ -104,7 +104,7 @@ fn matrix_product(left: &[i64], right: &[i64], axis: usize) -> Option<Vec<i64>> 
     Some(product)
 }
 
-/// Each row and each column: what a function gives for their numbers, folded from the last to the first.
+/// Returns for each row and column the results of a function for their numbers, folded from the last to the first.
 fn product_by(
     left: &[i64],
     right: &[i64],

@@ -1,4 +1,4 @@
-//! The same texts, written by plain Rust.
+//! Writes the same texts in plain Rust.
 use std::hint::black_box;
 use std::time::Instant;
 

@@ -1,6 +1,6 @@
-//! What the sheet's one formula is compared with, in plain Rust: the whole of (D×2)+D, one pass an operator, and an edit that copies the
-//! data and works the whole formula out again, as one would without results to patch. No other names stand here; bench/program/names shows
-//! what they cost, and bench/program/cells has an edit beside a sheet in plain Rust that patches too.
+//! The same formula in plain Rust: (D×2)+D, one pass for each operator, and an edit that copies the data and evaluates the whole formula, as a
+//! program without kept results would. There are no other names: bench/program/names measures their cost. bench/program/cells compares an edit
+//! with a sheet in plain Rust that patches too.
 use std::hint::black_box;
 use std::time::Instant;
 

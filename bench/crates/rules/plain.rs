@@ -20,7 +20,7 @@ fn reverse(numbers: &[i64], patch: &Patch) -> Patch {
     Patch { first: beyond - patch.last, last: beyond - patch.first, items: patch.items.iter().rev().copied().collect() }
 }
 
-/// `D[I]`: the least interval of the places whose index lies in the patch.
+/// `D[I]`: the least interval with all places whose index lies in the patch.
 fn index(numbers: &[i64], indices: &[i64], patch: &Patch) -> Patch {
     let inside = |i: &i64| patch.first <= *i as usize && *i as usize <= patch.last;
     let first = indices.iter().position(inside).unwrap();

@@ -1,4 +1,4 @@
-//! The same in plain Rust: look-ups by the standard library's map and set, items picked by a checked index, and runs of copies.
+//! The same work in plain Rust: lookups by the standard library's map and set, items picked by a checked index, and runs of copies.
 use std::collections::{HashMap, HashSet};
 use std::hint::black_box;
 use std::time::Instant;

@@ -1,5 +1,5 @@
-//! A list of its own of the same numbers, added up from the right, each step checked: all of them, each of 1024 rows, and each of 1024
-//! columns, which go over the rows from the last one up; and the greatest of all, and their product.
+//! The same numbers in a list, added from the right with checks: all numbers, each of 1024 rows, and each of 1024 columns, row after row from
+//! the last. Also their greatest and their product.
 use std::hint::black_box;
 use std::time::Instant;
 
@@ -22,7 +22,7 @@ fn greatest(numbers: &[i64]) -> i64 {
     numbers.iter().rev().copied().max().unwrap()
 }
 
-/// 0 where it leaves 64 bits.
+/// Returns 0 beyond 64 bits.
 fn product(numbers: &[i64]) -> i64 {
     numbers.iter().rev().try_fold(1i64, |product, number| number.checked_mul(product)).unwrap_or(0)
 }

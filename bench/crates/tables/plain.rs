@@ -1,5 +1,5 @@
-//! The same table, read and written by plain Rust. Records are split as the crate `csv` splits them: by a machine that goes over the
-//! bytes, with quotes, into one record that is used again.
+//! The same table, read and written by plain Rust. Records are split as by the crate `csv`: a state machine reads the bytes, with quotes,
+//! into one record that is reused.
 use std::fmt::Write;
 use std::hint::black_box;
 use std::time::Instant;
@@ -27,7 +27,7 @@ impl Record {
     }
 }
 
-/// The next record, and how many bytes it took.
+/// Reads the next record, and returns the number of its bytes.
 fn next_record(text: &[u8], record: &mut Record) -> Option<usize> {
     record.bytes.clear();
     record.ends.clear();
@@ -63,7 +63,7 @@ fn next_record(text: &[u8], record: &mut Record) -> Option<usize> {
     Some(text.len())
 }
 
-/// The number of a field: blanks, a sign, digits, blanks.
+/// Returns the number of a field: blanks, a sign, digits, blanks.
 fn number(field: &[u8]) -> Option<i64> {
     let text = std::str::from_utf8(field).ok()?.trim_matches([' ', '\t']);
     match text.strip_prefix('¯') {

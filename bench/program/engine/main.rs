@@ -1,13 +1,13 @@
-//! A live sheet as someone would write it by hand in plain Rust for a few forms of lines: what bench/program/cells compares edits of one cell
-//! and added rows with. It reads lines from standard input and answers them as aplsheet does:
+//! A live sheet written by hand in plain Rust for a few forms of lines. bench/program/cells compares edits of one cell and added rows with it.
+//! It reads lines from standard input and answers them as aplsheet does:
 //!
 //!     )DATA N←E     N←E     N[i]←k     N[i;j]←k     )ROW N k     )ROW N k k k     E
 //!
-//! where E is a list of numbers, a name, N[k], A+B, A-B, A×B, A⍴B, ⍳B, f/B or f⌿B, where f is one of + × ⌈ ⌊, and A is one of the first three. Each node of a
-//! formula keeps its result, and an edit of a cell goes through the formulas above it, of which each writes the one item that changes.
-//! A line of a total is added up anew, from its right, with a check a step. A row is put behind the data where it lies. So are the items
-//! that it brings to A+B, A-B and A×B, where the other argument has one item or has grown too, and the one total that it brings to +/B of
-//! a matrix; any other node that it reaches is worked out anew, all of it. Matrices are not printed.
+//! E is a list of numbers, a name, N[k], A+B, A-B, A×B, A⍴B, ⍳B, f/B or f⌿B, where f is one of + × ⌈ ⌊, and A is one of the first three.
+//! Each node of a formula keeps its result. An edit of a cell visits the formulas that it reaches, and each writes the one item that changes.
+//! A changed line of a total is added again from its right, with a check for each step. A row is appended in place. So are its items in A+B,
+//! A-B and A×B, if the other argument has one item or has grown too, and its total in +/B of a matrix. Any other node that the row reaches is
+//! evaluated again as a whole. Matrices are not printed.
 
 use std::collections::HashMap;
 use std::fmt::{self, Display};
@@ -32,7 +32,7 @@ const fn fault(kind: &'static str) -> Fault {
 }
 
 static ABSENT: Value = Err(fault("VALUE ERROR"));
-/// The most items that an array has.
+/// The most items of an array.
 const LIMIT: usize = 1048576;
 
 impl Array {
@@ -43,12 +43,12 @@ impl Array {
         }
     }
 
-    /// The item at a place; one item stands for every place.
+    /// Returns the item at a place; a single item stands for every place.
     fn at(&self, place: usize) -> i64 {
         self.items[if self.items.len() == 1 { 0 } else { place }]
     }
 
-    /// The place of a cell, positions counted from 1.
+    /// Returns the place of a cell whose positions are counted from 1.
     fn place(&self, positions: &[i64]) -> Result<usize, &'static str> {
         if positions.len() != self.shape.len() {
             return Err("RANK ERROR");
@@ -67,7 +67,7 @@ impl Array {
     }
 }
 
-/// A function that puts the items of a line together.
+/// A function that folds the items of a line.
 #[derive(Clone, Copy)]
 enum Fold {
     Plus,
@@ -86,7 +86,7 @@ impl Fold {
         }
     }
 
-    /// None where it leaves 64 bits.
+    /// Returns None beyond 64 bits.
     fn item(self, item: i64, total: i64) -> Option<i64> {
         match self {
             Fold::Plus => item.checked_add(total),
@@ -104,7 +104,7 @@ enum Along {
 }
 
 impl Along {
-    /// How far the items of a line lie apart, how many they are, and how many lines there are.
+    /// Returns the stride of the items of a line, their number, and the number of lines.
     fn strides(self, shape: &[usize]) -> (usize, usize, usize) {
         match self {
             Along::Last => {
@@ -118,7 +118,7 @@ impl Along {
         }
     }
 
-    /// The total of a line.
+    /// Returns the total of a line.
     fn total(self, fold: Fold, argument: &Array, line: usize) -> Result<i64, Fault> {
         let (stride, length, _) = self.strides(&argument.shape);
         let begin = if self == Along::Last {
@@ -252,7 +252,7 @@ fn index(argument: &Value, position: i64) -> Value {
         .map_err(fault)
 }
 
-/// What a change does to an array: nothing, one item, one more place of the first axis behind the others, or all.
+/// The change of an array: none, one item, one place appended along the first axis, or all items.
 #[derive(Clone, Copy)]
 enum Change {
     Same,
@@ -261,7 +261,7 @@ enum Change {
     Whole,
 }
 
-/// A node of a formula; an operation keeps its result.
+/// A node of a formula. An operation keeps its result.
 enum Node {
     Literal(Value),
     Name(usize),
@@ -272,7 +272,7 @@ enum Node {
     Iota(Box<Node>, Value),
 }
 
-/// Puts one item in its place, or all that it gives where it is an error.
+/// Writes one item in its place, or an error as the whole result.
 fn put(value: &mut Value, place: usize, item: Result<i64, Fault>) -> Change {
     match (value, item) {
         (Ok(array), Ok(item)) => {
@@ -292,7 +292,7 @@ fn put_all(value: &mut Value, found: Value) -> Change {
     Change::Whole
 }
 
-/// Puts the items of one more place of the first axis behind the others, or all that one of them gives where it is an error.
+/// Appends the items of one place along the first axis, or writes an error as the whole result.
 fn grow(value: &mut Value, row: impl Iterator<Item = Result<i64, Fault>>) -> Change {
     let Ok(array) = value else {
         unreachable!("an error is made whole")
@@ -316,7 +316,7 @@ impl Node {
         }
     }
 
-    /// Works the node out anew, all of it.
+    /// Evaluates the whole node again.
     fn evaluate(&mut self, entries: &[Entry]) {
         match self {
             Node::Literal(_) | Node::Name(_) => {}
@@ -345,7 +345,7 @@ impl Node {
         }
     }
 
-    /// Brings the node up to date after the changes of the names in it.
+    /// Updates the node after changes of the names in it.
     fn refresh(&mut self, entries: &[Entry]) -> Change {
         match self {
             Node::Literal(_) => Change::Same,
@@ -441,7 +441,7 @@ fn refresh_pair(
     }
 }
 
-/// Whether an array has one item that stands for every place of another, also where that has one item too.
+/// Returns whether an array has one item that stands for every place of another array.
 fn stands_for_all(array: &Array, other: &Array) -> bool {
     array.items.len() == 1 && array.shape.len() <= other.shape.len()
 }
@@ -457,9 +457,9 @@ struct Entry {
     binding: Binding,
     /// The names whose formulas refer to this one.
     users: Vec<usize>,
-    /// What the edit under way does to it.
+    /// The change of the name by the current edit.
     change: Change,
-    /// The last edit that reached it.
+    /// The last edit that reached the name.
     reached: u64,
 }
 
@@ -478,12 +478,12 @@ struct Sheet {
     places: HashMap<String, usize>,
     entries: Vec<Entry>,
     edits: u64,
-    /// What the edit under way reaches, each after all that refer to it.
+    /// The names that the current edit reaches, each after all names that refer to it.
     order: Vec<usize>,
 }
 
 impl Sheet {
-    /// The number of a name; a new name is absent until it is bound.
+    /// Returns the number of a name; a new name is absent until it is bound.
     fn number(&mut self, name: &str) -> usize {
         if let Some(&at) = self.places.get(name) {
             return at;
@@ -511,14 +511,14 @@ impl Sheet {
         self.order.push(at);
     }
 
-    /// Finds what an edit of a name reaches.
+    /// Finds the names that an edit of a name reaches.
     fn reach(&mut self, at: usize) {
         self.edits += 1;
         self.order.clear();
         self.climb(at);
     }
 
-    /// Brings all that was found up to date after the change of the last of them.
+    /// Updates all found names after the change of the last one.
     fn follow(&mut self, change: Change) {
         let Some(at) = self.order.pop() else { return };
         self.entries[at].change = change;
@@ -538,7 +538,7 @@ impl Sheet {
         self.entries[at].change = Change::Same;
     }
 
-    /// Takes the name from the lists of those that its formula referred to.
+    /// Removes the name from the lists of the names in its old formula.
     fn forget(&mut self, at: usize) {
         for entry in &mut self.entries {
             entry.users.retain(|&user| user != at);
@@ -578,7 +578,7 @@ impl Sheet {
         Ok(())
     }
 
-    /// The number of a name of data, and its array.
+    /// Returns the number of a name of data, and its array.
     fn array(&mut self, name: &str) -> Result<(usize, &mut Array), Text> {
         let at = *self.places.get(name).ok_or("NOT FOUND")?;
         match &mut self.entries[at].binding {
@@ -625,7 +625,7 @@ impl Sheet {
     }
 }
 
-/// An error that arose in the formula of a name carries that name.
+/// An error carries the name of the formula in which it arose.
 fn named(mut node: Node, at: usize) -> Node {
     match &mut node {
         Node::Literal(value) | Node::Index(_, _, value) | Node::Total(_, _, _, value) => {
@@ -647,7 +647,7 @@ fn name_fault(value: &mut Value, at: usize) {
 
 type Text = std::borrow::Cow<'static, str>;
 
-/// What is left of a line, with the names that were read so far.
+/// The unread rest of a line, with the names read so far.
 struct Parser<'a> {
     rest: &'a str,
     names: Vec<usize>,
@@ -672,7 +672,7 @@ impl<'a> Parser<'a> {
         self.rest.chars().next()
     }
 
-    /// Takes a sign, if it comes next.
+    /// Reads a symbol, if it comes next.
     fn takes(&mut self, sign: &str) -> bool {
         self.next();
         match self.rest.strip_prefix(sign) {
@@ -810,7 +810,7 @@ impl<'a> Parser<'a> {
         Err(SYNTAX.into())
     }
 
-    /// The positions and the number of the edit of a cell, behind its name and bracket; none where the line is no such edit.
+    /// Returns the positions and the number of an edit of a cell, after its name and bracket; None if the line is no such edit.
     fn cell(&mut self) -> Result<Option<(Vec<i64>, i64)>, Text> {
         let mut positions = vec![];
         loop {
@@ -827,7 +827,7 @@ impl<'a> Parser<'a> {
     }
 }
 
-/// Carries out a line; what it answers is printed.
+/// Executes a line and prints its answer.
 fn answer(sheet: &mut Sheet, line: &str, out: &mut impl Write) -> io::Result<Result<(), Text>> {
     let mut parser = Parser::new(line);
     if parser.next().is_none() {
