@@ -1,13 +1,13 @@
-/* Refuses some of the requests for memory of the program that it is loaded into by LD_PRELOAD, and keeps a record of them by lines.
-   tests/refusals builds it, and says by the environment
-     FIRST  which request is refused first, counted from 1; none where it is not given
-     STEP   the distance from one refused request to the next; 0 where only the first is refused
-     UNTIL  how many bytes of the lines are handed out before no request is refused any more; no end where it is not given
-     SCRIPT the file that the lines are read from; standard input where it is not given
-     RECORD the file that the record is written to when the program ends.
-   The lines are handed out one a call at most, so what is asked for and written between two calls belongs to the line that was handed
-   out before. A line of the record tells of the state at one call, and the last one of the state at the end: how many bytes of the lines
-   were handed out, how many requests there were, how many of these were refused, and how many bytes were written to standard output. */
+/* Refuses some memory requests of the program that loads it by LD_PRELOAD, and records them by lines of input.
+   tests/refusals builds it, and sets these variables of the environment:
+     FIRST  the number of the first refused request, from 1; by default none is refused
+     STEP   the distance from one refused request to the next; 0 refuses only the first
+     UNTIL  the number of bytes of input after which no request is refused; by default there is no end
+     SCRIPT the file of the lines; by default standard input
+     RECORD the file to which the record is written when the program ends.
+   A call to read returns at most one line, so requests and output between two calls belong to the line of the first call. A line of the
+   record has the state at one call, and the last line the state at the end: the bytes of input that were returned, the requests, the
+   refused requests, and the bytes written to standard output. */
 #define _GNU_SOURCE
 #include <errno.h>
 #include <fcntl.h>
@@ -31,7 +31,7 @@ struct state {
 static unsigned long first = ULONG_MAX, step, until = ULONG_MAX;
 static struct state now, calls[1 << 16];
 static size_t count;
-static int script; /* the file that the lines come from */
+static int script; /* the file of the lines */
 
 static unsigned long number(const char *name, unsigned long absent) {
   const char *text = getenv(name);
@@ -46,7 +46,7 @@ __attribute__((constructor)) static void begin(void) {
   memset(&now, 0, sizeof now);
 }
 
-/* Counts a request; whether it is refused. */
+/* Counts a request; returns whether it is refused. */
 static int refuses(void) {
   unsigned long past = ++now.requests - first;
   int refused = now.requests >= first && now.given < until && (past == 0 || (step && past % step == 0));
@@ -72,7 +72,7 @@ int posix_memalign(void **into, size_t alignment, size_t size) {
   return 0;
 }
 
-/* Lines that were read ahead. */
+/* Lines read ahead. */
 static char ahead[1 << 16];
 static size_t begins, ends;
 
