@@ -7,7 +7,7 @@ from .texts import Files
 
 
 class Checks:
-    """A subject of checks. It counts what agrees, and collects a line for each thing that does not.
+    """A subject of checks. It counts the passed ones, and collects a line for each failure.
 
     Its checks are the methods whose names begin with check_, in the order in which they are defined.
     """

@@ -1,4 +1,4 @@
-"""What share/sheet, the manual pages and other files of share/ repeat of the language."""
+"""Facts about the language that share/sheet, the manual pages and other files of share/ repeat."""
 
 from __future__ import annotations
 
@@ -43,7 +43,7 @@ class FrontEnd(Checks):
     """The files of share/ know the language, the commands and the options."""
 
     def check_keys(self) -> None:
-        """The files for Vim, Emacs, readline and X11 have the keys of the map, and no others."""
+        """The files for Vim, Emacs, readline and X11 have exactly the keys of the map."""
         told = keys_of_map(self.files.texts[TYPING])
         for path, form in KEYS.items():
             held = {X11.get(key, key): symbol for key, symbol in re.findall(form, self.files.texts[path], re.M)}

@@ -26,7 +26,7 @@ def methods_of_traits(text: str) -> set[str]:
 
 
 class Pages(Checks):
-    """Each crate but those of tests has a page, and the page says what the sources say."""
+    """Each crate that has no tests alone has a page, which agrees with the sources."""
 
     def check_pages(self) -> None:
         lines = crates(self.files)

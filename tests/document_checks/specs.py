@@ -1,4 +1,4 @@
-"""Definitions, functions and contracts of the crates, and what they cite."""
+"""Definitions, functions and contracts of the crates, and their citations."""
 
 from __future__ import annotations
 

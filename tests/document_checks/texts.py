@@ -15,7 +15,7 @@ THEOREM, DEFINITIONS = "docs/THEOREM.md", "docs/DEFINITIONS.md"
 ARCHITECTURE, RELIABILITY = "docs/ARCHITECTURE.md", "docs/RELIABILITY.md"
 RUN_LOOP = "crates/sheet_cli/src/run_loop.rt"
 SUFFIXES = {".md", ".txt", ".rt", ".antt", ".py", ".js", ".c", ".1", ".inputrc", ".vim", ".el", ".XCompose", ".bash", ".fish"}
-SCRIPTS = re.compile(r"(bin|tests|bench|share/completions)/.*")  # where files without a suffix are read
+SCRIPTS = re.compile(r"(bin|tests|bench|share/completions)/.*")  # files without a suffix are read here
 CLASSES = {"c.is_ascii_alphabetic()": "A-Za-z", "c.is_ascii_digit()": "0-9"}  # tests of a character, and their patterns
 
 

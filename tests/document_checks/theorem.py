@@ -92,7 +92,7 @@ class Theorem(Checks):
             self.want(re.search(rf"\bfn {word}\b|`{word}`", text), f"{THEOREM}: {name} of {path} is not there")
 
     def check_grammar(self) -> None:
-        """The grammar of THEOREM.md is that of the comments in the specs of apl_expr."""
+        """THEOREM.md has the grammar of the comments in the specs of apl_expr."""
         told = {*re.findall(r"^    (\w+ := .*)$", self.files.texts[THEOREM], re.M)}
         held = {it for text in self.files.of(r"crates/apl_expr/specs/\w+\.antt").values() for it in re.findall(r"^ *-- (\w+ := .*)$", text, re.M)}
         for it in sorted(told | held):
@@ -133,7 +133,7 @@ class Theorem(Checks):
             self.want(self.is_listed(it), f"{DEFINITIONS}: {'/'.join(it)}, which {citing[it]} cites, is in no table")
 
     def check_parts(self) -> None:
-        """What names show rests on no part of costs, `ok` reaches no laws, and it reaches costs by COUNTS alone."""
+        """The values of names rest on no part of costs. `ok` reaches no laws, and reaches costs only by COUNTS."""
         costs = {it for it, part in self.theorem.items() if part.endswith("(cost)")}
         laws = {it for it, part in self.theorem.items() if part.endswith("(laws)")}
         shown = self.specs.reached(it for it in self.run_ok if it[2] in SHOWN)

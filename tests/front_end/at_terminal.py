@@ -11,7 +11,7 @@ from .rooms import SECONDS, Outcome, Room, Test, named_tests
 from .screens import PROMPT, Screen
 
 
-SLOW = "+/|\\1000000⍴9000000000000000000 ¯8999999999999999989 7777777777777777777\n"  # it takes minutes
+SLOW = "+/|\\1000000⍴9000000000000000000 ¯8999999999999999989 7777777777777777777\n"  # takes minutes
 
 
 def typed_lines(room: Room) -> Outcome:
@@ -29,7 +29,7 @@ def dropped_line(room: Room) -> Outcome:
     screen = Screen(room)
     screen.keys("A`[5\n")
     screen.keys("A`[6", "6")
-    time.sleep(1)  # readline shows a key before it looks for the next one
+    time.sleep(1)  # readline shows a key before it reads the next one
     return (screen.keys("\x03"), screen.keys("A\n"), screen.end()[0]), ("\n", "A\n5\n", 0)
 
 
@@ -68,7 +68,7 @@ def completion(room: Room) -> Outcome:
 
 
 def unsaved_sheet(room: Room) -> Outcome:
-    """A sheet that was not saved is offered in the next session, and goes on there with its changes; one that was saved is not."""
+    """The next session offers an unsaved sheet, and continues it with its changes. It does not offer a saved one."""
     screen = Screen(room)
     screen.keys("A`[5\nB`[6\nA`[7\n]undo\n", "taken back: A←7")
     status, shown = screen.end("]off\n")
@@ -82,7 +82,7 @@ def unsaved_sheet(room: Room) -> Outcome:
 
 
 def several_unsaved_sheets(room: Room) -> Outcome:
-    """Each session that was not saved is offered; one that runs is not, and one that is forgotten is gone."""
+    """Each unsaved session is offered, but not a running one, and not a forgotten one."""
     sheets = [Screen(room) for _ in range(3)]
     for number, screen in enumerate(sheets):
         screen.keys(f"A`[{number}\n")
@@ -119,7 +119,7 @@ def script_and_terminal(room: Room) -> Outcome:
 
 
 def pasted_lines(room: Room) -> Outcome:
-    """Lines that come at once are answered one after the other."""
+    """Pasted lines are answered one after the other."""
     screen = Screen(room)
     os.write(screen.master, "A`[5\nB`[A+1\nB\n".encode())
     screen.read(lambda: screen.shown.endswith("6\n" + PROMPT))
@@ -127,7 +127,7 @@ def pasted_lines(room: Room) -> Outcome:
 
 
 def stopped_script(room: Room) -> Outcome:
-    """Ctrl-C stops a script that is loaded, and its changes so far are one; a script of the call ends with status 130."""
+    """Ctrl-C stops a loading script; its changes so far are one change. A script of the call ends with status 130."""
     room.put("slow.apl", "A←5\nB←6\nA\n" + SLOW + "C←7\n")
     screen = Screen(room)
     os.write(screen.master, b"]load slow.apl\n")

@@ -1,4 +1,4 @@
-"""Lines that come back to be edited, names that are shown again, and paths that are completed."""
+"""Lines that ]edit returns, watched names, and completed paths."""
 
 from __future__ import annotations
 
@@ -7,7 +7,7 @@ from .screens import Screen
 
 
 def edit(room: Room) -> Outcome:
-    """]edit puts the line of a name where one types, once; keys go on behind it."""
+    """]edit puts the line of a name at the prompt, once; typed keys follow it."""
     screen = Screen(room)
     for keys in (")DATA D`[1 2 3\n", "T`[+/D `- 2 ⍝ a comment\n", "D[2]`[9\n"):
         screen.keys(keys)
@@ -20,7 +20,7 @@ def edit(room: Room) -> Outcome:
 
 
 def watch(room: Room, terminal: str) -> Outcome:
-    """A watched name is shown behind each change that reaches it, and no other; changed items are bold where the terminal can show that."""
+    """A watched name is shown after each change that reaches it, and after no other. Changed items are bold if the terminal has bold text."""
     room.environment["TERM"] = terminal
     room.put("a.apl", "D[1]←5\nD[2]←6\n")
     screen = Screen(room)
@@ -36,7 +36,7 @@ def watch(room: Room, terminal: str) -> Outcome:
 
 
 def completed_path(room: Room) -> Outcome:
-    """A path is completed through folders and blanks, by backslashes before them, and hidden files where their dot is typed."""
+    """Paths are completed across folders and blanks, which get backslashes; hidden files after a typed dot."""
     folder = room.folder / "my plans"
     folder.mkdir()
     room.put("my plans/it's june.apl", "JUNE←6\n")

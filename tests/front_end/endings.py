@@ -1,4 +1,4 @@
-"""Ends of a session: terminals that are closed, and signals at any time."""
+"""Ends of a session: closed terminals, and signals at any time."""
 
 from __future__ import annotations
 
@@ -17,7 +17,7 @@ def hang_up(room: Room) -> Outcome:
     """SIGHUP keeps the sheet."""
     screen = Screen(room)
     screen.keys("A`[5\n")
-    time.sleep(1)  # as above
+    time.sleep(1)  # the key is read
     screen.process.send_signal(1)
     screen.read(lambda: False)
     return (screen.process.wait(SECONDS), room.kept()), (129, ["A←5\n"])
@@ -43,7 +43,7 @@ def closed_terminal(room: Room, times: int, shell: str) -> Outcome:
 
 
 def killed_tmux_session(room: Room, times: int) -> Outcome:
-    """The same where tmux ends the session in whose window a shell runs it."""
+    """The same if tmux ends a session with a shell that runs the front end."""
     tmux, logs = ["tmux", "-u", "-f", "/dev/null", "-S", str(room.folder / "socket")], []
     for _ in range(times):
         shutil.rmtree(room.folder / "state", ignore_errors=True)
@@ -67,7 +67,7 @@ ENDS = {"Ctrl-D": b"\x04", "]off": b"]off\n", "SIGTERM": signal.SIGTERM, "SIGHUP
 
 
 def signals_at_the_end(room: Room, times: int, end: bytes | signal.Signals) -> Outcome:
-    """Signals of each kind right behind the end of a session lose nothing, and show no traceback."""
+    """Signals of each kind right after the end of a session lose nothing, and show no traceback."""
     wrong = []
     for _ in range(times):
         shutil.rmtree(room.folder / "state", ignore_errors=True)
@@ -87,7 +87,7 @@ def signals_at_the_end(room: Room, times: int, end: bytes | signal.Signals) -> O
 
 
 def signals_at_any_time(room: Room, times: int, *signs: signal.Signals) -> Outcome:
-    """Signals that come one behind the other, at any time, do not cut it off. One just before readline waits is seen at the next key."""
+    """Several signals in a row, at any time, do not cut the end off. A signal just before readline waits is seen at the next key."""
     logs = []
     for _ in range(times):
         shutil.rmtree(room.folder / "state", ignore_errors=True)
@@ -102,9 +102,9 @@ def signals_at_any_time(room: Room, times: int, *signs: signal.Signals) -> Outco
 
 
 def interrupted_end(room: Room, times: int) -> Outcome:
-    """Ctrl-C behind Ctrl-D does not either, where the sheet is large: 600,000 numbers.
+    """Ctrl-C after Ctrl-D does not cut the end off either, with a sheet of 600,000 numbers.
 
-    A terminal drops the Ctrl-D that was not read yet when Ctrl-C comes, so another one follows.
+    A terminal drops an unread Ctrl-D when Ctrl-C comes, so another one follows.
     """
     text, outcomes = "".join(f")DATA D{number}←{'7 ' * 2000}\n" for number in range(300)), []
     room.put("large.apl", text)

@@ -10,7 +10,7 @@ from decimal import Decimal
 from .rooms import Outcome, Room, Test, named_tests
 
 SALES = ")DATA P←2 3⍴1250 399 ¯5 100000 7 0\n)DATA L←2 5⍴'bolt frame'\n)DATA Y←2024 2025 2026\nE←1÷0\n)DATA T←3 3⍴'JanFebMar'\n"
-CASES = {  # lines behind SALES, what they print, the file t.csv, and a part of the messages
+CASES = {  # lines after SALES, their output, the file t.csv, and a part of the messages
     "a file": ("]csv t.csv P\n", "", "1250,399,-5\n100000,7,0\n", "2 records written to t.csv\n"),
     "names and decimals": (
         "]csv t.csv P --rows L --titles Y --decimals 2\n",

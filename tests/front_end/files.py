@@ -37,7 +37,7 @@ HARD = [
 
 
 def whole_sheet(room: Room, *lines: str) -> tuple[list[str], str]:
-    """All that there is to know of the sheet that these lines make: its names, their lines, and of each its shape, kind and items."""
+    """Returns the names of the sheet that these lines make, with the line, shape, kind and items of each."""
     names = room.answers(*lines, ")NAMES").split()
     asked = [question.format(name) for name in names for question in ("⍴{}", "0=1↑0⍴{}", ",{}")]
     return names, room.answers(*lines, "]names", *asked)
@@ -66,7 +66,7 @@ def save_keeps(room: Room) -> Outcome:
 
 
 def load_on_top(room: Room) -> Outcome:
-    """A loaded file is one change; its lines are answered, with their places; files load files, and not for ever."""
+    """A loaded file is one change. Its lines are answered, with their places. Files may load files, to a limit."""
     room.put("one.apl", "A←1\n)DATA A←Q\n]load two.apl\nA\n")
     room.put("two.apl", "B←A+1\nB\n]load absent.apl\n")
     room.put("self.apl", "]load self.apl\n")
@@ -77,7 +77,7 @@ def load_on_top(room: Room) -> Outcome:
 
 
 def scripts(room: Room) -> Outcome:
-    """Scripts are answered in their order, with their places; - goes on with standard input."""
+    """Scripts are answered in their order, with their places; - continues with standard input."""
     room.put("a.apl", "\ufeff)DATA D←1 2 3\n\nT←+/D\nT+Q\n")
     room.put("b.apl", "T\n]table E none.csv\n")
     first, second = room.call("a.apl", "b.apl", "-", lines="D[1]←9\nT\n1÷0\n"), room.call("absent.apl")
@@ -88,7 +88,7 @@ def scripts(room: Room) -> Outcome:
 
 
 def check(room: Room) -> Outcome:
-    """--check tells of faults alone, of names too that show an error which arose in them; and it writes no file."""
+    """--check reports only faults, with the names in whose formulas an error arose, and writes no file."""
     room.put("good.apl", ")DATA D←1 2\nD\nD[1]←5\n]save kept.apl\n")
     room.put("bad.apl", "D←1 2\nD\nT←+/DD\nU←T+1\nD[1]=\nD[1]←3\n")
     good, bad = room.call("--check", "good.apl"), room.call("--check", "bad.apl")

@@ -112,13 +112,13 @@ NOTES = [
     ("+".join(f"Q{number}" for number in range(200)), "195 others are not there"),
 ]
 
-# Lines that a person may mean, and get no note.
+# Lines that get no note, since they can be meant so.
 PLAIN = ["1,200", ")DATA P←1,200", ")DATA P←12,50,3", "12,50", ")DATA DEMAND←1 2\n)ROW DEMAND 1", "+/[1]2 2⍴⍳4", "(1 2)[1]", "A←1\n2 -A"]
 
-# Lines that are an error, beside which no note stands: none would be right of all such lines.
+# Lines with an error and no note, because no note would be right for all such lines.
 NO_HINT = ["⍲/⍳0", "⍳¯1", "2*¯1", "(6÷2)*¯1", "A←6÷3\n(A÷2)⍴¯1"]
 
-# The lines that hints advise, and the answer to the last one.
+# Lines that hints recommend, and the answer to the last one.
 ADVICE = [
     (")DATA T←3 4 5\n(+/T)÷⍴T", "4"),
     (")DATA T←3 9 5\n⌈/T", "9"),
@@ -129,7 +129,7 @@ ADVICE = [
     ("(1 2 3)[2]", "2"),
 ]
 
-# Looks for slips in lines of some 200,000 signs: a search from each sign would take the square of that.
+# Looks for slips in lines of some 200,000 characters. A search from each of them would take quadratic time.
 LONG = """
 from sheet.lines import Line
 from sheet.slips import doubts_of, slip_of
@@ -160,14 +160,14 @@ def advice(room: Room, lines: str, answer: str) -> Outcome:
 
 
 def long_lines(_room: Room) -> Outcome:
-    """Hints on long lines come at once, and for a line that is too long nothing is looked for but its length."""
+    """Hints on long lines come at once. For a line that is too long, only the length is checked."""
     words, variables = [sys.executable, "-B", "-c", LONG], {**os.environ, "PYTHONPATH": str(TOP / "share")}
     ran = subprocess.run(words, env=variables, capture_output=True, text=True, timeout=SECONDS)
     return ran.stdout + ran.stderr, "16\n"
 
 
 def blanks(room: Room) -> Outcome:
-    """Beside a line that is too long stands its length alone, however the line looks."""
+    """The note on a line that is too long has only its length."""
     messages = room.messages("A" + " " * 400000 + "x").splitlines()
     wanted = "  the line has 400002 bytes, and a line has at most 4096; a table from a file comes in by ]table"
     return (messages[0], messages[2:]), ("line 1: LINE TOO LONG", [wanted])

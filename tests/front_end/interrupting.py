@@ -1,4 +1,4 @@
-"""Ctrl-C stops a running task; behind it the sheet, its log and the program agree."""
+"""Ctrl-C stops a running task. The sheet, its log and the program then agree."""
 
 from __future__ import annotations
 

@@ -17,7 +17,7 @@ def with_orders(room: Room) -> None:
 
 
 def month_of_orders(room: Room) -> Outcome:
-    """The report of the orders, with labels; the sums agree with those of the lines."""
+    """The report of the orders has labels, and its sums agree with the order lines."""
     with_orders(room)
     text = (room.folder / "orders.csv").read_text("cp1252").replace(".", "").replace(",", "")
     fields = [line.split(";") for line in text.splitlines()[1:]]

@@ -70,7 +70,7 @@ WATCHING = {
 
 
 def watching(room: Room, lines: str, printed: str) -> Outcome:
-    """The names that are watched are shown behind each change that reaches them, and behind no other line."""
+    """Watched names are shown after each change that reaches them, and after no other line."""
     room.put("t.csv", "1,2\n3,4\n")
     room.put("t.apl", "D[1]←4\nD[2]←1\n")
     room.put("x.apl", "X←1\nX←2\n")

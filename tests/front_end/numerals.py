@@ -12,7 +12,7 @@ from typing import NamedTuple, Optional
 from .rooms import Outcome, Room, Test
 
 PRICES = "Preis;Menge\n12,50;100\n3,9;250\n-0,75;40\n"
-CASES = {  # a file, lines, their output, and a part of their messages; those of refusals begin with a place
+CASES = {  # a file, lines, their output, and a part of their messages; a refusal begins with a place
     "decimals": (
         PRICES,
         "]table A t.csv --header --decimals 2\nA\n",

@@ -1,4 +1,4 @@
-"""Sheets that are saved by the script that they come from."""
+"""Sheets that are saved to their script."""
 
 from __future__ import annotations
 
@@ -14,7 +14,7 @@ from sheet.program import Program
 from .rooms import Outcome, Room, Test, named_tests
 from .sessions import Chance, Sheet, program_of
 
-CASES = 25  # of each test with lines by chance
+CASES = 25  # of each test with random lines
 
 PLAN = """⍝ The plan of a week.
 
@@ -59,7 +59,7 @@ EXAMPLES = {  # a script, lines typed behind it, and the saved script
 
 
 def example(room: Room, script: str | bytes, lines: str, saved: str) -> Outcome:
-    """Compares the script that is saved; the program refuses no line of it."""
+    """Compares the saved script, of which the program refuses no line."""
     room.put("plan.apl", script)
     room.put("t.csv", "1,2\n")
     room.put("more.apl", "A←7\n")
@@ -102,7 +102,7 @@ def large_data(room: Room) -> Outcome:
 
 
 def one_item(room: Room) -> Outcome:
-    """An item that is edited changes one line of data that has many, with a comment and below a formula that reads it."""
+    """An edited item changes one line of data that has many lines, a comment, and a formula above that reads it."""
     sheet, path = Sheet(program_of(room)), room.folder / room.put("plan.apl", "T←+/M\n)DATA M←60 3⍴⍳180 ⍝ of a table\nV←M[1;]\n")
     sheet.take_all(f"]load {path}", "M[20;2]←¯5", "]save")
     before = path.read_text().split("\n")
@@ -114,7 +114,7 @@ def one_item(room: Room) -> Outcome:
 
 
 def recovered(room: Room) -> Outcome:
-    """Of a sheet that was recovered, the comments of its file stay, and its names stand in their places."""
+    """A recovered sheet keeps the comments of its file and the order of its names."""
     path = room.folder / room.put("plan.apl", "⍝ first\nA←1 ⍝ one\n\n)DATA D←1 2 ⍝ two\nD[1]←5\n⍝ last\nB←)(\n")
     sheet = Sheet(program_of(room))
     sheet.take_all("A←1 ⍝ one", ")DATA D←1 2 ⍝ two", "D[1]←7", "C←A")
@@ -126,7 +126,7 @@ def recovered(room: Room) -> Outcome:
 
 
 def script_behind_names(room: Room) -> Outcome:
-    """A script is no home of a sheet that has names before it."""
+    """A sheet with earlier names has no home in a loaded script."""
     sheet, path = Sheet(program_of(room)), str(room.folder / room.put("plan.apl", "A←1\n"))
     sheet.take("N←1")
     starting.run_script(sheet, path, ["-", path])
@@ -188,7 +188,7 @@ class Saving:
         return b"]table" in self.raw or b"]labels" in self.raw
 
     def faults_of_content(self, path: Path, raw: bytes) -> Iterator[str]:
-        """Yields a fault where the file makes another sheet, or has lines that are refused."""
+        """Yields a fault if the file makes another sheet, or has refused lines."""
         loaded = Sheet(self.other)
         loaded.take(f"]load {path}")
         refused = [line for line in loaded.refused if Line(line).kind != "nothing"]
@@ -200,11 +200,11 @@ class Saving:
             yield "a line is too long"
 
     def faults_of_lines(self, before: list[str], after: list[str]) -> Iterator[str]:
-        """Yields a fault where a line that should stay does not."""
+        """Yields a fault for each lost line that should stay."""
         quiet = [line for line in before if Line(line).kind in ("nothing", "show", "names", "cost", "csv")]
         if not is_part(quiet[:-1] if quiet[-1:] == [""] else quiet, after):
             yield "a comment, a blank line or a show is gone"
-        names = self.sheet.journal.bindings  # of their lines those that were refused became comments
+        names = self.sheet.journal.bindings  # their refused lines became comments
         for name in self.unchanged(names) & plain_names(before):
             if not is_part(lines_of(name, after), lines_of(name, before)):
                 yield f"the lines of {name} are other ones"
@@ -216,7 +216,7 @@ class Saving:
 
 
 def plain_names(script: list[str]) -> set[str]:
-    """Returns the names that a script makes by lines that read nothing; none where it has lines that take others back."""
+    """Returns the names that a script makes by lines that read nothing; none if it has ]undo lines."""
     lines = [Line(line) for line in script]
     if any(line.kind in ("erase", "open") or line.code[:3] in ("]un", "]re", "]cl", "]lo", "]ta", "]la") for line in lines):
         return set()
@@ -232,7 +232,7 @@ def lines_of(name: str, script: list[str]) -> list[str]:
 
 
 def saved_by_chance(room: Room, seed: int) -> Outcome:
-    """A script by chance, changed by chance, is saved to where it comes from and elsewhere; each file makes the sheet."""
+    """A random script with random changes is saved to its home and elsewhere; each file makes the sheet."""
     programs = [program_of(room), program_of(room)]
     faults: list[object] = []
     for case in range(CASES):

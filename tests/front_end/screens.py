@@ -1,4 +1,4 @@
-"""Terminals of the system (a pty each) at which the front end runs."""
+"""Pseudoterminals in which the front end runs."""
 
 from __future__ import annotations
 
@@ -23,9 +23,9 @@ PROMPT = " " * 6
 
 
 class Screen:
-    """A terminal at which the front end runs, or a shell that runs it: its output, and keys for it.
+    """A terminal with the front end, or with a shell that runs it: its output, and keys for it.
 
-    `more` is the rest of the shell's line behind the call of the front end.
+    `more` is the rest of the line of the shell after the call of the front end.
     """
 
     def __init__(self, room: Room, *words: str, program: Optional[str] = None, shell: Optional[str] = None, more: str = "") -> None:
@@ -54,23 +54,23 @@ class Screen:
                     return
 
     def keys(self, keys: str, is_enough: Optional[str] = None) -> str:
-        """Types these keys; returns the output up to the next prompt, or up to that text."""
+        """Types keys. Returns the output up to the next prompt, or up to a text."""
         before = len(self.shown)
         os.write(self.master, keys.encode())
         self.read(lambda: self.shown[before:].endswith("\n" + PROMPT) if is_enough is None else is_enough in self.shown[before:])
         return re.sub(f"{PROMPT}$", "", self.shown[before:])
 
     def end(self, keys: str = "\x04") -> Tuple[int, str]:
-        """Types the keys that end it; returns the status and the output."""
+        """Types the keys that end the session. Returns the status and the output."""
         before = len(self.shown)
-        with contextlib.suppress(OSError):  # it has ended already
+        with contextlib.suppress(OSError):  # the process has ended
             os.write(self.master, keys.encode())
         self.read(lambda: False)
         os.close(self.master)
         return self.process.wait(SECONDS), self.shown[before:]
 
     def break_off(self, sign: Optional[signal.Signals]) -> None:
-        """Ends it by a signal, or closes the terminal where there is none, and waits until it has ended."""
+        """Ends the front end by a signal, or without one by closing the terminal. Waits until it has ended."""
         if sign:
             self.process.send_signal(sign)
             self.read(lambda: False)

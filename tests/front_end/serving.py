@@ -1,4 +1,4 @@
-"""The words of --web and the form of ]view: wrong ones get a message; tests/web tries the page itself."""
+"""The options of --web and of ]view: wrong ones get a message. tests/web tests the page."""
 
 from __future__ import annotations
 

@@ -1,4 +1,4 @@
-"""Sessions in the process of the test, and lines for them by chance."""
+"""Sessions in the process of the test, and random lines for them."""
 
 from __future__ import annotations
 
@@ -22,7 +22,7 @@ setattr(signals, "without_interrupts", contextlib.nullcontext)  # tests run in t
 class Sheet(Session):
     """A session that keeps its output, its messages, and the refused lines that would change something.
 
-    remade  how often the sheet was made again in a new program
+    remade  the number of new programs that got the whole sheet
     """
 
     def __init__(self, program: Program) -> None:
@@ -46,7 +46,7 @@ class Sheet(Session):
 
     @property
     def faults_told(self) -> list[str]:
-        """The messages about faults of the front end, or of the program."""
+        """Returns the messages about faults of the front end or of the program."""
         return [line for line in self.messages if line.startswith(("FAULT", "PROGRAM FAILED"))]
 
     def remake(self, journal: Journal, settle: Callable[[], None]) -> None:
@@ -58,7 +58,7 @@ class Sheet(Session):
 
 
 class Content(NamedTuple):
-    """All there is to know of a sheet: its names in their order, the line of each formula, and shape, kind and items of each name."""
+    """Returns the names of a sheet in their order, with the line of each formula, and the shape, kind and items of each name."""
 
     names: list[str]
     formulas: dict[str, str | None]
@@ -99,7 +99,7 @@ OTHERS += ["]load {folder}/more.apl", "]clear"]
 
 
 class Chance(random.Random):
-    """Lines by chance, over a folder with a table file and a script that others load."""
+    """Random lines, in a folder with a table file and a script that others load."""
 
     def begin_in(self, folder: Path) -> None:
         self.folder, self.tables = folder, 0
@@ -108,14 +108,14 @@ class Chance(random.Random):
         (folder / "more.apl").write_text("C←D+1\n)DATA B←3 4\n)ERASE A\nA←1\nB[1]←5\n")
 
     def change_table(self) -> None:
-        """Writes another table into the file; its time is another one too."""
+        """Writes another table, with another time, to the file."""
         self.tables += 1
         path = self.folder / "t.csv"
         path.write_text(f"{self.tables},2\n3,{self.randint(1, 9)}\n")
         os.utime(path, (self.tables, self.tables))
 
     def filled(self, forms: Sequence[str]) -> str:
-        """Returns one of the forms, with names by chance."""
+        """Returns one of the forms, with random names."""
         return self.choice(forms).format(*self.sample(NAMES, 3), folder=self.folder)
 
     def one_change(self) -> str:

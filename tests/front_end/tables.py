@@ -13,7 +13,7 @@ from .rooms import SECONDS, TOP, Outcome, Room, Test, named_tests
 
 
 def table_as_the_program(room: Room, row: dict[str, Any]) -> Outcome:
-    """A row of tests/tables.json: where the program takes the table so does ]table, with the same answers; else both name one place."""
+    """A row of tests/tables.json: ]table accepts the tables that the program accepts, with the same answers. Otherwise both name one place."""
     room.put("t.csv", row["file"])
     status, printed, messages = room.call(lines="]table D t.csv --separator ," + " --header" * row["header"] + "\n" + row["lines"])
     if row["status"] == 0:
@@ -93,7 +93,7 @@ TABLES = {  # a file, lines, their output, and a part of their messages
     ),
     "a name of the program's own": ("1,2\n", "∆1←∆2\n]table A t.csv\nA\n)NAMES\n", "1 2\n∆1\nA\n", ""),
 }
-for sign, word in ((";", ";"), ("\t", "tab"), ("|", "'|'"), (" ", "' '"), ("€", "€")):  # where a comma parts no fields, it stands in one
+for sign, word in ((";", ";"), ("\t", "tab"), ("|", "'|'"), (" ", "' '"), ("€", "€")):  # the comma is then a part of a field
     for titles, flag in (("", ""), (f"Preis{sign}Menge\n", " --header")):
         said = f"t.csv: record {2 if titles else 1} field 1 is no whole number: '12,50'; --decimals 2 reads it"
         lines = f"]table A t.csv --separator {word}{flag}\n]table B t.csv --columns 2 --separator {word}{flag}\n,B\n"
@@ -107,7 +107,7 @@ def table(room: Room, file: str | bytes, lines: str | bytes, output: str, said: 
 
 
 def large_table(room: Room) -> Outcome:
-    """A million numbers, and labels of as many signs, are read unchanged; a formula that waits for the table does not hinder that."""
+    """A million numbers, and labels with a million characters, are read unchanged, also if a formula refers to the table."""
     numbers = [(place * 7919) % 20001 - 10000 for place in range(10000)]
     room.put("t.csv", "".join(",".join(map(str, numbers[at : at + 10])) + "\n" for at in range(0, 10000, 10)))
     room.put("l.csv", "".join(f"label {number}\n" for number in range(20000)))
@@ -117,7 +117,7 @@ def large_table(room: Room) -> Outcome:
 
 
 def pipe_without_writer(room: Room) -> Outcome:
-    """A pipe is refused, and not waited for."""
+    """A pipe is refused at once."""
     os.mkfifo(room.folder / "pipe")
     messages = "line 1: pipe is a folder, a pipe or a device, and no file with a table\n  ]table A pipe\n"
     return room.call(lines="]table A pipe\n1\n"), (1, "1\n", messages)
@@ -138,7 +138,7 @@ def great_files(room: Room) -> Outcome:
 
 
 def full_sheet(room: Room) -> Outcome:
-    """In a sheet of as many names as there may be, a table takes the place of one of them, and the last new name may be a table."""
+    """In a full sheet a table replaces a name, and the last new name may be a table."""
     room.put("t.csv", "1000000,2000000,3000000,4000000\n" * 300)
     names = [f"N{number}←1" for number in range(3, 1025)]
     questions = ["⍴N1", "⍴N2", "+/,N7", "∆1"]
@@ -159,7 +159,7 @@ PIECES += ["1,2\n3,4\n"]
 
 
 class Case(NamedTuple):
-    """A table for the program, and one for ]table, with its flags, which has further columns before the columns of the program."""
+    """A table for the program, and one for ]table with its flags, which has further columns before those of the program."""
 
     text: str
     has_titles: bool
@@ -169,9 +169,9 @@ class Case(NamedTuple):
 
 
 def records(chosen: random.Random, has_titles: bool) -> list[list[str]]:
-    """Returns records of numbers; of some a field is no number, or they have not as many fields as the first."""
+    """Returns records of numbers. Some have a field that is no number, or another number of fields than the first."""
     width = chosen.randint(1, 4)
-    bad = BAD if width > 1 else BAD[:-1]  # a field without a sign is no record where it stands alone
+    bad = BAD if width > 1 else BAD[:-1]  # an empty field alone is no record
     rows = [[chosen.choice(bad if chosen.random() < 0.05 else GOOD) for _ in range(width)] for _ in range(chosen.randint(1, 5))]
     if chosen.random() < 0.1:
         rows[-1] = rows[-1][1:] if width > 2 else [*rows[-1], "1"]
@@ -187,7 +187,7 @@ def regular_case(chosen: random.Random) -> Case:
 
 
 def irregular_case(chosen: random.Random) -> Case:
-    """Returns a table of any signs."""
+    """Returns a table of any characters."""
     text = "".join(chosen.choices(PIECES, k=chosen.randint(1, 12)))
     return Case(text, chosen.random() < 0.3, *with_separator(chosen, text), 0)
 
@@ -199,14 +199,14 @@ def with_separator(chosen: random.Random, text: str) -> tuple[str, str]:
 
 
 def taken_by_the_program(room: Room, case: Case) -> str:
-    """Returns the shape and the items of a table by the program, or the place where it is none."""
+    """Returns the shape and the items of a table by the program, or the place of its fault."""
     words = [room.program, "table", "D", str(room.folder / room.put("d.csv", case.text))] + ["--header"] * case.has_titles
     ran = subprocess.run(words, input="⍴D\n,D\n".encode(), capture_output=True, timeout=SECONDS)
     return ran.stdout.decode() or re.sub("[A-Z ]+", " ", ran.stderr.decode()).strip()
 
 
 def taken_by_the_front_end(room: Room, cases: list[Case]) -> list[str]:
-    """Returns the same of each table by ]table; places are those in the columns of the program."""
+    """Returns the same for each table by ]table, with places in the columns of the program."""
     lines = []
     for number, case in enumerate(cases):
         room.put(f"{number}.csv", case.other_text)
@@ -221,7 +221,7 @@ def taken_by_the_front_end(room: Room, cases: list[Case]) -> list[str]:
 
 
 def random_tables(room: Room, seed: int) -> Outcome:
-    """Any table is taken by ]table as by the program, or refused at the same place."""
+    """]table reads any table like the program, or refuses it at the same place."""
     chosen = random.Random(seed)
     cases = [regular_case(chosen) for _ in range(100)] + [irregular_case(chosen) for _ in range(50)]
     answers = zip(cases, taken_by_the_front_end(room, cases), [taken_by_the_program(room, case) for case in cases])

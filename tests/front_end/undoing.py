@@ -1,4 +1,4 @@
-"""Changes that are taken back."""
+"""]undo and ]redo."""
 
 from __future__ import annotations
 
@@ -9,7 +9,7 @@ from .files import whole_sheet
 from .rooms import Outcome, Room, Test, named_tests
 from .sessions import Chance, Sheet, content_of, program_of
 
-CHANGES = 160  # of each test with changes by chance
+CHANGES = 160  # of each test with random changes
 
 UNDONE = {  # a line that changes the sheet below, and its title in the message of ]undo
     "T←1+Q": "T←1+Q",
@@ -38,7 +38,7 @@ def undo(room: Room, line: str, title: str) -> Outcome:
 
 
 class Undoing:
-    """Changes by chance that are taken back and made again.
+    """Random changes, with ]undo and ]redo.
 
     lines   the typed lines
     undone  how many changes were taken back
@@ -55,7 +55,7 @@ class Undoing:
         self.sheet.take_all(*lines)
 
     def step(self, number: int) -> bool:
-        """Makes a change, or takes some back; returns whether the sheet equals the kept lines."""
+        """Makes a change, or undoes some. Returns whether the sheet equals the kept lines."""
         self.take(*self.chance.changes())
         if number % 4:
             return True
@@ -80,7 +80,7 @@ def content_anew(program: Program, journal: Journal) -> object:
 
 
 def undone_by_chance(room: Room, seed: int) -> Outcome:
-    """After changes that are taken back and made again, the sheet equals the kept lines; most changes have an inverse."""
+    """After ]undo and ]redo the sheet equals the kept lines; most changes have an inverse."""
     undoing = Undoing(room, seed)
     is_right = all(map(undoing.step, range(CHANGES)))
     undoing.end()
@@ -89,7 +89,7 @@ def undone_by_chance(room: Room, seed: int) -> Outcome:
 
 
 def open_change(room: Room) -> Outcome:
-    """A change that is open is given up first; then the last one that was made is taken back, also where it made the open one stale."""
+    """]undo first drops an open change, and then undoes the last change, also if that made the open one stale."""
     sheet = Sheet(program_of(room))
     sheet.take_all(")DATA D←1 2", "D[1]←3", ")OPEN 1 D[2]←9", "]undo", ")COMMIT 1", "]undo", "D")
     sheet.take_all(")OPEN 1 D[2]←9", "D[1]←5", "]undo", "D", "]undo", "]undo")
@@ -99,7 +99,7 @@ def open_change(room: Room) -> Outcome:
 
 
 def many_undos(room: Room) -> Outcome:
-    """To make and to take back edits, rows and bindings, the program is asked a number of lines for each that does not grow."""
+    """Edits, rows and bindings, and their undo, take a constant number of lines to the program each."""
     counts = []
     for number in (10, 40):
         sheet = Sheet(program_of(room))
@@ -115,7 +115,7 @@ def many_undos(room: Room) -> Outcome:
 
 
 def open_change_of_load(room: Room) -> Outcome:
-    """A change that a file opens is given up first only where the file makes none behind it."""
+    """]undo first drops a change that a file opens only if the file makes no later change."""
     messages = []
     for text in ("B←2\n)OPEN 1 A←4\nC←3\n", "B←2\nC←3\n)OPEN 1 A←4\n"):
         sheet, path = Sheet(program_of(room)), room.folder / room.put("t.apl", text)
@@ -126,7 +126,7 @@ def open_change_of_load(room: Room) -> Outcome:
 
 
 def undo_of_load(room: Room) -> Outcome:
-    """A file that removes a name and makes it again is one change, behind which that name stays the last one."""
+    """A file that removes a name and makes it again is one change, after which that name is the last one."""
     sheet, path = Sheet(program_of(room)), room.folder / room.put("t.apl", ")ERASE A\nA←3\nB←4\n")
     sheet.take_all("A←1", "B←2", f"]load {path}", "C←1", ")ERASE B", "]undo")
     names = sheet.program.ask(")NAMES"), [*sheet.journal.bindings]

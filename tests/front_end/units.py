@@ -6,7 +6,7 @@ from .rooms import Outcome, Room, Test, named_tests
 
 PRICES = "12.50\n3.99\n"
 READ = "]table P t.csv --decimals 2\n"
-CASES = {  # lines, and what they print
+CASES = {  # lines, and their output
     "a table": (READ + "]print P\n]names\n", "12.50\n 3.99\nP  data  numbers 2 1 in units of 0.01\n"),
     "an edit and a row": (READ + "P[1;1]←5\n)ROW P 700\n]print P\n", "0.05\n3.99\n7.00\n"),
     "data and formulas by hand": (

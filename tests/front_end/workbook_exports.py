@@ -76,7 +76,7 @@ def export(room: Room, lines: str, sheets: Sheets, said: str) -> Outcome:
 
 
 def number_formats(room: Room) -> Outcome:
-    """Numbers have their decimals as a format, dates theirs, and texts that begin as formulas are marked as texts."""
+    """Decimals and dates are number formats. Texts that look like formulas are marked as texts."""
     room.answers(LISTS + "]export t.xlsx P --rows L\n]export v.xlsx Y\n)DATA D←46023\n]export u.xlsx D --dates YYYY-MM-DD\n")
     books = [import_module("openpyxl").load_workbook(room.folder / name).active for name in ("t.xlsx", "u.xlsx", "v.xlsx")]
     formats = [books[0]["B1"].number_format, books[1]["A1"].number_format, books[2]["A1"].number_format]
@@ -84,7 +84,7 @@ def number_formats(room: Room) -> Outcome:
 
 
 def replaced_workbook(room: Room) -> Outcome:
-    """An existing workbook stays without --replace, and where a name shows an error."""
+    """An existing workbook stays without --replace, and if a name has an error."""
     room.put("t.xlsx", "old\n")
     messages = room.messages(LISTS + "]export t.xlsx P\nE←1÷0\n]export t.xlsx E --replace")
     kept = (room.folder / "t.xlsx").read_text()
@@ -101,7 +101,7 @@ def checked_export(room: Room) -> Outcome:
 
 
 def random_round_trips(room: Room) -> Outcome:
-    """]table reads what ]export writes."""
+    """]table reads the workbooks of ]export."""
     chosen, lines = random.Random(11), []
     for number in range(30):
         height, width, decimals = chosen.randint(1, 4), chosen.randint(1, 4), chosen.choice([0, 0, 1, 2, 5, 18])
@@ -113,7 +113,7 @@ def random_round_trips(room: Room) -> Outcome:
 
 
 def exports_of_tutorial(room: Room) -> Outcome:
-    """The lines of docs/TUTORIAL.md about files that are written and read again."""
+    """The lines of docs/TUTORIAL.md that write files and read them again."""
     for path in (TOP / "examples/tutorial").iterdir():
         room.put(path.name, path.read_bytes())
     lines = re.findall(r"^- `(\](?:csv|export|table) [^`]*)`", (TOP / "docs/TUTORIAL.md").read_text(), re.MULTILINE)

@@ -11,7 +11,7 @@ Rows = Sequence[Sequence[Any]]
 
 
 def workbook_of(rows: Rows, change: Callable[[Any], object] = lambda sheet: None) -> bytes:
-    """Returns a workbook of one sheet; the texts among the items that look like a formula or an error become one."""
+    """Returns a workbook of one sheet. Texts that look like a formula or an error become one."""
     book = import_module("openpyxl").Workbook()
     for row in rows:
         book.active.append(row)

@@ -4,8 +4,8 @@ They need openpyxl. If this Python lacks it and another one has it, that one run
 
 tests/workbooks/libreoffice.xlsx was converted by LibreOffice 7.4 (`soffice --convert-to xlsx`) from a workbook of openpyxl. LibreOffice
 computed its formulas. Its sheets: Preise has a table with dates, formulas and a formatted empty cell; Fehler has a column of cells of
-all kinds; Zwei Worte has merged cells. tests/workbooks/saved_again.xlsx is what LibreOffice made in the same way of a workbook of ]export, by the
-lines SAVED.
+all kinds; Zwei Worte has merged cells. LibreOffice made tests/workbooks/saved_again.xlsx in the same way
+from the workbook that ]export writes by the lines SAVED.
 """
 
 from __future__ import annotations

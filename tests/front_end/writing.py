@@ -1,4 +1,4 @@
-"""Files that a sheet is saved in: an existing file stays, unless it is the home or --replace is given, and keeps its rights."""
+"""Saved files: an existing file stays, unless it is the home or --replace is given, and keeps its mode."""
 
 from __future__ import annotations
 
@@ -8,7 +8,7 @@ import shutil
 from .rooms import Outcome, Room, Test, named_tests
 from .screens import Screen
 
-# Root may write any file; so it gives that right up.
+# Root may write any file, so it drops that capability.
 AS_A_USER = ["setpriv", "--bounding-set", "-dac_override,-dac_read_search", "--inh-caps", "-dac_override,-dac_read_search"]
 
 
@@ -56,7 +56,7 @@ def save_without_file(room: Room) -> Outcome:
 
 
 def links(room: Room) -> Outcome:
-    """A symbolic link stays one: its file gets the sheet, and is made where it is not there."""
+    """A symbolic link stays one: its file gets the sheet, and is made if it is missing."""
     (room.folder / "plans").mkdir()
     room.put("plans/a.apl", "A←1\n")
     os.symlink("plans/a.apl", room.folder / "link.apl")

@@ -18,7 +18,7 @@ from .sizes import try_limits, try_sizes
 
 Test = Callable[[str], str]  # takes the program, and returns the figures that it measured
 
-OF_TWO_LENGTHS = [try_sizes, try_long_line, try_many_lines]  # those that are longer with --long
+OF_TWO_LENGTHS = [try_sizes, try_long_line, try_many_lines]  # longer with --long
 OF_ONE_LENGTH = [try_worst_lines, try_many_names, try_limits, try_end_of_memory, try_deep_lines]
 OF_ONE_LENGTH += [try_broken_input, try_cut_output, try_closed_output, try_full_device]
 LENGTHS: list[Sequence[int]] = [range(41), [64, 65, 1024]]  # of lines under folds
