@@ -1,4 +1,4 @@
-"""What was printed for a line: a value, or an error or a refusal. The same text can be either, since a value can be any text."""
+"""Answers of the program: values, errors and refusals. The same text can be either, because a value can be any text."""
 
 from __future__ import annotations
 
@@ -15,18 +15,18 @@ ERRORS = "SYNTAX|VALUE|AXIS|RANK|LENGTH|DOMAIN|INDEX|LIMIT"
 REFUSALS = "CYCLE|NOT FOUND|NOT DATA|SHEET FULL|NO MEMORY|NOT TEXT|LINE TOO LONG|STALE|NOT READY|NO SLOT|SLOT IN USE"
 FAULT = re.compile(f"(?P<kind>(?:{ERRORS}) ERROR)(?: IN (?P<origin>[^ ]+))?|(?P<refusal>{REFUSALS})")
 
-# What is printed for a line that is no fault, but for a value; for other kinds of lines nothing is. Names have no blanks, and faults do.
+# Answers to lines that are no fault and no value; other kinds of lines print nothing. Names have no blanks, and faults do.
 WELL = {"names": "[^ ]*", "cost": "[0-9]+\n", "open": "[0-9]+\n", "step": "[0-9]+\n", "csv": "[-0-9,\n]*"}
 
 
 class Answer:
     """The answer of the program to a line.
 
-    lines     what was printed
+    lines     the printed lines
     is_fault  whether it is an error or a refusal
-    seconds   how long the answer took
-    kind      which error or refusal, where it is a known one, else None
-    origin    the name in whose formula the error arose; None if it arose in the line itself
+    seconds   the time until the answer
+    kind      the error or refusal, if it is a known one, else None
+    origin    the name of the formula in which the error arose; None if it arose in the line itself
     """
 
     def __init__(self, line: Line, lines: list[str], is_fault: bool, seconds: float = 0) -> None:
@@ -39,7 +39,7 @@ class Answer:
 def answer(program: Program, line: Line) -> Answer:
     """Gives the line to the program, and returns its answer.
 
-    A value can be any text; so of other errors than those of FAULT, only those are told from it that stand in the place of a known answer.
+    A value can be any text. So an error that FAULT does not match is recognized only in the place of a known answer.
     """
     begun = time.monotonic()
     lines = program.ask(line.text)
@@ -61,9 +61,9 @@ def first_refusal(printed: Iterable[list[str]]) -> Optional[str]:
 
 
 def is_value(program: Program, line: Line, lines: list[str]) -> bool:
-    """Returns whether a text that reads like a fault is a value: the shape of a value is numbers, and of a fault it is that fault.
+    """Returns whether a text that reads like a fault is a value. The shape of a value is numbers, and the shape of a fault is that fault.
 
-    The question is a sign longer than the line. Where that is beyond a limit, which the answer to the line was not, it counts as a fault.
+    The question is a character longer than the line. If only the question exceeds a limit, the text counts as a fault.
     """
     shape = program.ask("⍴" + line.text)
     return shape != lines and is_shape(shape)

@@ -7,9 +7,9 @@ from typing import Sequence
 from .lines import LONGEST
 
 ROOM = LONGEST - 200  # bytes of a line for items; the text before them has less than 200
-CHARACTERS, NUMBERS = ROOM // 4, ROOM // 22  # items that a line has room for, however wide they are
-SHORT = 100  # characters of a line that has a whole matrix
-MANY_ROWS = 1000  # of more rows, several stand in a line
+CHARACTERS, NUMBERS = ROOM // 4, ROOM // 22  # items that fit a line at any width
+SHORT = 100  # characters of a line with a whole matrix
+MANY_ROWS = 1000  # with more rows, several share a line
 MOST_ITEMS = 1 << 20  # of an array
 
 
@@ -19,10 +19,10 @@ def literal(items: str | Sequence[str]) -> str:
 
 
 def lines_of_array(name: str, shape: Sequence[int], items: str | Sequence[str], spare: str, each: int = 1) -> list[str]:
-    """Returns few lines that bind a name to an array of that shape: its items are a text, or texts of numbers, `each` of them in each.
+    """Returns few lines that bind a name to an array of that shape. Its items are a text, or texts with `each` numbers each.
 
-    Items that one line has no room for are gathered as the rows of a matrix, under the name `spare`: each item is moved a few times,
-    however many there are. `spare` may be the name itself; if it is another one, it is erased at the end.
+    Items beyond one line are gathered as rows of a matrix under the name `spare`. Each item moves a constant number of times. `spare` may be
+    the name itself; another name is erased at the end.
     """
     if isinstance(items, str):
         room = ROOM // (2 if items.isascii() else 4)
@@ -34,10 +34,10 @@ def lines_of_array(name: str, shape: Sequence[int], items: str | Sequence[str], 
 
 
 def rows_of_array(name: str, shape: Sequence[int], items: str | Sequence[str], spare: str) -> list[str]:
-    """Returns lines that bind a name to an array as lines_of_array does; a change of one item changes one line.
+    """Returns lines that bind a name to an array as lines_of_array does. A change of one item changes one line.
 
-    A vector that fits one line is one, and so is a matrix of a short line. Otherwise each row of a matrix is a line; of many rows as many
-    share a line as always fit. A row too long for a line is divided evenly.
+    A vector that fits is one line, and so is a matrix that fits a short line. Otherwise each row of a matrix is a line, but many rows share
+    lines. A row too long for a line is divided evenly.
     """
     if len(items) <= LONGEST:
         line = whole_line(name, shape, items)
@@ -56,7 +56,7 @@ def rows_of_array(name: str, shape: Sequence[int], items: str | Sequence[str], s
 
 
 def whole_line(name: str, shape: Sequence[int], items: str | Sequence[str]) -> str:
-    """Returns the line that binds a name to an array, however long it is."""
+    """Returns the line of any length that binds a name to an array."""
     is_literal = not shape or len(shape) == 1 and (len(items) > 1 or items == "")
     return (f")DATA {name}←" if is_literal else beginning(name, shape)) + (literal(items) if items or items == "" else "0")
 
@@ -67,7 +67,7 @@ def beginning(name: str, shape: Sequence[int]) -> str:
 
 
 def gathered(name: str, shape: Sequence[int], items: str | Sequence[str], spare: str, count: int, each: int = 1) -> list[str]:
-    """Returns the lines of an array of which `count` items stand in each line, and fewer in the last one."""
+    """Returns the lines of an array with `count` items in each line, and fewer in the last one."""
     whole = len(items) // count * count
     lines = matrix_lines(spare, [literal(items[at : at + count]) for at in range(0, whole, count)], count * each)
     if whole < len(items):
@@ -78,7 +78,7 @@ def gathered(name: str, shape: Sequence[int], items: str | Sequence[str], spare:
 
 
 def parted_rows(name: str, shape: Sequence[int], items: str | Sequence[str], spare: str, room: int) -> list[str]:
-    """Returns the lines of an array whose rows have several lines each, all as long; zeros or blanks fill the last of each row."""
+    """Returns the lines of an array with several lines of equal length for each row; zeros or blanks fill the last one."""
     width, rows = shape[-1], len(items) // shape[-1]
     parts = -(-width // room)
     count = -(-width // parts)
@@ -96,10 +96,10 @@ def parted_rows(name: str, shape: Sequence[int], items: str | Sequence[str], spa
 
 
 def filled(items: str | Sequence[str], count: int) -> str | Sequence[str]:
-    """Returns items with as many blanks or zeros behind them as make them `count`."""
+    """Returns items with blanks or zeros appended up to `count`."""
     return items.ljust(count) if isinstance(items, str) else [*items, *["0"] * (count - len(items))]
 
 
 def matrix_lines(name: str, literals: Sequence[str], width: int) -> list[str]:
-    """Returns the lines that make a matrix, a row each."""
+    """Returns the lines that make a matrix, one for each row."""
     return [f")DATA {name}←1 {width}⍴{literals[0]}", *[f")ROW {name} {row}" for row in literals[1:]]]

@@ -15,7 +15,7 @@ NO_VALUE = "is a formula without a computed value; open the workbook in a spread
 
 
 class Cell(str):
-    """The text of a cell, and the reason why it is no field; this class is of cells that are always refused."""
+    """The text of a cell, and the reason why it is no field. Cells of this class itself are always refused."""
 
     def __new__(cls, text: str, reason: str = "") -> Cell:
         return super().__new__(cls, text)
@@ -61,7 +61,7 @@ class DateCell(Cell):
 
 
 def field_of(value: object, is_error: bool) -> str:
-    """Returns the field for the value of a cell, as openpyxl gives it."""
+    """Returns the field for the value of a cell, as openpyxl returns it."""
     if isinstance(value, bool):
         return Cell(str(value).upper(), f"is {str(value).upper()}, and neither a number nor a text")
     if is_error:

@@ -1,4 +1,4 @@
-"""The lines that begin with ], as user commands do in other APLs: their forms, and how one is found and run."""
+"""Lines that begin with ], as user commands do in other APLs: their forms, lookup and execution."""
 
 from __future__ import annotations
 
@@ -21,7 +21,7 @@ COMMENT = re.compile(r"""((?:'[^']*'|"(?:\\.|[^"\\])*"|\\.|(?<=[^\s])⍝|[^'"\\�
 
 
 class Word(NamedTuple):
-    """A word of a form: its name, whether it may be left out, and whether it stands for any number of words."""
+    """A word of a form: its name, whether it is optional, and whether it stands for any number of words."""
 
     name: str
     is_optional: bool
@@ -31,8 +31,8 @@ class Word(NamedTuple):
 class Form:
     """The form of a command.
 
-    Words in capitals are needed, in brackets not. NAME.. stands for several words, and WORD.. for words of any signs, as quotes and ⍝. A
-    flag is in brackets, with an example of the word that follows it, if one does.
+    Words in capitals are required, words in brackets optional. NAME.. stands for several words, and WORD.. for words of any characters, as
+    quotes and ⍝. A flag is in brackets, with an example of its value, if it has one.
     """
 
     def __init__(self, text: str) -> None:
@@ -93,18 +93,18 @@ def name_of(flag: str) -> str:
 
 
 class Command(NamedTuple):
-    """A command: its form, a sentence about it, and the function that carries it out with a session and the values of the form."""
+    """A command: its form, a sentence about it, and the function that executes it with a session and the values of the form."""
 
     form: Form
     sentence: str
     carry_out: Callable[..., None]
 
 
-COMMANDS: Dict[str, Command] = {}  # by the word behind the ]
+COMMANDS: Dict[str, Command] = {}  # by the word after the ]
 
 
 def command(form: str, sentence: str) -> Callable[[Callable[..., None]], Callable[..., None]]:
-    """Puts a function among the commands."""
+    """Registers a function as a command."""
 
     def register(carry_out: Callable[..., None]) -> Callable[..., None]:
         COMMANDS[form[1:].split()[0]] = Command(Form(form), sentence, carry_out)
@@ -114,7 +114,7 @@ def command(form: str, sentence: str) -> Callable[[Callable[..., None]], Callabl
 
 
 def run(session: Session, text: str) -> None:
-    """Carries a line out; a Mistake if that is not possible."""
+    """Executes a line; a Mistake if that is not possible."""
     line = text.partition("]")[2].lstrip(BLANKS)
     word = re.split(r"\W", line)[0]
     if word not in COMMANDS:

@@ -39,7 +39,7 @@ def date_of(number: str, word: str) -> str:
 
 
 def dates_of(word: Optional[str]) -> str:
-    """Returns the form behind --dates, empty without the option; a Mistake for another word."""
+    """Returns the form after --dates, empty without the option; a Mistake for another word."""
     found = DATE_FORM.fullmatch(word or "")
     if word is not None and not (found and len({found[1], found[3], found[4]}) == 3):
         raise Mistake("--dates is followed by the form of a date, as YYYY-MM-DD, DD.MM.YYYY or MM/DD/YYYY")

@@ -4,7 +4,7 @@ from __future__ import annotations
 
 
 class Mistake(Exception):
-    """A request that cannot be carried out: one sentence, and perhaps lines below that tell how to mend it."""
+    """A request that fails: one sentence, and perhaps lines with a remedy."""
 
 
 class Stopped(Exception):
@@ -12,11 +12,11 @@ class Stopped(Exception):
 
 
 class End(Exception):
-    """The person has ended the session, or a file that is loaded has ended itself."""
+    """The user has ended the session, or a loading file has ended itself."""
 
 
 class Lost(Exception):
-    """The program cannot be started again, so the session ends: one sentence, which tells where the sheet is kept."""
+    """The program cannot be restarted, so the session ends: one sentence, with the place of the kept sheet."""
 
 
 class OutputFailed(Exception):

@@ -15,12 +15,12 @@ if TYPE_CHECKING:
     from .program import Program
     from .session import Session
 
-MOST = 200  # items of a value that are shown
+MOST = 200  # items shown of a value
 LABELS = 11  # columns of the labels
 
 
 class Glance(NamedTuple):
-    """A short look at the value of a name: an error, or the kind and the shape, and the items if they are not many."""
+    """A summary of a value: an error, or the kind and the shape, and the items if there are few."""
 
     error: str
     kind: str
@@ -37,7 +37,7 @@ class Glance(NamedTuple):
 
 
 def glances_at(program: Program, names: list[str]) -> dict[str, Glance]:
-    """Returns a short look at each name. No value of more than MOST items is asked for."""
+    """Returns a summary of each name. It requests no value with more than MOST items."""
     answers = program.ask_all([question for name in names for question in (f"⍴{name}", f"0=1↑0⍴{name}")])
     shapes = [[int(length) for length in shape[0].split()] if is_shape(shape) else None for shape in answers[::2]]
     small = [name for name, shape in zip(names, shapes) if shape is not None and 0 < prod(shape) <= MOST]
@@ -49,7 +49,7 @@ def glances_at(program: Program, names: list[str]) -> dict[str, Glance]:
 
 
 def why(session: Session, name: str) -> list[str]:
-    """Returns the lines that explain a name; a Mistake if it is not there."""
+    """Returns the lines that explain a name; a Mistake if the name is absent."""
     bindings, binding = session.journal.bindings, session.binding(name)
     reads = binding.references
     glances = glances_at(session.program, [other for other in dict.fromkeys([name, *reads]) if other in bindings])
@@ -69,7 +69,7 @@ def why(session: Session, name: str) -> list[str]:
 
 
 def labelled(label: str, texts: list[str]) -> list[str]:
-    """Returns texts below each other, the first one behind its label."""
+    """Returns texts as lines, the first one after its label."""
     return [f"  {label if place == 0 else '':<{LABELS - 2}}{text}" for place, text in enumerate(texts)]
 
 

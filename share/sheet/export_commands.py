@@ -21,7 +21,7 @@ GAP = "  "  # between columns of ]print
 
 
 class Layout(NamedTuple):
-    """The options of both commands: names of labels, and how numbers are written."""
+    """The options of both commands: names of labels, and the format of numbers."""
 
     rows: Optional[str]
     titles: Optional[str]
@@ -30,7 +30,7 @@ class Layout(NamedTuple):
     dates: Optional[str]
 
     def texts(self, items: Sequence[str], own_decimals: int) -> List[str]:
-        """Returns numbers of the program as texts; `own_decimals` counts without --decimals."""
+        """Returns numbers of the program as texts, with `own_decimals` unless --decimals is given."""
         if self.dates is None:
             decimals = own_decimals if self.decimals is None else decimals_of(self.decimals)
             return with_decimals(items, decimals, "," if self.comma else ".")

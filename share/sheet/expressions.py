@@ -9,7 +9,7 @@ from typing import NamedTuple, Optional, Union
 
 from .lines import Token
 
-REDUCES = frozenset("/⌿\\⍀")  # behind a scalar function they make another function of it
+REDUCES = frozenset("/⌿\\⍀")  # after a scalar function they make another function
 ENDS = frozenset(")];")
 
 
@@ -18,7 +18,7 @@ class Unreadable(Exception):
 
 
 class Operand(NamedTuple):
-    """An operand: its place, the expression in its parentheses, and the indexes behind it."""
+    """An operand: its place, the expression in its parentheses, and the indexes after it."""
 
     start: int
     end: int
@@ -74,19 +74,19 @@ class Reader:
         self.tokens, self.next = tokens, 0
 
     def sign(self, ahead: int = 0) -> str:
-        """Returns the text of the next part, or of one further ahead; an empty text behind the end."""
+        """Returns the text of the next part, or of one further ahead; an empty text after the end."""
         place = self.next + ahead
         return self.tokens[place].text if place < len(self.tokens) else ""
 
     def take(self, wanted: str = "") -> Token:
-        """Returns the part that comes next, and goes behind it."""
+        """Returns the next part, and moves past it."""
         if self.next >= len(self.tokens) or wanted and self.sign() != wanted:
             raise Unreadable
         self.next += 1
         return self.tokens[self.next - 1]
 
     def expression(self) -> Expression:
-        """Reads an expression up to its end: a closing sign, or the end of the line."""
+        """Reads an expression up to a closing symbol or the end of the line."""
         parts: list[Union[Operand, Function]] = []
         while self.sign() and self.sign() not in ENDS:
             is_operand = self.tokens[self.next].kind != "sign" or self.sign() == "("
@@ -94,7 +94,7 @@ class Reader:
         return expression_of(parts)
 
     def operand(self) -> Operand:
-        """Reads a literal, a name or an expression in parentheses, and the indexes behind it."""
+        """Reads a literal, a name or an expression in parentheses, and the indexes after it."""
         first = last = self.take()
         inside: Optional[Expression] = None
         indexes: list[Index] = []

@@ -17,7 +17,7 @@ from .scripts import script_of_sheet
 if TYPE_CHECKING:
     from .session import Session
 
-DEEPEST = 16  # files that are loaded by files that are loaded
+DEEPEST = 16  # depth of files that load files
 
 
 @command("]save [FILE] [--replace]", "writes the sheet to a file, or to the one that it comes from; --replace where another one is there")
@@ -53,7 +53,7 @@ def load(session: Session, file: str) -> None:
 
 
 def load_lines(session: Session, file: str, source: BinaryIO, identity: Tuple[int, int]) -> None:
-    """Answers the lines of an open file; the changes that they make become one."""
+    """Answers the lines of an open file; their changes become one change."""
     first, outer = len(session.journal.changes), session.loading
     try:
         session.loading = [*outer, identity]
@@ -89,7 +89,7 @@ def forget_log(chosen: recovery.Unended) -> None:
 
 
 def go_on_with(session: Session, chosen: recovery.Unended) -> None:
-    """Takes over the home of a session that is recovered, and logs it; its own log stays until a file has all of it."""
+    """Takes over the home of a recovered session, and logs it. The old log stays until a file has all changes."""
     session.home = chosen.home_as_it_is()
     session.settle([])
     if session.log and session.log.begin_anew(session.journal, session.home):

@@ -20,7 +20,7 @@ MARK = b"\xef\xbb\xbf"  # the byte order mark
 
 
 class Part(NamedTuple):
-    """The part that lines of a script have in a name: their numbers, 0 for a line of another file, and the table files that they read."""
+    """The lines of a script that made a name: their numbers, 0 for a line of another file, and the table files that they read."""
 
     numbers: List[int]
     sources: List[Source]
@@ -32,7 +32,7 @@ class Home(NamedTuple):
     path    its path, from the root
     digest  the digest of the content that was read or written
     lines   its lines
-    parts   the part that these lines have in each name that they made; None if that is not known
+    parts   the lines of each name that they made; None if that is unknown
     makes   the bindings that they make, in their order
     mark    its byte order mark, if it has one
     end     the end of its last line, if it has one
@@ -53,7 +53,7 @@ class Home(NamedTuple):
 
 
 def opened(file: str) -> BinaryIO:
-    """Opens a file for reading, and waits for no writer of a pipe; a Mistake if that is not possible."""
+    """Opens a file for reading, without a wait for the writer of a pipe; a Mistake if that is not possible."""
     try:
         return open(file, "rb", opener=lambda path, flags: os.open(path, flags | os.O_NONBLOCK))
     except (OSError, ValueError) as error:
@@ -106,7 +106,7 @@ def home_of(file: str, journal: Journal, first: int = 0) -> Home | None:
 
 
 def parts_of(file: str, changes: Iterable[Change]) -> dict[str, Part]:
-    """Returns the part that the lines of a script have in each name that they made."""
+    """Returns the lines of a script that made each name."""
     parts: dict[str, Part] = {}
     for change in changes_of_lines(changes):
         place = change.places[0] if change.places else None
@@ -129,10 +129,10 @@ def changes_of_lines(changes: Iterable[Change]) -> Iterator[Change]:
 
 
 def save(file: str, raw: bytes, home: Home | None, may_replace: bool) -> Tuple[str, str]:
-    """Writes a script to a file, and returns its path and its digest. A file that was there is kept as FILE~.
+    """Writes a script to a file, and returns its path and its digest. The old file is kept as FILE~.
 
-    A Mistake, and nothing is written: where another file is there than the home, or the home was changed by someone else, unless it may be
-    replaced; where the file is no ordinary one; where the system refuses it.
+    Raises a Mistake and writes nothing if the file is not the home, or someone else changed it, unless `may_replace`; if the file is not
+    regular; or if the system refuses.
     """
     path = put(file, raw, there_already(file), partial(check_home, file, home), may_replace)
     return str(path), digest_of(raw)
@@ -217,7 +217,7 @@ def write(target: Path, raw: bytes, may_replace: bool) -> None:
 
 @contextlib.contextmanager
 def beside(target: Path) -> Iterator[Path]:
-    """Makes an empty file beside another one for a block, and removes it behind it, if it is still there."""
+    """Makes an empty file beside another one for a block, and removes it at the end, if it still exists."""
     number, path = tempfile.mkstemp(prefix=f".{target.name}-", dir=target.parent)
     os.close(number)
     try:
@@ -228,14 +228,14 @@ def beside(target: Path) -> Iterator[Path]:
 
 
 def take_rights(new: Path, target: Path) -> None:
-    """Gives a file the rights of the one that it replaces, and the owner if that is allowed; a new file gets the usual rights."""
+    """Gives a file the mode of the file that it replaces, and the owner if that is allowed. A new file gets the usual mode."""
     if not target.exists():
         mask = os.umask(0)
         os.umask(mask)
         os.chmod(new, 0o666 & ~mask)
         return
     there = target.stat()
-    for owner in (there.st_uid, -1):  # a file of another user becomes one's own, and stays in its group
+    for owner in (there.st_uid, -1):  # a file of another user becomes ours, and keeps its group
         with contextlib.suppress(OSError):
             os.chown(new, owner, there.st_gid)
             break

@@ -115,7 +115,7 @@ def sort(session: Session, order: str, name: str, column: Optional[str], down: b
     if array.error or not 1 <= len(array.shape) <= 2:
         raise Mistake(f"{name} shows {array.error}" if array.error else f"{name} has {len(array.shape)} axes, and no rows")
     keys = keys_of(array, column)
-    places = sorted(range(len(keys)), key=keys.__getitem__, reverse=down)  # equal rows stay in their order
+    places = sorted(range(len(keys)), key=keys.__getitem__, reverse=down)  # equal rows keep their order
     lines = lines_of_array(order, [len(places)], [str(place + 1) for place in places], session.journal.spare_name(order))
     session.change(f"]sort {order} {name}", lines)
 

@@ -1,4 +1,4 @@
-"""The commands that help, and that end: ]help, ]keys, ]why and ]off."""
+"""The commands ]help, ]keys, ]why and ]off."""
 
 from __future__ import annotations
 

@@ -1,4 +1,4 @@
-"""Signals: Ctrl-C stops the line under way; a request to end, and a terminal that is closed, end the session."""
+"""Signals: Ctrl-C stops the current line; a request to end, or the end of the terminal, ends the session."""
 
 from __future__ import annotations
 
@@ -12,14 +12,15 @@ from typing import Iterator, Optional
 
 ENDING = (signal.SIGTERM, signal.SIGHUP)
 WAKING = signal.SIGURG  # sent to the main thread, to end a wait; ignored where it has no handler
-DELAY = 0.1  # seconds from a signal until a wait is ended that has not seen it
+DELAY = 0.1  # seconds from a signal to the end of a wait that has missed it
 
 
 class Signals:
-    """The handler of all signals: each raises an exception in the main thread, wherever that is, unless signals are held.
+    """The handler of all signals: each raises an exception in the main thread, unless signals are held.
 
-    Other threads get no signals, so holding and releasing them there does nothing. A signal that raises holds those behind it until the session goes on, so no second one cuts off the work that the first one has begun.
-    While signals are held, Ctrl-C does nothing, and one of ENDING is only noted.
+    Other threads get no signals, so holding and releasing does nothing there. A signal that raises holds later ones until the session
+    continues, so a second one does not interrupt the work that the first one began. While signals are held, Ctrl-C does nothing, and a signal
+    of ENDING is only recorded.
 
     are_held        whether no signal raises
     is_interrupted  whether Ctrl-C came since a block of `delayed` began
@@ -31,7 +32,7 @@ class Signals:
         self.ending: Optional[int] = None
 
     def install(self) -> None:
-        """Takes the signals over, except those that the caller of the front end has set to be ignored."""
+        """Installs handlers, except for signals that the caller of the front end ignores."""
         for number in (signal.SIGINT, *ENDING):
             if signal.getsignal(number) != signal.SIG_IGN:
                 signal.signal(number, self.take)
@@ -54,18 +55,18 @@ class Signals:
         raise KeyboardInterrupt
 
     def hold(self) -> None:
-        """Makes signals raise nothing from here on."""
+        """Holds signals from now on."""
         self.are_held = True
 
     def release(self) -> None:
-        """Lets signals raise again; one of ENDING that came meanwhile raises here."""
+        """Releases signals. A signal of ENDING that came meanwhile raises here."""
         self.are_held = False
         if self.ending:
             self.act()
 
     @contextlib.contextmanager
     def held(self) -> Iterator[None]:
-        """Holds signals in a block, and releases them behind it unless they were held before."""
+        """Holds signals in a block, and releases them after it unless they were held before."""
         if not is_main_thread():
             yield
             return
@@ -78,7 +79,7 @@ class Signals:
 
     @contextlib.contextmanager
     def delayed(self) -> Iterator[None]:
-        """Holds signals in a block, behind which Ctrl-C raises too if it came there, unless signals were held before."""
+        """Holds signals in a block. After it a held Ctrl-C raises too, unless signals were held before."""
         if not is_main_thread():
             yield
             return
@@ -111,7 +112,7 @@ def is_main_thread() -> bool:
 
 
 def wake_behind_signals() -> None:
-    """Ends the wait of the main thread a while behind each signal: readline misses one that comes just before it waits for a key."""
+    """Ends a wait of the main thread shortly after each signal, since readline misses a signal just before it waits for a key."""
     numbers, pipe = os.pipe()
     os.set_blocking(pipe, False)
     signal.signal(WAKING, lambda number, frame: None)
@@ -120,7 +121,7 @@ def wake_behind_signals() -> None:
 
 
 def wake(numbers: int, thread: int) -> None:
-    """Reads the numbers of the signals that come, and sends WAKING to a thread behind each other one."""
+    """Reads the numbers of incoming signals, and sends WAKING to a thread after each other signal."""
     while read := os.read(numbers, 512):
         if {*read} != {WAKING}:
             time.sleep(DELAY)

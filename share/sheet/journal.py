@@ -1,4 +1,4 @@
-"""The changes that the program has accepted, in their order, and the binding of each name by them."""
+"""The accepted changes in their order, and the bindings of names that they make."""
 
 from __future__ import annotations
 
@@ -45,7 +45,7 @@ class Binding:
 
     is_data   whether it is data, and not a formula
     text      the line that makes it; None if there is no single one
-    place     the last line of a script that had a part in it, or None
+    place     the last line of a script that changed it, or None
     source    the state of the table file when it was read, or None
     decimals  the decimals of its unit, from the comment of its line; an edit or a row keeps them
     is_edit   whether an edit or a row made it from the binding before
@@ -63,18 +63,18 @@ class Binding:
 
     @functools.cached_property
     def references(self) -> List[str]:
-        """The names that its formula refers to; data refers to none."""
+        """Returns the names in its formula; data has none."""
         return [] if self.is_data or self.text is None else Line(self.text).references
 
 
 class Change:
-    """A change that ]undo takes back in one piece.
+    """A change that ]undo reverts as a whole.
 
     title    the text by which messages name it
     lines    its lines
     bound    the names that it binds, in their order, each with its binding; None if it is erased
     places   the places of the lines of scripts from which it comes
-    inverse  lines that undo it while it is the last change; None if the sheet has to be made again without it
+    inverse  lines that undo it while it is the last change; None if the sheet must be made again without it
     before   the bindings of these names before it, None if a name was not there
     parts    the changes that it joins
     """
@@ -108,7 +108,7 @@ def change_of(line: Line, place: Optional[Place] = None) -> Change:
 
 
 def joined(title: str, changes: Sequence[Change]) -> Change:
-    """Returns one change in place of several that follow one another. It has an inverse where all of them have one."""
+    """Returns one change in place of several successive ones. It has an inverse if all of them have one."""
     bound: Dict[str, Optional[Binding]] = {}
     before: Dict[str, Optional[Binding]] = {}
     for change in changes:
@@ -137,9 +137,9 @@ class OpenChange(NamedTuple):
 class Journal:
     """The changes of a sheet since it was empty.
 
-    bindings  each name that is present, in the order that the program has: a new one goes last, and one that is there stays in its place
+    bindings  the present names in the order of the program: a new name goes last, and a present one keeps its place
     slots     the changes that are open, by their slots
-    undone    the changes that were taken back since the last one was made; the last of them is first to be made again
+    undone    the changes undone since the last new one; the last of them is the first to redo
     """
 
     def __init__(self, changes: Iterable[Change] = ()) -> None:
@@ -205,12 +205,12 @@ class Journal:
         return change
 
     def opened_last(self) -> Optional[str]:
-        """Returns the slot of the change that was opened last, if no change was made since."""
+        """Returns the slot of the last opened change, if no change was made since."""
         slots = [slot for slot, opened in self.slots.items() if opened.after == len(self.changes)]
         return slots[-1] if slots else None
 
     def take_back(self) -> Change:
-        """Takes the last change back, and returns it."""
+        """Reverts the last change, and returns it."""
         change = self.changes.pop()
         self.undone.append(change)
         if change.erases:
@@ -220,13 +220,13 @@ class Journal:
         return change
 
     def without_last(self) -> Journal:
-        """Returns a journal in which the last change is taken back, and no change is open."""
+        """Returns a journal without the last change and without open changes."""
         shorter = Journal(self.changes[:-1])
         shorter.saved, shorter.undone = self.saved, [*self.undone, self.changes[-1]]
         return shorter
 
     def make_again(self) -> Change:
-        """Makes the change again that was taken back last, and returns it."""
+        """Redoes the last undone change, and returns it."""
         change, rest = self.undone[-1], self.undone[:-1]
         self.add(change)
         self.undone = rest

@@ -1,4 +1,4 @@
-"""What a line is, by its text: what kind of line, of which name, and which names it refers to."""
+"""The kind of a line, its name and its references, by its text."""
 
 from __future__ import annotations
 
@@ -22,7 +22,7 @@ CHANGES = ("definition", "data", "edit", "row", "erase")
 
 
 class Token(NamedTuple):
-    """A part of a line: its kind, which is text, number, name or sign; how it is written; and the places where it begins and ends."""
+    """A part of a line: its kind (text, number, name or sign), its spelling, and the places where it begins and ends."""
 
     kind: str
     text: str
@@ -37,12 +37,12 @@ def tokens_of(text: str) -> list[Token]:
 
 
 def code_of(text: str) -> str:
-    """Returns the line without its comment, and with nothing in its texts."""
+    """Returns the line without its comment, and with empty texts."""
     return "".join("''" if piece[0] == "'" else piece for piece in PIECE.findall(text) if piece[0] != "⍝").strip(BLANKS)
 
 
 def place_in_text(text: str, place: int) -> int:
-    """Returns the place in a line of the sign that stands at this place of its code."""
+    """Returns the place in a line for a place in its code."""
     places: list[int] = []
     for piece in PIECE.finditer(text):
         if piece[0][0] == "'":
@@ -58,14 +58,14 @@ def without_comment(text: str) -> str:
 
 
 class Line:
-    """A line as it was typed.
+    """A typed line.
 
     text        the line without its end
-    code        the same without comment, and with nothing in its texts
+    code        the same without comment, and with empty texts
     kind        one of CHANGES; names, cost, csv, open, step, commit or drop; nothing, user (it begins with ]), unknown or show
-    name        the name that it binds, edits, makes longer, removes or prints as records, if there is one
-    slot        the number of the slot that it is about, if there is one
-    expression  of the code the expression that is shown or bound; of other lines the whole
+    name        the name that it binds, edits, extends, removes or prints as records, if there is one
+    slot        the number of its slot, if there is one
+    expression  the code of the shown or bound expression; for other lines the whole code
     """
 
     def __init__(self, text: str) -> None:
@@ -99,11 +99,11 @@ class Line:
 
     @property
     def opened(self) -> Line:
-        """The line that )OPEN begins, or the whole line where there is none."""
+        """Returns the line after )OPEN k, or the whole line of another kind."""
         opening = OPENING.match(self.text)
         return Line(opening[2] if opening else self.text)
 
     @property
     def references(self) -> list[str]:
-        """The names that its expression refers to, in the order in which they stand there."""
+        """Returns the names in its expression, in their order."""
         return list(dict.fromkeys(REFERENCE.findall(self.expression)))

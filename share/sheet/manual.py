@@ -1,4 +1,4 @@
-"""The manual's own text, docs/LANGUAGE.md, as plain lines: of a symbol, a function, an error, a refusal, or a line that begins with )."""
+"""The text of the manual, docs/LANGUAGE.md, as plain lines: about a symbol, a function, an error, a refusal, or a line that begins with )."""
 
 from __future__ import annotations
 
@@ -72,7 +72,7 @@ def page() -> Page:
 
 
 def rows_of(section: str, lines: list[str]) -> list[Row]:
-    """Returns the rows of a table; its first line has the heads, and the second one parts them from the rows."""
+    """Returns the rows of a table, whose first line has the heads, and whose second line is a rule."""
     cells = [[cell.strip().replace("\\|", "|") for cell in re.split(r"(?<!\\)\|", line)[1:-1]] for line in lines]
     return [Row(section, cells[0], row) for row in cells[2:]]
 
@@ -96,7 +96,7 @@ def rows_of_symbol(symbol: str) -> list[Row]:
 
 
 def of_symbols(words: str) -> list[str]:
-    """Returns the lines about each symbol in a word that has nothing else in it."""
+    """Returns the lines about each symbol in a word of symbols."""
     pattern = "|".join(map(re.escape, symbols()))
     written = "".join(SPELLINGS.get(sign, sign) for sign in words)
     if not re.fullmatch(f"(?:{pattern})+", written):
@@ -105,7 +105,7 @@ def of_symbols(words: str) -> list[str]:
 
 
 def of_fault(words: str) -> list[str]:
-    """Returns the lines about an error or a refusal: its row, and the passages that say where it comes."""
+    """Returns the lines about an error or a refusal: its row, and the passages about its place in the order of checks."""
     fault = next((kind for kind in KINDS if words.upper() in (kind, kind.replace(" ERROR", ""))), None)
     if fault is None:
         return []
@@ -116,7 +116,7 @@ def of_fault(words: str) -> list[str]:
 
 
 def of_command(words: str) -> list[str]:
-    """Returns the lines about a line that begins with ): its row, and the passages of lines and of refusals that tell of it."""
+    """Returns the lines about a line that begins with ): its row, and the passages about it in the sections of lines and of refusals."""
     word = words.upper().replace(" ", "").lstrip(")")
     if word not in COMMAND_WORDS:
         return []
@@ -143,13 +143,13 @@ def explained(words: str) -> list[str]:
 
 
 def lines_of_row(row: Row) -> list[str]:
-    """Returns the terms of a row, and a line for each further cell behind the word at its head."""
+    """Returns the terms of a row, and a line for each further cell after the head of its column."""
     cells = [(head, plain(cell)) for head, cell in zip(row.heads[1:], row.cells[1:]) if cell]
     return ["  ".join(row.terms) or plain(row.cells[0]), *(line for head, cell in cells for line in wrapped(f"{head}: {cell}"))]
 
 
 def lines_of_passages(title: list[str], passages: list[Passage]) -> list[str]:
-    """Returns passages, each behind the title of its section if that is another than before."""
+    """Returns passages, each after the title of its section if the section is new."""
     lines, section = [*title], ""
     for passage in passages:
         if passage.section != section:
@@ -160,7 +160,7 @@ def lines_of_passages(title: list[str], passages: list[Passage]) -> list[str]:
 
 
 def wrapped(text: str) -> list[str]:
-    """Returns a text in lines that are indented, as wide as the terminal at most."""
+    """Returns a text as indented lines, at most as wide as the terminal."""
     width = min(WIDEST, columns())
     first, further = "  ", "    "
     return textwrap.wrap(text, width, initial_indent=first, subsequent_indent=further, break_long_words=False, break_on_hyphens=False)

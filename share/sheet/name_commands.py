@@ -15,7 +15,7 @@ from .units import units_of, with_units
 if TYPE_CHECKING:
     from .session import Session
 
-MOST_LINES = 20  # of an array that is shown
+MOST_LINES = 20  # of a shown array
 
 
 @command("]names", "lists the names in their order: data or formula, of numbers or characters, the shape, and the formula")
@@ -74,7 +74,7 @@ def rename(session: Session, old: str, new: str) -> None:
 
 
 def renamed(text: str, old: str, new: str) -> str:
-    """Returns a line in which references to a name are to another one; its texts and its comment stay."""
+    """Returns a line with the references to a name replaced by another name; its texts and its comment stay."""
     reference = rf"(?<![A-Za-z∆⍙0-9_]){old}(?![A-Za-z∆⍙0-9_])"
     pieces: List[str] = PIECE.findall(text)
     return "".join(piece if piece[0] in "'⍝" else re.sub(reference, new, piece) for piece in pieces)

@@ -1,6 +1,6 @@
-"""What is said beside an error or a refusal: which names are absent, the way of a cycle, shapes, and hints for the usual slips.
+"""Notes on an error or a refusal: absent names, the cycle, shapes, and hints for the usual slips.
 
-Nothing here changes an answer. What is said is found in the text of the lines, or asked of the program.
+No note changes an answer. Notes come from the text of the lines, or from questions to the program.
 """
 
 from __future__ import annotations
@@ -18,9 +18,9 @@ if TYPE_CHECKING:
     from .places import Spot
     from .session import Session
 
-MOST = 5  # absent names of which each has a note of its own
+MOST = 5  # absent names with their own note
 
-# Functions that do not take all items, and the hint on a DOMAIN ERROR of theirs.
+# Functions that refuse some items, and the hint on their DOMAIN ERROR.
 TAKEN = {
     "∧^∨⍲⍱~∼": "{} takes 0 and 1 alone",
     "+-×|∣⌈⌊<≤≥>": "{} takes numbers alone, and no characters",
@@ -39,7 +39,7 @@ REFUSED = {
 
 
 def of_fault(session: Session, answer: Answer, spot: Optional[Spot] = None) -> list[str]:
-    """Returns the notes on an error or a refusal, whose place is this one, if it is known."""
+    """Returns the notes on an error or a refusal at this place, if the place is known."""
     if answer.kind is None:
         return ["no such answer is known, so the line counts as refused"]
     if answer.kind not in (*ABOUT, "DOMAIN ERROR"):
@@ -57,7 +57,7 @@ def of_slip(line: Line) -> list[str]:
 
 
 def subject(answer: Answer) -> Line:
-    """Returns the line that was refused, or is an error; of )OPEN the line in it."""
+    """Returns the refused or failed line; for )OPEN k the line after it."""
     return answer.line.opened if answer.line.kind == "open" else answer.line
 
 
@@ -87,7 +87,7 @@ def of_value(session: Session, answer: Answer) -> list[str]:
 
 
 def way_round(session: Session, line: Line) -> list[str]:
-    """Returns the names on a shortest way from a name through formulas back to it, and nothing if there is none."""
+    """Returns the names on a shortest cycle from a name through formulas, or nothing if there is none."""
     bindings, first = session.journal.bindings, line.name or ""
     before = dict.fromkeys(line.references, first)
     ahead = deque(before)
@@ -105,7 +105,7 @@ def way_round(session: Session, line: Line) -> list[str]:
 
 
 def of_cycle(session: Session, answer: Answer) -> list[str]:
-    """Returns the way from the name through formulas back to it."""
+    """Returns the cycle from the name through formulas as text."""
     way = way_round(session, subject(answer))
     return [" → ".join(way)] if way else []
 
@@ -132,7 +132,7 @@ def of_shapes(session: Session, answer: Answer) -> list[str]:
 
 
 def of_items(session: Session, answer: Answer, spot: Optional[Spot]) -> list[str]:
-    """Returns a note on the items that the function at the error does not take; on ÷ if the function is not known."""
+    """Returns a note on the items that the function at the error refuses; on ÷ if the function is unknown."""
     line = culprit(session, answer)
     if line.kind == "csv":
         return [f")CSV prints numbers, and {line.name} is of characters"]
@@ -146,10 +146,10 @@ def of_items(session: Session, answer: Answer, spot: Optional[Spot]) -> list[str
 
 
 def base_of(function: str) -> str:
-    """Returns the scalar function of which an operator makes this one, or the function itself; nothing if shapes can be wrong."""
+    """Returns the scalar function under the operator, or the function itself; nothing if shapes can be wrong."""
     if function.startswith("∘"):
         return function[-1]
-    is_of_lines = len(function) > 1 and function[0] in "⍲⍱"  # over lines without items these have no result
+    is_of_lines = len(function) > 1 and function[0] in "⍲⍱"  # these have no result for empty lines
     return "" if "." in function or is_of_lines else function[:1]
 
 
@@ -159,7 +159,7 @@ def of_length(_session: Session, answer: Answer) -> list[str]:
 
 
 def of_syntax(session: Session, answer: Answer) -> list[str]:
-    """Returns the usual meaning of a line that looks so; else the sign that is unknown or does not pair."""
+    """Returns the usual meaning of such a line; otherwise the symbol that is unknown or not paired."""
     slip = slip_of(subject(answer), session.journal.bindings)
     return [slip.hint] if slip else []
 

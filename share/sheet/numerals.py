@@ -13,16 +13,16 @@ NUMBER = re.compile("[ \t]*([-+¯]?)([0-9]+)[ \t]*")
 SIGN_OF = {"": "", "+": "", "-": "-", "¯": "-"}
 LEAST, GREATEST = -(1 << 63), (1 << 63) - 1
 MARKS = ",."  # the decimal signs
-GAPS = " \u00a0\u2009\u202f'’"  # between thousands, as the other decimal sign is
+GAPS = " \u00a0\u2009\u202f'’"  # between thousands, like the other decimal sign
 MOST_DECIMALS = 18
 
 DIGITS = bytes.maketrans(b"123456789", b"0" * 9)
-NOT_PLAIN = [b"--", b"0-", b"-,", b"-\n", b",,", b",\n", b"\n,", b"0" * 19]  # stands in no plain record, each digit being 0
+NOT_PLAIN = [b"--", b"0-", b"-,", b"-\n", b",,", b",\n", b"\n,", b"0" * 19]  # absent from plain records, with each digit as 0
 
 
 def is_plain(text: str, separator: str = ",") -> bool:
     """Returns whether all fields are up to 18 digits with - or nothing before them, as in most tables: a million in some milliseconds."""
-    if separator != "," and "," in text:  # a field has it, and below it would pass for a separator
+    if separator != "," and "," in text:  # a field has a comma, which the next check would take for a separator
         return False
     raw = text.encode().replace(separator.encode(), b",")
     signs = b"\n" + raw.translate(DIGITS) + b"\n"
@@ -127,7 +127,7 @@ def is_within(number: str) -> bool:
 
 
 def decimals_of(word: Optional[str]) -> int:
-    """Returns the number behind --decimals, 0 without the option; a Mistake for another word."""
+    """Returns the number after --decimals, 0 without the option; a Mistake for another word."""
     if word is None:
         return 0
     if not re.fullmatch("[0-9]{1,2}", word) or not 1 <= int(word) <= MOST_DECIMALS:

@@ -1,4 +1,4 @@
-"""A pager for values that are beyond the screen."""
+"""A pager for values beyond the screen."""
 
 from __future__ import annotations
 
@@ -9,7 +9,7 @@ import shutil
 import subprocess
 from typing import NamedTuple, Sequence
 
-HEADER_VERSION = 600  # of less, from which it keeps titles in sight
+HEADER_VERSION = 600  # the first version of less that keeps titles in sight
 
 
 class Frozen(NamedTuple):
@@ -30,7 +30,7 @@ def is_wanted(lines: Sequence[str], is_text: bool) -> bool:
 
 def show(lines: Sequence[str], frozen: Frozen = Frozen()) -> None:
     """Shows a value in the pager, which cuts lines at the edge of the screen and moves them by the arrow keys."""
-    import pydoc  # a start that shows no page does not wait for it
+    import pydoc  # loaded only when a page is shown
 
     own = os.environ.get("LESS", "-S")
     has_header = any(frozen) and less_version() >= HEADER_VERSION
@@ -43,7 +43,7 @@ def show(lines: Sequence[str], frozen: Frozen = Frozen()) -> None:
 
 
 def less_version() -> int:
-    """Returns the version of less, 0 if there is none that says it."""
+    """Returns the version of less, or 0 if there is none."""
     try:
         ran = subprocess.run(["less", "--version"], stdin=subprocess.DEVNULL, capture_output=True, text=True, timeout=1)
     except (OSError, ValueError, subprocess.SubprocessError):

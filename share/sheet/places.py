@@ -1,7 +1,7 @@
 """The place of an error in its line, shown as the line with a mark below it.
 
-The place of an error of values is asked of the program. It evaluates from the right, and an error is the value of all that stands to the
-left of it. So the error arises at the first function of the shortest part, from some place to the end, that shows the error by itself.
+Questions to the program find the place of an error of values. The program evaluates from the right, and an error is the value of everything
+to its left. So the error arises at the first function of the shortest tail of the expression that shows the error by itself.
 """
 
 from __future__ import annotations
@@ -25,28 +25,28 @@ if TYPE_CHECKING:
 MARK = "∧"
 AT_FUNCTIONS = ("LENGTH ERROR", "RANK ERROR", "INDEX ERROR", "DOMAIN ERROR", "LIMIT ERROR", "AXIS ERROR")
 WIDEST = 100  # columns if no terminal says its width
-QUESTIONS = 12  # the most that are asked for one place
-SECONDS = 0.2  # an expression whose answer took longer is not asked for again
-PARTS = 250  # of an expression: with the two functions of a question it is within the limits of the program
-ITEMS = 20000  # of the names that a formula reads, and the greatest of its numbers, where it is computed once more
+QUESTIONS = 12  # the most questions for one place
+SECONDS = 0.2  # an expression with a slower answer is not evaluated again
+PARTS = 250  # of an expression: with the two functions of a question it keeps the limits of the program
+ITEMS = 20000  # the most items of the names in a formula, and its greatest number, for another evaluation
 LONGEST_NAME = 63  # bytes
 
 
 class Spot(NamedTuple):
-    """The place of an error: the line, the place of a sign in it, and the function that stands there, if one does."""
+    """The place of an error: the line, the place of a character in it, and the function there, if there is one."""
 
     text: str
     place: int
     function: str = ""
 
     def below(self, screen: Optional[str]) -> Optional[str]:
-        """Returns the mark as a line for below the last line of a screen, where that ends with this line and is not wrapped."""
+        """Returns a line with the mark, for the row below the last line of a screen that ends with this line, not wrapped."""
         if screen is None or not screen.endswith(self.text) or not screen.isprintable() or width_of(screen) >= columns():
             return None
         return " " * width_of(screen[: len(screen) - len(self.text) + self.place]) + MARK
 
     def lines(self, room: int = 2) -> list[str]:
-        """Returns the line and the mark below it, for behind that many columns; of a line that is too wide the part around the place."""
+        """Returns the line and the mark below it, after that many columns; a line that is too wide is cut around the place."""
         text = "".join(sign if sign.isprintable() else " " for sign in self.text)
         begin = len(text) - len(text.lstrip())
         room = columns() - room - len("....")
@@ -64,7 +64,7 @@ def columns() -> int:
 
 
 def width_of(text: str) -> int:
-    """Returns the width of a text in columns: combining signs take none, and wide ones two."""
+    """Returns the width of a text in columns: combining characters have none, and wide ones two."""
     unmarked = [sign for sign in text if unicodedata.category(sign) not in ("Mn", "Me", "Cf")]
     return sum(2 if unicodedata.east_asian_width(sign) in "FW" else 1 for sign in unmarked)
 
@@ -93,7 +93,7 @@ def spot_of(session: Session, answer: Answer) -> Optional[Spot]:
 
 
 def expression_tokens(line: Line) -> list[Token]:
-    """Returns the parts of the expression that a line shows or binds; none of other lines."""
+    """Returns the parts of the expression that a line shows or binds; none for other lines."""
     if line.kind not in ("show", "definition", "data"):
         return []
     begin = 0 if line.kind == "show" else line.text.find("←") + 1
@@ -127,7 +127,7 @@ def spot_in_change(program: Program, line: Line, answer: Answer) -> Optional[Spo
 
 
 def spot_at_function(program: Program, line: Line, answer: Answer) -> Optional[Spot]:
-    """Returns the place of the function at which an error arises, where it can be asked for at small cost."""
+    """Returns the place of the function at which an error arises, if cheap questions can find it."""
     tokens = expression_tokens(line)
     is_evaluated = line.kind != "definition" or answer.origin is not None
     if answer.kind not in AT_FUNCTIONS or not is_evaluated or not 0 < len(tokens) <= PARTS or answer.seconds > SECONDS:
@@ -150,7 +150,7 @@ def is_light(program: Program, line: Line, tokens: list[Token]) -> bool:
 
 
 class Unsure(Exception):
-    """The program's answers do not tell the place, or take too long."""
+    """The answers of the program do not show the place, or take too long."""
 
 
 class Search:
@@ -160,9 +160,9 @@ class Search:
         self.program, self.text, self.fault, self.questions = program, text, fault, QUESTIONS
 
     def shows(self, start: int, end: int) -> bool:
-        """Returns whether a part of the line shows the error by itself. The question is the length of its shape, so that little is printed.
+        """Returns whether a part of the line shows the error by itself. The question asks for the length of its shape, so the answer is short.
 
-        A part that does not show the first error of the whole shows none. Another answer, as LINE TOO LONG, tells nothing of the part.
+        A part that does not show the first error of the whole shows none. Another answer, as LINE TOO LONG, says nothing about the part.
         """
         if self.questions == 0:
             raise Unsure
@@ -174,7 +174,7 @@ class Search:
         return answer == [self.fault]
 
     def in_expression(self, expression: Expression) -> Spot:
-        """Returns the place in an expression that shows the error: halves the steps until the first one that does is left."""
+        """Returns the place in an expression that shows the error, by bisection for the first step that shows it."""
         steps = expression.steps
         low, high = int(expression.operand.is_bare), len(steps)
         while low < high:

@@ -1,4 +1,4 @@
-"""The program over pipes. Behind each line goes a fence, whose answer is known: the output before that answer answers the line."""
+"""The program over pipes. A fence with a known answer follows each line; the output before that answer belongs to the line."""
 
 from __future__ import annotations
 
@@ -14,8 +14,8 @@ from typing import IO, Iterator, List, NoReturn, Optional, Sequence, Set
 from .interrupts import signals
 
 NO_MEMORY = "NO MEMORY"
-SECONDS = 1  # how long a second fence is waited for, where the first one may have been refused memory
-HIGHEST = 0x10FFFD  # fences are of a character of this plane, the last of Unicode: in bytes of UTF-8 it begins with F4
+SECONDS = 1  # the wait for a second fence, if the first one may have been refused memory
+HIGHEST = 0x10FFFD  # fences have a character of this last plane of Unicode, which begins with F4 in UTF-8
 OF_PLANE = re.compile(rb"\xf4[\x80-\x8f][\x80-\xbf][\x80-\xbf]")
 
 
@@ -26,12 +26,12 @@ class ProgramFailed(Exception):
 class Program:
     """A running program.
 
-    A fence is a text, which the program prints unchanged. Its first character stands in no line that this program was ever sent, and no
-    function of the language makes a character that was not in a line: so no other answer holds it. Fences are numbered, so that each is
-    recognized also where one before it was refused memory.
+    A fence is a text, which the program prints unchanged. Its first character was in no line sent to this program, and no function of the
+    language makes new characters, so no other answer has it. Fences are numbered, so each is recognized even if an earlier one was refused
+    memory.
 
     words       the command that starts it
-    is_in_step  whether every answer was read whole; it is not after Ctrl-C, and after a failure
+    is_in_step  whether every answer was read whole; False after Ctrl-C and after a failure
     """
 
     process: subprocess.Popen[bytes]
@@ -41,7 +41,7 @@ class Program:
     def __init__(self, words: Sequence[str]) -> None:
         self.words, self.environment = list(words), {**os.environ}
         self.fence, self.number, self.is_started, self.is_in_step = "", 0, False, False
-        self.characters: Set[str] = set()  # of the plane of fences, in the lines so far
+        self.characters: Set[str] = set()  # used ones of the plane of fences
 
     def start(self) -> None:
         """Starts it, and waits until it answers."""
@@ -66,7 +66,7 @@ class Program:
         self.reader.start()
 
     def another(self) -> Program:
-        """Returns a program with the same words, which is not started."""
+        """Returns an unstarted program with the same words."""
         other = Program(self.words)
         other.environment = self.environment
         return other
@@ -77,7 +77,7 @@ class Program:
         return self.is_started and self.is_in_step and self.reader.is_alive()
 
     def signal(self, number: int) -> None:
-        """Sends a signal to the program and to all that it has started; any thread may call this."""
+        """Sends a signal to the program and its children; any thread may call this."""
         with contextlib.suppress(ProcessLookupError):
             os.killpg(self.process.pid, number)
 
@@ -96,9 +96,9 @@ class Program:
             self.close_input()
 
     def status(self, seconds: Optional[float]) -> Optional[int]:
-        """Waits for the end of the process; returns its status, or None if it goes on for longer than these seconds.
+        """Waits for the end of the process. Returns its status, or None after these seconds.
 
-        Signals are held: one that raises within Popen.wait can leave a lock behind, on which the next call waits for ever.
+        Signals are held: one that raises within Popen.wait can leave a lock on which the next call waits for ever.
         """
         with signals.held(), contextlib.suppress(subprocess.TimeoutExpired):
             self.process.wait(seconds)
@@ -106,11 +106,11 @@ class Program:
 
     def close_input(self) -> None:
         if self.process.stdin:
-            with contextlib.suppress(OSError):  # bytes that were not sent yet
+            with contextlib.suppress(OSError):  # unsent bytes
                 self.process.stdin.close()
 
     def ask(self, line: str) -> List[str]:
-        """Returns the lines that are printed for a line. A fence that is refused memory prints one line, and is sent again."""
+        """Returns the output lines for a line. A fence that is refused memory prints one line, and is sent again."""
         self.write([line])
         fences = [self.fence]
         lines: List[str] = []
@@ -129,7 +129,7 @@ class Program:
         return lines[: end - refused]
 
     def ask_all(self, lines: Sequence[str]) -> List[List[str]]:
-        """Returns the lines that are printed for each of many lines, which are sent without waiting for an answer in between."""
+        """Returns the output lines for each of many lines, which are sent without a wait for answers."""
         return [*self.answers(lines)]
 
     def answers(self, lines: Sequence[str]) -> Iterator[List[str]]:
@@ -143,7 +143,7 @@ class Program:
         self.is_in_step = True
 
     def until(self, number: int) -> List[str]:
-        """Returns the lines that are printed before the fence of that number."""
+        """Returns the output lines before the fence of that number."""
         lines: List[str] = []
         fence = f"{self.fence[0]}{number}"
         while True:
@@ -155,7 +155,7 @@ class Program:
             lines.append(printed)
 
     def write(self, lines: Sequence[str]) -> None:
-        """Sends each line, and a fence behind each; a fence alone if there is no line."""
+        """Sends each line, followed by a fence; only a fence if there is no line."""
         self.is_in_step = False
         raw = [f"{line}\n".encode("utf-8", "surrogateescape") for line in lines] or [b""]
         for line in raw:
@@ -179,7 +179,7 @@ class Program:
             self.fail()
 
     def next_line(self, seconds: Optional[float] = None) -> Optional[str]:
-        """Returns the next line that is printed, or None if none comes in time."""
+        """Returns the next output line, or None if none comes in time."""
         try:
             line = self.printed.get(timeout=seconds)
         except queue.Empty:

@@ -1,4 +1,4 @@
-"""Progress of a task that takes long, shown at a terminal."""
+"""Progress of a long task, shown at a terminal."""
 
 from __future__ import annotations
 
@@ -11,7 +11,7 @@ PATIENCE = 1.0  # seconds until something is shown, and between two times
 
 
 class Progress:
-    """Shows how much of a task is done, on a line of its own that goes when the task ends.
+    """Shows the progress of a task on its own line, which disappears at the end of the task.
 
     task      its name
     total     the number of its steps
@@ -35,6 +35,6 @@ class Progress:
                 self.write("")
 
     def write(self, text: str) -> None:
-        """Writes a text in place of the one before it."""
+        """Writes a text in place of the last one."""
         print("\r" + text.ljust(self.width) + "\r" * (not text), end="", file=sys.stderr, flush=True)
         self.width = len(text)

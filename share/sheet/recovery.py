@@ -1,12 +1,12 @@
-"""The log of a session: each accepted change is appended to a file, so that a session that did not end well can go on.
+"""The log of a session: each accepted change is appended to a file, so that an interrupted session can be continued.
 
 The file is a text: a line with the time, then a line for each change. Other events are comments:
 
   ⍝ lines N: TITLE      the next N lines are one change
   ⍝ joined N: TITLE     the last N changes are one
-  ⍝ undo 1: TITLE       the last change is taken back
-  ⍝ redo 1: TITLE       that change is made again
-  ⍝ saved DIGEST: PATH  the sheet is as that file has it; the path is a string of JSON
+  ⍝ undo 1: TITLE       the last change is undone
+  ⍝ redo 1: TITLE       that change is redone
+  ⍝ saved DIGEST: PATH  the sheet equals that file; the path is a string of JSON
 
 A session holds a lock on its log while it runs, so that others see whether it does.
 """
@@ -51,12 +51,12 @@ PLACES: List[Callable[[], Path]] = [state_folder, Path.cwd, lambda: Path(tempfil
 
 
 class Log:
-    """The log of a session that runs.
+    """The log of a running session.
 
     path       its file; None if none could be written so far
     is_whole   whether the file has all changes except `pending`; it has none before the first unsaved change
-    pending    bytes that are not in the file yet, since the system refused them
-    is_behind  whether the person knows that changes are missing in the file
+    pending    bytes missing in the file, because the system refused them
+    is_behind  whether the user knows that changes are missing in the file
     """
 
     def __init__(self, tell: Callable[[str], None]) -> None:
@@ -67,7 +67,7 @@ class Log:
         threading.Thread(target=self.flush_regularly, daemon=True).start()
 
     def begin(self, journal: Journal, home: Optional[Home]) -> None:
-        """Writes a log of the present sheet to a new file in the first folder that takes it; tells if no folder does."""
+        """Writes a log of the present sheet to a new file in the first possible folder; prints a note if there is none."""
         is_whole = not journal.is_saved
         events = events_of(journal, home) if is_whole else saved(home) if home else []
         raw = raw_of([HEAD + time.strftime("%Y-%m-%d %H:%M:%S"), *events])
@@ -142,7 +142,7 @@ class Log:
         self.catch_up()
 
     def cut_off(self) -> None:
-        """Removes the part of a line that was written."""
+        """Removes a partly written line."""
         with contextlib.suppress(OSError):
             os.ftruncate(self.file, self.length)
             os.lseek(self.file, self.length, os.SEEK_SET)
@@ -221,10 +221,10 @@ def redone(change: Change) -> List[str]:
 
 
 class Unended(NamedTuple):
-    """The log of a session that did not end well.
+    """The log of an interrupted session.
 
     path     its file
-    begun    the time at which it began
+    begun    the time of its start
     journal  the changes that it logs completely
     home     the digest and the path of the file that the sheet was loaded from or saved to, or None
     """
@@ -301,7 +301,7 @@ class Replay:
 def read(path: Path) -> Unended:
     """Reads a log; a ValueError if the file is none.
 
-    A last line that is not complete counts as not there. So does a part that a crash of the machine has damaged, with all behind it.
+    Ignores an incomplete last line, and a part damaged by a crash of the machine with all lines after it.
     """
     lines = path.read_bytes().decode("utf-8", "surrogateescape").split("\n")[:-1]
     if not lines or not lines[0].startswith(HEAD):
@@ -332,7 +332,7 @@ def is_own(path: Path) -> bool:
 
 
 def unended() -> Iterator[Unended]:
-    """Yields the sessions that did not end well and have changes that are not saved, the last one first; removes logs without such."""
+    """Yields the interrupted sessions with unsaved changes, the last one first, and removes the logs of others."""
     for path in logs():
         with contextlib.suppress(OSError, ValueError, LookupError):
             if is_locked(path):

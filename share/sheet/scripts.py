@@ -1,4 +1,4 @@
-"""The script by which a sheet is saved: lines of the one that it comes from that still hold, and new ones for the rest."""
+"""The script that saves a sheet: the lines of its home that still hold, and new lines for the rest."""
 
 from __future__ import annotations
 
@@ -73,7 +73,7 @@ class Entry:
 
 
 class MadeLine(NamedTuple):
-    """A line of the script: its text, and the name in whose making it has a part, if there is one."""
+    """A line of the script: its text, and the name that it helps to make, if there is one."""
 
     text: str
     name: Optional[str] = None
@@ -84,9 +84,9 @@ class Script:
 
     entries  the lines of the home, by their numbers
     numbers  the numbers of the lines of the home that made each name, also of those that are gone; 0 for another file
-    placed   the number of the line in whose place the lines of a name stand
+    placed   the number of the line that the lines of a name replace
     kept     the names that the lines of the home still make
-    end      CR where the lines of the home end with it, else nothing
+    end      CR if the lines of the home end with it, else nothing
     """
 
     def __init__(self, program: Program, journal: Journal, home: Home) -> None:
@@ -114,7 +114,7 @@ class Script:
         return all(entry and entry.name and (entry.name != name or entry.line.kind != "erase") for entry in entries)
 
     def places(self) -> Dict[str, int]:
-        """Returns the place of each name that has one; names stand there in the order of the sheet, so a name that does not has none."""
+        """Returns the places of names that are in the order of the sheet. Other names have no place."""
         placed: Dict[str, int] = {}
         last = 0
         for name in self.journal.bindings:
@@ -151,7 +151,7 @@ class Script:
         return [reference for line in self.lines_of(name) for reference in line.references if line.kind in ("definition", "data")]
 
     def needs(self, name: str) -> Set[str]:
-        """Returns the names that these lines refer to, except its own formula; a name needs not itself."""
+        """Returns the names that these lines refer to. The formula of the name itself does not count."""
         lines = self.lines_of(name)
         read = [line for line in lines if line.kind == "data" or line.kind == "definition" and line is not lines[-1]]
         own = {name, *(line.name for line in lines)}
@@ -167,7 +167,7 @@ class Script:
             yield from added.get(number, [])
 
     def added(self) -> Dict[int, List[MadeLine]]:
-        """Returns the lines of names that have no place, by the number of the line behind which they stand."""
+        """Returns the lines of names without a place, by the number of the line before them."""
         added: Dict[int, List[MadeLine]] = {}
         last_placed = max(self.placed.values(), default=0)
         at = 0
@@ -197,7 +197,7 @@ class Script:
         return [MadeLine(f"{line}{self.end}", name) for line in lines]
 
     def lines_of_data(self, name: str) -> List[str]:
-        """Returns lines that write the data out that a name has."""
+        """Returns lines that write out the data of a name."""
         array = Array(self.program, name)
         spare = self.journal.spare_name(name) if self.is_read_above(name) else name
         return rows_of_array(name, array.shape, array.items, spare)
@@ -209,7 +209,7 @@ class Script:
         return any(other in reached for other in above[: above.index(name)])
 
     def parts_of(self, made: Sequence[MadeLine]) -> Dict[str, Part]:
-        """Returns the part that these lines have in each name."""
+        """Returns the lines of each name."""
         parts: Dict[str, Part] = {}
         for number, line in enumerate(made, 1):
             if line.name:

@@ -1,4 +1,4 @@
-"""A sheet in use: lines go in, and answers come out."""
+"""A sheet in use, which answers lines."""
 
 from __future__ import annotations
 
@@ -31,11 +31,11 @@ from .watching import Watch
 if TYPE_CHECKING:
     from .view.serving import Server
 
-CELLS = 1000  # edits of one change that have an inverse each; more are undone by making the sheet again
+CELLS = 1000  # the most edits of one change with an inverse each; more are undone by making the sheet again
 
 
 class Reply(NamedTuple):
-    """The answer to a line, with notes on it, and the place of the error where it is known."""
+    """The answer to a line, with notes, and the known place of an error."""
 
     answer: Answer
     remarks: List[str]
@@ -49,9 +49,9 @@ class Session:
     journal     the changes that it has accepted
     home        the script that the sheet was loaded from or saved to, if there is one
     arrival     the change that loaded the home by ]load, if one did: without it the sheet has no home
-    log         the log of the session; None if lines are not typed
+    log         the log of the session; None without a terminal
     show        called with each line that is an answer
-    tell        called with each line that tells of something else: errors, refusals, notes
+    tell        called with each other line: errors, refusals, notes
     has_screen  whether the answers go to a terminal
     is_check    whether only errors and refusals are wanted, and no file is written
     faults      the number of lines that were refused or were errors
@@ -59,11 +59,11 @@ class Session:
     loading     the files that are being loaded, each by its device and its number there
     watch       the names that are shown after each change that reaches them
     changed     the names bound since the watched names were shown last
-    draft       a line that is given back to the person to be edited
-    on_screen   the prompt and the line that was typed last; None over pipes
+    draft       a line for the user to edit
+    on_screen   the prompt and the last typed line; None over pipes
     is_settled  whether the journal has every change that the program has accepted
     lock        held while a line is answered; pages in a browser use the session too
-    followers   called with each change that is made or taken back
+    followers   called with each change that is made or undone
     server      the server of the page of the sheet, if ]view has begun one
     top         the folder whose bin/ has the program, as a rule
     at_end      calls for the end of the session, as the end of the server
@@ -93,9 +93,9 @@ class Session:
         return self.log is not None
 
     def take(self, text: str, place: Optional[Place] = None) -> None:
-        """Answers a line, whatever it is. Where the program dies over it or is stopped, the sheet is as it was before the line.
+        """Answers any line. If the program dies or is stopped, the sheet stays unchanged.
 
-        A line of a script that is stopped by Ctrl-C stops the script too.
+        Ctrl-C in a line of a script stops the script too.
         """
         with self.lock:
             self.take_alone(text, place)
@@ -128,7 +128,7 @@ class Session:
             self.place = outer
 
     def answer(self, text: str) -> None:
-        """Answers a line, and tells of its faults and slips."""
+        """Answers a line, and reports its faults and slips."""
         line = Line(text)
         if line.kind == "user":
             try:
@@ -163,13 +163,13 @@ class Session:
                 self.show(line)
 
     def show_watched(self) -> None:
-        """Shows the names that are watched and were reached by changes; not before a file that is being loaded is done."""
+        """Shows the watched names that changes have reached, but not while a file is loading."""
         if not self.loading:
             self.watch.show(self, self.changed)
             self.changed = {}
 
     def reply(self, line: Line, give: Optional[Callable[[Program, Line], Answer]] = None) -> Reply:
-        """Gives a line of the language to the program by `give`, or by `answer`; takes its change in, and returns the answer, with notes on it."""
+        """Gives a line of the language to the program by `give`, or by `answer`. Records its change. Returns the answer with notes."""
         made = None if self.place else self.journal.made_by(line)
         inverse = self.inverse(made) if made else None
         self.is_settled = False
@@ -185,7 +185,7 @@ class Session:
         return Reply(fault, notes.of_fault(self, fault, spot), spot)
 
     def settle(self, events: Sequence[str], change: Optional[Change] = None) -> None:
-        """Logs events of the journal, and notes the names that a change among them binds; signals are held."""
+        """Logs events of the journal, and records the names that their changes bind; signals are held."""
         if change:
             self.changed.update(change.bound)
             for follow in self.followers:
@@ -212,9 +212,9 @@ class Session:
         return self.journal.bindings[name]
 
     def change(self, title: str, lines: Sequence[str], source: Optional[str] = None) -> None:
-        """Gives the program lines that make one change, all or none of them; a Mistake if one of them is refused.
+        """Gives the program lines that make one change, all or none; a Mistake if one of them is refused.
 
-        `source` is the table file from which the names are read that it binds.
+        `source` is the table file of the bound names.
         """
         parsed = [Line(line) for line in lines]
         change = joined(title, [change_of(line, self.place) for line in parsed])
@@ -232,7 +232,7 @@ class Session:
             self.settle(event_of(change), change)
 
     def come_home(self, home: Optional[Home], arrival: Optional[Change] = None) -> None:
-        """Makes a file the home of the sheet, which is as that file has it; tells where another session has a new home too."""
+        """Makes a file the home of the sheet, which equals the file. Notes another session with the same home."""
         former = self.home
         with signals.held():
             self.home, self.arrival = home, arrival
@@ -242,7 +242,7 @@ class Session:
             self.tell_of_others()
 
     def tell_of_others(self) -> None:
-        """Tells where another session has the same file."""
+        """Prints a note if another session has the same file."""
         if self.home and self.log and is_open_elsewhere(self.home, self.log.path):
             self.tell("  another session has this file too: the second to save it is refused, and gets a message")
 
@@ -279,7 +279,7 @@ class Session:
         if all(line.kind == "edit" for line in lines):
             inverses = [self.inverse(line) for line in lines] if len(lines) <= CELLS else [None]
         elif any(binding is None and name in self.journal.bindings for name, binding in change.bound.items()):
-            return None  # a removed name would come back in another place
+            return None  # a removed name would return to another place
         else:
             inverses = [self.inverse_of_binding(name) for name, binding in change.bound.items() if binding]
         if None in inverses:
@@ -292,7 +292,7 @@ class Session:
             self.begin_again()
 
     def begin_again(self) -> None:
-        """Starts the program anew, and gives it the changes of the journal; they were accepted before, so they are again."""
+        """Restarts the program, and gives it the changes of the journal. They were accepted once, so they are accepted again."""
         with signals.without_interrupts():
             self.program.stop()
             try:
@@ -302,7 +302,7 @@ class Session:
                 raise Lost(str(failure)) from None
 
     def take_over(self, program: Program, journal: Journal, settle: Callable[[], None]) -> None:
-        """Starts a program, gives it the changes of a journal, and goes on with both; ProgramFailed if that is not possible.
+        """Starts a program, gives it the changes of a journal, and continues with both; ProgramFailed if that is not possible.
 
         Calls `settle` with signals held, once program and journal agree.
         """
@@ -320,7 +320,7 @@ class Session:
             self.tell(f"  the changes that were open are given up: {lost}")
 
     def remake(self, journal: Journal, settle: Callable[[], None]) -> None:
-        """Goes on with another journal in a new program, as take_over does. A failure or a stop leaves the sheet unchanged."""
+        """Continues with another journal in a new program, like take_over. A failure or a stop leaves the sheet unchanged."""
         former, program = self.program, self.program.another()
         try:
             self.take_over(program, journal, settle)
@@ -330,7 +330,7 @@ class Session:
             (former if self.program is program else program).stop()
 
     def undo(self) -> str:
-        """Takes back the last change, or gives up the change that was opened since; returns a sentence about it."""
+        """Undoes the last change, or drops a change that was opened since. Returns a sentence about it."""
         if slot := self.journal.opened_last():
             text = self.journal.slots[slot].line.text.strip()
             self.reply(Line(f")DROP {slot}"))
@@ -358,7 +358,7 @@ class Session:
         return True
 
     def redo(self) -> str:
-        """Makes the change again that was taken back last; returns a sentence about it."""
+        """Redoes the last undone change. Returns a sentence about it."""
         if not self.journal.undone:
             raise Mistake("there is no change to make again")
         self.is_settled = False
@@ -372,12 +372,12 @@ class Session:
         return f"made again: {change.title}"
 
     def run(self, file: Optional[str], source: Iterable[bytes]) -> None:
-        """Answers the lines of a script, which is read from a binary file; its name is None if that is standard input."""
+        """Answers the lines of a script in a binary file. Its name is None for standard input."""
         for number, text in enumerate(lines_of(source), 1):
             self.take(text, Place(file, number))
 
     def check_names(self) -> None:
-        """Tells of each name that shows an error which arose in its own formula, as if the line that binds it were one."""
+        """Reports each name with an error that arose in its own formula, as an error of the line that binds it."""
         for name, binding in self.journal.bindings.items():
             shown = answer(self.program, Line(name))
             if shown.is_fault and shown.origin == name:
@@ -386,7 +386,7 @@ class Session:
 
 
 def told_of(fault: Exception) -> str:
-    """Returns the kind and the text of an exception, and where in the front end it arose."""
+    """Returns the kind, the text and the origin of an exception in the front end."""
     frames = traceback.extract_tb(fault.__traceback__)
     where = f" ({os.path.basename(frames[-1].filename)}:{frames[-1].lineno})" if frames else ""
     return f"{type(fault).__name__}: {fault}{where}"

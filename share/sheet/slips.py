@@ -1,4 +1,4 @@
-"""The usual slips of a line, by its text: a hint for each, and the place in the line where it stands."""
+"""The usual slips of a line, by its text: a hint and a place for each."""
 
 from __future__ import annotations
 
@@ -48,7 +48,7 @@ DOUBTS = [
     (rf"^(?:\)\s*DATA\s*)?{NAME}\s*←\s*[0-9]+,[0-9]{{2}}$", "this joins two numbers; numbers are whole: keep cents for euros"),
 ]
 
-# Functions of a spreadsheet, and how the language has them.
+# Functions of a spreadsheet, and their form in the language.
 AVERAGE = 'an average is a total by a count, (+/T)÷⍴T, where that is whole; "Recipes" in docs/LANGUAGE.md rounds it'
 SPREADSHEET = {
     "SUM": "a total is +/T; of a matrix, +/T has one for each row, and +⌿T one for each column",
@@ -115,7 +115,7 @@ def slip_of_command(line: Line) -> Optional[Slip]:
 
 
 def mistaken_sign(line: Line) -> Optional[Slip]:
-    """Returns the first sign that only looks like one of the language."""
+    """Returns the first character that only looks like a symbol of the language."""
     place = next((place for place, sign in enumerate(line.code) if sign in MISTAKEN), None)
     if place is None:
         return None
@@ -125,7 +125,7 @@ def mistaken_sign(line: Line) -> Optional[Slip]:
 
 
 def foreign_sign(line: Line) -> Optional[Slip]:
-    """Returns the first sign that is not of the language."""
+    """Returns the first character that the language lacks."""
     foreign = (place for place, sign in enumerate(line.code) if sign not in SIGNS and not (sign.isascii() and sign.isalnum()))
     place = next(foreign, None)
     if place is None:
@@ -136,7 +136,7 @@ def foreign_sign(line: Line) -> Optional[Slip]:
 
 
 def minus_meant(line: Line, place: int) -> str:
-    """Returns the sign that a minus sign of printed texts stands for: of a number where digits follow and no operand is before it."""
+    """Returns the symbol for a typographic minus: the sign of a number if digits follow and no operand precedes, else the function."""
     before = tokens_of(line.text[:place])
     is_apart = line.text[:place].endswith((" ", "\t"))
     is_operand = bool(before) and ends_operand(before[-1]) and line.kind != "row"
@@ -146,7 +146,7 @@ def minus_meant(line: Line, place: int) -> str:
 
 
 def slip_of_pairs(line: Line) -> Optional[Slip]:
-    """Returns the text, parenthesis or bracket that is not closed, or that closes nothing."""
+    """Returns the text, parenthesis or bracket that is not closed, or closes nothing."""
     opened: list[Token] = []
     for token in tokens_of(line.text)[line.code.startswith(")") :]:
         if token.kind == "text" and token.text.count("'") % 2:
@@ -160,7 +160,7 @@ def slip_of_pairs(line: Line) -> Optional[Slip]:
 
 
 def slip_of_operands(line: Line) -> Optional[Slip]:
-    """Returns the operand that stands directly behind another one, or the bracket that holds no index and no axis."""
+    """Returns the operand right after another one, or the bracket without an index or an axis."""
     if line.kind not in ("show", "definition", "data"):
         return None
     before: Optional[Token] = None

@@ -1,4 +1,4 @@
-"""The words of bin/sheet, and how they are carried out."""
+"""The command line of bin/sheet."""
 
 from __future__ import annotations
 
@@ -30,7 +30,7 @@ go to standard error, each with the line of the script where it stands; then the
 
 
 def words() -> argparse.ArgumentParser:
-    """Returns the words that the front end takes."""
+    """Returns the options of the front end."""
     parser = argparse.ArgumentParser(prog="sheet", description=WORDS, formatter_class=argparse.RawDescriptionHelpFormatter)
     parser.add_argument("scripts", nargs="*", metavar="SCRIPT", help="a file of lines, or - for standard input")
     check = "tell of errors and refusals alone, also of names that show an error, and write no file"
@@ -51,7 +51,7 @@ def port_of(text: str) -> int:
 
 
 class Output:
-    """The output: answers go to standard output, everything else to standard error, behind the answers so far.
+    """The output: answers go to standard output, everything else to standard error, after the answers so far.
 
     answers     standard output
     has_screen  whether the answers go to a terminal
@@ -62,11 +62,11 @@ class Output:
         self.has_screen = self.answers.isatty()
 
     def part(self) -> None:
-        """Keeps standard output for the answers where it is no terminal; lines are then edited at the terminal of standard input."""
+        """Keeps standard output for the answers if it is no terminal. Lines are then edited at the terminal of standard input."""
         if not self.has_screen:
             self.answers = open(os.dup(1), "w", encoding="utf-8", errors="surrogateescape", buffering=1)
             os.dup2(0, 1)
-            with contextlib.suppress(OSError):  # standard input may be open for reading alone
+            with contextlib.suppress(OSError):  # standard input may be open only for reading
                 redirect(sys.stdout, os.ttyname(0))
 
     def show(self, line: str) -> None:
@@ -84,7 +84,7 @@ class Output:
             self.fail(error)
 
     def fail(self, error: OSError) -> NoReturn:
-        """Raises OutputFailed. The answers that are not written yet are dropped, and so are those behind them."""
+        """Raises OutputFailed. Drops all answers that are not written."""
         redirect(self.answers, os.devnull)
         raise OutputFailed("" if isinstance(error, BrokenPipeError) else error.strerror) from None
 
@@ -150,7 +150,7 @@ Answering = Callable[[Session, Sequence[str], Output], None]
 def answer_and_keep(session: Session, scripts: Sequence[str], output: Output, answering: Answering) -> None:
     """Answers the lines of each script, and ends the session and its log after any exception; no signal interrupts that.
 
-    A signal that raises holds the others itself. So they are held below also where one raises just before the call that holds them.
+    A signal that raises holds the others. So they are held below even if one raises just before the call that holds them.
     """
     try:
         try:
@@ -164,7 +164,7 @@ def answer_and_keep(session: Session, scripts: Sequence[str], output: Output, an
 
 
 def end(session: Session, log: Log) -> None:
-    """Ends the log of a session, and tells how a sheet that is not saved can be gone on with."""
+    """Ends the log of a session, and prints how to continue with an unsaved sheet."""
     path = log.end(session.journal, session.home)
     if not session.journal.is_saved:
         with contextlib.suppress(OSError, OutputFailed):  # the terminal may be gone
@@ -190,8 +190,8 @@ def answer(session: Session, scripts: Sequence[str], output: Output) -> None:
 
 
 def answer_pages(session: Session, scripts: Sequence[str], output: Output, port: int, opens: bool) -> None:
-    """Answers the lines of each script, and then those of pages in a browser, until Ctrl-C. A single script that is not there is a new one."""
-    from .view import running  # the server's modules would make each start at a terminal slower
+    """Answers the lines of each script, and then the lines of pages in a browser, until Ctrl-C. A single absent script is a new one."""
+    from .view import running  # its modules would slow each start at a terminal
 
     if "-" in scripts or session.is_check:
         sys.exit(f"sheet: --web does not go together with {'--check' if session.is_check else 'lines from standard input'}")
@@ -209,7 +209,7 @@ def answer_pages(session: Session, scripts: Sequence[str], output: Output, port:
 
 
 def begin_log(session: Session, output: Output) -> Log:
-    """Begins the log of a session, offers those that did not end well, and returns the log."""
+    """Begins the log of a session, offers the interrupted ones, and returns the log."""
     log = session.log = Log(output.tell)
     log.begin(session.journal, session.home)
     session.tell_of_others()
@@ -219,7 +219,7 @@ def begin_log(session: Session, output: Output) -> Log:
 
 
 def run_script(session: Session, script: str, scripts: Sequence[str]) -> None:
-    """Answers the lines of a script; if there is no other one, the sheet comes from it."""
+    """Answers the lines of a script. A single script is the home of the sheet."""
     is_alone = not session.journal.bindings and [script] == [name for name in scripts if name != "-"]
     try:
         with open(script, "rb") as source:
@@ -230,7 +230,7 @@ def run_script(session: Session, script: str, scripts: Sequence[str]) -> None:
 
 
 def answer_typed(session: Session, output: Output) -> None:
-    """Answers the lines that are typed at a terminal, and logs the session. It ends at once only if the sheet is kept then."""
+    """Answers lines typed at a terminal, and logs the session. It ends at once only if the sheet is kept."""
     output.part()
     log = begin_log(session, output)
     output.tell("aplsheet: ]help tells of the commands, ]keys of the keys of the symbols; Ctrl-D ends")

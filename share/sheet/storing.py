@@ -9,13 +9,13 @@ from .answers import is_shape
 from .arrays import lines_of_array
 from .program import Program
 
-FEW = 1000  # items that are asked for, to see whether one line has room for them
+FEW = 1000  # the most items of a question whether they fit one line
 
 
 class Array:
-    """The array that a name shows, as the program tells of it.
+    """The array of a name, by answers of the program.
 
-    error    the error that the name shows, or None
+    error    the error of the name, or None
     shape    the shape
     is_text  whether it is of characters
     """
@@ -35,7 +35,7 @@ class Array:
 
 
 def one_line(program: Program, name: str) -> Optional[List[str]]:
-    """Returns the line that binds a name to its array, if one has room for it and it has few items; else None."""
+    """Returns the line that binds a name to its array, if the items are few and fit one line; else None."""
     array = Array(program, name)
     if array.error or prod(array.shape) > FEW:
         return None

@@ -19,7 +19,7 @@ from .workbooks import is_workbook, table_in_workbook
 if TYPE_CHECKING:
     from .session import Session
 
-MANY_ITEMS = 1 << 20  # of an array; of more, the program is asked before they are gathered
+MANY_ITEMS = 1 << 20  # of an array; for more, the program is asked before they are gathered
 
 
 class FileKind(NamedTuple):
@@ -71,7 +71,7 @@ def put_labels(session: Session, name: str, file: str, column: str, header: bool
 
 
 def remark_on_units(session: Session, name: str, numerals: Numerals) -> None:
-    """Tells the unit of a name with decimals."""
+    """Prints the unit of a name with decimals."""
     if numerals.decimals:
         session.inform(f"{name} is {units_of(numerals.decimals)}: 1{'0' * numerals.decimals} stands for 1")
 
@@ -91,7 +91,7 @@ def numerals_of(
 
 @contextmanager
 def memory_for(file: str) -> Iterator[None]:
-    """Makes a Mistake of it if there is no memory for the table in a file."""
+    """Raises a Mistake if there is no memory for the table in a file."""
     try:
         yield
     except MemoryError:
@@ -158,7 +158,7 @@ def column_of(table: Table, title: str) -> int:
 
 
 def check_size(session: Session, shape: Sequence[int]) -> None:
-    """Raises a Mistake if the program has no arrays of that shape. It is asked for one: items that are gathered may be many more."""
+    """Raises a Mistake if the program has no arrays of that shape. It asks the program, before many items are gathered."""
     if shape[0] * shape[1] <= MANY_ITEMS:
         return
     text = " ".join(map(str, shape))

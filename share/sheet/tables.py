@@ -23,14 +23,14 @@ MARKED = [(codecs.BOM_UTF32_LE, "utf-32"), (codecs.BOM_UTF32_BE, "utf-32"), (cod
 
 
 class Table:
-    """The records of a file; of plain ones each is a text of numbers with blanks between, and of others there are the fields in turn.
+    """The records of a file. A plain record is a text of numbers with blanks between them; other records are lists of fields.
 
     separator  the sign between the fields
     width      the number of fields of each record
     titles     the record of titles; None without --header
-    records    the plain records; none where there are fields in turn
-    in_turn    the fields of records that are not plain
-    uneven     the Mistake of the record behind them, if that has not as many fields as the first
+    records    the plain records; none if there are fields in turn
+    in_turn    the fields of records that are not plain, one after the other
+    uneven     the Mistake of the next record, if it has another number of fields than the first
     """
 
     def __init__(
@@ -47,7 +47,7 @@ class Table:
 
     @property
     def first(self) -> int:
-        """The number of the first record behind the titles."""
+        """Returns the number of the first record after the titles."""
         return 1 if self.titles is None else 2
 
     @property
@@ -66,7 +66,7 @@ class Table:
         return kept
 
     def numbers(self, wanted: Sequence[int], numerals: Numerals = Numerals()) -> tuple[Sequence[str], int]:
-        """Returns the numbers of these columns, as texts, and how many stand in each; a Mistake names the first field that is none."""
+        """Returns the numbers of these columns as texts, and the count in each text; a Mistake names the first field that is no number."""
         if self.records and numerals.is_whole and wanted == [*range(1, self.width + 1)]:
             return self.records, self.width
         fields, width = self.columns(wanted), len(wanted)
@@ -119,7 +119,7 @@ class Table:
         return labels
 
     def check_end(self) -> None:
-        """Raises the Mistake of the record behind these, if there is one."""
+        """Raises the Mistake of the next record, if there is one."""
         if self.uneven:
             raise self.uneven
 
@@ -164,7 +164,7 @@ def bytes_of(file: str) -> bytes:
     """Returns the bytes of a file; a Mistake if it cannot be read, may have no end, or is too large."""
     try:
         status = os.stat(file)
-        if not stat.S_ISREG(status.st_mode):  # a pipe or a device can be waited for without end
+        if not stat.S_ISREG(status.st_mode):  # reading a pipe or a device may never end
             raise Mistake(f"{file} is a folder, a pipe or a device, and no file with a table")
         if status.st_size > LARGEST << 20:
             raise Mistake(f"{file} is larger than {LARGEST} MiB")
@@ -203,15 +203,15 @@ def encoding_of(name: str) -> str:
 
 
 def separator_of(word: Optional[str]) -> Optional[str]:
-    """Returns the sign behind --separator, None without the option; a Mistake for a sign of numbers."""
+    """Returns the separator after --separator, None without the option; a Mistake for a character of numbers."""
     sign = "\t" if word == "tab" else word
-    if sign is not None and (len(sign) != 1 or sign in '"-+¯0123456789\n\r\0' or "\ud800" <= sign <= "\udfff"):  # those are bytes that are no UTF-8
+    if sign is not None and (len(sign) != 1 or sign in '"-+¯0123456789\n\r\0' or "\ud800" <= sign <= "\udfff"):  # surrogates stand for bytes outside UTF-8
         raise Mistake("--separator is followed by one sign that is in no number, or by the word tab")
     return sign
 
 
 def separator_in(file: str, text: str) -> str:
-    """Returns the only sign that splits all records evenly, or the comma if there is none; a Mistake if there are several."""
+    """Returns the only character that splits all records evenly, or the comma if there is none; a Mistake if there are several."""
     present = [sign for sign in SEPARATORS if sign in text]
     fitting = [sign for sign in present if are_even(text, sign)] if present not in ([], [","]) else present
     if len(fitting) > 1:
@@ -221,7 +221,7 @@ def separator_in(file: str, text: str) -> str:
 
 
 def are_even(text: str, separator: str) -> bool:
-    """Returns whether a sign splits all records into the same number of fields, at least two."""
+    """Returns whether a character splits all records into the same number of fields, at least two."""
     try:
         widths = {len(record) for record in csv.reader(io.StringIO(text, newline=""), delimiter=separator) if record}
     except csv.Error:
@@ -230,9 +230,9 @@ def are_even(text: str, separator: str) -> bool:
 
 
 def table_in(file: str, text: str, separator: str, has_titles: bool) -> Table:
-    """Returns the table in a text, which came from that file; empty lines are no records.
+    """Returns the table in a text of that file; empty lines are no records.
 
-    A Mistake if it cannot be read. Of a record that has not as many fields as the first, the table has the Mistake.
+    Raises a Mistake if it cannot be read. The table keeps the Mistake of a record with another number of fields than the first.
     """
     csv.field_size_limit(sys.maxsize)
     titles, rest = cut_titles(text, separator) if has_titles else (None, text)
@@ -254,15 +254,15 @@ def table_in(file: str, text: str, separator: str, has_titles: bool) -> Table:
 
 
 def cut_titles(text: str, separator: str) -> tuple[list[str], str | None]:
-    """Returns the fields of the first record, and the text behind it; None for the text where a line does not end the record."""
+    """Returns the fields of the first record, and the text after it; None for the text if the record does not end with a line."""
     line, _, rest = text.lstrip("\r\n").partition("\n")
     line = line.rstrip("\r")
     records = [] if "\r" in line or "\0" in line else [*csv.reader([line, "0"], delimiter=separator)]
-    return (records[0], rest) if len(records) == 2 else ([], None)  # the 0 stands in the first record where a quote is open
+    return (records[0], rest) if len(records) == 2 else ([], None)  # with an open quote the 0 is in the first record
 
 
 def plain_table(file: str, titles: Optional[list[str]], text: str, separator: str) -> Table:
-    """Returns the table of plain records, which stand one on each line."""
+    """Returns the table of plain records, one on each line."""
     records = [*filter(None, text.replace(separator, " ").split("\n"))]
     widths = [len(titles or ())] * bool(titles) + [blanks + 1 for blanks in map(str.count, records, repeat(" "))]
     if mistake := uneven_record(file, widths):
@@ -271,14 +271,14 @@ def plain_table(file: str, titles: Optional[list[str]], text: str, separator: st
 
 
 def even_records(widths: Sequence[int]) -> int:
-    """Returns how many records there are until one has not as many fields as the first."""
+    """Returns the number of records before one with another number of fields than the first."""
     if len({*widths}) < 2:
         return len(widths)
     return next(place for place, width in enumerate(widths) if width != widths[0])
 
 
 def uneven_record(file: str, widths: Sequence[int]) -> Mistake | None:
-    """Returns the Mistake of the first record that has not as many fields as the first, or None."""
+    """Returns the Mistake of the first record with another number of fields than the first, or None."""
     if (record := even_records(widths)) == len(widths):
         return None
     fields = f"{widths[record]} field{'s' * (widths[record] != 1)}"

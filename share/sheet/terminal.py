@@ -15,15 +15,15 @@ from .interrupts import signals
 from .lines import COMMAND_WORDS, NAME
 from .session import Session
 
-PROMPT = " " * 6  # so that answers, which begin at the left edge, stand out
+PROMPT = " " * 6  # answers begin at the left edge, and stand out
 TAKES_FILE = re.compile(r"\s*\](?:save|load|csv|export|(?:table|labels|pivot)\s+\S+)\s+(?P<path>(?:\\.|[^\s\\])*)$")
 
 
 class Terminal:
-    """Reads the lines that a person types, and gives them to a session.
+    """Reads typed lines, and gives them to a session.
 
-    readline     the module, where this Python has it
-    history      the file of the lines of earlier sessions; None if there can be none
+    readline     the module, if this Python has it
+    history      the file with the lines of earlier sessions; None if there is none
     completions  the completions of the current word
     """
 
@@ -31,7 +31,7 @@ class Terminal:
         self.session, self.history, self.completions = session, "", [""]
         self.readline: Optional[ModuleType] = None
         if locale.nl_langinfo(locale.CODESET) != "UTF-8":
-            os.environ["LC_ALL"] = "C.UTF-8"  # so that readline takes the symbols for what they are
+            os.environ["LC_ALL"] = "C.UTF-8"  # readline then knows the symbols
         with contextlib.suppress(ImportError):  # without it, lines are read without editing
             import readline
 
@@ -56,7 +56,7 @@ class Terminal:
             self.session.tell(f"there is no history of earlier sessions: {error.strerror}")
 
     def put_draft(self) -> None:
-        """Puts the line that ]edit gives back where a line is typed."""
+        """Puts the line of ]edit at the prompt."""
         if self.readline and self.session.draft:
             self.readline.insert_text(self.session.draft)
         self.session.draft = ""
@@ -74,13 +74,13 @@ class Terminal:
         return typed
 
     def complete(self, line: str, text: str, number: int) -> Optional[str]:
-        """Returns the completion of that number of the word `text`, with which the line ends so far."""
+        """Returns the completion of this number for `text`, the last word of the line."""
         if number == 0:
             self.completions = self.completions_of(line, text)
         return self.completions[number] if number < len(self.completions) else None
 
     def completions_of(self, line: str, text: str) -> List[str]:
-        """Returns whole words that begin so: a command at the beginning, a file where a command takes one, and names."""
+        """Returns the completions of a word: commands at the start of a line, files where a command takes one, and names."""
         if line.strip() == text and text[:1] in (")", "]"):
             words = [f"){word}" for word in COMMAND_WORDS] if text[0] == ")" else [f"]{word}" for word in commands.COMMANDS]
             return [f"{word} " for word in words if word.upper().startswith(text.upper())]
@@ -92,7 +92,7 @@ class Terminal:
         return [text[: begun.start()] + name for name in names if begun and name.startswith(begun[0])]
 
     def run(self) -> None:
-        """Answers lines until the end: Ctrl-D, or ]off. Ctrl-C drops the line that is being typed."""
+        """Answers lines until Ctrl-D or ]off. Ctrl-C drops the typed line."""
         while True:
             try:
                 signals.release()
@@ -111,7 +111,7 @@ class Terminal:
 
 
 def read_line() -> str:
-    """Reads a line. Where a second signal comes at once behind a first one, readline hides the exception of the first in a SystemError."""
+    """Reads a line. If a second signal follows at once, readline hides the exception of the first in a SystemError."""
     try:
         return input(PROMPT)
     except SystemError as error:
@@ -119,12 +119,12 @@ def read_line() -> str:
 
 
 def quoted(path: str) -> str:
-    """Returns a path as a word of a command: a backslash stands before each sign that would end the word."""
+    """Returns a path as a word of a command, with a backslash before each character that would end the word."""
     return re.sub(r"""([\s'"\\])""", r"\\\1", path)
 
 
 def files_that_begin(text: str) -> List[str]:
-    """Returns the files and folders whose path begins so; hidden ones where the text says so."""
+    """Returns the files and folders whose path begins with the text; hidden ones only if the text has their dot."""
     folder, begin = os.path.split(text)
     try:
         names = sorted(os.listdir(os.path.expanduser(folder) or "."))

@@ -15,7 +15,7 @@ HIGHEST_PORT = 65535
 
 @command("]view [--port 8000]", "shows the sheet in a browser too; lines that are typed here and changes made there are of one sheet")
 def view(session: Session, port: Optional[str]) -> None:
-    from .view import running  # the server's modules would make each start slower
+    from .view import running  # its modules would slow each start
 
     if not session.is_typed:
         raise Mistake("]view is for a terminal; sheet --web FILE shows a sheet without one")

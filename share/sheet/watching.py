@@ -1,4 +1,4 @@
-"""Names that are shown again after each change that reaches them."""
+"""Watched names, which are shown after each change that reaches them."""
 
 from __future__ import annotations
 
@@ -13,7 +13,7 @@ BOLD, PLAIN = "\033[1m", "\033[0m"
 
 
 class Watch:
-    """The names that are watched, each with the lines that were shown for it last."""
+    """The watched names, each with the lines shown last."""
 
     def __init__(self) -> None:
         self.shown: Dict[str, List[str]] = {}
@@ -28,12 +28,12 @@ class Watch:
             self.shown.pop(name, None)
 
     def rename(self, old: str, new: str) -> None:
-        """Watches the name too that another one gets; the old one comes back if that is undone."""
+        """Watches the new name of a renamed one too; the old one returns if that is undone."""
         if old in self.shown:
             self.shown.update({old: [], new: []})
 
     def show(self, session: Session, changed: Iterable[str]) -> None:
-        """Shows those names again that a change of others reaches; changed items in bold, at a terminal that can."""
+        """Shows the names that a change of others reaches, with changed items in bold if the terminal has bold text."""
         if not self.shown or session.is_check:
             return
         reached = session.journal.reached(changed)

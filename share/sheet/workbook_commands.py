@@ -22,12 +22,12 @@ if TYPE_CHECKING:
 
 END = ".xlsx"
 FORMULAS = "Formulas"  # the sheet of formulas
-RESERVED = (FORMULAS, "History")  # spreadsheets keep a sheet of the latter name for themselves
+RESERVED = (FORMULAS, "History")  # spreadsheets reserve the latter name
 LONGEST_TITLE, LONGEST_TEXT = 31, 32767  # characters
 UNWRITABLE = re.compile("[^\t -\ud7ff\ue000-\ufffd\U00010000-\U0010ffff]|_x[0-9A-Fa-f]{4}_")  # the latter stands for one character
 FIRST_DAY, LAST_DAY = 61, 2958465  # from 1 March 1900 on, spreadsheets agree; the last one is 31 December 9999
 WIDEST = 60  # characters in the width of a column of labels
-FORMULA_SIGNS = tuple("=+-@")  # begin a formula where a text is typed
+FORMULA_SIGNS = tuple("=+-@")  # begin a formula in a typed text
 
 
 class Page(NamedTuple):
@@ -142,7 +142,7 @@ def written(pages: Sequence[Page]) -> bytes:
 
 
 def write_page(sheet: Any, page: Page) -> None:
-    """Writes a page into an empty sheet, in which titles and labels of rows stay in sight."""
+    """Writes a page to an empty sheet, whose titles and labels stay in sight."""
     sheet.freeze_panes = f"{'B' if page.label_columns == 1 else 'A'}{page.label_rows + 1}"
     for column in range(page.label_columns):
         widest = max(len(record[column]) for record in page.records)

@@ -19,7 +19,7 @@ from .tables import OLDER_FORMAT, Table, bytes_of, shortened
 
 ENDS = (".xlsx", ".xlsm")
 UNPACKED = 512  # MiB of all parts of a workbook
-MOST_CELLS = 1 << 22  # of a block that is read
+MOST_CELLS = 1 << 22  # of a block to be read
 ROWS, COLUMNS = 1 << 20, 1 << 14  # of a sheet
 CHUNK = 1 << 20
 FEW = 10  # sheets that a message names
@@ -131,7 +131,7 @@ def table_in_workbook(file: str, sheet: Optional[str], word: Optional[str], has_
 
 
 def block_of(word: Optional[str]) -> Block:
-    """Returns the block behind --range, the whole sheet without the option; a Mistake for another word or a large block."""
+    """Returns the block after --range, the whole sheet without the option; a Mistake for another word or a large block."""
     block = Block() if word is None else Block.of(word)
     if block is None or not block.is_within:
         raise Mistake("--range is followed by a block of cells, as B2:F40, or B2:F to the last row")
@@ -141,7 +141,7 @@ def block_of(word: Optional[str]) -> Block:
 
 
 def check_count(count: int) -> None:
-    """Raises a Mistake if there are more cells than are read."""
+    """Raises a Mistake if there are more than MOST_CELLS cells."""
     if count > MOST_CELLS:
         raise Mistake(f"more than {MOST_CELLS} cells are not read; --range B2:F40 reads a block of them")
 
@@ -161,7 +161,7 @@ def check_archive(file: str, raw: bytes) -> None:
 
 @contextmanager
 def readable(file: str) -> Iterator[None]:
-    """Makes a Mistake of each exception of zipfile and openpyxl, and hides warnings."""
+    """Turns exceptions of zipfile and openpyxl into a Mistake, and hides warnings."""
     try:
         with warnings.catch_warnings():
             warnings.simplefilter("ignore")
@@ -224,7 +224,7 @@ def settle_blanks(rows: Sequence[list[str]], sheet: Any, block: Block) -> None:
 
 
 def fill(rows: list[list[str]], block: Block) -> Block:
-    """Makes the rows equally long, as the block says or the cells with content; returns the block that they fill."""
+    """Makes the rows equally long, to the end of the block or of the content. Returns the block that they fill."""
     top, left = block.row, block.column
     if block.last_row is None:
         while rows and not any(map(is_filled, rows[-1])):
