@@ -1,30 +1,30 @@
 ⍝ aplsheet table NEED capacity.csv capacity.apl --header
-⍝ Is there room for the work? Hours that are needed: a row a machine, a column a week.
-)DATA MACHINE←4 5⍴'saw  lathemill drill'   ⍝ a name a row, filled up with blanks
-)DATA COUNT←2 1 2 1                  ⍝ how many there are of each
-)DATA DAYS←5 5 3 5 5                 ⍝ the days that are worked in each week
-ROOM←8×COUNT∘.×DAYS                  ⍝ the hours that there are: 8 a day
-FREE←ROOM-NEED                       ⍝ below 0: there is not room enough
-LATE←(∨⌿FREE<0)/⍳⍴DAYS               ⍝ the weeks in which some machine has too much work
+⍝ Is there enough capacity? The hours needed: a row for each machine, a column for each week.
+)DATA MACHINE←4 5⍴'saw  lathemill drill'   ⍝ a name in each row, padded with blanks
+)DATA COUNT←2 1 2 1                  ⍝ the number of machines of each kind
+)DATA DAYS←5 5 3 5 5                 ⍝ working days of each week
+ROOM←8×COUNT∘.×DAYS                  ⍝ the hours available: 8 a day
+FREE←ROOM-NEED                       ⍝ below 0: not enough hours
+LATE←(∨⌿FREE<0)/⍳⍴DAYS               ⍝ the weeks with too much work for some machine
 TIGHT←(∨/FREE<0)⌿MACHINE             ⍝ these machines
 FREE
 LATE
 TIGHT
-)DATA LIST←2 5⍴'lathedrill'          ⍝ the machines that we ask about
-MATCH←MACHINE∧.=⍉LIST                ⍝ a row a machine, a column a name: 1 where they are the same
+)DATA LIST←2 5⍴'lathedrill'          ⍝ the machines in question
+MATCH←MACHINE∧.=⍉LIST                ⍝ a row for each machine, a column for each name: 1 for equal names
 MATCH
-ASKED←∨/MATCH                        ⍝ 1 for a machine that is in the list
-ASKED⌿FREE                           ⍝ the rows of these alone
-+⌿ASKED⌿FREE                         ⍝ what they have free together
+ASKED←∨/MATCH                        ⍝ 1 for a machine in the list
+ASKED⌿FREE                           ⍝ only their rows
++⌿ASKED⌿FREE                         ⍝ their free hours together
 (~ASKED)⌿MACHINE                     ⍝ all others
 ORDERED←FREE[(⍳⍴COUNT)+.×MATCH;]     ⍝ the rows in the order of the list
 ORDERED
 )ROW LIST 'plane'
 ORDERED                              ⍝ an error: no machine has this name
-(~∨⌿MATCH)⌿LIST                      ⍝ the names in the list that no machine has
+(~∨⌿MATCH)⌿LIST                      ⍝ the names in the list without a machine
 )DATA LIST←(2 5↑LIST)⍪'saw  '        ⍝ it should have been saw
 ORDERED
 COUNT[2]←2                           ⍝ what if there were two lathes?
-)COST                                ⍝ items of results that this may change
+)COST                                ⍝ the items of results that may have changed
 LATE
 TIGHT

@@ -1,4 +1,4 @@
-⍝ Four articles: what is in stock against the least and the greatest stock, and what to order.
+⍝ Four articles: their stock beside the least and the greatest stock, and the orders.
 )DATA STOCK←40 310 0 95
 )DATA LEAST←100 300 50 80
 )DATA GREATEST←400 600 60 120
@@ -6,8 +6,8 @@
 LOW←STOCK<LEAST
 SHORTAGE←0⌈LEAST-STOCK
 ROOM←0⌈GREATEST-STOCK
-NEED←(SHORTAGE+PACK|-SHORTAGE)÷PACK  ⍝ packs that cover the shortage, rounded up
-FIT←(ROOM-PACK|ROOM)÷PACK            ⍝ packs that the shelf takes, rounded down
+NEED←(SHORTAGE+PACK|-SHORTAGE)÷PACK  ⍝ packs for the shortage, rounded up
+FIT←(ROOM-PACK|ROOM)÷PACK            ⍝ packs that fit the shelf, rounded down
 ORDER←PACK×NEED⌊FIT
 AFTER←STOCK+ORDER
 LOW
@@ -16,7 +16,7 @@ NEED
 ORDER
 (AFTER≥LEAST)∧AFTER≤GREATEST         ⍝ is each within its limits then?
 STOCK[4]←20                          ⍝ a large delivery went out
-PACK[3]←40                           ⍝ a pack of the third is larger now
+PACK[3]←40                           ⍝ a larger pack of the third
 ORDER
 AFTER
 (AFTER≥LEAST)∧AFTER≤GREATEST         ⍝ one pack of the third is too few, two are too many

@@ -1,6 +1,6 @@
 ⍝ aplsheet table ORDERS orders.csv orders.apl --header
-⍝ A week's orders, as a spreadsheet saved them: a row a product, a column a day. The line above says how this sheet is run.
-)DATA PRICE←3 7 45             ⍝ euros a piece, a price a product
+⍝ A week's orders, saved by a spreadsheet: a row for each product, a column for each day. The first line has the call of this sheet.
+)DATA PRICE←3 7 45             ⍝ euros a piece, for each product
 PIECES←+/ORDERS                ⍝ a total for each product
 DAY←+⌿ORDERS                   ⍝ a total for each day
 VALUE←PRICE+.×ORDERS           ⍝ euros a day
@@ -12,7 +12,7 @@ VALUE
 VALUE                          ⍝ which has no price yet
 )ROW PRICE 20
 VALUE
-ORDERS[3;2]←6                  ⍝ an order that was late
+ORDERS[3;2]←6                  ⍝ a late order
 TOTALS←(ORDERS,PIECES)⍪DAY,+/DAY
 TOTALS
 )CSV TOTALS                    ⍝ the table with its totals, for the spreadsheet
