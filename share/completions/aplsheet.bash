@@ -1,4 +1,4 @@
-# Completes the words of aplsheet in bash. Nothing stands in COMPREPLY in the place of a file, so that bash offers files.
+# Completes the words of aplsheet in bash. COMPREPLY stays empty in the place of a file, so bash offers files.
 _aplsheet() {
   local word=${COMP_WORDS[COMP_CWORD]}
   COMPREPLY=()
