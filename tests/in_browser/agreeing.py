@@ -15,6 +15,7 @@ from typing import Any, Dict, List, Tuple
 
 from sheet.program import Program
 from sheet.session import Session
+from sheet.terminal import PROMPT
 from sheet.view.desk import Desk
 from sheet.view.looks import Look
 from sheet.view.whatifs import copy_of
@@ -139,7 +140,7 @@ def terminal_beside_page(bench: Bench) -> None:
         page.press("Control+k", "NEW`[ALL+1", "Enter")
         page.until_value("NEW", "941")
         os.write(main, b"NEW-1\n")
-        until(main, "940")
+        until(main, "940", PROMPT)  # before the prompt, the terminal takes Ctrl-D for the end of a line
         bench.allows_an_end()
         os.write(main, b"\x04")
         until(main, "the sheet was not saved")

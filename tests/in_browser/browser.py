@@ -54,6 +54,7 @@ class Browser:
         flags += ["--no-sandbox"] if os.getuid() == 0 else []  # the sandbox of Chromium does not start as root
         chromium = {"args": flags, "prefs": {"intl.accept_languages": language}}
         wanted = {"browserName": "chrome", "goog:chromeOptions": chromium, "goog:loggingPrefs": {"browser": "ALL"}}
+        wanted["timeouts"] = {"script": 1000 * SECONDS, "pageLoad": 1000 * SECONDS}
         self.session = ""
         self.session = self.call("POST", "session", {"capabilities": {"alwaysMatch": wanted}})["sessionId"]
 

@@ -29,6 +29,7 @@ LATE←(TOTAL>200)/TOTAL
 DEMAND = [["120", "80", "40", "95", "60"], ["30", "30", "45", "20", "25"], ["75", "60", "60", "90", "105"]]
 ROWS_OF = """[...document.querySelectorAll(`[data-name='${arguments[0]}'] tr`)]
     .map((row) => [...row.querySelectorAll('td')].map((cell) => cell.textContent)).filter((row) => row.length)"""
+PENDING = "document.querySelector(`[data-name='${arguments[0]}'] .pending`)"
 
 
 class Sheet:
@@ -136,10 +137,10 @@ class Page:
         return self.run(f"return {ROWS_OF}", name)
 
     def until(self, name: str, wanted: List[List[str]]) -> None:
-        """Waits until a panel shows these items."""
+        """Waits until a panel shows these items, and the program has answered the edits of its cells."""
         text = json.dumps(wanted, separators=(",", ":"), ensure_ascii=False)
         try:
-            self.wait(f"return JSON.stringify({ROWS_OF}) === arguments[1]", name, text, what=name)
+            self.wait(f"return JSON.stringify({ROWS_OF}) === arguments[1] && !{PENDING}", name, text, what=name)
         except Exception as failure:
             raise AssertionError(f"{name} {wanted}; there is {self.cells(name)}") from failure
 

@@ -51,9 +51,29 @@ export class Grid {
     this.top = Math.min(this.top, model.rows - this.high);
     this.left = Math.min(this.left, model.columns - this.wide);
     this.size();
+    const { editor } = this;
+    const caret = editor && [editor.selectionStart, editor.selectionEnd];
+    this.editor = null; // an element that is removed loses the focus, which would end editing
     this.build();
+    this.keepEditor(editor, caret);
     this.fill();
     return before !== this.shape;
+  }
+
+  // Puts the editor into the cell of the cursor, which may be a new element, with the caret where it was.
+  keepEditor(editor, caret) {
+    this.editor = editor;
+    const cell = editor && this.cellOf(...this.cursor);
+    if (!editor || cell === editor.parentElement) return;
+    if (!cell) return this.end(true);
+    cell.replaceChildren(editor);
+    editor.focus();
+    editor.setSelectionRange(...caret);
+  }
+
+  // The element of a cell, if it is in sight.
+  cellOf(row, column) {
+    return this.cells[row - this.top]?.[column - this.left];
   }
 
   // Widens the columns for the items in sight; they never become narrower, so that a table keeps still.
@@ -149,8 +169,7 @@ export class Grid {
     const keys = calm.matches ? [] : [...this.model.changed].slice(0, most);
     for (const key of keys) {
       const [row, column] = key.split(",").map(Number);
-      const cell = this.cells[row - this.top]?.[column - this.left];
-      cell?.animate([{ backgroundColor: "var(--flash)" }, {}], { duration: 900, easing: "ease-out" });
+      this.cellOf(row, column)?.animate([{ backgroundColor: "var(--flash)" }, {}], { duration: 900, easing: "ease-out" });
     }
     return keys.length;
   }
@@ -267,7 +286,7 @@ export class Grid {
     if (!this.model.editable) return this.panel.locked();
     this.end(true);
     const [row, column] = this.cursor;
-    const cell = this.cells[row - this.top]?.[column - this.left];
+    const cell = this.cellOf(row, column);
     if (!cell) return;
     this.before = { plain: this.model.plain(row, column), item: this.itemAt(row, column) };
     this.editor = make("input", { type: "text", "aria-label": `${this.panel.name} ${row + 1} ${column + 1}`, inputmode: this.model.text ? "text" : "decimal" });

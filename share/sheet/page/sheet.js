@@ -310,7 +310,7 @@ export class Sheet {
 
   set(name, settings) {
     this.takeSettings({ ...this.settings, [name]: settings });
-    ask("settings", { name, settings }).catch((fault) => this.fail(fault));
+    this.queue = this.queue.then(() => ask("settings", { name, settings })).catch((fault) => this.fail(fault)); // before a Save that follows
   }
 
   takeSettings(settings) {
