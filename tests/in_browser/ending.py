@@ -68,6 +68,7 @@ def program_dies(bench: Bench) -> None:
     page.press("5", "0", "Enter")
     page.until("TOTAL", [["395", "155", "390"]])
     os.kill(child_of(bench.sheet), 9)
+    bench.sheet.answer("look", desk=0, looks=[{"of": "ALL+0"}])  # the end is noticed here; the first line behind it would get a message
     page.press("51", "Enter")
     page.until("DEMAND", [DEMAND[0], ["30", "30", "50", "20", "25"], ["75", "60", "51", "90", "105"]])
     page.until("TOTAL", [["395", "155", "381"]])

@@ -66,9 +66,14 @@ export class Grid {
     const cell = editor && this.cellOf(...this.cursor);
     if (!editor || cell === editor.parentElement) return;
     if (!cell) return this.end(true);
+    this.putEditor(cell, editor);
+    editor.setSelectionRange(...caret);
+  }
+
+  putEditor(cell, editor) {
+    cell.classList.add("edited");
     cell.replaceChildren(editor);
     editor.focus();
-    editor.setSelectionRange(...caret);
   }
 
   // The element of a cell, if it is in sight.
@@ -93,8 +98,10 @@ export class Grid {
     if (key === this.sized) return;
     this.sized = key;
     Object.assign(this.sizer.style, { width: `${labels + model.columns * widest}px`, height: `${head + high * ROW + (model.rows - high) * this.dense}px` });
-    const overflow = (isMore) => (isMore ? "scroll" : "hidden");
+    const scrolls = model.columns > wide || model.rows > high;
+    const overflow = (isMore) => (isMore ? "scroll" : scrolls ? "hidden" : "visible"); // a scroller for each small table would make each frame slower
     const overflows = { overflowX: overflow(model.columns > wide), overflowY: overflow(model.rows > high) };
+    this.element.classList.toggle("scrolls", scrolls);
     Object.assign(this.element.style, { ...overflows, width: `${this.width}px`, height: `${this.height}px` });
     this.element.setAttribute("aria-rowcount", model.rows + 1);
     this.element.setAttribute("aria-colcount", model.columns + 1);
@@ -127,10 +134,10 @@ export class Grid {
     const { model, top, left } = this;
     const isMoved = `${top},${left}` !== this.written;
     this.written = `${top},${left}`;
-    put(this.corner, model.corner, "corner");
-    this.heads.forEach((head, c) => put(head, model.title(left + c), model.titled ? "name" : ""));
+    this.putHead(this.corner, model.corner, "corner", this.labels);
+    this.heads.forEach((head, c) => this.putHead(head, model.title(left + c), model.titled ? "name" : "", this.widest));
     this.rows.forEach(({ row, head }, r) => {
-      put(head, model.name(top + r), model.named ? "name" : "");
+      this.putHead(head, model.name(top + r), model.named ? "name" : "", this.labels);
       if (isMoved) row.setAttribute("aria-rowindex", top + r + 2);
       for (let c = 0; c < this.wide; c++) {
         if (isMoved) this.cells[r][c].setAttribute("aria-colindex", left + c + 2);
@@ -138,6 +145,10 @@ export class Grid {
       }
     });
     this.mark();
+  }
+
+  putHead(head, text, marks, room) {
+    put(head, text, width(text) + 8 > room ? `${marks} cut` : marks);
   }
 
   fillCell(cell, row, column) {
@@ -164,14 +175,10 @@ export class Grid {
     cell.style.setProperty("--shade", shade ?? 0);
   }
 
-  // Lights up changed cells, at most that many; returns their number.
-  flash(most) {
+  // The elements of the cells that have changed and may light up, at most that many.
+  changed(most) {
     const keys = calm.matches ? [] : [...this.model.changed].slice(0, most);
-    for (const key of keys) {
-      const [row, column] = key.split(",").map(Number);
-      this.cellOf(row, column)?.animate([{ backgroundColor: "var(--flash)" }, {}], { duration: 900, easing: "ease-out" });
-    }
-    return keys.length;
+    return keys.map((key) => this.cellOf(...key.split(",").map(Number))).filter(Boolean);
   }
 
   scrolled() {
@@ -292,8 +299,7 @@ export class Grid {
     this.editor = make("input", { type: "text", "aria-label": `${this.panel.name} ${row + 1} ${column + 1}`, inputmode: this.model.text ? "text" : "decimal" });
     this.editor.value = typed ?? this.before.plain;
     this.editor.addEventListener("blur", () => this.end(true));
-    cell.replaceChildren(this.editor);
-    this.editor.focus();
+    this.putEditor(cell, this.editor);
     if (typed === undefined) this.editor.select();
     else this.editor.setSelectionRange(typed.length, typed.length);
   }
@@ -314,6 +320,7 @@ export class Grid {
     const [editor, [row, column]] = [this.editor, this.cursor];
     this.editor = null;
     if (isKept && editor.value !== this.before.plain) this.give([{ row, column, typed: editor.value, shown: this.before.item }], began);
+    editor.parentElement?.classList.remove("edited");
     editor.remove();
     this.fill();
   }

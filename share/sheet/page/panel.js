@@ -13,6 +13,7 @@ const LABELS = 40; // characters of a label that are asked for
 const WIDEST = 240; // characters of a row of text
 const ROWS = 12; // of a table that is not large
 const MOST_CELLS = 10000; // that are looked at to be copied
+const CODE = 7.6; // pixels of a sign of a formula, at most
 const PLOT = { width: 440, height: 190 };
 const hovers = matchMedia("(hover: hover)"); // without a mouse the buttons of the head are always in sight
 let count = 0;
@@ -41,8 +42,8 @@ export class Panel {
     this.modes = Object.entries(MODES).map(([mode, title]) => button(icon(mode), `${of}: ${title}`, () => this.set({ mode }), { "data-mode": mode }));
     this.full = button(icon("full"), `${of}: large`, () => this.set({ full: !this.settings.full }));
     this.add = button(icon("add"), `${of}: a new row`, () => this.addRow());
-    this.menu = make("details", { class: "menu" }, make("summary", { title: "More", "aria-label": `${of}: more` }, "⋯"), make("div", {}));
-    this.menu.addEventListener("toggle", () => this.menu.open && this.fillMenu());
+    this.menu = make("details", { class: "menu" }, make("summary", { title: "More", "aria-label": `${of}: more` }, icon("more")), make("div", {}));
+    this.menu.addEventListener("toggle", () => this.toggled());
     this.head = make("header", {}, this.title, this.size, make("span", { class: "modes" }, this.add, ...this.modes, this.full, this.menu));
   }
 
@@ -140,7 +141,7 @@ export class Panel {
     if (held && version < held.version) return false; // it was overtaken by a newer one
     if (held?.tag === result.tag && held.of === of) return (held.version = version), false;
     if (!result.shape && !result.error) return this.askAgain(key);
-    this.held[key] = { of, tag: result.tag, version };
+    this.held[key] = { of, subject: look.of, tag: result.tag, version };
     const seen = parsed(result);
     if (key === "grid" && isNews) this.changed = this.differences(this.seen.grid, seen);
     if (key === "grid" || key === "plot") this.takeForm(key, seen);
@@ -156,7 +157,7 @@ export class Panel {
   }
 
   takeForm(key, seen) {
-    if (seen.shape && this.sheet.names.has(this.of)) Object.assign(this.sheet.names.get(this.of), { shape: seen.shape, text: seen.text, error: undefined });
+    if (seen.shape) this.sheet.takeShape(this.of, seen.shape, seen.text);
     if (seen.error) this.seen = {};
     if (this.seen[key]?.error) delete this.seen[key];
   }
@@ -171,9 +172,10 @@ export class Panel {
     if (!before?.items || !after.items || before.shape.length !== after.shape.length) return found;
     const { high, wide, top, left } = this.grid;
     const [rows, columns] = this.extent(before.shape);
+    const { isUpright } = this;
     for (let row = top; row < top + high; row++)
       for (let column = left; column < left + wide; column++) {
-        const [old, now] = [itemOf(before, this.isUpright, row, column), itemOf(after, this.isUpright, row, column)];
+        const [old, now] = [itemOf(before, isUpright, row, column), itemOf(after, isUpright, row, column)];
         if (old !== now && now !== undefined && (old !== undefined || row >= rows || column >= columns)) found.add(`${row},${column}`);
       }
     return found;
@@ -181,7 +183,7 @@ export class Panel {
 
   // True if something in sight was not requested yet: its size was unknown, or there is more room now.
   get isLacking() {
-    if (this.looks().some(([key, { of }]) => !this.held[key] || JSON.parse(this.held[key].of).of !== of)) return true;
+    if (this.looks().some(([key, { of }]) => this.held[key]?.subject !== of)) return true;
     if (!this.seen.grid || this.mode === "plot" || !this.grid.element.isConnected) return false;
     const { top, left, high, wide, model } = this.grid;
     if (this.isText && this.seen.grid.items.some((row) => [...row].length < Math.min(this.shape.at(-1), WIDEST))) return true;
@@ -208,6 +210,7 @@ export class Panel {
     const text = `${formula}\n${comment}`;
     if (text === this.formulaText) return;
     this.formulaText = text;
+    this.formulaWidth = [...formula].length * CODE + width(comment, "11.5px") + 12;
     this.formula.replaceChildren(...(formula ? [make("code", {}, formula)] : []), comment ? ` ${comment}` : "");
     this.formula.title = [formula, comment].filter(Boolean).join("   ⍝ ");
     this.formula.hidden = !formula && !comment;
@@ -286,7 +289,7 @@ export class Panel {
     const room = { width: Math.min(this.sheet.width - 30, full ? Infinity : 760), rows: full ? this.sheet.rows : ROWS };
     this.grid.show(this.model(), room);
     this.put(this.grid.element, this.grid);
-    if (isNews) this.sheet.flashes -= this.grid.flash(this.sheet.flashes);
+    if (isNews) this.sheet.lightUp(this.grid.changed(this.sheet.room));
   }
 
   // The model of the table, for the grid.
@@ -354,8 +357,16 @@ export class Panel {
     const buttons = 20 * [this.add, ...this.modes, this.full, this.menu].filter((element) => !element.hidden).length;
     const head = width(this.title.textContent, "600 13px") + width(this.size.textContent, "11px") + (hovers.matches ? 40 : 44 + buttons);
     const wide = Math.min(Math.max(size.width + 20, head, 150), sheet.width);
+    this.element.classList.toggle("cut", head > sheet.width);
+    this.formula.classList.toggle("cut", this.formulaWidth > wide - 22);
     const high = content ? 28 + 19 * !this.formula.hidden + 28 * !this.planes.hidden + size.height + 12 + 18 * this.foot.hasChildNodes() : null;
     sheet.place(this, wide + 8, high && high + 10);
+  }
+
+  // The menu of a panel stands above the panels behind it.
+  toggled() {
+    this.element.classList.toggle("open", this.menu.open);
+    if (this.menu.open) this.fillMenu();
   }
 
   fillMenu() {

@@ -12,13 +12,14 @@ import { Side } from "./side.js";
 
 const PATIENCE = 150; // milliseconds until work under way is shown
 const [UNIT, GAP, STEP] = [64, 8, 4]; // of the grid of panels, as style.css has them
-const FLASHES = 40; // cells that light up after a change, in all panels: each costs time in the frames behind it
+const FLASHES = 40; // cells that light up after a change, in all panels
+const LIT = 700; // milliseconds for which they do; an animation would make a frame for each step
 const NAMES = /[A-Za-z∆⍙][A-Za-z∆⍙0-9_]*/g;
 
 export class Sheet {
   constructor() {
     Object.assign(this, { desk: 0, version: -1, names: new Map(), panels: new Map(), watches: [], settings: {}, history: {} });
-    Object.assign(this, { queue: Promise.resolve(), wanted: new Set(), unmeasured: new Set() });
+    Object.assign(this, { queue: Promise.resolve(), wanted: new Set(), unmeasured: new Set(), lit: [], jobs: 0 });
     this.seer = new IntersectionObserver((seen) => this.scrolled(seen), { root: $("panels"), rootMargin: "100px" });
     this.entry = new Entry(() => [...this.names.keys()], (text) => this.send(text));
     this.side = new Side(this);
@@ -102,7 +103,7 @@ export class Sheet {
       if (document.hidden) await new Promise((then) => document.addEventListener("visibilitychange", then, { once: true }));
       const { desk } = this;
       this.leaving = new AbortController();
-      const inTurn = (event) => (this.queue = this.queue.then(() => desk === this.desk && this.hear(event)).catch((fault) => this.fail(fault)));
+      const inTurn = (event) => this.inTurn(async () => desk === this.desk && this.hear(event));
       const heard = (event) => (event.done === undefined ? inTurn(event) : this.progress(event)); // progress is of the line that others wait for
       try {
         await listen(desk, this.leaving.signal, heard);
@@ -146,9 +147,16 @@ export class Sheet {
     return this.give("edit", { name, cells, text }, began);
   }
 
+  // Does a job behind the jobs before it; at once if there are none, so that a request leaves before a cell that was typed is drawn.
+  inTurn(act) {
+    const done = this.jobs++ ? this.queue.then(act) : act();
+    this.queue = done.catch((fault) => this.fail(fault)).finally(() => this.jobs--);
+    return this.queue;
+  }
+
   // Gives lines one after the other, with the looks in sight, so that one answer brings all that a change reaches.
   give(path, asked, began) {
-    const given = this.queue.then(async () => {
+    return this.inTurn(async () => {
       const looks = this.visible.flatMap((panel) => panel.looks().map(([key, look]) => ({ panel, key, look })));
       const slow = setTimeout(() => this.progress({}), PATIENCE);
       try {
@@ -159,8 +167,6 @@ export class Sheet {
         this.progress(null);
       }
     });
-    this.queue = given.catch((fault) => this.fail(fault));
-    return this.queue;
   }
 
   async take(answer, looks, text, began) {
@@ -177,16 +183,15 @@ export class Sheet {
     await this.look(this.visible.filter((panel) => panel.isStale), true);
     if (!this.isHome) await this.showBase();
     const drawn = performance.now();
-    await new Promise((then) => requestAnimationFrame(() => setTimeout(then)));
-    const program = { change: answer.seconds * 1000, looks: answer.looked * 1000 };
-    this.times.push({ text, took: drawn - began, painted: performance.now() - began, ...program, page: drawn - received });
     this.tellCost(answer, text, drawn - began);
+    const parts = { took: drawn - began, change: answer.seconds * 1000, looks: answer.looked * 1000, page: drawn - received };
+    requestAnimationFrame(() => setTimeout(() => this.times.push({ text, painted: performance.now() - began, ...parts })));
     return true;
   }
 
   // Takes in the answers to looks that came with a change, and shows the panels that got a new one.
   takeLooks({ looks: results, version }, looks) {
-    this.flashes = FLASHES;
+    this.darken();
     const [asked, news] = [new Set(), new Set()];
     results.forEach((result, at) => {
       const { panel, key, look } = looks[at];
@@ -198,6 +203,24 @@ export class Sheet {
     for (const panel of asked) panel.isStale = false;
     for (const panel of news) panel.render(true);
     this.measurePanels();
+  }
+
+  // Lights up cells for a moment.
+  lightUp(cells) {
+    for (const cell of cells) cell.toggleAttribute("data-lit", true);
+    this.lit.push(...cells);
+    if (cells.length) this.darkening ??= setTimeout(() => this.darken(), LIT);
+  }
+
+  // The number of cells that may still light up.
+  get room() {
+    return FLASHES - this.lit.length;
+  }
+
+  darken() {
+    clearTimeout(this.darkening);
+    for (const cell of this.lit) cell.toggleAttribute("data-lit", false);
+    Object.assign(this, { lit: [], darkening: undefined });
   }
 
   tellCost(answer, text, took) {
@@ -249,11 +272,20 @@ export class Sheet {
   takeNames(names) {
     const before = this.names;
     this.names = new Map(names.map((info) => [info.name, { ...before.get(info.name), error: undefined, ...info }]));
+    this.textNames = null;
     for (const of of [...this.panels.keys()]) if (!this.names.has(of) && !this.watches.includes(of)) this.panels.delete(of);
     for (const of of this.names.keys()) if (!this.panels.has(of)) this.panels.set(of, new Panel(this, of));
     this.order();
     this.side.list();
     for (const panel of this.panels.values()) if (before.has(panel.of) && !same(before.get(panel.of), this.names.get(panel.of))) panel.render();
+  }
+
+  // Notes the shape that a name has.
+  takeShape(name, shape, text) {
+    const info = this.names.get(name);
+    if (!info) return;
+    if (info.text || text) this.textNames = null;
+    Object.assign(info, { shape, text, error: undefined });
   }
 
   // Puts the panels in the order of the names; expressions stand at the end.
@@ -290,7 +322,8 @@ export class Sheet {
 
   // The text matrices with a row for each place of an axis of that length.
   texts(length) {
-    return [...this.names.values()].filter((info) => info.text && info.shape?.length === 2 && info.shape[0] === length).map((info) => info.name);
+    this.textNames ??= Map.groupBy([...this.names.values()].filter((info) => info.text && info.shape?.length === 2), (info) => info.shape[0]);
+    return (this.textNames.get(length) ?? []).map((info) => info.name);
   }
 
   // The text matrix that labels an axis of a panel: the chosen one; for data the only one that fits; for a formula the one of the data to which
@@ -310,7 +343,7 @@ export class Sheet {
 
   set(name, settings) {
     this.takeSettings({ ...this.settings, [name]: settings });
-    this.queue = this.queue.then(() => ask("settings", { name, settings })).catch((fault) => this.fail(fault)); // before a Save that follows
+    this.inTurn(() => ask("settings", { name, settings })); // before a Save that follows
   }
 
   takeSettings(settings) {
@@ -365,7 +398,7 @@ export class Sheet {
   async lookOnce() {
     const [panels, { desk }] = [[...this.wanted], this];
     this.wanted.clear();
-    this.flashes = FLASHES;
+    this.darken();
     const looks = panels.flatMap((panel) => panel.looks().map(([key, look]) => ({ panel, key, look })));
     const answer = await ask("look", { desk, looks: looks.map(({ panel, key, look }) => panel.tagged(key, look)) });
     if (answer.error) return this.say(answer);

@@ -7,6 +7,7 @@ const PATHS = {
   shade: "M1.5 2.5h11v9h-11zM2 3h5v4H2zM7 7h5v4H7z",
   plot: "M1.5 12.5h11M3 12V8M6 12V3M9 12V6M12 12V9",
   add: "M1.5 3h8M1.5 6.5h8M1.5 10h4M10.5 8v5M8 10.5h5",
+  more: "M2.2 7h1.6M6.2 7h1.6M10.2 7h1.6",
   full: "M8.5 1.5h4v4M12.5 1.5l-4.5 4.5M5.5 12.5h-4v-4M1.5 12.5l4.5-4.5",
 };
 
