@@ -19,7 +19,7 @@ SECONDS = 60  # the most that anything is waited for
 ELEMENT = "element-6066-11e4-a52e-4f735466cecf"
 KEYS = {"Enter": "\ue007", "Tab": "\ue004", "Escape": "\ue00c", "Up": "\ue013", "Down": "\ue015", "Left": "\ue012", "Right": "\ue014"}
 KEYS.update({"Control": "\ue009", "Shift": "\ue008", "Alt": "\ue00a", "Home": "\ue011", "End": "\ue010", "PageDown": "\ue00f", "F2": "\ue032"})
-KEYS.update({"Delete": "\ue017", "F1": "\ue031", "Space": " "})
+KEYS.update({"Delete": "\ue017", "F1": "\ue031", "Insert": "\ue016", "Space": " "})
 FLAGS = ["--headless=new", "--disable-gpu", "--disable-dev-shm-usage", "--no-first-run", "--disable-background-networking", "--disable-sync"]
 FLAGS += ["--disable-component-update", "--disable-features=Translate,OptimizationHints", "--force-color-profile=srgb"]
 FLAGS += ["--disable-backgrounding-occluded-windows", "--disable-renderer-backgrounding", "--disable-background-timer-throttling"]

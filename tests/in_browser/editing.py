@@ -11,6 +11,7 @@ from sheet.program import Program
 from .benches import Bench
 from .sheets import DEMAND, PLAN, Test
 
+PRICES = ")DATA P←2 2⍴1250 399 123456789 ¯5 ⍝ in units of 0.01\nT←+/,P ⍝ in units of 0.01\n)DATA V←5000⍴⍳5000\n"
 WIDE = ")DATA W←120 60⍴0\nT←+/W\nALL←+/T\n"
 
 
@@ -116,6 +117,58 @@ def rows_text_and_markup(bench: Bench) -> None:
     page.until("TOTAL", [["395", "150", "390", "9"]])
 
 
+def rows_in_and_out(bench: Bench) -> None:
+    """Rows are deleted and inserted by keys and by the menu, each as one change with its undo; a row that another window took is not hit."""
+    page = bench.page()
+    page.until("TOTAL", [["395", "150", "390"]])
+    page.click(page.cell("DEMAND", 2, 1))
+    page.press("Shift+Down", "Control+Delete")
+    page.until("DEMAND", DEMAND[:1])
+    assert page.text("#history li") == "DEMAND: 2 rows deleted"
+    page.until_text("#status", "DEMAND: 2 rows deleted")
+    page.press("Control+z")
+    page.until("DEMAND", DEMAND)
+    page.click(page.cell("DEMAND", 2, 3))
+    page.press("Insert")
+    page.until("DEMAND", [DEMAND[0], ["0"] * 5, *DEMAND[1:]])
+    page.press("7", "Enter")
+    page.until("DEMAND", [DEMAND[0], ["0", "0", "7", "0", "0"], *DEMAND[1:]])
+    page.until("TOTAL", [["395", "7", "150", "390"]])
+    page.press(*["Control+z"] * 2)
+    page.until("DEMAND", DEMAND)
+    page.click(page.cell("PRODUCT", 1, 2))
+    page.click("[data-name=PRODUCT] summary")
+    page.run("[...document.querySelectorAll('[data-name=PRODUCT] .menu button')].find((each) => each.textContent === 'Delete 1 row').click()")
+    page.until("PRODUCT", [["desk", "spot"]])
+    page.press("Control+Delete")
+    page.until("PRODUCT", [["desk"]])
+    page.press("Control+Delete")
+    page.until_text("[data-name=PRODUCT] .body", "empty")
+    page.press(*["Control+z"] * 3)
+    page.until("PRODUCT", [["desk", "wall", "spot"]])
+    told = bench.sheet.answer("rows", desk=0, do="delete", name="DEMAND", first=1, count=1, length=4)
+    assert told["notes"] == ["DEMAND was changed meanwhile: it has 3 rows, and this window showed 4"], told
+    told = bench.sheet.answer("rows", desk=0, do="delete", name="TOTAL", first=1, count=1, length=3)
+    assert told["notes"] == ["TOTAL is a formula, and no data that can be edited"], told
+
+
+def rows_of_prices(bench: Bench) -> None:
+    """Rows with a unit keep it, and their undo has the former items; so do rows of thousands, and items of a vector."""
+    sheet = bench.sheet
+    assert "error" not in sheet.answer("rows", desk=0, do="delete", name="P", first=1, count=1, length=2)
+    assert sheet.see("P") == ["123456789 ¯5"]
+    assert [info["decimals"] for info in sheet.answer("begin", desk=0)["names"]] == [2, 2, 0]
+    sheet.line("]undo")
+    assert sheet.see(",P") == ["1250 399 123456789 ¯5"]
+    assert "error" not in sheet.answer("rows", desk=0, do="insert", name="V", first=5001, count=3000, length=5000)
+    assert sheet.see("⍴V") == ["8000"] and sheet.see("+/V") == ["12502500"] and sheet.see("V[5000 5001]") == ["5000 0"]
+    assert "error" not in sheet.answer("rows", desk=0, do="delete", name="V", first=2, count=4999, length=8000)
+    assert sheet.see("+/V") == ["1"]
+    sheet.line("]undo")
+    sheet.line("]undo")
+    assert sheet.see("⍴V") == ["5000"] and sheet.see("+/V") == ["12502500"]
+
+
 def paste(bench: Bench) -> None:
     """A block from a spreadsheet is one change; if a cell of it is refused, nothing is changed."""
     page = bench.page()
@@ -215,5 +268,5 @@ def value_of(told: Any) -> str:
 
 
 def tests() -> List[Test]:
-    calls = [edit_in_two_windows, changed_meanwhile, refused, line_and_symbols, rows_text_and_markup, paste, copy, random_changes]
-    return [*(Test(call, PLAN) for call in calls), Test(paste_of_thousands, WIDE)]
+    calls = [edit_in_two_windows, changed_meanwhile, refused, line_and_symbols, rows_text_and_markup, rows_in_and_out, paste, copy, random_changes]
+    return [*(Test(call, PLAN) for call in calls), Test(paste_of_thousands, WIDE), Test(rows_of_prices, PRICES, False)]

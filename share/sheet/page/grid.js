@@ -11,7 +11,7 @@ const HIGHEST = 8e6; // pixels; browsers cut off elements that are some 17 milli
 const calm = matchMedia("(prefers-reduced-motion: reduce)");
 
 export class Grid {
-  // panel: { id, name, moved(), edit(cells), selected(range), copy(range), locked(), leave(step) }
+  // panel: { id, name, moved(), edit(cells), selected(range), copy(range), locked(), changeRows(act) }
   constructor(panel) {
     Object.assign(this, { panel, top: 0, left: 0, high: 0, wide: 0, cells: [], cursor: null, anchor: null, widest: 28, labels: 0, pending: new Map() });
     this.table = make("table", { role: "presentation" });
@@ -48,6 +48,7 @@ export class Grid {
     this.wide = Math.min(model.columns, Math.max(Math.floor((room.width - this.labels - 14) / this.widest), 1));
     this.head = model.headed ? ROW : 0;
     this.dense = model.rows * ROW > HIGHEST ? (HIGHEST - this.high * ROW) / (model.rows - this.high) : ROW; // pixels a row moves
+    this.keepCursor();
     this.top = Math.min(this.top, model.rows - this.high);
     this.left = Math.min(this.left, model.columns - this.wide);
     this.size();
@@ -79,6 +80,12 @@ export class Grid {
   // The element of a cell, if it is in sight.
   cellOf(row, column) {
     return this.cells[row - this.top]?.[column - this.left];
+  }
+
+  // Keeps the cursor within a table that has become smaller.
+  keepCursor() {
+    const { rows, columns } = this.model;
+    if (this.cursor) for (const place of [this.cursor, this.anchor]) place.splice(0, 2, Math.min(place[0], rows - 1), Math.min(place[1], columns - 1));
   }
 
   // Widens the columns for the items in sight; they never become narrower, so that a table keeps still.
@@ -267,6 +274,8 @@ export class Grid {
     if (target) this.select(...target, event.shiftKey);
     else if (event.key === "Enter" || event.key === "F2") this.begin();
     else if (far && event.key === "a") (this.anchor = [0, 0]), this.select(Infinity, Infinity, true);
+    else if (event.key === "Insert" && !far && !event.shiftKey) this.panel.changeRows("insert");
+    else if (event.key === "Delete" && far) this.panel.changeRows("delete");
     else if (event.key === "Delete" || event.key === "Backspace") this.clear();
     else if (event.key.length === 1 && !far && this.cursor) this.begin(event.key);
     else return;

@@ -29,7 +29,7 @@ export class Panel {
     const attributes = { class: "panel", "data-name": of, "aria-labelledby": `${this.id}-name`, id: this.id };
     this.element = make("section", attributes, this.head, this.formula, this.planes, this.body, this.foot);
     this.grid = new Grid({
-      id: this.id, name: of, moved: () => sheet.look([this]), locked: () => this.locked(), selected: (range) => sheet.selected(this, range),
+      id: this.id, name: of, moved: () => sheet.look([this]), locked: () => this.locked(), changeRows: (act) => this.changeRows(act), selected: (range) => sheet.selected(this, range),
       copy: (range, board) => sheet.copy(this, range, board), edit: (cells, began) => this.edit(cells, began),
     });
   }
@@ -377,6 +377,8 @@ export class Panel {
     if (!this.isText && shape.length === 1) found.push(this.labelChoice("Named by", "rows", shape[0]));
     if (!this.isText && shape.length > 1) found.push(this.labelChoice("Rows named by", "rows", shape.at(-2)));
     if (!this.isText && shape.length > 1) found.push(this.labelChoice("Columns named by", "columns", shape.at(-1)));
+    if (this.rowsAt) found.push(item(`Insert ${plural(this.rowsAt.count, this.noun)} before`, () => this.changeRows("insert")));
+    if (this.rowsAt) found.push(item(`Delete ${plural(this.rowsAt.count, this.noun)}`, () => this.changeRows("delete")));
     const { compared } = this.settings;
     if (!this.isWatch) found.push(item(compared ? "Leave out of what-if table" : "Show in what-if table", () => this.set({ compared: !compared })));
     if (!this.isWatch) found.push(item("Why this value?", () => sheet.send(`]why ${of}`)));
@@ -423,6 +425,26 @@ export class Panel {
     const lines = edits.map(([index, sign]) => `${this.of}[${index.join(";")}]←${quoted(sign)}`);
     const shape = [...this.shape.slice(0, -1), longest].join(" ");
     return this.sheet.sendAll(`${this.of}: ${plural(cells.length, "row")}`, [`)DATA ${this.of}←${shape}↑${this.of}`, ...lines], began);
+  }
+
+  get noun() {
+    return this.isLine && !this.isText ? "item" : "row";
+  }
+
+  // The rows of the selection, or the items of a vector; undefined if there are none that can be changed.
+  get rowsAt() {
+    const { range } = this.grid;
+    if (!range || !this.info.data || this.shape.length > 2) return undefined;
+    const [first, last] = this.isLine && !this.isUpright ? [range.left, range.right] : [range.top, range.bottom];
+    return { first: first + 1, count: last - first + 1 };
+  }
+
+  // Inserts as many rows as are selected before them, or deletes these.
+  async changeRows(act) {
+    const { rowsAt } = this;
+    if (!rowsAt) return this.info.data ? undefined : this.locked();
+    await this.sheet.changeRows(this.of, act, rowsAt.first, rowsAt.count, this.shape[0]);
+    if (this.grid.element.isConnected) this.grid.element.focus({ preventScroll: true });
   }
 
   async addRow() {

@@ -6,6 +6,7 @@ import { Compare } from "./compare.js";
 import { $, make, plural } from "./dom.js";
 import { Entry } from "./entry.js";
 import { ROW } from "./grid.js";
+import { Left } from "./left.js";
 import { shown } from "./numbers.js";
 import { Panel } from "./panel.js";
 import { Side } from "./side.js";
@@ -24,6 +25,7 @@ export class Sheet {
     this.entry = new Entry(() => [...this.names.keys()], (text) => this.send(text));
     this.side = new Side(this);
     this.compare = new Compare(this);
+    this.left = new Left(this);
     this.times = []; // of each change, from the key to all panels in sight
     this.measure();
   }
@@ -73,6 +75,7 @@ export class Sheet {
     $("build").textContent = begun.build;
     this.settings = begun.settings;
     this.entry.take(begun.keys);
+    this.left.take(begun.left);
     if (!this.isBegun) for (const watch of JSON.parse(sessionStorage.getItem("watches") ?? "[]")) this.addWatch(watch);
     for (const panel of this.panels.values()) panel.forget();
     this.takeNames(begun.names);
@@ -119,12 +122,13 @@ export class Sheet {
     $("link").textContent = "connected";
     if (event.over) return this.compare.leave();
     if (event.gone) return this.say({ error: "THE SHEET HAS ENDED", notes: [event.gone] });
-    if (event.settings) return this.takeSettings(event.settings);
-    if (event.whatifs) return this.compare.take(event.whatifs);
+    if (event.settings) await this.takeSettings(event.settings);
+    if (event.whatifs) this.compare.take(event.whatifs);
+    if (event.left) this.left.take(event.left);
     if (event.version === undefined) return event.history && this.takeHistory(event.history);
     this.progress(null);
     if (event.version <= this.version) return;
-    if (event.version > this.version + 1) return this.begin(); // a change was missed
+    if (event.version > this.version + 1 || !event.history) return this.begin(); // a change was missed
     this.version = event.version;
     if (event.names) this.takeNames(event.names);
     this.takeHistory(event.history);
@@ -145,6 +149,11 @@ export class Sheet {
 
   edit(name, cells, text, began = performance.now()) {
     return this.give("edit", { name, cells, text }, began);
+  }
+
+  // Inserts or deletes rows of data; `length` is the number of rows that the panel showed.
+  changeRows(name, act, first, count, length) {
+    return this.give("rows", { do: act, name, first, count, length }, performance.now());
   }
 
   // Does a job behind the jobs before it; at once if there are none, so that a request leaves before a cell that was typed is drawn.
@@ -483,7 +492,8 @@ export class Sheet {
 
 const same = (one, other) => JSON.stringify(one) === JSON.stringify(other);
 
-function titleOf({ text, title, name, cells }) {
+function titleOf({ text, title, name, cells, do: act, count }) {
+  if (act) return `${name}: ${plural(count, "row")} ${act === "insert" ? "inserted" : "deleted"}`;
   if (name === undefined) return text ?? title;
   return cells.length > 1 ? `${name}: ${plural(cells.length, "cell")}` : `${name}[${cells[0][0].join(";")}]←${cells[0][1]}`;
 }

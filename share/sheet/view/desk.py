@@ -18,15 +18,16 @@ from ..arrays import lines_of_array
 from ..commands import COMMANDS, counted, run
 from ..errors import Lost, Mistake
 from ..journal import Binding, Change, Journal, Place
-from ..lines import LONGEST, PIECE, Line, without_comment
+from ..lines import LONGEST, Line, without_comment
 from ..numerals import Numerals
 from ..program import Program, ProgramFailed
 from ..session import Reply, Session, told_of
-from ..tables import Table, table_in
+from ..tables import Table
 from ..units import with_units
 from .axes import axes_of, axes_of_names
 from .cells import Cell, change_cells, check_cells, edit_of
 from .looks import Look, Seen, Told
+from .rows import Rows, comment_of, delete_rows, insert_rows
 
 TITLES = 30  # changes that a page lists
 PATIENCE = 0.3  # seconds that a stop waits for the end of a step
@@ -238,6 +239,13 @@ class Desk:
             self.publish(outcome, looks)
         return outcome
 
+    def rows(self, rows: Rows, do: str, looks: Sequence[Look] = ()) -> Told:
+        """Inserts rows of data, or deletes them: all of them, or none."""
+        with self.work() as outcome:
+            {"insert": insert_rows, "delete": delete_rows}[do](self.session, rows)
+            self.publish(outcome, looks)
+        return outcome
+
     def open(self, title: str, text: str) -> Told:
         """Answers the lines of a script that a page has read, as one change; the outcome has their messages."""
         journal = self.session.journal
@@ -257,11 +265,11 @@ class Desk:
             self.publish(outcome, [])
         return outcome
 
-    def table(self, title: str, text: str, name: str, header: bool, separator: str, labels: str = "", decimals: int = 0) -> Told:
+    def table(self, title: str, table: Table, name: str, labels: str, numerals: Numerals) -> Told:
         """Puts a table that a page has read under a name, and its first column under `labels`, if that is a name."""
         with self.work() as outcome:
-            table = table_in(title, text.lstrip("\ufeff"), "\t" if separator == "tab" else separator, header)
-            numbers, each = table.numbers([*range(2 if labels else 1, table.width + 1)], Numerals(decimals))
+            decimals = numerals.decimals
+            numbers, each = table.numbers([*range(2 if labels else 1, table.width + 1)], numerals)
             shape, spare = [table.height, table.width - bool(labels)], self.session.journal.spare_name(name)
             lines = with_units(lines_of_array(name, shape, numbers, spare, each), name, decimals)
             self.session.change(f"opened {title}", lines + (self.lines_of_labels(table, labels) if labels else []))
@@ -365,6 +373,5 @@ def places_of(reply: Reply) -> List[str]:
 def told_of_name(name: str, binding: Binding) -> Told:
     """Returns the description of a name for a page."""
     text = binding.text or ""
-    comments = [piece[1:].strip() for piece in PIECE.findall(text) if piece[0] == "⍝"]
     formula = "" if binding.is_data else without_comment(text).partition("←")[2].strip()
-    return {"name": name, "data": binding.is_data, "formula": formula, "comment": "".join(comments), "decimals": binding.decimals}
+    return {"name": name, "data": binding.is_data, "formula": formula, "comment": comment_of(text), "decimals": binding.decimals}

@@ -97,7 +97,7 @@ class Handler(BaseHTTPRequestHandler):
             return
         heard = desk.listen()
         with contextlib.suppress(OSError):
-            self.send_events(heard, {"version": desk.version, "reached": []})
+            self.send_events(heard, {"version": desk.version, "reached": [], **self.server.site.state()})
         desk.leave(heard)
 
     def send_events(self, heard: queue.SimpleQueue[Any], event: Optional[Told]) -> None:

@@ -6,8 +6,13 @@
   POST /api/line            answers a line, and the looks that it may have changed
   POST /api/edit            edits cells, all or none
   POST /api/lines           makes one change of several lines
+  POST /api/rows            inserts or deletes rows of data
   POST /api/open            answers the lines of a script that the page has read
   POST /api/table           puts a table that the page has read under a name
+  POST /api/sheets          the sheets of a workbook that the page has read, with their first rows
+  POST /api/workbook        puts a block of such a sheet under a name
+  POST /api/book            a workbook of the sheet, to be kept elsewhere
+  POST /api/recover         goes on with a session that was not saved, or forgets it
   POST /api/stop            stops the line under way
   POST /api/settings        sets how a panel is shown, for all pages
   POST /api/whatif          begins a what-if, keeps its changes in the sheet, or gives it up
@@ -16,7 +21,7 @@
   POST /api/save            writes the file with which the server was started, and no other
   GET  /api/events?desk=N   events, as a stream
 
-A page sends JSON with the number of its desk: 0 is the sheet, others are what-ifs.
+A page sends JSON with the number of its desk: 0 is the sheet, others are what-ifs. The bytes of a workbook are in base64.
 """
 
 from __future__ import annotations
@@ -31,9 +36,13 @@ from ..files import Home
 from ..lines import NAME
 from ..scripts import script_of_sheet
 from ..session import Session
+from ..tables import Table, table_in
+from .books import Labelled, book_of, bytes_in, numerals_for, sheet_table, sheets_in
 from .cells import cells_of, check_name
 from .desk import Desk
+from .leftovers import forget, go_on, left
 from .looks import Look, Told
+from .rows import Rows
 from .settings import checked, settings_in, with_settings
 from .whatifs import WhatIfs
 
@@ -49,6 +58,7 @@ class Site:
 
     file      the path of the file that Save writes; None if there is none
     settings  how panels are shown
+    left      the sessions that were not saved
     build     which program answers, in words
     """
 
@@ -56,6 +66,7 @@ class Site:
         self.sheet, self.file, self.build = Desk(session), file and os.path.realpath(file), build
         self.what_ifs = WhatIfs(self.sheet)
         self.settings = settings_in(session.home.lines if session.home else ())
+        self.left = left()
 
     @property
     def desks(self) -> List[Desk]:
@@ -64,6 +75,10 @@ class Site:
     def tell_all(self, event: Optional[Told]) -> None:
         for desk in self.desks:
             desk.tell(event)
+
+    def state(self) -> Told:
+        """Returns the state of all desks, of which a page hears nothing while it goes from one to another."""
+        return {"settings": self.settings, "whatifs": self.what_ifs.told(), "left": self.left}
 
     def changed(self, told: Told) -> Told:
         """Tells all pages of what-ifs in which something changed, and returns the answer."""
@@ -74,6 +89,7 @@ class Site:
     def begin(self, desk: int) -> Told:
         name = Path(self.file).name if self.file else None
         page: Told = {"file": name, "settings": self.settings, "build": self.build, "name": NAME}
+        page["left"] = self.left
         page.update({"keys": keys.KEY.findall(keys.FILE.read_text("utf-8")), "whatifs": self.what_ifs.told()})
         return {**page, **self.what_ifs.desk(desk).begin()}
 
@@ -94,11 +110,46 @@ class Site:
         self.settings.update(settings_in(text.splitlines()))
         return {**self.changed(self.what_ifs.desk(desk).open(title, text)), "settings": self.settings}
 
-    def table(self, desk: int, **table: Any) -> Told:
-        for name in (table.get("name"), table.get("labels")):
-            if name:
-                check_name(name)
-        return self.changed(self.what_ifs.desk(desk).table(**table))
+    def rows(self, desk: int, do: str, name: str, first: int, count: int, length: int, looks: Asked = ()) -> Told:
+        check_name(name)
+        rows = Rows(name, int(first), int(count), int(length))
+        return self.changed(self.what_ifs.desk(desk).rows(rows, do, looks_of(looks)))
+
+    def table(self, desk: int, title: str, text: str, header: bool, separator: str, **names: Any) -> Told:
+        table = table_in(title, text.lstrip("\ufeff"), "\t" if separator == "tab" else separator, header)
+        return self.put_table(desk, title, table, **names)
+
+    def sheets(self, title: str, raw: str) -> Told:
+        return {"sheets": sheets_in(title, bytes_in(raw))}
+
+    def workbook(self, desk: int, title: str, raw: str, sheet: str, block: str, header: bool, **names: Any) -> Told:
+        return self.put_table(desk, f"{title}: {sheet}", sheet_table(title, bytes_in(raw), sheet, block, header), **names)
+
+    def put_table(self, desk: int, title: str, table: Table, name: str, labels: str = "", decimals: int = 0) -> Told:
+        """Puts a table under a name, and its first column under `labels`, if that is a name."""
+        for each in filter(None, (name, labels)):
+            check_name(each)
+        return self.changed(self.what_ifs.desk(desk).table(title, table, name, labels, numerals_for(table, bool(labels), decimals)))
+
+    def book(self, desk: int, tables: Asked) -> Told:
+        with self.what_ifs.desk(desk).work() as outcome:
+            outcome.update(book_of(self.what_ifs.desk(desk).session, [Labelled(**table) for table in tables]))
+        return outcome
+
+    def recover(self, name: str, do: str) -> Told:
+        """Goes on with a session that was not saved, or forgets it; all pages hear which ones are left."""
+        with self.sheet.work() as outcome:
+            if do == "go on":
+                go_on(self.sheet.session, name)
+                self.settings.update(settings_in(self.sheet.session.home.lines if self.sheet.session.home else ()))
+                self.sheet.publish(outcome, [])
+            elif do == "forget":
+                forget(name)
+            else:
+                raise ValueError("go on, or forget")
+        self.left = left()
+        self.tell_all({"left": self.left})
+        return {**outcome, "left": self.left, "settings": self.settings}
 
     def stop(self, desk: int) -> Told:
         self.what_ifs.desk(desk).stop()
@@ -177,8 +228,13 @@ PATHS: Dict[str, Callable[..., Told]] = {
     "/api/line": Site.line,
     "/api/edit": Site.edit,
     "/api/lines": Site.lines,
+    "/api/rows": Site.rows,
     "/api/open": Site.open,
     "/api/table": Site.table,
+    "/api/sheets": Site.sheets,
+    "/api/workbook": Site.workbook,
+    "/api/book": Site.book,
+    "/api/recover": Site.recover,
     "/api/stop": Site.stop,
     "/api/settings": Site.set,
     "/api/whatif": Site.what_if,
