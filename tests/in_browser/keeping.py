@@ -6,7 +6,7 @@ import base64
 from typing import List
 
 from .benches import Bench
-from .sheets import PLAN, Sheet, Test
+from .sheets import DEMAND, PLAN, TOP, Sheet, Test, has_workbooks, python_of_server
 
 
 def saved(bench: Bench) -> None:
@@ -81,6 +81,84 @@ def tables_and_scripts(bench: Bench) -> None:
     page.until_text("#message", "bad.csv: record 2 field 2 is no whole number")
 
 
+def workbooks(bench: Bench) -> None:
+    """The sheet is downloaded as a workbook with its labels, and a sheet of a workbook is read: whole, or a block of its cells."""
+    page = bench.page()
+    page.until("TOTAL", [["395", "150", "390"]])
+    folder = bench.sheet.folder / "downloads"
+    folder.mkdir()
+    page.use().devtools("Browser.setDownloadBehavior", behavior="allow", downloadPath=str(folder))
+    page.run("window.kept = null; const make = URL.createObjectURL; URL.createObjectURL = (blob) => ((window.kept = blob), make(blob))")
+    page.click("#book")
+    page.wait("return window.kept")
+    page.run("aplsheet.files.open(new File([window.kept], 'again.xlsx'))")
+    page.wait("return document.getElementById('table').open")
+    titles = page.run("return [...document.getElementById('table-sheet').options].map((option) => option.value)")
+    assert titles == ["DEMAND", "TOTAL", "ALL", "LATE", "Formulas"], titles  # SHARE shows an error, and PRODUCT is labels
+    assert page.run("return ['header', 'labelled'].map((id) => document.getElementById(`table-${id}`).checked)") == [False, True]
+    page.click("#table .primary")
+    page.until("AGAIN", DEMAND)
+    page.until("AGAIN_NAMES", [["desk", "wall", "spot"]])
+    page.run("aplsheet.files.open(new File([window.kept], 'again.xlsx'))")
+    page.wait("return document.getElementById('table').open")
+    page.run("document.getElementById('table-range').value = 'C2:D3'; document.getElementById('table-labelled').checked = false")
+    page.click("#table .primary")
+    page.until("AGAIN_", [["30", "45"], ["60", "60"]])
+    page.press(*["Control+z"] * 2)
+    page.wait("return !document.querySelector('[data-name=AGAIN]')")
+
+
+def refused_workbooks(bench: Bench) -> None:
+    """A workbook with merged cells or with a text among the numbers is refused, with the cell; so is a file that is none."""
+    page = bench.page()
+    raw = base64.b64encode((TOP / "tests/workbooks/libreoffice.xlsx").read_bytes()).decode()
+    script = "aplsheet.files.open(new File([Uint8Array.from(atob(arguments[0]), (sign) => sign.charCodeAt(0))], 'Preise.xlsx'))"
+    for sheet, message in (("Zwei Worte", "is merged with other cells"), ("Fehler", "Preise.xlsx: Fehler!")):
+        page.run(script, raw)
+        page.wait("return document.getElementById('table').open")
+        page.run("const choice = document.getElementById('table-sheet'); choice.value = arguments[0]; choice.dispatchEvent(new Event('change'))", sheet)
+        page.run("for (const id of ['header', 'labelled']) document.getElementById(`table-${id}`).checked = false")
+        page.click("#table .primary")
+        page.until_text("#message", message)
+    page.run("aplsheet.files.open(new File(['PK nothing'], 'none.xlsx'))")
+    page.until_text("#message", "none.xlsx is no workbook (.xlsx)")
+
+
+def recovered(bench: Bench) -> None:
+    """A page offers the sessions that were not saved: it goes on with one, and forgets another one after a question."""
+    for number, item in enumerate(["121", "122"]):
+        with Sheet(bench.program, PLAN) as other:
+            other.line(f"DEMAND[1;1]←{item}")
+            other.process.kill()
+            other.process.wait()
+            for log in (other.folder / "aplsheet").glob("session-*.apl"):
+                text = log.read_text("utf-8").replace(str(other.file), str(bench.sheet.file))
+                (bench.sheet.folder / "aplsheet" / f"session-20260101-00000{number}-test.apl").write_text(text, "utf-8")
+    with Sheet(bench.program, PLAN, folder=bench.sheet.folder) as sheet:
+        page = bench.page(sheet)
+        page.until("TOTAL", [["395", "150", "390"]])
+        page.wait("return document.querySelectorAll('#left li').length === 2")
+        page.until_text("#left li", "1 change since ")
+        page.click("#left li:nth-child(2) button:nth-of-type(2)")
+        page.until_text("#message", "FORGET IT?")
+        page.click("#message button[title='Remove its log']")
+        page.wait("return document.querySelectorAll('#left li').length === 1")
+        page.enter("DEMAND[1;1]←5")
+        page.click("#left li button")
+        page.until_text("#message", "this sheet has changes that are not saved")
+        page.press("Control+z")
+        page.until("TOTAL", [["395", "150", "390"]])
+        page.click("#left li button")
+        page.until("TOTAL", [["397", "150", "390"]])
+        page.wait("return document.getElementById('left').hidden && document.getElementById('saved').textContent === 'not saved'")
+        page.press("Control+z")
+        page.until("TOTAL", [["395", "150", "390"]])
+        page.press("Control+y", "Control+s")
+        page.until_text("#status", "saved in plan.apl")
+        assert "122" in sheet.file.read_text("utf-8")
+        bench.allows_an_end()
+
+
 def download(bench: Bench) -> None:
     """Download gives the lines of the sheet to the browser."""
     page = bench.page()
@@ -107,5 +185,9 @@ def kept_in_the_log(bench: Bench) -> None:
 
 
 def tests() -> List[Test]:
-    calls = [saved, changed_on_disk, tables_and_scripts, download]
+    calls = [saved, changed_on_disk, tables_and_scripts, download, recovered]
+    if has_workbooks(python_of_server()):
+        calls += [workbooks, refused_workbooks]
+    else:
+        print("no Python here has openpyxl: the tests of workbooks are left out")
     return [*(Test(call, PLAN) for call in calls), Test(new_file, None), Test(kept_in_the_log, PLAN, False)]

@@ -3,6 +3,7 @@
 from __future__ import annotations
 
 import contextlib
+import functools
 import http.client
 import json
 import os
@@ -18,6 +19,7 @@ from typing import Any, Callable, Dict, List, NamedTuple, Optional, Tuple
 from .browser import SECONDS, Browser
 
 TOP = Path(__file__).resolve().parents[2]
+OTHER_PYTHON = "/usr/bin/python3"
 ADDRESS = re.compile(r"http://127\.0\.0\.1:(\d+)/#(\S+)")
 PLAN = """)DATA DEMAND←3 5⍴120 80 40 95 60 30 30 45 20 25 75 60 60 90 105
 )DATA PRODUCT←3 4⍴'deskwallspot'
@@ -32,18 +34,33 @@ ROWS_OF = """[...document.querySelectorAll(`[data-name='${arguments[0]}'] tr`)]
 PENDING = "document.querySelector(`[data-name='${arguments[0]}'] .pending`)"
 
 
+@functools.lru_cache(maxsize=None)
+def python_of_server() -> str:
+    """Returns a Python that has openpyxl, which workbooks need; this one if there is none."""
+    pythons = [sys.executable, OTHER_PYTHON]
+    return next((python for python in pythons if has_workbooks(python)), sys.executable)
+
+
+@functools.lru_cache(maxsize=None)
+def has_workbooks(python: str) -> bool:
+    try:
+        return subprocess.run([python, "-c", "import openpyxl"], stderr=subprocess.DEVNULL).returncode == 0
+    except OSError:
+        return False
+
+
 class Sheet:
     """A server with a sheet in a file, in a folder of its own."""
 
-    def __init__(self, program: str, text: Optional[str], name: str = "plan.apl") -> None:
+    def __init__(self, program: str, text: Optional[str], name: str = "plan.apl", folder: Optional[Path] = None) -> None:
         self.room = tempfile.TemporaryDirectory(prefix="sheet-web-")
-        self.folder, self.program = Path(self.room.name), program
+        self.folder, self.program = folder or Path(self.room.name), program
         self.file = self.folder / name
         if text is not None:
             self.file.write_text(text, "utf-8")
         own = {"XDG_STATE_HOME": str(self.folder), "APLSHEET_TOLD": "1", "TMPDIR": str(self.folder), "HOME": str(self.folder)}
         self.environment = {**os.environ, **own}
-        words = [sys.executable, str(TOP / "bin/sheet"), "--web", "--headless", "--program", program, str(self.file)]
+        words = [python_of_server(), str(TOP / "bin/sheet"), "--web", "--headless", "--program", program, str(self.file)]
         self.process = subprocess.Popen(words, stdout=subprocess.DEVNULL, stderr=subprocess.PIPE, env=self.environment, text=True)
         self.said: List[str] = []
         self.told: queue.SimpleQueue[str] = queue.SimpleQueue()
