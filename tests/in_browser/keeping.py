@@ -98,13 +98,19 @@ def workbooks(bench: Bench) -> None:
     assert page.run("return ['header', 'labelled'].map((id) => document.getElementById(`table-${id}`).checked)") == [False, True]
     page.click("#table .primary")
     page.until("AGAIN", DEMAND)
-    page.until("AGAIN_NAMES", [["desk", "wall", "spot"]])
+    page.until("AGAIN_ROWS", [["desk", "wall", "spot"]])
+    page.wait("return [...document.querySelectorAll('[data-name=AGAIN] tr:not(.heads) th.name')].map((cell) => cell.textContent).join() === 'desk,wall,spot'")
     page.run("aplsheet.files.open(new File([window.kept], 'again.xlsx'))")
     page.wait("return document.getElementById('table').open")
     page.run("document.getElementById('table-range').value = 'C2:D3'; document.getElementById('table-labelled').checked = false")
     page.click("#table .primary")
     page.until("AGAIN_", [["30", "45"], ["60", "60"]])
-    page.press(*["Control+z"] * 2)
+    page.run("aplsheet.files.open(new File([window.kept], 'some.xlsx'))")
+    page.wait("return document.getElementById('table').open")
+    page.run("document.getElementById('table-columns').value = '3,5-6'")
+    page.click("#table .primary")
+    page.until("SOME", [["80", "95", "60"], ["30", "20", "25"], ["60", "90", "105"]])
+    page.press(*["Control+z"] * 3)
     page.wait("return !document.querySelector('[data-name=AGAIN]')")
 
 

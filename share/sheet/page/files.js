@@ -78,7 +78,8 @@ export class Files {
     const [first = [], second = first] = fields;
     $("table-header").checked = first.slice(1).some((field) => field && !isNumber(field)) || (first.length === 1 && !isNumber(first[0]));
     $("table-labelled").checked = first.length > 1 && !isNumber(second[0]);
-    $("table-labels").value = `${$("table-name").value}_NAMES`;
+    $("table-labels").value = `${$("table-name").value}_ROWS`;
+    $("table-columns").value = "";
     $("table-decimals").value = Math.max(0, ...fields.slice(1).flat().map((field) => decimalsOf(field, mark)));
   }
 
@@ -95,7 +96,8 @@ export class Files {
   // Returns the answers of the dialog that texts and workbooks have in common.
   read() {
     const labels = $("table-labelled").checked ? $("table-labels").value : "";
-    return { name: $("table-name").value, header: $("table-header").checked, labels, decimals: Number($("table-decimals").value) };
+    const [columns, decimals] = [$("table-columns").value.trim(), Number($("table-decimals").value)];
+    return { name: $("table-name").value, header: $("table-header").checked, labels, columns, decimals };
   }
 
   // Returns a free name, made from the name of a file.

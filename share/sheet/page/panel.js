@@ -366,7 +366,11 @@ export class Panel {
   // The menu of a panel stands above the panels behind it.
   toggled() {
     this.element.classList.toggle("open", this.menu.open);
-    if (this.menu.open) this.fillMenu();
+    if (!this.menu.open) return;
+    this.fillMenu();
+    const list = this.menu.lastElementChild;
+    list.classList.remove("rightward");
+    list.classList.toggle("rightward", list.getBoundingClientRect().left < this.element.parentElement.getBoundingClientRect().left);
   }
 
   fillMenu() {

@@ -335,12 +335,14 @@ export class Sheet {
     return (this.textNames.get(length) ?? []).map((info) => info.name);
   }
 
-  // The text matrix that labels an axis of a panel: the chosen one; for data the only one that fits; for a formula the one of the data to which
-  // the axis belongs. A length that agrees by chance labels nothing in a formula: a selection of four weeks is not four products.
+  // The text matrix that labels an axis of a panel: the chosen one; NAME_ROWS or NAME_COLUMNS; for data the only one that fits; for a formula
+  // the one of the data to which the axis belongs. A length that agrees by chance labels nothing in a formula: a selection of four weeks is not four products.
   labels(panel, axis, length) {
     const fits = this.texts(length);
     const chosen = panel.settings[axis ? "columns" : "rows"];
     if (chosen !== undefined) return fits.includes(chosen) ? chosen : undefined;
+    const own = `${panel.of}_${axis ? "COLUMNS" : "ROWS"}`;
+    if (fits.includes(own)) return own;
     if (panel.info.data) return fits.length === 1 && !(axis && panel.shape?.at(-2) === length) ? fits[0] : undefined;
     const from = panel.axes?.at((panel.shape?.length === 1 ? -1 : -2) + axis) ?? [];
     for (const [name, at] of from) {

@@ -45,7 +45,7 @@ export class Side {
     const kind = make("span", { class: "kind", role: "img", "aria-label": data ? "data" : "formula" }, data ? "■" : "ƒ");
     const attributes = { type: "button", title: formula || comment || "data", onclick: () => this.choose(name) };
     const classes = [data && "data", error && "failed", isHidden && "hidden"].filter(Boolean).join(" ");
-    return make("li", { class: classes }, make("button", attributes, kind, name, make("small", {}, isHidden ? "hidden" : size)));
+    return make("li", { class: classes }, make("button", attributes, kind, make("span", { class: "short" }, name), make("small", {}, isHidden ? "hidden" : size)));
   }
 
   showHistory({ changes, undone, count, saved }) {

@@ -65,9 +65,9 @@ def sheet_table(title: str, raw: bytes, sheet: str, block: str, has_titles: bool
     return table
 
 
-def numerals_for(table: Table, is_labelled: bool, decimals: int) -> Numerals:
-    """Returns how the numbers of a table are read: as days, if all of them are dates of a workbook."""
-    fields: Sequence[str] = table.columns([*range(2 if is_labelled else 1, table.width + 1)]) if isinstance(table, SheetTable) else ()
+def numerals_for(table: Table, wanted: Sequence[int], decimals: int) -> Numerals:
+    """Returns how the numbers in columns of a table are read: as days, if all of them are dates of a workbook."""
+    fields: Sequence[str] = table.columns(wanted) if isinstance(table, SheetTable) else ()
     if fields and all(isinstance(field, DateCell) for field in fields):
         return Numerals(dates=dates_of(DAYS))
     return Numerals(decimals)

@@ -265,12 +265,12 @@ class Desk:
             self.publish(outcome, [])
         return outcome
 
-    def table(self, title: str, table: Table, name: str, labels: str, numerals: Numerals) -> Told:
-        """Puts a table that a page has read under a name, and its first column under `labels`, if that is a name."""
+    def table(self, title: str, table: Table, wanted: Sequence[int], name: str, labels: str, numerals: Numerals) -> Told:
+        """Puts the wanted columns of a table under a name, and its first column under `labels`, if that is a name."""
         with self.work() as outcome:
             decimals = numerals.decimals
-            numbers, each = table.numbers([*range(2 if labels else 1, table.width + 1)], numerals)
-            shape, spare = [table.height, table.width - bool(labels)], self.session.journal.spare_name(name)
+            numbers, each = table.numbers(wanted, numerals)
+            shape, spare = [table.height, len(wanted)], self.session.journal.spare_name(name)
             lines = with_units(lines_of_array(name, shape, numbers, spare, each), name, decimals)
             self.session.change(f"opened {title}", lines + (self.lines_of_labels(table, labels) if labels else []))
             self.publish(outcome, [])

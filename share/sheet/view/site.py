@@ -36,6 +36,7 @@ from ..files import Home
 from ..lines import NAME
 from ..scripts import script_of_sheet
 from ..session import Session
+from ..table_commands import columns_of
 from ..tables import Table, table_in
 from .books import Labelled, book_of, bytes_in, numerals_for, sheet_table, sheets_in
 from .cells import cells_of, check_name
@@ -125,11 +126,12 @@ class Site:
     def workbook(self, desk: int, title: str, raw: str, sheet: str, block: str, header: bool, **names: Any) -> Told:
         return self.put_table(desk, f"{title}: {sheet}", sheet_table(title, bytes_in(raw), sheet, block, header), **names)
 
-    def put_table(self, desk: int, title: str, table: Table, name: str, labels: str = "", decimals: int = 0) -> Told:
-        """Puts a table under a name, and its first column under `labels`, if that is a name."""
+    def put_table(self, desk: int, title: str, table: Table, name: str, labels: str = "", decimals: int = 0, columns: str = "") -> Told:
+        """Puts some columns of a table under a name, and its first column under `labels`, if that is a name; all others without `columns`."""
         for each in filter(None, (name, labels)):
             check_name(each)
-        return self.changed(self.what_ifs.desk(desk).table(title, table, name, labels, numerals_for(table, bool(labels), decimals)))
+        wanted = columns_of(table, columns) if columns else [*range(2 if labels else 1, table.width + 1)]
+        return self.changed(self.what_ifs.desk(desk).table(title, table, wanted, name, labels, numerals_for(table, wanted, decimals)))
 
     def book(self, desk: int, tables: Asked) -> Told:
         with self.what_ifs.desk(desk).work() as outcome:
