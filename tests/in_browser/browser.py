@@ -15,7 +15,7 @@ import time
 from pathlib import Path
 from typing import Any, Dict, List, Optional
 
-SECONDS = 60  # the most that anything is waited for
+SECONDS = 240  # the most that anything is waited for; beside proofs, a start that takes a second when idle has taken a minute
 ELEMENT = "element-6066-11e4-a52e-4f735466cecf"
 KEYS = {"Enter": "\ue007", "Tab": "\ue004", "Escape": "\ue00c", "Up": "\ue013", "Down": "\ue015", "Left": "\ue012", "Right": "\ue014"}
 KEYS.update({"Control": "\ue009", "Shift": "\ue008", "Alt": "\ue00a", "Home": "\ue011", "End": "\ue010", "PageDown": "\ue00f", "F2": "\ue032"})
@@ -68,7 +68,7 @@ class Browser:
 
     def call(self, method: str, path: str, body: Optional[Dict[str, Any]] = None) -> Any:
         """Sends a command of WebDriver, and returns its value."""
-        connection = http.client.HTTPConnection("127.0.0.1", self.port, timeout=120)
+        connection = http.client.HTTPConnection("127.0.0.1", self.port, timeout=2 * SECONDS)
         path = f"/session/{self.session}/{path}" if self.session else f"/{path}"
         connection.request(method, path.rstrip("/"), None if body is None else json.dumps(body), {"Content-Type": "application/json"})
         value = json.loads(connection.getresponse().read())["value"]

@@ -94,7 +94,7 @@ class Sheet:
 
     def ask(self, path: str, body: Any = None, method: Optional[str] = None, **headers: Optional[str]) -> Tuple[int, bytes, Dict[str, str]]:
         """Returns the status, the body and the headers of an answer; a header whose value is None is left out."""
-        connection = http.client.HTTPConnection("127.0.0.1", self.port, timeout=60)
+        connection = http.client.HTTPConnection("127.0.0.1", self.port, timeout=SECONDS)
         given: Dict[str, Optional[str]] = {"Host": f"127.0.0.1:{self.port}", "Authorization": f"Bearer {self.token}"}
         raw = body if isinstance(body, bytes) else b"" if body is None else json.dumps(body).encode()
         if body is not None:

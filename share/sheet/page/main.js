@@ -36,11 +36,14 @@ on("redo", () => sheet.send("]redo"));
 on("stop", () => ask("stop", { desk: sheet.desk }).catch((fault) => sheet.fail(fault)));
 on("keys", () => $("help").showModal());
 on("print", () => print());
-new ResizeObserver(() => {
+
+// Panels that are laid out anew may bring a scroll bar, and so another size: a frame later, so that the browser reports no loop.
+function fitToWindow() {
   sheet.measure();
   for (const panel of sheet.panels.values()) panel.render();
   sheet.measurePanels();
-}).observe($("panels"));
+}
+new ResizeObserver(() => requestAnimationFrame(fitToWindow)).observe($("panels"));
 document.addEventListener("visibilitychange", () => document.hidden && sheet.leaving?.abort());
 document.addEventListener("click", (event) => {
   for (const menu of document.querySelectorAll("details.menu[open]")) if (!menu.contains(event.target)) menu.open = false;
