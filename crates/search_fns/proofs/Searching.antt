@@ -1,25 +1,25 @@
 -- Items sought in the items of an array.
-use Rattle.std.{proofs.Common.{◌≡◌, ◌≢◌, ℕ, ◌+◌, ◌<◌, Bool, true, false, List, [], ◌∷◌, length, get_or, map, replicate, suc, pos, ℤ, refl, ap, sym, ◌∙◌, arith}, specs.Prelude.{nat_eq, nat_le}, specs.Ordering.{int_eq}, specs.List.{All, list_any, position_or_len}, proofs.lemmas.Bool.Decides.{nat_tests}}
+use Rattle.std.{proofs.Common.{◌≡◌, ◌≢◌, ℕ, ◌+◌, ◌<◌, Bool, true, false, List, [], ◌∷◌, length, get_or, map, replicate, suc, pos, ℤ, refl, ap, sym, ◌∙◌, arith}, specs.Prelude.{nat_eq, nat_le}, specs.Ordering.{int_eq}, specs.List.{All, list_any, position_or_len}, proofs.lemmas.Bool.Decides.{nat_tests, same_from_decides, Decides-eqb, Decides-int_eq}}
 use Rattle.{std.proofs.lemmas.List.Sums.{position_or_len_is}, item_fns.specs.Numbers.{truth}}
 use Rattle.arrays_core.{specs.declared.item.Item.{Item}, specs.declared.item.Item.TheVariants.{Num, Char}, specs.Items.{type_of}, specs.Arrays.{ArrayValue}}
 use Rattle.search_fns.specs.SameItem.{same_item}
 
 -- ---- numbers among numbers, characters among characters
 
-module _ {K : Type 0} (item : K → Item) (eq : K → K → Bool) (alike : (x y : K) → same_item (item x) (item y) ≡ eq x y) where
-  position_as : (x : K) (xs : List K) → position_or_len (same_item (item x)) (map item xs) ≡ position_or_len (eq x) xs
+module _ {K : Type 0} (item : K → Item) (code : K → ℤ) (alike : (x y : K) → same_item (item x) (item y) ≡ int_eq (code x) (code y)) where
+  position_as : (x : K) (xs : List K) → position_or_len (same_item (item x)) (map item xs) ≡ position_or_len (int_eq (code x)) (map code xs)
   position_as x [] = refl
   position_as x (y ∷ xs) = rw (alike x y, position_as x xs) refl
 
-  any_as : (x : K) (xs : List K) → list_any (same_item (item x)) (map item xs) ≡ list_any (eq x) xs
+  any_as : (x : K) (xs : List K) → list_any (same_item (item x)) (map item xs) ≡ list_any (int_eq (code x)) (map code xs)
   any_as x [] = refl
   any_as x (y ∷ xs) = rw (alike x y, any_as x xs) refl
 
-  pub places_as : (xs ys : List K) → map (λ y. pos (suc (position_or_len (eq y) xs))) ys ≡ map (λ y. pos (suc (position_or_len (same_item y) (map item xs)))) (map item ys)
+  pub places_as : (xs ys : List K) → map (λ y. pos (suc (position_or_len (int_eq (code y)) (map code xs)))) ys ≡ map (λ y. pos (suc (position_or_len (same_item y) (map item xs)))) (map item ys)
   places_as xs [] = refl
   places_as xs (y ∷ ys) = rw (position_as y xs, places_as xs ys) refl
 
-  pub members_as : (xs ys : List K) → map (λ y. truth (list_any (eq y) xs)) ys ≡ map (λ y. truth (list_any (same_item y) (map item xs))) (map item ys)
+  pub members_as : (xs ys : List K) → map (λ y. truth (list_any (int_eq (code y)) (map code xs))) ys ≡ map (λ y. truth (list_any (same_item y) (map item xs))) (map item ys)
   members_as xs [] = refl
   members_as xs (y ∷ ys) = rw (any_as y xs, members_as xs ys) refl
 
@@ -30,8 +30,13 @@ truth_is_1 false = refl
 pub same_numbers : (x y : ℤ) → same_item (Num x) (Num y) ≡ int_eq x y
 same_numbers x y = truth_is_1 (int_eq x y)
 
-pub same_characters : (x y : ℕ) → same_item (Char x) (Char y) ≡ nat_eq x y
-same_characters x y = truth_is_1 (nat_eq x y)
+same_code : (x y : ℕ) → nat_eq x y ≡ int_eq (pos x) (pos y)
+same_code x y =
+    let d = Decides-int_eq (pos x) (pos y) in
+    same_from_decides (nat_eq x y) (int_eq (pos x) (pos y)) (Decides-eqb x y) ((λ h. let e = d.0 h in cc), (λ e. d.1 (ap pos e)))
+
+pub same_characters : (x y : ℕ) → same_item (Char x) (Char y) ≡ int_eq (pos x) (pos y)
+same_characters x y = truth_is_1 (nat_eq x y) ∙ same_code x y
 
 -- ---- items of the other type
 

@@ -1,5 +1,6 @@
 -- The meaning of public contracts.
 pub mod SameItem
+pub mod Lookup
 pub mod IndexOf
 pub mod Member
 pub mod Encode

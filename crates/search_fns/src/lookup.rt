@@ -1,86 +1,238 @@
-//! Lookups of many items in a list. A hash map holds the first place of each item, so a lookup does not scan the list.
+//! Lists of items that are looked up in a list. The list is read where few items are sought. Else the first place of each item is
+//! kept in a table or a map, so that a lookup takes a time that does not grow with the list.
 
-ghost use Rattle.std.specs.Prelude.{◌≡◌, ◌≤◌, suc, pos, IfOk, length, map, replicate};
+ghost use Rattle.std.specs.Prelude.{◌≡◌, ◌≤◌, ◌<◌, ◌+◌, ◌*◌, ℤ, suc, pos, IfOk, IfSome, length, map, replicate, vec_len};
+ghost use Rattle.std.specs.Ordering.{int_eq};
 ghost use Rattle.std.specs.List.{list_any, position_from, position_or_len};
 ghost use Rattle.std.specs.HashMap.{get};
 ghost use Rattle.arrays_core.specs.Limits.{most_places};
 ghost use Rattle.item_fns.specs.Numbers.{truth};
+ghost use Rattle.search_fns.specs.Lookup.{IsWithinSpan, HasFirsts, Finds};
 
 use arrays_core::{repeated, room_of};
 use std::alloc::{AllocError, Global};
 use std::collections::HashMap;
-use std::hash::Hash;
 
-/// Builds a map from each item to its first place, counted from 0.
-fn first_place_table<T: Eq + Hash + Copy + Drop>(
+/// Where no more items are sought, the list is read for each of them.
+const FEW: usize = 4;
+
+/// The number of items that are compared at once.
+const BLOCK: usize = 256;
+
+/// Items with a key. Items with one key are the same.
+pub(crate) trait Key: Copy + Drop {
+    ghost code: { Self → ℤ };
+
+    /// The key.
+    fn key(self) -> i64
+        ensures { result ≡ code self };
+}
+
+impl Key for i64 {
+    ghost code = { λ z. z };
+
+    fn key(self) -> i64 {
+        self
+    }
+}
+
+impl Key for char {
+    ghost code = { λ c. pos c };
+
+    fn key(self) -> i64 {
+        i64::from(u32::from(self))
+    }
+}
+
+/// A list that is prepared for lookups.
+#[derive(Drop)]
+enum Lookup {
+    /// Nothing is kept: the list is read at each lookup.
+    Plain,
+    /// For each key from the least, its first place, or the length of the list.
+    Table(i64, Vec<u32>),
+    /// The first place of each key.
+    Map(HashMap<i64, usize>),
+}
+
+/// Two items are the same.
+#[inline]
+fn is_one<T: Key>(left: T, right: T) -> bool
+    ensures { result ≡ int_eq (T.code left) (T.code right) }
+{
+    left.key() == right.key()
+}
+
+/// The list holds the item. The loop has no exit, so that LLVM compares many items at once.
+fn has_item<T: Key>(items: &[T], sought: T) -> bool
+    ensures { result ≡ list_any (int_eq (T.code sought)) (map T.code items.now) }
+{
+    let mut is_found = false;
+    for item in items {
+        is_found |= is_one(sought, *item);
+    }
+    is_found
+}
+
+/// The number of items before the first one that is sought.
+fn before_item<T: Key>(items: &[T], sought: T) -> usize
+    ensures { result ≡ position_or_len (int_eq (T.code sought)) (map T.code items.now) }
+{
+    for place in 0..items.len() {
+        if is_one(sought, items[place]) {
+            return place;
+        }
+    }
+    items.len()
+}
+
+/// The same. Blocks without it are passed as a whole.
+#[inline(never)]
+fn before_by_blocks<T: Key>(items: &[T], sought: T) -> usize
+    ensures { result ≡ position_or_len (int_eq (T.code sought)) (map T.code items.now) }
+{
+    let mut passed = 0;
+    while BLOCK <= items.len() - passed && !has_item(&items[passed..passed + BLOCK], sought) {
+        passed += BLOCK;
+    }
+    passed + before_item(&items[passed..], sought)
+}
+
+/// The least key and how many keys there are from it to the greatest, where these are few.
+fn span_of<T: Key>(items: &[T]) -> Option<(i64, usize)>
+    requires { length items.now ≤ most_places }
+    ensures { IfSome result (λ r. IsWithinSpan r.0 r.1 (map T.code items.now)) }
+{
+    let (mut least, mut greatest) = (i64::MAX, i64::MIN);
+    for item in items {
+        least = least.min(item.key());
+        greatest = greatest.max(item.key());
+    }
+    let span = greatest.abs_diff(least) as usize;
+    if span < 4 * items.len() + 1_024 {
+        return Some((least, span + 1));
+    }
+    None
+}
+
+/// The first place of each key of a span, or the length of the list.
+fn first_place_table<T: Key>(
     alloc: Global,
     items: &[T],
-) -> Result<HashMap<T, usize>, AllocError>
-    ensures { IfOk result (λ m. (q : T) → get T.eq m q ≡ position_from (T.eq q) 0 items.now) }
+    least: i64,
+    span: usize,
+) -> Result<Vec<u32>, AllocError>
+    requires few { length items.now ≤ most_places }
+    requires within { IsWithinSpan least span (map T.code items.now) }
+    ensures { IfOk result (λ v. (vec_len v ≡ span) × HasFirsts least v.items (map T.code items.now)) }
+{
+    let mut firsts = Vec::from_elem(alloc, items.len() as u32, span)?;
+    for place in (0..items.len()).rev() {
+        let offset = items[place].key().abs_diff(least) as usize;
+        firsts[offset] = place as u32;
+    }
+    Ok(firsts)
+}
+
+/// The number of items before the first one that is sought, by the table of a span.
+#[inline]
+fn before_in_table<T: Key>(items: &[T], least: i64, firsts: &[u32], sought: T) -> usize
+    requires within { IsWithinSpan least (length firsts.now) (map T.code items.now) }
+    requires firsts { HasFirsts least firsts.now (map T.code items.now) }
+    ensures { result ≡ position_or_len (int_eq (T.code sought)) (map T.code items.now) }
+{
+    let offset = sought.key().abs_diff(least) as usize;
+    if sought.key() < least || firsts.len() <= offset {
+        return items.len();
+    }
+    firsts[offset] as usize
+}
+
+/// The first place of each key, counted from 0.
+fn first_place_map<T: Key>(alloc: Global, items: &[T]) -> Result<HashMap<i64, usize>, AllocError>
+    ensures { IfOk result (λ m. (q : ℤ) → get int_eq m q ≡ position_from (int_eq q) 0 (map T.code items.now)) }
 {
     let mut places = HashMap::with_capacity(alloc, items.len())?;
-    for place in (0..items.len()).rev() {
-        places.insert(items[place], place)?;
+    for before in (0..items.len()).rev() {
+        places.insert(items[before].key(), before)?;
     }
     Ok(places)
 }
 
-/// Returns the number of places before the first place of an item, or the length of the list.
-#[inline]
-fn before_first_place<T: Eq + Hash + Copy + Drop>(
-    items: &[T],
-    places: &HashMap<T, usize>,
-    item: T,
-) -> usize
-    requires { (q : T) → get T.eq places.now q ≡ position_from (T.eq q) 0 items.now }
-    ensures is { result ≡ position_or_len (T.eq item) items.now }
-    ensures within { result ≤ length items.now }
+/// The number of items before the first one that is sought, by the map. A call, so that the loop over a table stays small.
+#[inline(never)]
+fn before_in_map<T: Key>(items: &[T], places: &HashMap<i64, usize>, sought: T) -> usize
+    requires { (q : ℤ) → get int_eq places.now q ≡ position_from (int_eq q) 0 (map T.code items.now) }
+    ensures { result ≡ position_or_len (int_eq (T.code sought)) (map T.code items.now) }
 {
-    match places.get(&item) {
+    match places.get(&sought.key()) {
         Some(place) => *place,
         None => items.len(),
     }
 }
 
-/// Returns the first place of each sought item, counted from 1, or one more than the length of the list.
-pub(crate) fn first_places<T: Eq + Hash + Copy + Drop>(
+impl Lookup {
+    /// Prepares a list for so many lookups.
+    fn of<T: Key>(alloc: Global, items: &[T], lookups: usize) -> Result<Lookup, AllocError>
+        requires { length items.now ≤ most_places }
+        ensures { IfOk result (λ l. Finds (map T.code items.now) l) }
+    {
+        if lookups <= FEW {
+            return Ok(Lookup::Plain);
+        }
+        if let Some((least, span)) = span_of(items) {
+            return Ok(Lookup::Table(least, first_place_table(alloc, items, least, span)?));
+        }
+        Ok(Lookup::Map(first_place_map(alloc, items)?))
+    }
+
+    /// The number of items before the first one that is sought, or of all.
+    #[inline]
+    fn before<T: Key>(&self, items: &[T], sought: T) -> usize
+        requires { Finds (map T.code items.now) self.now }
+        ensures is { result ≡ position_or_len (int_eq (T.code sought)) (map T.code items.now) }
+        ensures within { result ≤ length items.now }
+    {
+        match self {
+            Lookup::Plain => before_by_blocks(items, sought),
+            Lookup::Table(least, firsts) => before_in_table(items, *least, firsts, sought),
+            Lookup::Map(places) => before_in_map(items, places, sought),
+        }
+    }
+}
+
+/// The first place of each of the items that are sought, counted from 1, or one more than there are
+/// places.
+pub(crate) fn first_places<T: Key>(
     alloc: Global,
     items: &[T],
     sought: &[T],
 ) -> Result<Vec<i64>, AllocError>
     requires { length items.now ≤ most_places }
-    ensures { IfOk result (λ v. v.items ≡ map (λ x. pos (suc (position_or_len (T.eq x) items.now))) sought.now) }
+    ensures { IfOk result (λ v. v.items ≡ map (λ x. pos (suc (position_or_len (int_eq (T.code x)) (map T.code items.now)))) sought.now) }
 {
-    let places = first_place_table(alloc, items)?;
+    let lookup = Lookup::of(alloc, items, sought.len())?;
     let mut found = Vec::with_capacity(alloc, room_of(sought.len()))?;
     for item in sought {
-        let before = before_first_place(items, &places, *item) as u32;
+        let before = lookup.before(items, *item) as u32;
         found.push(i64::from(before + 1))?;
     }
     Ok(found)
 }
 
-/// Returns whether an item is in the list.
-#[inline]
-fn is_found<T: Eq + Hash + Copy + Drop>(items: &[T], places: &HashMap<T, usize>, item: T) -> bool
-    requires { (q : T) → get T.eq places.now q ≡ position_from (T.eq q) 0 items.now }
-    ensures { result ≡ list_any (T.eq item) items.now }
-{
-    places.contains_key(&item)
-}
-
-/// Returns 1 for each sought item that is in the list, else 0.
-pub(crate) fn members_of<T: Eq + Hash + Copy + Drop>(
+/// 1 for each of the items that are sought where it is one of the items, else 0.
+pub(crate) fn members_of<T: Key>(
     alloc: Global,
     items: &[T],
     sought: &[T],
 ) -> Result<Vec<i64>, AllocError>
-    ensures { IfOk result (λ v. v.items ≡ map (λ x. truth (list_any (T.eq x) items.now)) sought.now) }
+    requires { length items.now ≤ most_places }
+    ensures { IfOk result (λ v. v.items ≡ map (λ x. truth (list_any (int_eq (T.code x)) (map T.code items.now))) sought.now) }
 {
-    let places = first_place_table(alloc, items)?;
+    let lookup = Lookup::of(alloc, items, sought.len())?;
     let mut found = Vec::with_capacity(alloc, room_of(sought.len()))?;
     for item in sought {
-        let is_member = is_found(items, &places, *item);
+        let is_member = lookup.before(items, *item) < items.len();
         found.push(i64::from(is_member))?;
     }
     Ok(found)

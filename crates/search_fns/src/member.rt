@@ -51,6 +51,8 @@ fn are_members_of_array(
 ) -> Result<Vec<i64>, AllocError>
     ensures { IfOk result (λ v. v.items ≡ map (λ x. truth (list_any (same_item x) array.now.items)) sought.now.items) }
 {
+    // The shape says that there are no more places than an array may have.
+    let _within_limits = array.shape();
     if let (Some(items), Some(numbers)) = (array.numbers(), sought.numbers()) {
         return members_of(alloc, items, numbers);
     }
