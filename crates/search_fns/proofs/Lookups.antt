@@ -1,8 +1,7 @@
 -- Items looked up in a list by their first places.
-use Rattle.std.{proofs.Common.{◌≡◌, ◌≢◌, ℕ, ◌+◌, ◌<◌, ◌≤◌, Bool, true, false, ◌||◌, cond, List, [], ◌∷◌, ◌++◌, length, get_or, set, take, drop, map, Option, Some, None, ℤ, ◌+ℤ◌, ◌-ℤ◌, ◌≤ℤ◌, ◌<ℤ◌, negsuc, unsigned_abs, SFits, w64, to_z, of_z, pos, inl, inr, refl, ap, sym, ◌∙◌, arith, below_more, get_or-set_other, get_or-set_same, length-take, length-drop}, specs.Prelude.{nat_lt}, specs.Int.Signed.{lt_z}, specs.Ordering.{int_eq}, specs.Cmp.{IsEquivalence}, specs.List.{list_any, position_from, position_or_len}}
-use Rattle.{std.{proofs.lemmas.List.{drop_more, drop-drop, take-append-drop, take_more, map-append, length-map, get_or-map, get_or_default}, proofs.lemmas.List.Folds.{list_any_more}, proofs.lemmas.List.Sums.{position_or_len_is}, proofs.lemmas.Bool.Decides.{Decides-int_eq, nat_tests}, proofs.lemmas.Bool.{cases_eq}, proofs.lemmas.Int.{to_z-of_z, by_lt_z, ints}}, item_fns.specs.Numbers.{truth}}
+use Rattle.std.{proofs.Common.{◌≡◌, ◌≢◌, ℕ, ◌+◌, ◌<◌, ◌≤◌, Bool, true, false, ◌||◌, cond, List, [], ◌∷◌, ◌++◌, length, get_or, set, take, drop, map, Option, Some, None, ℤ, ◌+ℤ◌, ◌-ℤ◌, ◌≤ℤ◌, ◌<ℤ◌, negsuc, unsigned_abs, SFits, w64, to_z, of_z, pos, inl, inr, refl, ap, sym, ◌∙◌, arith, below_more, get_or-set_other, get_or-set_same, length-take, length-drop}, specs.Int.Signed.{lt_z}, specs.Ordering.{int_eq}, specs.Cmp.{IsEquivalence}, specs.List.{list_any, position_from, position_or_len}}
+use Rattle.{std.{proofs.lemmas.List.{drop_more, drop-drop, take-append-drop, take_more, map-append, length-map, get_or-map, get_or_default}, proofs.lemmas.List.Folds.{list_any_more}, proofs.lemmas.List.Sums.{position_or_len_is}, proofs.lemmas.Bool.Decides.{Decides-int_eq}, proofs.lemmas.Bool.{cases_eq}, proofs.lemmas.Int.{to_z-of_z, by_lt_z, ints}}}
 use Rattle.search_fns.specs.Lookup.{IsWithinSpan, HasFirsts}
-use mir.Val.{bool_byte}
 
 -- the key of an item of a list
 pub key_at : {K : Type 0} (code : K → ℤ) (xs : List K) (k : ℕ) (x : K) (d : ℤ) → k < length xs → x ≡ get_or xs k x → get_or (map code xs) k d ≡ code x
@@ -219,18 +218,6 @@ position_within p (x ∷ xs) = decide (p x) refl (position_within p xs)
 pub keys_within : {K : Type 0} (code : K → ℤ) (p : ℤ → Bool) (xs : List K) → position_or_len p (map code xs) ≤ length xs
 keys_within code p xs = let within = position_within p (map code xs) in let long = length-map xs code in omega arith
 
--- there is a first place where some item passes
-any_place : (p : ℤ → Bool) (xs : List ℤ) → nat_lt (position_or_len p xs) (length xs) ≡ list_any p xs
-any_place p [] = refl
-any_place p (x ∷ xs) = decide (p x) refl (any_place p xs)
-  where
-    decide : (w : Bool) → p x ≡ w → nat_lt (position_or_len p xs) (length xs) ≡ list_any p xs → nat_lt (position_or_len p (x ∷ xs)) (length (x ∷ xs)) ≡ list_any p (x ∷ xs)
-    decide true e more = rw e (grind (arith, nat_tests))
-    decide false e more = rw e (grind (arith, nat_tests))
-
-pub is_found : {K : Type 0} (p : ℤ → Bool) (code : K → ℤ) (xs : List K) → nat_lt (position_or_len p (map code xs)) (length xs) ≡ list_any p (map code xs)
-is_found p code xs = ap (nat_lt (position_or_len p (map code xs))) (sym (length-map xs code)) ∙ any_place p (map code xs)
-
 -- ---- results of a list, made from the front by a loop over it
 
 pub mapped_more : {A : Type 0} (f : A → ℤ) (xs : List A) (k : ℕ) (x : A) (made more : List ℤ) (y : ℤ) → k < length xs → x ≡ get_or xs k x
@@ -243,7 +230,3 @@ mapped_more f xs k x made more y below here so_far gives fits pushed =
     ∙ sym (map-append f (take k xs) (x ∷ []))
     ∙ ap (λ z. map f (take k xs ++ z ∷ [])) here
     ∙ ap (map f) (sym (take_more xs k x below))
-
-pub truth_of_bool : (w : Bool) → pos (bool_byte w) ≡ truth w
-truth_of_bool true = refl
-truth_of_bool false = refl

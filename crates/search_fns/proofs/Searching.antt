@@ -1,6 +1,6 @@
 -- Items sought in the items of an array.
-use Rattle.std.{proofs.Common.{◌≡◌, ◌≢◌, ℕ, ◌+◌, ◌<◌, Bool, true, false, List, [], ◌∷◌, length, get_or, map, replicate, suc, pos, ℤ, refl, ap, sym, ◌∙◌, arith}, specs.Prelude.{nat_eq, nat_le}, specs.Ordering.{int_eq}, specs.List.{All, list_any, position_or_len}, proofs.lemmas.Bool.Decides.{nat_tests, same_from_decides, Decides-eqb, Decides-int_eq}}
-use Rattle.{std.proofs.lemmas.List.Sums.{position_or_len_is}, item_fns.specs.Numbers.{truth}}
+use Rattle.std.{proofs.Common.{◌≡◌, ◌≢◌, ℕ, ◌+◌, ◌<◌, Bool, true, false, List, [], ◌∷◌, length, get_or, map, replicate, suc, pos, ℤ, refl, ap, sym, ◌∙◌, arith}, specs.Prelude.{nat_eq, nat_le, nat_lt}, specs.Ordering.{int_eq}, specs.List.{All, list_any, position_or_len}, proofs.lemmas.Bool.Decides.{nat_tests, same_from_decides, Decides-eqb, Decides-int_eq}}
+use Rattle.{std.proofs.lemmas.List.{length-map}, std.proofs.lemmas.List.Sums.{position_or_len_is}, item_fns.specs.Numbers.{truth}}
 use Rattle.arrays_core.{specs.declared.item.Item.{Item}, specs.declared.item.Item.TheVariants.{Num, Char}, specs.Items.{type_of}, specs.Arrays.{ArrayValue}}
 use Rattle.search_fns.specs.SameItem.{same_item}
 
@@ -11,17 +11,14 @@ module _ {K : Type 0} (item : K → Item) (code : K → ℤ) (alike : (x y : K) 
   position_as x [] = refl
   position_as x (y ∷ xs) = rw (alike x y, position_as x xs) refl
 
-  any_as : (x : K) (xs : List K) → list_any (same_item (item x)) (map item xs) ≡ list_any (int_eq (code x)) (map code xs)
-  any_as x [] = refl
-  any_as x (y ∷ xs) = rw (alike x y, any_as x xs) refl
+  answers_by : (gives : ℕ → ℕ → ℤ) (places : ℕ) (xs ys : List K) → map (λ y. gives (position_or_len (int_eq (code y)) (map code xs)) places) ys
+      ≡ map (λ y. gives (position_or_len (same_item y) (map item xs)) places) (map item ys)
+  answers_by gives places xs [] = refl
+  answers_by gives places xs (y ∷ ys) = rw (position_as y xs, answers_by gives places xs ys) refl
 
-  pub places_as : (xs ys : List K) → map (λ y. pos (suc (position_or_len (int_eq (code y)) (map code xs)))) ys ≡ map (λ y. pos (suc (position_or_len (same_item y) (map item xs)))) (map item ys)
-  places_as xs [] = refl
-  places_as xs (y ∷ ys) = rw (position_as y xs, places_as xs ys) refl
-
-  pub members_as : (xs ys : List K) → map (λ y. truth (list_any (int_eq (code y)) (map code xs))) ys ≡ map (λ y. truth (list_any (same_item y) (map item xs))) (map item ys)
-  members_as xs [] = refl
-  members_as xs (y ∷ ys) = rw (any_as y xs, members_as xs ys) refl
+  pub answers_as : (gives : ℕ → ℕ → ℤ) (xs ys : List K) → map (λ y. gives (position_or_len (int_eq (code y)) (map code xs)) (length xs)) ys
+      ≡ map (λ y. gives (position_or_len (same_item y) (map item xs)) (length (map item xs))) (map item ys)
+  answers_as gives xs ys = answers_by gives (length xs) xs ys ∙ ap (λ n. map (λ y. gives (position_or_len (same_item y) (map item xs)) n) (map item ys)) (sym (length-map xs item))
 
 truth_is_1 : (w : Bool) → int_eq (truth w) (pos 1) ≡ w
 truth_is_1 true = refl
@@ -50,10 +47,6 @@ none_same : (x : Item) (xs : List Item) → All (λ y. type_of x ≢ type_of y) 
 none_same x xs h =
     position_or_len_is (same_item x) xs (length xs) x (omega arith) (λ k below. other_type x (get_or xs k x) (h k x below)) (λ below. absurd (omega arith))
 
-none_any : (x : Item) (xs : List Item) → All (λ y. type_of x ≢ type_of y) xs → list_any (same_item x) xs ≡ false
-none_any x [] h = refl
-none_any x (y ∷ xs) h = rw (other_type x y (h 0 x (omega arith)), none_any x xs (λ k d below. h (suc k) d (omega arith))) refl
-
 all_alike : {A B : Type 0} (f : A → B) (y : B) (xs : List A) → All (λ x. f x ≡ y) xs → map f xs ≡ replicate (length xs) y
 all_alike f y [] h = refl
 all_alike f y (x ∷ xs) h = rw (h 0 x (omega arith), all_alike f y xs (λ k d below. h (suc k) d (omega arith))) refl
@@ -62,11 +55,8 @@ module _ (a b : ArrayValue) (in_a : All (λ item. type_of item ≡ a.item_type) 
   differ : (k : ℕ) (d : Item) → k < length b.items → All (λ y. type_of (get_or b.items k d) ≢ type_of y) a.items
   differ k d below j e inside = λ same. apart (sym (in_a j e inside) ∙ sym same ∙ in_b k d below)
 
-  pub no_places_as : map (λ x. pos (suc (position_or_len (same_item x) a.items))) b.items ≡ replicate (length b.items) (pos (suc (length a.items)))
-  no_places_as = all_alike _ _ b.items (λ k d below. ap (λ n. pos (suc n)) (none_same (get_or b.items k d) a.items (differ k d below)))
-
-  pub no_members_as : map (λ x. truth (list_any (same_item x) a.items)) b.items ≡ replicate (length b.items) (pos 0)
-  no_members_as = all_alike _ _ b.items (λ k d below. ap truth (none_any (get_or b.items k d) a.items (differ k d below)))
+  pub no_answers_as : (gives : ℕ → ℕ → ℤ) → map (λ x. gives (position_or_len (same_item x) a.items) (length a.items)) b.items ≡ replicate (length b.items) (gives (length a.items) (length a.items))
+  no_answers_as gives = all_alike _ _ b.items (λ k d below. ap (λ n. gives n (length a.items)) (none_same (get_or b.items k d) a.items (differ k d below)))
 
 -- ---- an item is present if and only if its first place is
 
@@ -85,3 +75,7 @@ found_if_any p (x ∷ xs) = decide (p x) refl (found_if_any p xs)
         → nat_le (suc (position_or_len p (x ∷ xs))) (length (x ∷ xs)) ≡ list_any p (x ∷ xs)
     decide true e more = rw e (first_passes (length xs))
     decide false e more = rw e (after_the_first (position_or_len p xs) (length xs) (list_any p xs) more)
+
+pub members_as : (xs ys : List Item) → map (λ x. truth (nat_lt (position_or_len (same_item x) xs) (length xs))) ys ≡ map (λ x. truth (list_any (same_item x) xs)) ys
+members_as xs [] = refl
+members_as xs (y ∷ ys) = rw (found_if_any (same_item y) xs, members_as xs ys) refl

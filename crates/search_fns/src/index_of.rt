@@ -11,7 +11,7 @@ ghost use Rattle.search_fns.specs.SameItem.{same_item};
 ghost use Rattle.search_fns.specs.IndexOf.{index_of_form, index_of_item, index_of_whole, index_of_rule};
 ghost use Rattle.search_fns.specs.Laws.IndexOf.{index_of_tight};
 
-use crate::lookup::{all_of, first_places};
+use crate::lookup::{Answer, all_of, answers};
 use arrays_core::{ApplyFault, Array, Item, ItemType, Kind, Shape, position, shape_of};
 use change_core::Announced;
 use index_region::{IndexBox, Intervals, Primitive, Seen, limited};
@@ -48,46 +48,60 @@ pub(crate) fn first_place(array: &Seen, item: Item) -> u32
     places + 1
 }
 
-/// Returns the result for arrays of different types: no item is found.
-fn no_places(alloc: Global, array: &Seen, sought: &Seen) -> Result<Vec<i64>, AllocError>
+/// The answers where no item of an array is an item of an array of the other type.
+fn no_answers<A: Answer>(alloc: Global, array: &Seen, sought: &Seen) -> Result<Vec<i64>, AllocError>
     requires { array.now.item_type ≢ sought.now.item_type }
-    ensures { IfOk result (λ v. v.items ≡ map (λ x. pos (suc (position_or_len (same_item x) array.now.items))) sought.now.items) }
+    ensures { IfOk result (λ v. v.items ≡ map (λ x. A.gives (position_or_len (same_item x) array.now.items) (length array.now.items)) sought.now.items) }
 {
-    all_of(alloc, i64::from(array.places() + 1), sought.places())
+    let places = array.places();
+    all_of(alloc, A::answer(places, places), sought.places())
 }
 
-/// Returns the first place in an array of each sought item. Reads each of the two once.
-fn first_places_in_array(
+/// The answer for each item that is sought in an array. Each of the two is read once.
+fn answers_in_array<A: Answer>(
     alloc: Global,
     array: &Array,
     sought: &Array,
 ) -> Result<Vec<i64>, AllocError>
-    ensures { IfOk result (λ v. v.items ≡ map (λ x. pos (suc (position_or_len (same_item x) array.now.items))) sought.now.items) }
+    ensures { IfOk result (λ v. v.items ≡ map (λ x. A.gives (position_or_len (same_item x) array.now.items) (length array.now.items)) sought.now.items) }
 {
     // `shape` shows that the array has at most `most_places` places.
     let _within_limits = array.shape();
     if let (Some(items), Some(numbers)) = (array.numbers(), sought.numbers()) {
-        return first_places(alloc, items, numbers);
+        return answers::<A, i64>(alloc, items, numbers);
     }
     if let (Some(items), Some(characters)) = (array.characters(), sought.characters()) {
-        return first_places(alloc, items, characters);
+        return answers::<A, char>(alloc, items, characters);
     }
-    no_places(alloc, &Seen::plain(array), &Seen::plain(sought))
+    no_answers::<A>(alloc, &Seen::plain(array), &Seen::plain(sought))
 }
 
-/// Returns the first place in an array of each sought item. Copies both arrays first where one has a patch or a tail.
-fn first_places_in(alloc: Global, array: &Seen, sought: &Seen) -> Result<Vec<i64>, AllocError>
-    ensures is { IfOk result (λ v. v.items ≡ map (λ x. pos (suc (position_or_len (same_item x) array.now.items))) sought.now.items) }
+/// The answer for each item that is sought in an array, as both are seen. Where one of the two has a patch or a tail, both are
+/// copied first.
+pub(crate) fn answers_in<A: Answer>(
+    alloc: Global,
+    array: &Seen,
+    sought: &Seen,
+) -> Result<Vec<i64>, AllocError>
+    ensures is { IfOk result (λ v. v.items ≡ map (λ x. A.gives (position_or_len (same_item x) array.now.items) (length array.now.items)) sought.now.items) }
     ensures long { length sought.now.items ≡ size sought.now.shape }
 {
     // `places` shows that there is one item for each place of the shape.
     let _one_item_a_place = sought.places();
     if let (Some(array), Some(sought)) = (array.array(), sought.array()) {
-        return first_places_in_array(alloc, array, sought);
+        return answers_in_array::<A>(alloc, array, sought);
     }
     let array = array.copy()?;
     let sought = sought.copy()?;
-    first_places_in_array(alloc, &array, &sought)
+    answers_in_array::<A>(alloc, &array, &sought)
+}
+
+impl Answer for IndexOf {
+    ghost gives = { λ before _. pos (suc before) };
+
+    fn answer(before: u32, _places: u32) -> i64 {
+        i64::from(before + 1)
+    }
 }
 
 impl IndexOf {
@@ -98,7 +112,7 @@ impl IndexOf {
     {
         let (shape, _) = self.shape_of(args)?;
         let (array, sought) = (&args[0], &args[1]);
-        let places = first_places_in(alloc, array, sought)?;
+        let places = answers_in::<IndexOf>(alloc, array, sought)?;
         Ok(Array::from_numbers(&shape, places)?)
     }
 }

@@ -1,12 +1,11 @@
 //! Lists of items that are looked up in a list. The list is read where few items are sought. Else the first place of each item is
 //! kept in a table or a map, so that a lookup takes a time that does not grow with the list.
 
-ghost use Rattle.std.specs.Prelude.{◌≡◌, ◌≤◌, ◌<◌, ◌+◌, ◌*◌, ℤ, suc, pos, IfOk, IfSome, length, map, replicate, vec_len};
+ghost use Rattle.std.specs.Prelude.{◌≡◌, ◌≤◌, ◌<◌, ◌+◌, ◌*◌, ℕ, ℤ, pos, IfOk, IfSome, length, map, replicate, vec_len};
 ghost use Rattle.std.specs.Ordering.{int_eq};
 ghost use Rattle.std.specs.List.{list_any, position_from, position_or_len};
 ghost use Rattle.std.specs.HashMap.{get};
 ghost use Rattle.arrays_core.specs.Limits.{most_places};
-ghost use Rattle.item_fns.specs.Numbers.{truth};
 ghost use Rattle.search_fns.specs.Lookup.{IsWithinSpan, HasFirsts, Finds};
 
 use arrays_core::{repeated, room_of};
@@ -201,39 +200,31 @@ impl Lookup {
     }
 }
 
-/// The first place of each of the items that are sought, counted from 1, or one more than there are
-/// places.
-pub(crate) fn first_places<T: Key>(
+/// A function that answers for an item by the number of places before it.
+pub(crate) trait Answer {
+    ghost gives: { ℕ → ℕ → ℤ };
+
+    /// The answer, from the number of places before the item and of all places.
+    fn answer(before: u32, places: u32) -> i64
+        requires low { before ≤ places }
+        requires few { places ≤ most_places }
+        ensures { result ≡ gives before places };
+}
+
+/// The answer for each of the items that are sought.
+pub(crate) fn answers<A: Answer, T: Key>(
     alloc: Global,
     items: &[T],
     sought: &[T],
 ) -> Result<Vec<i64>, AllocError>
     requires { length items.now ≤ most_places }
-    ensures { IfOk result (λ v. v.items ≡ map (λ x. pos (suc (position_or_len (int_eq (T.code x)) (map T.code items.now)))) sought.now) }
+    ensures { IfOk result (λ v. v.items ≡ map (λ x. A.gives (position_or_len (int_eq (T.code x)) (map T.code items.now)) (length items.now)) sought.now) }
 {
     let lookup = Lookup::of(alloc, items, sought.len())?;
     let mut found = Vec::with_capacity(alloc, room_of(sought.len()))?;
     for item in sought {
         let before = lookup.before(items, *item) as u32;
-        found.push(i64::from(before + 1))?;
-    }
-    Ok(found)
-}
-
-/// 1 for each of the items that are sought where it is one of the items, else 0.
-pub(crate) fn members_of<T: Key>(
-    alloc: Global,
-    items: &[T],
-    sought: &[T],
-) -> Result<Vec<i64>, AllocError>
-    requires { length items.now ≤ most_places }
-    ensures { IfOk result (λ v. v.items ≡ map (λ x. truth (list_any (int_eq (T.code x)) (map T.code items.now))) sought.now) }
-{
-    let lookup = Lookup::of(alloc, items, sought.len())?;
-    let mut found = Vec::with_capacity(alloc, room_of(sought.len()))?;
-    for item in sought {
-        let is_member = lookup.before(items, *item) < items.len();
-        found.push(i64::from(is_member))?;
+        found.push(A::answer(before, items.len() as u32))?;
     }
     Ok(found)
 }

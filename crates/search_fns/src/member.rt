@@ -1,10 +1,9 @@
 //! Membership: which items are items of another array.
 
-ghost use Rattle.std.specs.Prelude.{◌≡◌, ◌≢◌, IfOk, length, map};
+ghost use Rattle.std.specs.Prelude.{◌≡◌, length, nat_lt};
 ghost use Rattle.std.specs.List.{list_any};
 ghost use Rattle.std.proofs.Common.{rules};
 ghost use Rattle.arrays_core.specs.Arrays.{IsAnswerTo};
-ghost use Rattle.arrays_core.specs.Shapes.{size};
 ghost use Rattle.index_region.specs.ArgumentLists.{of_two_arguments};
 ghost use Rattle.change_core.proofs.Growing.{never_grows};
 ghost use Rattle.item_fns.specs.Numbers.{truth};
@@ -12,14 +11,14 @@ ghost use Rattle.search_fns.specs.SameItem.{same_item};
 ghost use Rattle.search_fns.specs.Member.{member_form, member_item, member_whole, member_rule};
 ghost use Rattle.search_fns.specs.Laws.Member.{member_tight};
 
-use crate::index_of::first_place;
-use crate::lookup::{all_of, members_of};
+use crate::index_of::{answers_in, first_place};
+use crate::lookup::Answer;
 use arrays_core::{ApplyFault, Array, Item, ItemType, Kind, Shape, position, shape_of};
 use change_core::Announced;
 use index_region::{IndexBox, Intervals, Primitive, Seen, limited};
 use item_fns::truth;
 use selection_fns::{is_small, items_of_whole};
-use std::alloc::{AllocError, Global};
+use std::alloc::Global;
 
 /// Membership, `A∊B` (ISO/IEC 13751, "Member of"): 1 for each item of A that is an item of B, else 0. The result has
 /// the shape of A. A number never equals a character. It has no error.
@@ -33,49 +32,12 @@ fn is_member(array: &Seen, item: Item) -> bool
     first_place(array, item) <= array.places()
 }
 
-/// Returns the result for arrays of different types: all 0.
-fn no_members(alloc: Global, array: &Seen, sought: &Seen) -> Result<Vec<i64>, AllocError>
-    requires { array.now.item_type ≢ sought.now.item_type }
-    ensures { IfOk result (λ v. v.items ≡ map (λ x. truth (list_any (same_item x) array.now.items)) sought.now.items) }
-{
-    // `places` shows that each item has the type of its array.
-    let _one_type = array.places();
-    all_of(alloc, 0, sought.places())
-}
+impl Answer for Member {
+    ghost gives = { λ before places. truth (nat_lt before places) };
 
-/// Returns for each sought item whether an array has it, as 1 or 0. Reads each of the two once.
-fn are_members_of_array(
-    alloc: Global,
-    array: &Array,
-    sought: &Array,
-) -> Result<Vec<i64>, AllocError>
-    ensures { IfOk result (λ v. v.items ≡ map (λ x. truth (list_any (same_item x) array.now.items)) sought.now.items) }
-{
-    // The shape says that there are no more places than an array may have.
-    let _within_limits = array.shape();
-    if let (Some(items), Some(numbers)) = (array.numbers(), sought.numbers()) {
-        return members_of(alloc, items, numbers);
+    fn answer(before: u32, places: u32) -> i64 {
+        truth(before < places)
     }
-    if let (Some(items), Some(characters)) = (array.characters(), sought.characters()) {
-        return members_of(alloc, items, characters);
-    }
-    no_members(alloc, &Seen::plain(array), &Seen::plain(sought))
-}
-
-/// Returns for each sought item whether an array has it, as 1 or 0. Copies both arrays first where one has a patch or a
-/// tail.
-fn are_members(alloc: Global, array: &Seen, sought: &Seen) -> Result<Vec<i64>, AllocError>
-    ensures is { IfOk result (λ v. v.items ≡ map (λ x. truth (list_any (same_item x) array.now.items)) sought.now.items) }
-    ensures long { length sought.now.items ≡ size sought.now.shape }
-{
-    // `places` shows that there is one item for each place of the shape.
-    let _one_item_a_place = sought.places();
-    if let (Some(array), Some(sought)) = (array.array(), sought.array()) {
-        return are_members_of_array(alloc, array, sought);
-    }
-    let array = array.copy()?;
-    let sought = sought.copy()?;
-    are_members_of_array(alloc, &array, &sought)
 }
 
 impl Member {
@@ -86,7 +48,7 @@ impl Member {
     {
         let (shape, _) = self.shape_of(args)?;
         let (sought, array) = (&args[0], &args[1]);
-        let members = are_members(alloc, array, sought)?;
+        let members = answers_in::<Member>(alloc, array, sought)?;
         Ok(Array::from_numbers(&shape, members)?)
     }
 }

@@ -1,9 +1,0 @@
-use Rattle.std.{proofs.Common.{◌≡◌, suc, pos, map, take}, specs.Ordering.{int_eq}, specs.List.{position_or_len}}
-use Rattle.search_fns.specs.Lookup.{Finds}
-use Rattle.search_fns.proofs.lookup.first_places.Given as goal
-
-abbrev pub invariant-loop-item : goal.invariant-loop-item
-invariant-loop-item g l = record {
-  finds : Finds (map g.T.Key.code l.items) l.lookup;
-  found : l.found.items ≡ map (λ x. pos (suc (position_or_len (int_eq (g.T.Key.code x)) (map g.T.Key.code l.items)))) (take l.item-index l.sought);
-}
