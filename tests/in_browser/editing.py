@@ -85,7 +85,7 @@ def line_and_symbols(bench: Bench) -> None:
     page.press("500", "Enter")
     page.until("⌈/DEMAND", [["500", "45", "105"]])
     page.use().call("POST", "refresh", {})
-    page.until("⌈/DEMAND", [["500", "45", "105"]])  # it is kept where the window is loaded again
+    page.until("⌈/DEMAND", [["500", "45", "105"]])  # kept when the window is loaded again
     page.click("#line")
     page.press("Up", "Up")
     assert page.run("return document.getElementById('line').value") == "W←+⌿DEMAND"

@@ -48,7 +48,7 @@ pub(crate) fn first_place(array: &Seen, item: Item) -> u32
     places + 1
 }
 
-/// The answers where no item of an array is an item of an array of the other type.
+/// Returns the answers for an array of the other type, of which no item is found.
 fn no_answers<A: Answer>(alloc: Global, array: &Seen, sought: &Seen) -> Result<Vec<i64>, AllocError>
     requires { array.now.item_type ≢ sought.now.item_type }
     ensures { IfOk result (λ v. v.items ≡ map (λ x. A.gives (position_or_len (same_item x) array.now.items) (length array.now.items)) sought.now.items) }
@@ -57,7 +57,7 @@ fn no_answers<A: Answer>(alloc: Global, array: &Seen, sought: &Seen) -> Result<V
     all_of(alloc, A::answer(places, places), sought.places())
 }
 
-/// The answer for each item that is sought in an array. Each of the two is read once.
+/// Returns the answer for each item that is sought in an array. Reads each of the two once.
 fn answers_in_array<A: Answer>(
     alloc: Global,
     array: &Array,
@@ -76,8 +76,7 @@ fn answers_in_array<A: Answer>(
     no_answers::<A>(alloc, &Seen::plain(array), &Seen::plain(sought))
 }
 
-/// The answer for each item that is sought in an array, as both are seen. Where one of the two has a patch or a tail, both are
-/// copied first.
+/// Does the same for arrays with changes: if one of the two has a patch or a tail, both are copied first.
 pub(crate) fn answers_in<A: Answer>(
     alloc: Global,
     array: &Seen,

@@ -1,5 +1,5 @@
-//! Lists of items that are looked up in a list. The list is read where few items are sought. Else the first place of each item is
-//! kept in a table or a map, so that a lookup takes a time that does not grow with the list.
+//! Lookups of items in a list. For few sought items the list is read. Otherwise a table or a map keeps the first place of each item, so the time of
+//! a lookup does not grow with the list.
 
 ghost use Rattle.std.specs.Prelude.{◌≡◌, ◌≤◌, ◌<◌, ◌+◌, ◌*◌, ℕ, ℤ, pos, IfOk, IfSome, length, map, replicate, vec_len};
 ghost use Rattle.std.specs.Ordering.{int_eq};
@@ -12,17 +12,17 @@ use arrays_core::{repeated, room_of};
 use std::alloc::{AllocError, Global};
 use std::collections::HashMap;
 
-/// Where no more items are sought, the list is read for each of them.
+/// The most sought items for which the list is read.
 const FEW: usize = 4;
 
 /// The number of items that are compared at once.
 const BLOCK: usize = 256;
 
-/// Items with a key. Items with one key are the same.
+/// An item with a key. Items with equal keys are equal.
 pub(crate) trait Key: Copy + Drop {
     ghost code: { Self → ℤ };
 
-    /// The key.
+    /// Returns the key.
     fn key(self) -> i64
         ensures { result ≡ code self };
 }
@@ -43,10 +43,10 @@ impl Key for char {
     }
 }
 
-/// A list that is prepared for lookups.
+/// The index of a list, made for its lookups.
 #[derive(Drop)]
 enum Lookup {
-    /// Nothing is kept: the list is read at each lookup.
+    /// No index: each lookup reads the list.
     Plain,
     /// For each key from the least, its first place, or the length of the list.
     Table(i64, Vec<u32>),
@@ -54,7 +54,7 @@ enum Lookup {
     Map(HashMap<i64, usize>),
 }
 
-/// Two items are the same.
+/// Returns true if two items are equal.
 #[inline]
 fn is_one<T: Key>(left: T, right: T) -> bool
     ensures { result ≡ int_eq (T.code left) (T.code right) }
@@ -62,7 +62,7 @@ fn is_one<T: Key>(left: T, right: T) -> bool
     left.key() == right.key()
 }
 
-/// The list holds the item. The loop has no exit, so that LLVM compares many items at once.
+/// Returns true if the list has the item. The loop has no exit, so LLVM compares many items at once.
 fn has_item<T: Key>(items: &[T], sought: T) -> bool
     ensures { result ≡ list_any (int_eq (T.code sought)) (map T.code items.now) }
 {
@@ -73,7 +73,7 @@ fn has_item<T: Key>(items: &[T], sought: T) -> bool
     is_found
 }
 
-/// The number of items before the first one that is sought.
+/// Returns the number of items before the first equal one, or of all.
 fn before_item<T: Key>(items: &[T], sought: T) -> usize
     ensures { result ≡ position_or_len (int_eq (T.code sought)) (map T.code items.now) }
 {
@@ -85,7 +85,7 @@ fn before_item<T: Key>(items: &[T], sought: T) -> usize
     items.len()
 }
 
-/// The same. Blocks without it are passed as a whole.
+/// Does the same, a block at a time while the block does not have the item.
 #[inline(never)]
 fn before_by_blocks<T: Key>(items: &[T], sought: T) -> usize
     ensures { result ≡ position_or_len (int_eq (T.code sought)) (map T.code items.now) }
@@ -97,7 +97,7 @@ fn before_by_blocks<T: Key>(items: &[T], sought: T) -> usize
     passed + before_item(&items[passed..], sought)
 }
 
-/// The least key and how many keys there are from it to the greatest, where these are few.
+/// Returns the least key and the number of keys from it to the greatest, if these are few.
 fn span_of<T: Key>(items: &[T]) -> Option<(i64, usize)>
     requires { length items.now ≤ most_places }
     ensures { IfSome result (λ r. IsWithinSpan r.0 r.1 (map T.code items.now)) }
@@ -114,7 +114,7 @@ fn span_of<T: Key>(items: &[T]) -> Option<(i64, usize)>
     None
 }
 
-/// The first place of each key of a span, or the length of the list.
+/// Returns for each key of a span its first place, or the length of the list.
 fn first_place_table<T: Key>(
     alloc: Global,
     items: &[T],
@@ -133,7 +133,7 @@ fn first_place_table<T: Key>(
     Ok(firsts)
 }
 
-/// The number of items before the first one that is sought, by the table of a span.
+/// Returns the number of items before the first equal one, or of all, by the table of a span.
 #[inline]
 fn before_in_table<T: Key>(items: &[T], least: i64, firsts: &[u32], sought: T) -> usize
     requires within { IsWithinSpan least (length firsts.now) (map T.code items.now) }
@@ -147,7 +147,7 @@ fn before_in_table<T: Key>(items: &[T], least: i64, firsts: &[u32], sought: T) -
     firsts[offset] as usize
 }
 
-/// The first place of each key, counted from 0.
+/// Returns the first place of each key, counted from 0.
 fn first_place_map<T: Key>(alloc: Global, items: &[T]) -> Result<HashMap<i64, usize>, AllocError>
     ensures { IfOk result (λ m. (q : ℤ) → get int_eq m q ≡ position_from (int_eq q) 0 (map T.code items.now)) }
 {
@@ -158,7 +158,7 @@ fn first_place_map<T: Key>(alloc: Global, items: &[T]) -> Result<HashMap<i64, us
     Ok(places)
 }
 
-/// The number of items before the first one that is sought, by the map. A call, so that the loop over a table stays small.
+/// Returns the number of items before the first equal one, or of all, by the map. Not inlined, so the loop over a table stays small.
 #[inline(never)]
 fn before_in_map<T: Key>(items: &[T], places: &HashMap<i64, usize>, sought: T) -> usize
     requires { (q : ℤ) → get int_eq places.now q ≡ position_from (int_eq q) 0 (map T.code items.now) }
@@ -171,7 +171,7 @@ fn before_in_map<T: Key>(items: &[T], places: &HashMap<i64, usize>, sought: T) -
 }
 
 impl Lookup {
-    /// Prepares a list for so many lookups.
+    /// Makes the index of a list for a number of lookups.
     fn of<T: Key>(alloc: Global, items: &[T], lookups: usize) -> Result<Lookup, AllocError>
         requires { length items.now ≤ most_places }
         ensures { IfOk result (λ l. Finds (map T.code items.now) l) }
@@ -185,7 +185,7 @@ impl Lookup {
         Ok(Lookup::Map(first_place_map(alloc, items)?))
     }
 
-    /// The number of items before the first one that is sought, or of all.
+    /// Returns the number of items before the first equal one, or of all.
     #[inline]
     fn before<T: Key>(&self, items: &[T], sought: T) -> usize
         requires { Finds (map T.code items.now) self.now }
@@ -200,18 +200,18 @@ impl Lookup {
     }
 }
 
-/// A function that answers for an item by the number of places before it.
+/// A function of items that depends on the number of places before the first equal one.
 pub(crate) trait Answer {
     ghost gives: { ℕ → ℕ → ℤ };
 
-    /// The answer, from the number of places before the item and of all places.
+    /// Returns the answer, from the number of places before the item and of all places.
     fn answer(before: u32, places: u32) -> i64
         requires low { before ≤ places }
         requires few { places ≤ most_places }
         ensures { result ≡ gives before places };
 }
 
-/// The answer for each of the items that are sought.
+/// Returns the answer for each sought item.
 pub(crate) fn answers<A: Answer, T: Key>(
     alloc: Global,
     items: &[T],

@@ -3,7 +3,7 @@
 import { ask } from "./client.js";
 import { $, button, make } from "./dom.js";
 
-const MOST = 5; // that are offered
+const MOST = 5; // offered at most
 
 export class Left {
   constructor(sheet) {

@@ -20,7 +20,7 @@ from ..workbook_commands import Page, check_labels, check_titles, is_text, page_
 from ..workbooks import Block, SheetTable, cells_of, check_archive, field_of_cell, library, opened, readable, table_in_workbook
 from .looks import Told
 
-MOST_SHEETS = 100  # that a page offers
+MOST_SHEETS = 100  # offered by a page
 HEAD = Block(1, 1, 5, 12)  # cells that it shows of each
 DAYS = "YYYY-MM-DD"
 
@@ -74,7 +74,7 @@ def numerals_for(table: Table, wanted: Sequence[int], decimals: int) -> Numerals
 
 
 def book_of(session: Session, tables: Sequence[Labelled]) -> Told:
-    """Returns a workbook with these tables and the formulas, and notes about what it has otherwise than the sheet."""
+    """Returns a workbook with these tables and the formulas, and notes about its differences from the sheet."""
     library()
     kept = [table for table in tables if is_table(session, table.name)]
     check_titles([table.name for table in kept])
