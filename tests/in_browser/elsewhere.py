@@ -9,12 +9,16 @@ from .benches import ELSEWHERE, Bench
 from .sheets import PLAN, Page, Test
 
 
+FAULTS = """window.faults = [];
+    for (const kind of ['error', 'unhandledrejection']) addEventListener(kind, (event) => faults.push(String(event.message ?? event.reason)))"""
+
+
 def in_firefox(bench: Bench) -> None:
     """In Firefox too, names are shown, cells edited, rows inserted, lines entered, arrays plotted, changes taken back, and what-ifs kept."""
     browser = firefox.Firefox()
     try:
         page = Page(browser, bench.sheet)
-        page.run("window.faults = []; for (const kind of ['error', 'unhandledrejection']) addEventListener(kind, (event) => faults.push(String(event.message ?? event.reason)))")
+        page.run(FAULTS)
         page.until("TOTAL", [["395", "150", "390"]])
         page.click(page.cell("DEMAND", 2, 3))
         page.press("5", "0", "Enter")

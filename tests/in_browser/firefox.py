@@ -40,7 +40,7 @@ class Firefox(Browser):
         (profile / "user.js").write_text(prefs, "utf-8")
         words = [PROGRAM, "--headless", "--no-remote", "--marionette", "--profile", str(profile)]
         environment = {**os.environ, "HOME": self.folder, "TMPDIR": self.folder, "MOZ_DISABLE_AUTO_SAFE_MODE": "1"}
-        self.driver = subprocess.Popen(words, stdout=subprocess.DEVNULL, stderr=subprocess.DEVNULL, env=environment, start_new_session=True)
+        self.driver = subprocess.Popen(words, stdout=subprocess.DEVNULL, stderr=subprocess.DEVNULL, env=environment, text=True)
         try:
             self.socket = socket.create_connection(("127.0.0.1", self.port_in(profile / "MarionetteActivePort")), SECONDS)
             self.message()  # its greeting
@@ -62,24 +62,24 @@ class Firefox(Browser):
         """Reads a message."""
         head = b""
         while not head.endswith(b":"):
-            head += self.bytes(1)
-        return json.loads(self.bytes(int(head[:-1])))
+            head += self.read(1)
+        return json.loads(self.read(int(head[:-1])))
 
-    def bytes(self, count: int) -> bytes:
-        read: List[bytes] = []
+    def read(self, count: int) -> bytes:
+        """Reads that many bytes."""
+        parts: List[bytes] = []
         while count:
             part = self.socket.recv(count)
             if not part:
                 raise Failed("firefox has ended")
-            read.append(part)
+            parts.append(part)
             count -= len(part)
-        return b"".join(read)
+        return b"".join(parts)
 
     def call(self, method: str, path: str, body: Optional[Dict[str, Any]] = None) -> Any:
         """Sends a command of WebDriver, and returns its value."""
         self.number += 1
-        words = {**(body or {}), **({"handle": body["handle"]} if body and "handle" in body else {})}
-        raw = json.dumps([0, self.number, f"WebDriver:{COMMANDS[f'{method} {path}']}", words]).encode()
+        raw = json.dumps([0, self.number, f"WebDriver:{COMMANDS[f'{method} {path}']}", body or {}]).encode()
         self.socket.sendall(b"%d:%s" % (len(raw), raw))
         _, _, error, value = self.message()
         if error:

@@ -29,7 +29,8 @@ export class Panel {
     const attributes = { class: "panel", "data-name": of, "aria-labelledby": `${this.id}-name`, id: this.id };
     this.element = make("section", attributes, this.head, this.formula, this.planes, this.body, this.foot);
     this.grid = new Grid({
-      id: this.id, name: of, moved: () => sheet.look([this]), locked: () => this.locked(), changeRows: (act) => this.changeRows(act), selected: (range) => sheet.selected(this, range),
+      id: this.id, name: of, moved: () => sheet.look([this]), locked: () => this.locked(), changeRows: (act) => this.changeRows(act),
+      selected: (range) => sheet.selected(this, range),
       copy: (range, board) => sheet.copy(this, range, board), edit: (cells, began) => this.edit(cells, began),
     });
   }
