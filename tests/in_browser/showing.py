@@ -12,6 +12,7 @@ BIG = ")DATA M←1024 1024⍴⍳7919\nROWS←+/M\nALL←+/ROWS\n"
 LONG = ")DATA V←1048576⍴(⍳997)×7\n"
 PRICES = ")DATA P←2 2⍴1250 399 123456789 ¯5 ⍝ in units of 0.01\nT←+/,P ⍝ in units of 0.01\n"
 TITLES = "return [...document.querySelectorAll(`[data-name='${arguments[0]}'] .heads th.name`)].map((cell) => cell.textContent)"
+SIZES = "[...document.querySelectorAll('#names li')].map((entry) => entry.innerText.replace(/\\s+/g, ' ').trim()).join()"
 LAST = "[...document.querySelectorAll(`[data-name=${arguments[0]}] td`)].at(-1)?.textContent"
 
 
@@ -118,6 +119,16 @@ def labels_by_choice(bench: Bench) -> None:
     other.wait(f"{TITLES}.join() === 'w1,w2,w3,w4,w5'", "DEMAND")
 
 
+def sizes_of_names(bench: Bench) -> None:
+    """The list of names follows the sizes and the errors that a change makes."""
+    page = bench.page()
+    page.until("DEMAND", DEMAND)
+    page.enter(")ROW PRODUCT 'oven'")
+    page.wait(f"return {SIZES}.includes('■ PRODUCT 4×4')")
+    page.enter("TOTAL←+/DEMAND,1 2")
+    page.wait(f"return {SIZES}.includes('ƒ TOTAL !')")
+
+
 def find_a_name(bench: Bench) -> None:
     """The field above the names finds one; Enter goes to it."""
     page = bench.page()
@@ -130,6 +141,6 @@ def find_a_name(bench: Bench) -> None:
 
 
 def tests() -> List[Test]:
-    plain = [Test(call, PLAN) for call in (panels, planes, plots, labels_by_choice, find_a_name)]
+    plain = [Test(call, PLAN) for call in (panels, planes, plots, labels_by_choice, sizes_of_names, find_a_name)]
     large = [Test(window_of_a_million, BIG), Test(longest_vector, LONG)]
     return [*plain, *large, Test(decimals, PRICES), Test(german_numbers, PRICES)]

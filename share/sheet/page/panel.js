@@ -159,6 +159,7 @@ export class Panel {
 
   takeForm(key, seen) {
     if (seen.shape) this.sheet.takeShape(this.of, seen.shape, seen.text);
+    if (seen.error) this.sheet.takeError(this.of, seen.error);
     if (seen.error) this.seen = {};
     if (this.seen[key]?.error) delete this.seen[key];
   }

@@ -211,6 +211,7 @@ export class Sheet {
     });
     for (const panel of asked) panel.isStale = false;
     for (const panel of news) panel.render(true);
+    this.list();
     this.measurePanels();
   }
 
@@ -294,7 +295,22 @@ export class Sheet {
     const info = this.names.get(name);
     if (!info) return;
     if (info.text || text) this.textNames = null;
+    this.isListed &&= !info.error && same(info.shape, shape);
     Object.assign(info, { shape, text, error: undefined });
+  }
+
+  // Notes the error that a name has.
+  takeError(name, error) {
+    const info = this.names.get(name);
+    if (!info) return;
+    this.isListed &&= Boolean(info.error);
+    info.error = error;
+  }
+
+  // Lists the names if their sizes or errors changed.
+  list() {
+    if (!this.isListed) this.side.list();
+    this.isListed = true;
   }
 
   // Puts the panels in the order of the names; expressions stand at the end.
@@ -424,6 +440,7 @@ export class Sheet {
       Object.assign(panel, { isStale: false, isNews: false });
       if (news.has(panel)) panel.render(isNews);
     }
+    this.list();
     this.measurePanels();
   }
 
