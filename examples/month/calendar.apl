@@ -1,4 +1,4 @@
-⍝ Goes on with month.apl: the calendar of a workbook, beside the pieces of each day. It needs openpyxl.
+⍝ Continues month.apl: the calendar of a workbook, beside the pieces of each day. It needs openpyxl.
 ]table DAY calendar.xlsx --sheet Kalender --header --columns Datum --dates DD.MM.YYYY
 ]table HOURS calendar.xlsx --sheet Kalender --header --columns Stunden --decimals 2
 ]table MACHINES calendar.xlsx --sheet Schichten --range B2:B3

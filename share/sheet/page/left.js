@@ -1,4 +1,4 @@
-// Sessions that were not saved: the page goes on with one, or forgets it.
+// Unsaved sessions: the page continues one, or deletes it.
 
 import { ask } from "./client.js";
 import { $, button, make } from "./dom.js";

@@ -352,7 +352,7 @@ export class Panel {
     this.sheet.look([this]);
   }
 
-  // Returns the units of the grid of panels that it covers: as wide as its content or its head, and as high as it is.
+  // Returns the units of the grid of panels that it covers: the width of its content or head, and its height.
   fit() {
     const { content, sheet } = this;
     const size = content ?? { width: 330, height: 0 };

@@ -353,7 +353,7 @@ class Desk:
         return axes_of_names(self.session.journal.bindings, ranks)
 
     def end(self) -> None:
-        """Ends the desk: listeners hear nothing more, and the session goes on without it."""
+        """Ends the desk: listeners hear nothing more, and the session continues without it."""
         self.is_over = True
         self.heard.set()
         self.session.followers.remove(self.follow)

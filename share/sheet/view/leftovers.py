@@ -1,4 +1,4 @@
-"""Sessions that were not saved: a page offers them, goes on with one, or forgets it. A page names a log; no path comes from a page."""
+"""Unsaved sessions: a page offers them, continues one, or deletes it. A page names a log; no path comes from a page."""
 
 from __future__ import annotations
 
@@ -22,7 +22,7 @@ def chosen(name: str) -> recovery.Unended:
     for session in recovery.unended():
         if session.path.name == name:
             return session
-    raise Mistake("this session is there no more: another one goes on with it, or it was forgotten")
+    raise Mistake("this session is gone: another one continues it, or it was deleted")
 
 
 def go_on(session: Session, name: str) -> None:
