@@ -9,9 +9,10 @@ import re
 import signal
 import subprocess
 import threading
-from typing import IO, Iterator, List, NoReturn, Optional, Sequence, Set
+from typing import IO, Callable, Iterator, List, NoReturn, Optional, Sequence, Set
 
 from .interrupts import signals
+from .progress import awaited
 
 NO_MEMORY = "NO MEMORY"
 SECONDS = 1  # the wait for a second fence, if the first one may have been refused memory
@@ -32,6 +33,7 @@ class Program:
 
     words       the command that starts it
     is_in_step  whether every answer was read whole; False after Ctrl-C and after a failure
+    is_awaited  returns whether a long wait for an answer may be shown at the terminal
     """
 
     process: subprocess.Popen[bytes]
@@ -42,6 +44,7 @@ class Program:
         self.words, self.environment = list(words), {**os.environ}
         self.fence, self.number, self.is_started, self.is_in_step = "", 0, False, False
         self.characters: Set[str] = set()  # used ones of the plane of fences
+        self.is_awaited: Callable[[], bool] = lambda: False
 
     def start(self) -> None:
         """Starts it, and waits until it answers."""
@@ -68,7 +71,7 @@ class Program:
     def another(self) -> Program:
         """Returns an unstarted program with the same words."""
         other = Program(self.words)
-        other.environment = self.environment
+        other.environment, other.is_awaited = self.environment, self.is_awaited
         return other
 
     @property
@@ -181,7 +184,7 @@ class Program:
     def next_line(self, seconds: Optional[float] = None) -> Optional[str]:
         """Returns the next output line, or None if none comes in time."""
         try:
-            line = self.printed.get(timeout=seconds)
+            line = self.printed.get(timeout=seconds) if seconds else awaited(self.printed, self.is_awaited)
         except queue.Empty:
             return None
         return self.fail() if line is None else line

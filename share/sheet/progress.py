@@ -1,13 +1,33 @@
-"""Progress of a long task, shown at a terminal."""
+"""Progress of long tasks, shown at a terminal."""
 
 from __future__ import annotations
 
+import contextlib
+import queue
 import sys
 import time
-from typing import Iterable, Iterator, TypeVar
+from typing import Callable, Iterable, Iterator, TypeVar
 
 Item = TypeVar("Item")
-PATIENCE = 1.0  # seconds until something is shown, and between two times
+PATIENCE = 1.0  # seconds until the progress of a task is shown, and between two times
+LONG = 2.0  # seconds until an answer is shown to be under way
+
+
+class StatusLine:
+    """A text on the current line of the terminal, which a later text replaces."""
+
+    def __init__(self) -> None:
+        self.width = 0
+
+    def write(self, text: str) -> None:
+        """Writes a text in place of the last one."""
+        print("\r" + text.ljust(self.width) + "\r" * (not text), end="", file=sys.stderr, flush=True)
+        self.width = len(text)
+
+    def clear(self) -> None:
+        """Deletes the text, if there is one."""
+        if self.width:
+            self.write("")
 
 
 class Progress:
@@ -20,7 +40,7 @@ class Progress:
 
     def __init__(self, task: str, total: int, is_shown: bool) -> None:
         self.task, self.total, self.is_shown = task, total, is_shown
-        self.due, self.width = time.monotonic() + PATIENCE, 0
+        self.due, self.line = time.monotonic() + PATIENCE, StatusLine()
 
     def over(self, steps: Iterable[Item]) -> Iterator[Item]:
         """Yields the steps of the task."""
@@ -28,13 +48,21 @@ class Progress:
             for number, step in enumerate(steps):
                 if self.is_shown and time.monotonic() > self.due:
                     self.due = time.monotonic() + PATIENCE
-                    self.write(f"{self.task}: {100 * number // self.total} %")
+                    self.line.write(f"{self.task}: {100 * number // self.total} %")
                 yield step
         finally:
-            if self.width:
-                self.write("")
+            self.line.clear()
 
-    def write(self, text: str) -> None:
-        """Writes a text in place of the last one."""
-        print("\r" + text.ljust(self.width) + "\r" * (not text), end="", file=sys.stderr, flush=True)
-        self.width = len(text)
+
+def awaited(answers: queue.SimpleQueue[Item], is_shown: Callable[[], bool]) -> Item:
+    """Returns the next item of a queue. From two seconds on, a line of the terminal shows how long it takes, if `is_shown` allows it."""
+    begun, pause, line = time.monotonic(), LONG, StatusLine()
+    try:
+        while True:
+            with contextlib.suppress(queue.Empty):
+                return answers.get(timeout=pause)
+            pause = PATIENCE
+            if is_shown():
+                line.write(f"computing for {time.monotonic() - begun:.0f} s; Ctrl-C stops it")
+    finally:
+        line.clear()

@@ -18,7 +18,7 @@ from .arrays import literal
 from .commands import run
 from .errors import End, Lost, Mistake, OutputFailed, Stopped
 from .files import Home, lines_of
-from .interrupts import signals
+from .interrupts import is_main_thread, signals
 from .journal import Binding, Change, Journal, Place, Source, change_of, joined
 from .lines import Line
 from .places import Spot
@@ -71,6 +71,7 @@ class Session:
 
     def __init__(self, program: Program, show: Callable[[str], None], tell: Callable[[str], None], is_check: bool = False) -> None:
         self.program, self.show, self.tell, self.is_check = program, show, tell, is_check
+        program.is_awaited = lambda: self.is_typed and is_main_thread()
         self.journal, self.watch = Journal(), Watch()
         self.home: Optional[Home] = None
         self.arrival: Optional[Change] = None

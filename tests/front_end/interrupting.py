@@ -4,6 +4,7 @@ from __future__ import annotations
 
 import os
 import random
+import re
 import signal
 import time
 
@@ -42,6 +43,18 @@ def line_under_way(room: Room) -> Outcome:
     shown = waiting(room, screen, "SLOW←7")
     messages = "STOPPED\n" in shown, "the changes that were open are given up: 3\n" in shown
     return (messages, room.kept(), screen.keys("]undo\n"), screen.end()[0]), ((True, True), ["A←5\n"], "]undo\ntaken back: A←5\n", 0)
+
+
+def long_answer(room: Room) -> Outcome:
+    """From two seconds on, the terminal shows how long an answer takes; the text disappears when the answer comes."""
+    screen = Screen(room, program=room.fake())
+    (room.folder / "wait").touch()
+    os.write(screen.master, b"SLOW\n")
+    screen.read(lambda: "computing for 2 s; Ctrl-C stops it" in screen.shown)
+    (room.folder / "wait").unlink()
+    screen.read(lambda: screen.shown.endswith(f"VALUE SLOW\n{PROMPT}"))
+    is_shown = re.search("; Ctrl-C stops it +VALUE SLOW\n", screen.shown) is not None
+    return (is_shown, screen.keys("A\n"), screen.end()[0]), (True, "A\nVALUE A\n", 0)
 
 
 def undo_under_way(room: Room) -> Outcome:
@@ -96,5 +109,5 @@ def any_moment(room: Room, times: int) -> Outcome:
 
 
 def tests(times: int) -> list[Test]:
-    calls = [printed_value, line_under_way, undo_under_way, file_under_way]
+    calls = [printed_value, line_under_way, long_answer, undo_under_way, file_under_way]
     return [Test("Ctrl-C at any moment", any_moment, (2 * times,)), *named_tests(calls)]
