@@ -1,4 +1,4 @@
--- The totals of lines that each changed in one place: the number of computed totals is at most that of the changed places.
+-- The totals of lines that each changed in one place: at most as many totals are computed as places changed.
 use Rattle.std.{proofs.Common.{◌≡◌, ℕ, zero, suc, ◌+◌, ◌-◌, ◌<◌, ◌≤◌, true, is_ok, List, [], ◌∷◌, length, drop, remove, min, max, Some, None, Result, Ok, Err, ap, ◌∙◌, subst, sym, refl, arith, inl, inr}, proofs.lemmas.Bool.{cases_Bool, cond-false, cond-true, eqb-true, false≢true}}
 use Rattle.std.{proofs.lemmas.List.Edits.{length-remove}, proofs.Math.Nat.{mul-le-mul}}
 use Rattle.arrays_core.{specs.Arrays.{ArrayValue}, specs.Shapes.{size}, specs.declared.item.Kind.{Kind}, specs.Outcomes.{Outcome}}

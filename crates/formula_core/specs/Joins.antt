@@ -24,7 +24,7 @@ had_trees _ held long = is_ok held || nat_lt most_without_tree long
 abbrev pub has_trees_for : Reduce → ArrayValue → Delta → (held : Outcome) → Bool
 has_trees_for fold a d held = is_narrow (axis_at (length a.shape) fold.along) d && (is_of_numbers a.item_type && had_trees d held (length_along fold.along a.shape))
 
--- the greatest number of joins for so many totals. With trees: for each new number the binary digits of the line's length less one. Otherwise: for
+-- the greatest number of joins for this many totals. With trees: for each new number the binary digits of the line's length less one. Otherwise: for
 -- each total the line's length less one. An error takes none
 abbrev pub most_joins_of : Reduce → Outcome → Delta → (held : Outcome) → (totals : ℕ) → ℕ
 most_joins_of fold (Ok a) d held totals = if has_trees_for fold a d held then new_items d * binary_digits (length_along fold.along a.shape - 1) else totals * (length_along fold.along a.shape - 1)

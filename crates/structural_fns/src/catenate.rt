@@ -246,8 +246,8 @@ fn joined_runs(left: &Seen, right: &Seen, shape: &Shape) -> Result<Array, AllocE
 }
 
 /// Catenate, `A,B` and `A⍪B` (ISO/IEC 13751, "Join along an axis"): the places of A along the axis, followed by those of B. A scalar, or an
-/// array of one rank less, is one place along the axis; a scalar is repeated over the other axes. Two scalars make a vector. The type is
-/// that of the side that has items. AXIS if the axis is none of the result's. RANK if ranks differ by more than 1, LENGTH if other axes
+/// array of one rank less, is one place along the axis; a scalar is repeated over the other axes. Two scalars make a vector. The side
+/// that has items gives the type. AXIS if the axis is none of the result's. RANK if ranks differ by more than 1, LENGTH if other axes
 /// differ, DOMAIN if types differ. LIMIT beyond the limits of arrays.
 #[derive(Clone, Copy, PartialEq, Eq, Debug)]
 pub struct Catenate {
