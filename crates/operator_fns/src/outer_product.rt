@@ -37,9 +37,10 @@ fn push_row<S: TwoNumbers>(
 ) -> Result<(), ApplyFault>
     ensures { LeavesOrFails (with_results row.old.items (map (S.gives step.now left) right.now)) row.new.items result }
 {
+    row.reserve(right.len())?;
     for number in right {
         let result = step.at(left, *number)?;
-        row.push(result)?;
+        row.push_reserved(result);
     }
     Ok(())
 }
