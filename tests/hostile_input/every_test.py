@@ -12,6 +12,7 @@ from .folds import SCANS, TOTALS, try_folds
 from .formulas import try_formulas
 from .growth import try_end_of_memory, try_long_line, try_many_lines, try_many_names
 from .longest_work import try_worst_lines
+from .results import try_results
 from .scans import try_scans
 from .scripts import try_scripts
 from .sizes import try_limits, try_sizes
@@ -45,4 +46,5 @@ def every_test(seed: int, is_long: bool) -> Iterator[tuple[str, Test]]:
     yield from tests_of_folds(seed, "totals", 8 * groups, TOTALS)
     yield from tests_of_folds(seed, "edits of scans", 4 * groups, SCANS)
     yield from ((f"scans {number}", partial(try_scans, seed=seed + number, count=200)) for number in range(500 if is_long else 2))
+    yield from ((f"results {number}", partial(try_results, seed=seed + number, count=500)) for number in range(100 if is_long else 4))
     yield from ((f"scripts {number}", partial(try_scripts, seed=seed + number, count=300)) for number in range(groups))

@@ -71,9 +71,13 @@ OF_TWO_NUMBERS: dict[str, Function] = {
     "⍲": of_truths(lambda left, right: not (left and right)),
     "⍱": of_truths(lambda left, right: not (left or right)),
 }
+EDGES = [1 << bits for bits in (20, 21, 31, 32, 40, 41, 42, 43, 44, 60, 61, 62, 63)]  # near which a fast way may end
 KINDS_OF_NUMBERS = {
     "truths": [0, 1], "ones": [1, 1, 1, 1, 1, -1, 0, 2], "few": [0, 1, 1, 2, 3, -1, -2, 12], "small": [*range(-9, 10)],
     "ends": [2**63 - 1, -(2**63), 2**62, -(2**62), 2**63 - 9, 9 - 2**63, 1, 0, -1], "factors": [1, 2, 3, 4, 6, 12, 24, 2, 2, 1],
+    "edges": [number for edge in EDGES for around in (edge, -edge) for number in range(around - 1, around + 2) if -(2**63) <= number < 2**63],
+    "near": [*range(2**42 - 3, 2**42 + 3), *range(-(2**42) - 3, 3 - 2**42), 5, -5],
+    "half": [*range(2**61 - 2, 2**61 + 2), *range(-(2**61) - 2, 2 - 2**61), 2**62, -(2**62), 1],
 }  # fmt: skip
 
 
