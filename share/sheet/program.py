@@ -16,6 +16,7 @@ from .progress import awaited
 
 NO_MEMORY = "NO MEMORY"
 SECONDS = 1  # the wait for a second fence, if the first one may have been refused memory
+LARGE_PAGES = {"GLIBC_TUNABLES": "glibc.malloc.hugetlb=1"}  # glibc then asks the system for large pages for large arrays
 HIGHEST = 0x10FFFD  # fences have a character of this last plane of Unicode, which begins with F4 in UTF-8
 OF_PLANE = re.compile(rb"\xf4[\x80-\x8f][\x80-\xbf][\x80-\xbf]")
 
@@ -41,7 +42,7 @@ class Program:
     reader: threading.Thread
 
     def __init__(self, words: Sequence[str]) -> None:
-        self.words, self.environment = list(words), {**os.environ}
+        self.words, self.environment = list(words), {**LARGE_PAGES, **os.environ}
         self.fence, self.number, self.is_started, self.is_in_step = "", 0, False, False
         self.characters: Set[str] = set()  # used ones of the plane of fences
         self.is_awaited: Callable[[], bool] = lambda: False
