@@ -14,3 +14,6 @@ pub mod Neutral
 pub mod Floors
 pub mod Quotients
 pub mod Collected
+pub mod Doubts
+pub mod AtOnce
+pub mod Differences

@@ -7,3 +7,6 @@ pub mod RightFold
 -- The definitions that proofs and bodies use.
 pub mod NumberLists
 pub mod Residue
+pub mod AtOnce
+-- Proofs that impls supply with their functions.
+pub mod Laws

@@ -6,8 +6,8 @@ ghost use Rattle.item_fns.specs.Folds.{strided, folded};
 use crate::kernels::TwoNumbers;
 use arrays_core::Kind;
 
-/// Folds a list of numbers from the right.
-pub fn fold_list<S: TwoNumbers>(step: &S, numbers: &[i64]) -> Result<i64, Kind>
+/// Folds a list of numbers from the right. Each step waits for the one before it.
+fn fold_by_steps<S: TwoNumbers>(step: &S, numbers: &[i64]) -> Result<i64, Kind>
     requires { 0 < length numbers.now }
     ensures { result ≡ folded (S.gives step.now) numbers.now }
 {
@@ -17,6 +17,17 @@ pub fn fold_list<S: TwoNumbers>(step: &S, numbers: &[i64]) -> Result<i64, Kind>
         result = step.at(numbers[before], result)?;
     }
     Ok(result)
+}
+
+/// Folds a list of numbers from the right. Goes step by step only if an error is possible, or the function has no other way.
+pub fn fold_list<S: TwoNumbers>(step: &S, numbers: &[i64]) -> Result<i64, Kind>
+    requires { 0 < length numbers.now }
+    ensures { result ≡ folded (S.gives step.now) numbers.now }
+{
+    match step.fold_at_once(numbers) {
+        Some(fold) => Ok(fold),
+        None => fold_by_steps(step, numbers),
+    }
 }
 
 /// Folds `count` numbers from the right, `stride` places apart, beginning at index `first`.

@@ -1,13 +1,18 @@
 //! A type for each function of numbers, so that each gets its own compiled loop.
 
-ghost use Rattle.std.specs.Prelude.{◌≡◌, ℤ, Result, Ok};
+ghost use Rattle.std.specs.Prelude.{◌≡◌, ◌<◌, ℤ, Result, Ok, IfSome, length};
 ghost use Rattle.arrays_core.specs.declared.item.Kind.{Kind};
 ghost use Rattle.function_names.specs.declared.scalar.Scalar1.TheVariants as one;
 ghost use Rattle.function_names.specs.declared.scalar.Scalar2.TheVariants as two;
 ghost use Rattle.item_fns.specs.Numbers.{monadic_on_number, dyadic_on_numbers};
+ghost use Rattle.item_fns.specs.Folds.{folded};
 
+use crate::at_once::{beyond, fold_by_pairs, fold_forwards, untrue};
 use crate::numbers::{as_truth, in_range, power, quotient, residue, truth};
 use arrays_core::Kind;
+
+/// A bound on two numbers: their sum and their difference are within 64 bits.
+const HALF: u64 = 2_305_843_009_213_693_952;
 
 /// A function of one number.
 pub(crate) trait OneNumber {
@@ -25,6 +30,24 @@ pub trait TwoNumbers {
     /// Applies the function.
     fn at(&self, a: i64, b: i64) -> Result<i64, Kind>
         ensures { result ≡ gives self.now a b };
+
+    /// Folds a list from the right in one pass, without a check at each step. None if an error is possible, or there is no such way.
+    fn fold_at_once(&self, _numbers: &[i64]) -> Option<i64>
+        requires { 0 < length _numbers.now }
+        ensures { IfSome result (λ z. folded (gives self.now) _numbers.now ≡ Ok z) }
+    {
+        None
+    }
+
+    /// Applies the function without an early exit. Returns its result, and 0 unless an error is possible.
+    fn step(&self, a: i64, b: i64) -> (i64, u64)
+        ensures { result.1 ≡ 0 → gives self.now a b ≡ Ok result.0 }
+    {
+        match self.at(a, b) {
+            Ok(number) => (number, 0),
+            Err(_) => (0, 1),
+        }
+    }
 }
 
 /// A function of two numbers with a fixed left argument.
@@ -127,6 +150,14 @@ impl TwoNumbers for Plus {
     fn at(&self, a: i64, b: i64) -> Result<i64, Kind> {
         in_range(a.checked_add(b))
     }
+
+    fn fold_at_once(&self, numbers: &[i64]) -> Option<i64> {
+        fold_forwards(self, numbers)
+    }
+
+    fn step(&self, a: i64, b: i64) -> (i64, u64) {
+        (a.wrapping_add(b), beyond(a, HALF) | beyond(b, HALF))
+    }
 }
 
 /// Difference.
@@ -138,6 +169,14 @@ impl TwoNumbers for Minus {
 
     fn at(&self, a: i64, b: i64) -> Result<i64, Kind> {
         in_range(a.checked_sub(b))
+    }
+
+    fn fold_at_once(&self, numbers: &[i64]) -> Option<i64> {
+        fold_by_pairs(numbers)
+    }
+
+    fn step(&self, a: i64, b: i64) -> (i64, u64) {
+        (a.wrapping_sub(b), beyond(a, HALF) | beyond(b, HALF))
     }
 }
 
@@ -199,6 +238,10 @@ impl TwoNumbers for Maximum {
     fn at(&self, a: i64, b: i64) -> Result<i64, Kind> {
         Ok(a.max(b))
     }
+
+    fn fold_at_once(&self, numbers: &[i64]) -> Option<i64> {
+        fold_forwards(self, numbers)
+    }
 }
 
 /// Minimum.
@@ -210,6 +253,10 @@ impl TwoNumbers for Minimum {
 
     fn at(&self, a: i64, b: i64) -> Result<i64, Kind> {
         Ok(a.min(b))
+    }
+
+    fn fold_at_once(&self, numbers: &[i64]) -> Option<i64> {
+        fold_forwards(self, numbers)
     }
 }
 
@@ -247,6 +294,10 @@ impl TwoNumbers for Equal {
     fn at(&self, a: i64, b: i64) -> Result<i64, Kind> {
         Ok(truth(a == b))
     }
+
+    fn fold_at_once(&self, numbers: &[i64]) -> Option<i64> {
+        fold_forwards(self, numbers)
+    }
 }
 
 /// Tests a ≥ b.
@@ -283,6 +334,10 @@ impl TwoNumbers for NotEqual {
     fn at(&self, a: i64, b: i64) -> Result<i64, Kind> {
         Ok(truth(a != b))
     }
+
+    fn fold_at_once(&self, numbers: &[i64]) -> Option<i64> {
+        fold_forwards(self, numbers)
+    }
 }
 
 /// Logical and. Checks both arguments: `0∧2` is DOMAIN.
@@ -295,6 +350,14 @@ impl TwoNumbers for And {
     fn at(&self, a: i64, b: i64) -> Result<i64, Kind> {
         Ok(truth(as_truth(a)? & as_truth(b)?))
     }
+
+    fn fold_at_once(&self, numbers: &[i64]) -> Option<i64> {
+        fold_forwards(self, numbers)
+    }
+
+    fn step(&self, a: i64, b: i64) -> (i64, u64) {
+        (a & b, untrue(a) | untrue(b))
+    }
 }
 
 /// Logical or. Checks both arguments.
@@ -306,6 +369,14 @@ impl TwoNumbers for Or {
 
     fn at(&self, a: i64, b: i64) -> Result<i64, Kind> {
         Ok(truth(as_truth(a)? | as_truth(b)?))
+    }
+
+    fn fold_at_once(&self, numbers: &[i64]) -> Option<i64> {
+        fold_forwards(self, numbers)
+    }
+
+    fn step(&self, a: i64, b: i64) -> (i64, u64) {
+        (a | b, untrue(a) | untrue(b))
     }
 }
 

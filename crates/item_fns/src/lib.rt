@@ -1,6 +1,7 @@
 //! The scalar functions on items: on one item or two, kernels for numbers, and right folds of numbers.
 #![tactic(auto)]
 
+mod at_once;
 mod dispatch;
 pub mod folds;
 mod identities;

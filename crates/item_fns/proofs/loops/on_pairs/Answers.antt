@@ -1,4 +1,4 @@
-use Rattle.std.{proofs.Common.{◌≡◌, ◌∙◌, ◌+◌, ◌++◌, ◌∷◌, [], ap, sym, length, arith, Ok, Err, to_z, of_z, w64, SFits, rules}, proofs.lemmas.List.{take_all}, proofs.lemmas.Int.{to_z-of_z}}
+use Rattle.std.{proofs.Common.{◌≡◌, ◌∙◌, ◌+◌, ◌++◌, ◌∷◌, [], ap, sym, length, arith, Ok, Err, w64, SFits, rules}, proofs.lemmas.List.{take_all}, proofs.lemmas.Int.{to_z-of_z}}
 use Rattle.arrays_core.{specs.Items.{all_or_first_error}, proofs.Order.{front_more, front_error}}
 use Rattle.item_fns.{specs.NumberLists.{results_by}, proofs.Errors.{list_error}, proofs.Lists.{own_result, places_of_equal, length-results}}
 use Rattle.item_fns.proofs.loops.on_pairs.Goals as goal

@@ -1,4 +1,4 @@
-use Rattle.std.{proofs.Common.{◌≡◌, ◌∙◌, ◌-ℤ◌, ℤ, false, sym, ap, SomeIff, pos, arith, of_z, w64, SFits, int_div, rules}, specs.Int.{CanDivide, IsNonZero}, proofs.lemmas.Int.{to_z-of_z}}
+use Rattle.std.{proofs.Common.{◌≡◌, ◌∙◌, ◌-ℤ◌, ℤ, sym, ap, SomeIff, pos, arith, of_z, w64, SFits, int_div, rules}, specs.Int.{CanDivide, IsNonZero}, proofs.lemmas.Int.{to_z-of_z}}
 use Rattle.item_fns.{specs.Numbers.{residue, number_or_limit}, proofs.Residues.{whole_quotient}, proofs.Floors.{IsOneAbove, not_zero, one_above, held_below, held_ok}, proofs.Signs.{zero_of_bits, some_iff_rest}, proofs.numbers.floor_quotient.Goals.{After-in_range-quotient, After-residue}}
 use Rattle.item_fns.proofs.numbers.floor_quotient.Goals as goal
 

@@ -1,4 +1,4 @@
-use Rattle.std.{proofs.Common.{◌≡◌, sym, subst, ℤ, get_or, pos, map, to_z, of_z, w64, SFits, rules}, proofs.lemmas.Int.{to_z-of_z}}
+use Rattle.std.{proofs.Common.{◌≡◌, sym, subst, ℤ, get_or, pos, map, w64, SFits, rules}, proofs.lemmas.Int.{to_z-of_z}}
 use Rattle.arrays_core.specs.Items.{all_or_first_error}
 use Rattle.item_fns.{specs.Numbers.{power}, specs.NumberLists.{IsListAnswerTo}, proofs.Lists.{results_of_one_left, results_of_one_right}, proofs.Signs.{by_bits}}
 use Rattle.item_fns.proofs.power_loops.on_powers.Goals as goal

@@ -1,6 +1,6 @@
 use Rattle.std.{proofs.Common.{◌≡◌, ◌∙◌, ◌+◌, ◌-◌, ap, sym, subst, get_or, pos, length, arith, Ok, drop, w64, rules}, proofs.lemmas.Int.{to_z-of_z}}
-use Rattle.item_fns.{specs.Folds.{folded}, proofs.RightFolds.{fold_last, rest_more, error_stands}, proofs.Errors.{passed_on}, proofs.folds.fold_list.Given.{Over}, proofs.folds.fold_list.Goals.{After-at}}
-use Rattle.item_fns.proofs.folds.fold_list.Goals as goal
+use Rattle.item_fns.{specs.Folds.{folded}, proofs.RightFolds.{fold_last, rest_more, error_stands}, proofs.Errors.{passed_on}, proofs.folds.fold_by_steps.Given.{Over}, proofs.folds.fold_by_steps.Goals.{After-at}}
+use Rattle.item_fns.proofs.folds.fold_by_steps.Goals as goal
 
 pub loop-before-init : goal.loop-before-init
 loop-before-init g c =

@@ -1,5 +1,5 @@
 use Rattle.{std.proofs.Common.{◌≡◌, ◌+◌, ◌≤◌, drop, length, Ok}, item_fns.specs.Folds.{folded}}
-use Rattle.item_fns.proofs.folds.fold_list.Given as goal
+use Rattle.item_fns.proofs.folds.fold_by_steps.Given as goal
 
 abbrev pub invariant-loop-before : goal.invariant-loop-before
 invariant-loop-before g l = record {

@@ -1,0 +1,236 @@
+//! Right folds of lists in one pass, from the first number on and without a check at each step.
+
+ghost use Rattle.std.specs.Prelude.{◌≡◌, ◌<◌, ◌≤◌, ◌*◌, ◌/◌, ◌+ℤ◌, ◌-ℤ◌, ℕ, ℤ, Result, Ok, IfSome, length, drop};
+ghost use Rattle.std.specs.Int.{int_bit_and, int_bit_or, int_bit_xor, int_max, int_min, int_wrapping_add, w64};
+ghost use Rattle.arrays_core.specs.Limits.{most_places};
+ghost use Rattle.arrays_core.specs.declared.item.Kind.{Kind};
+ghost use Rattle.function_names.specs.declared.scalar.Scalar2.TheVariants as two;
+ghost use Rattle.item_fns.specs.Numbers.{dyadic_on_numbers};
+ghost use Rattle.item_fns.specs.Folds.{folded};
+ghost use Rattle.item_fns.specs.AtOnce.{IsAtOnce, IsNear, IsTruth, IsSum, IsAny, int_bit_same, in_turn};
+ghost use Rattle.item_fns.specs.Laws.AtOnce.{sums, both_true, any_true, differ, agree, greatest, least};
+
+use crate::kernels::{And, Equal, Maximum, Minimum, NotEqual, Or, Plus};
+use arrays_core::MOST_PLACES;
+
+/// A bound on numbers: 2^20 of them, the most that an array holds, have sums and differences within 64 bits.
+const NEAR: u64 = 4_398_046_511_104;
+
+/// Returns 0 only if the number is at least `-bound` and at most `bound`.
+#[inline]
+pub(crate) fn beyond(number: i64, bound: u64) -> u64
+    requires some { 0 < bound }
+    requires within { bound < 4611686018427387905 }
+    ensures { result ≡ 0 → IsNear bound number }
+{
+    number.cast_unsigned().wrapping_add(bound) / (2 * bound)
+}
+
+/// Returns 0 only if the number is 0 or 1.
+#[inline]
+pub(crate) fn untrue(number: i64) -> u64
+    ensures { result ≡ 0 → IsTruth number }
+{
+    number.cast_unsigned() / 2
+}
+
+/// A function whose right fold of near numbers is their left fold, without an error.
+pub(crate) trait AtOnce {
+    ghost gives: { Self → ℤ → ℤ → Result ℤ Kind };
+
+    ghost plain: { Self → ℤ → ℤ → ℤ };
+
+    ghost near: { Self → ℕ → ℤ → Type 0 };
+
+    /// Applies the function without a check.
+    fn plain(&self, a: i64, b: i64) -> i64
+        ensures { result ≡ plain self.now a b };
+
+    /// Returns 0 only if the number is near.
+    fn doubt(&self, number: i64) -> u64
+        ensures { result ≡ 0 → near self.now 1 number };
+
+    ghost law: { (s : Self) → IsAtOnce (gives s) (plain s) (near s) };
+}
+
+impl AtOnce for Plus {
+    ghost gives = { λ s. dyadic_on_numbers two.Plus };
+
+    ghost plain = { λ s. int_wrapping_add w64 };
+
+    ghost near = { λ s. IsSum };
+
+    fn plain(&self, a: i64, b: i64) -> i64 {
+        a.wrapping_add(b)
+    }
+
+    fn doubt(&self, number: i64) -> u64 {
+        beyond(number, NEAR)
+    }
+
+    ghost law = { λ s. sums };
+}
+
+impl AtOnce for And {
+    ghost gives = { λ s. dyadic_on_numbers two.And };
+
+    ghost plain = { λ s. int_bit_and w64 };
+
+    ghost near = { λ s n. IsTruth };
+
+    fn plain(&self, a: i64, b: i64) -> i64 {
+        a & b
+    }
+
+    fn doubt(&self, number: i64) -> u64 {
+        untrue(number)
+    }
+
+    ghost law = { λ s. both_true };
+}
+
+impl AtOnce for Or {
+    ghost gives = { λ s. dyadic_on_numbers two.Or };
+
+    ghost plain = { λ s. int_bit_or w64 };
+
+    ghost near = { λ s n. IsTruth };
+
+    fn plain(&self, a: i64, b: i64) -> i64 {
+        a | b
+    }
+
+    fn doubt(&self, number: i64) -> u64 {
+        untrue(number)
+    }
+
+    ghost law = { λ s. any_true };
+}
+
+impl AtOnce for NotEqual {
+    ghost gives = { λ s. dyadic_on_numbers two.NotEqual };
+
+    ghost plain = { λ s. int_bit_xor w64 };
+
+    ghost near = { λ s n. IsTruth };
+
+    fn plain(&self, a: i64, b: i64) -> i64 {
+        a ^ b
+    }
+
+    fn doubt(&self, number: i64) -> u64 {
+        untrue(number)
+    }
+
+    ghost law = { λ s. differ };
+}
+
+impl AtOnce for Equal {
+    ghost gives = { λ s. dyadic_on_numbers two.Equal };
+
+    ghost plain = { λ s. int_bit_same };
+
+    ghost near = { λ s n. IsTruth };
+
+    fn plain(&self, a: i64, b: i64) -> i64 {
+        a ^ b ^ 1
+    }
+
+    fn doubt(&self, number: i64) -> u64 {
+        untrue(number)
+    }
+
+    ghost law = { λ s. agree };
+}
+
+impl AtOnce for Maximum {
+    ghost gives = { λ s. dyadic_on_numbers two.Maximum };
+
+    ghost plain = { λ s. int_max };
+
+    ghost near = { λ s. IsAny };
+
+    fn plain(&self, a: i64, b: i64) -> i64 {
+        a.max(b)
+    }
+
+    fn doubt(&self, _number: i64) -> u64 {
+        0
+    }
+
+    ghost law = { λ s. greatest };
+}
+
+impl AtOnce for Minimum {
+    ghost gives = { λ s. dyadic_on_numbers two.Minimum };
+
+    ghost plain = { λ s. int_min };
+
+    ghost near = { λ s. IsAny };
+
+    fn plain(&self, a: i64, b: i64) -> i64 {
+        a.min(b)
+    }
+
+    fn doubt(&self, _number: i64) -> u64 {
+        0
+    }
+
+    ghost law = { λ s. least };
+}
+
+/// Folds a list from the first number on. None if a number is not near.
+pub(crate) fn fold_forwards<S: AtOnce>(step: &S, numbers: &[i64]) -> Option<i64>
+    requires { 0 < length numbers.now }
+    ensures { IfSome result (λ z. folded (S.gives step.now) numbers.now ≡ Ok z) }
+{
+    if numbers.len() > MOST_PLACES as usize {
+        return None;
+    }
+    let mut fold = numbers[0];
+    let mut doubt = step.doubt(fold);
+    for place in 1..numbers.len() {
+        fold = step.plain(fold, numbers[place]);
+        doubt |= step.doubt(numbers[place]);
+    }
+    if doubt == 0 { Some(fold) } else { None }
+}
+
+/// Adds a - b to a total without a check.
+#[inline]
+fn with_difference(total: i64, a: i64, b: i64) -> i64
+    ensures { (n : ℕ) → n ≤ most_places → IsSum n total → IsSum 1 a → IsSum 1 b → result ≡ total +ℤ (a -ℤ b) }
+{
+    total.wrapping_add(a.wrapping_sub(b))
+}
+
+/// Returns the last number of a list of odd length, 0 of a list of even length.
+fn odd_end(numbers: &[i64]) -> i64
+    ensures { result ≡ in_turn (drop (2 * (length numbers.now / 2)) numbers.now) }
+{
+    if numbers.len() % 2 == 1 {
+        numbers[numbers.len() - 1]
+    } else {
+        0
+    }
+}
+
+/// Folds a list by `-`, two numbers at a time. None if a number is not near.
+pub(crate) fn fold_by_pairs(numbers: &[i64]) -> Option<i64>
+    requires { 0 < length numbers.now }
+    ensures { IfSome result (λ z. folded (dyadic_on_numbers two.Minus) numbers.now ≡ Ok z) }
+{
+    if numbers.len() > MOST_PLACES as usize {
+        return None;
+    }
+    let end = odd_end(numbers);
+    let mut total = end;
+    let mut doubt = beyond(end, NEAR);
+    for pair in 0..numbers.len() / 2 {
+        let a = numbers[2 * pair];
+        let b = numbers[2 * pair + 1];
+        total = with_difference(total, a, b);
+        doubt |= beyond(a, NEAR) | beyond(b, NEAR);
+    }
+    if doubt == 0 { Some(total) } else { None }
+}
