@@ -11,5 +11,4 @@ pub mod SmallSums
 pub mod WithinBounds
 pub mod FoldCases
 pub mod ReductionCases
-pub mod FlaggedSums
 pub mod ListResults

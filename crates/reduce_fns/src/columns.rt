@@ -1,119 +1,83 @@
 //! Folds of columns, made a row at a time.
 
-ghost use Rattle.std.specs.Prelude.{◌≡◌, ◌≤◌, ◌-◌, ◌*◌, length, drop, map, Ok, OnOk, IfOk, vec_len};
+ghost use Rattle.std.specs.Prelude.{◌≡◌, ◌≤◌, ◌-◌, ◌*◌, length, drop, map, Ok, IfOk, IfSome, true, vec_len};
 ghost use Rattle.std.specs.List.{range_with_len};
 ghost use Rattle.arrays_core.specs.Items.{all_or_first_error};
 ghost use Rattle.reduce_fns.specs.AxisLines.{fold_at};
 ghost use Rattle.reduce_fns.specs.Columns.{ArePutOver, AreColumnFolds, EndsInFolds};
 
 use crate::axis_lines::AxisLines;
-use arrays_core::{ApplyFault, Kind, room_of};
-use item_fns::kernels::{Plus, TwoNumbers};
-use std::alloc::Global;
+use arrays_core::room_of;
+use item_fns::kernels::TwoNumbers;
+use std::alloc::{AllocError, Global};
 
-/// A function of two numbers that combines a whole row with the folds of the columns below it.
-pub(crate) trait RowFold: TwoNumbers {
-    /// Combines each number of a row with the fold of the numbers below it, in place.
-    fn put_over(&self, row: &[i64], folds: &mut [i64]) -> Result<(), Kind>
-        requires { length row.now ≡ length folds.old }
-        ensures long { length folds.new ≡ length folds.old }
-        ensures is { OnOk result (ArePutOver (Self.gives self.now) row.now folds.old folds.new) }
-    {
-        for column in 0..row.len() {
-            folds[column] = self.at(row[column], folds[column])?;
-        }
-        Ok(())
+/// Combines each number of a row with the fold of the numbers below it, in place. Returns 0 only if no step fails.
+pub fn put_over<S: TwoNumbers>(step: &S, row: &[i64], folds: &mut [i64]) -> u64
+    requires { length row.now ≡ length folds.old }
+    ensures long { length folds.new ≡ length folds.old }
+    ensures is { result ≡ 0 → ArePutOver (S.gives step.now) row.now folds.old folds.new }
+{
+    let mut doubt = 0;
+    for column in 0..row.len() {
+        let (fold, more) = step.step(row[column], folds[column]);
+        folds[column] = fold;
+        doubt |= more;
     }
+    doubt
 }
 
-/// Applies a function to rows number by number.
-#[derive(Clone, Copy)]
-pub(crate) struct Numberwise<S> {
-    pub(crate) step: S,
-}
-
-impl<S: TwoNumbers> TwoNumbers for Numberwise<S> {
-    ghost gives = { λ n. S.gives n.step };
-
-    fn at(&self, a: i64, b: i64) -> Result<i64, Kind> {
-        self.step.at(a, b)
-    }
-}
-
-impl<S: TwoNumbers> RowFold for Numberwise<S> {}
-
-impl RowFold for Plus {
-    /// Checks for overflow once, after the whole row, so that no addition waits for the one before it.
-    fn put_over(&self, row: &[i64], folds: &mut [i64]) -> Result<(), Kind> {
-        let mut is_within = true;
-        for column in 0..row.len() {
-            let (sum, is_beyond) = row[column].overflowing_add(folds[column]);
-            folds[column] = sum;
-            is_within &= !is_beyond;
-        }
-        if is_within { Ok(()) } else { Err(Kind::Limit) }
-    }
-}
-
-/// Folds the columns of `count` rows in place; `folds` holds the last row at the start.
-fn fold_rows<S: RowFold>(
-    step: &S,
-    rows: &[i64],
-    count: usize,
-    folds: &mut [i64],
-) -> Result<(), Kind>
+/// Folds the columns of `count` rows in place; `folds` holds the last row at the start. Returns 0 only if no step fails.
+fn fold_rows<S: TwoNumbers>(step: &S, rows: &[i64], count: usize, folds: &mut [i64]) -> u64
     requires some { 1 ≤ count }
     requires whole { length rows.now ≡ count * length folds.old }
     requires last { folds.old ≡ drop ((count - 1) * length folds.old) rows.now }
     ensures long { length folds.new ≡ length folds.old }
-    ensures is { OnOk result (AreColumnFolds (S.gives step.now) rows.now count folds.new) }
+    ensures is { result ≡ 0 → AreColumnFolds (S.gives step.now) rows.now count folds.new }
 {
     let columns = folds.len();
+    let mut doubt = 0;
     for before in (0..count - 1).rev() {
         let first = before * columns;
-        step.put_over(&rows[first..first + columns], folds)?;
+        doubt |= put_over(step, &rows[first..first + columns], folds);
     }
-    Ok(())
+    doubt
 }
 
-/// Appends the column folds of `count` rows to a list.
-fn push_folds<S: RowFold>(
+/// Appends the column folds of `count` rows to a list. Returns true only if no step fails.
+fn push_folds<S: TwoNumbers>(
     folds: &mut Vec<i64>,
     step: &S,
     rows: &[i64],
     columns: usize,
     count: usize,
-) -> Result<(), ApplyFault>
+) -> Result<bool, AllocError>
     requires some { 1 ≤ count }
     requires whole { length rows.now ≡ count * columns }
-    ensures { OnOk result (EndsInFolds (S.gives step.now) rows.now columns count folds.old.items folds.new.items) }
+    ensures { IfOk result (λ sure. sure ≡ true → EndsInFolds (S.gives step.now) rows.now columns count folds.old.items folds.new.items) }
 {
     let before = folds.len();
     folds.extend_from_slice(&rows[(count - 1) * columns..])?;
-    fold_rows(step, rows, count, &mut folds[before..])?;
-    Ok(())
+    let doubt = fold_rows(step, rows, count, &mut folds[before..]);
+    Ok(doubt == 0)
 }
 
-/// Folds all lines along an axis, a row at a time. If some line fails, returns the error of one of them, not always the first.
-pub(crate) fn column_folds<S: RowFold>(
+/// Folds all lines along an axis, a row at a time. None if a step fails or may fail.
+pub(crate) fn column_folds<S: TwoNumbers>(
     alloc: Global,
     step: &S,
     lines: &AxisLines,
-) -> Result<Vec<i64>, ApplyFault>
-    ensures long { IfOk result (λ v. vec_len v ≡ lines.now.places) }
-    ensures is { IfOk result (λ v. all_or_first_error (map (fold_at (S.gives step.now) lines.now) (range_with_len 0 lines.now.places)) ≡ Ok v.items) }
+) -> Result<Option<Vec<i64>>, AllocError>
+    ensures long { IfOk result (λ made. IfSome made (λ v. vec_len v ≡ lines.now.places)) }
+    ensures is { IfOk result (λ made. IfSome made (λ v. all_or_first_error (map (fold_at (S.gives step.now) lines.now) (range_with_len 0 lines.now.places)) ≡ Ok v.items)) }
 {
     let mut folds = Vec::with_capacity(alloc, room_of(lines.places))?;
     for block in 0..lines.places / lines.stride {
         let size = lines.count * lines.stride;
         let first = block * size;
-        push_folds(
-            &mut folds,
-            step,
-            &lines.numbers[first..first + size],
-            lines.stride,
-            lines.count,
-        )?;
+        let rows = &lines.numbers[first..first + size];
+        if !push_folds(&mut folds, step, rows, lines.stride, lines.count)? {
+            return Ok(None);
+        }
     }
-    Ok(folds)
+    Ok(Some(folds))
 }

@@ -9,7 +9,6 @@ ghost use Rattle.arrays_core.specs.Shapes.{size, IsWithinLimits};
 ghost use Rattle.index_region.specs.ArgumentLists.{of_one_argument};
 ghost use Rattle.index_region.specs.Answers.{IsFormAnswerTo, IsPlaceOf, HasTypeOf};
 ghost use Rattle.change_core.specs.Sourced.{uses_of_one};
-ghost use Rattle.function_names.specs.declared.scalar.Scalar2.TheVariants.{Plus as Sum};
 ghost use Rattle.item_fns.specs.Numbers.{dyadic_on_numbers};
 ghost use Rattle.reduce_fns.specs.AxisLines.{fold_at, line_folds};
 ghost use Rattle.reduce_fns.specs.Reduce.{reduce_form, reduce_item, reduce_whole, reduce_use};
@@ -18,16 +17,15 @@ ghost use Rattle.reduce_fns.specs.Laws.LinesGrowth.{reduce_growing};
 ghost use Rattle.reduce_fns.specs.Growth.{lines_grow};
 
 use crate::axis_lines::AxisLines;
-use crate::columns::{Numberwise, RowFold, column_folds};
+use crate::columns::column_folds;
 use crate::later_axis::is_along_a_later_axis;
 use crate::number_function::{NumberFunction, collect_numbers};
 use crate::right_fold::{fold_line, identity_item};
-use crate::sum::sum_list;
 use arrays_core::{ApplyFault, Array, Item, ItemType, Kind, Shape, shape_of, without_axis};
 use change_core::Announced;
 use index_region::{Along, IndexBox, Intervals, Primitive, Seen, apply, limited};
 use item_fns::folds::fold_numbers;
-use item_fns::kernels::{Plus, TwoNumbers};
+use item_fns::kernels::TwoNumbers;
 use item_fns::{Scalar2, WithFunction, with_function};
 use std::alloc::Global;
 
@@ -50,40 +48,9 @@ impl<'a, S: TwoNumbers> NumberFunction for LineFolds<'a, S> {
     }
 }
 
-/// Computes the sum of each line; the numbers of a line are contiguous.
-#[derive(Drop)]
-struct Totals<'a> {
-    lines: AxisLines<'a>,
-    ghost beside: { lines.stride ≡ 1 },
-}
-
-impl<'a> NumberFunction for Totals<'a> {
-    ghost places = { λ t. t.lines.places };
-
-    ghost number = { λ t. fold_at (dyadic_on_numbers Sum) t.lines };
-
-    fn number_at(&self, place: usize) -> Result<i64, Kind> {
-        let first = place * self.lines.count;
-        sum_list(&self.lines.numbers[first..first + self.lines.count])
-    }
-}
-
-/// Sums each line.
-fn sums(alloc: Global, lines: &AxisLines, shape: &Shape) -> Result<Array, ApplyFault>
-    requires within { IsWithinLimits shape.now.items }
-    requires shaped { size shape.now.items ≡ lines.now.places }
-    ensures { IsAnswerTo (line_folds (dyadic_on_numbers Sum) lines.now shape.now.items) result }
-{
-    if lines.stride == 1 {
-        collect_numbers(alloc, &Totals { lines: *lines }, shape)
-    } else {
-        folds_by(alloc, &Plus, lines, shape)
-    }
-}
-
-/// Folds each line. If the numbers of a line are not contiguous, it folds a row at a time. If that fails, it folds line by line to return the error
-/// of the first line that fails.
-fn folds_by<S: RowFold>(
+/// Folds each line. If the numbers of a line are not contiguous, it folds a row at a time. If a step may fail, it folds line by line to return
+/// the error of the first line that fails.
+fn folds_by<S: TwoNumbers>(
     alloc: Global,
     step: &S,
     lines: &AxisLines,
@@ -100,10 +67,9 @@ fn folds_by<S: RowFold>(
     if lines.stride == 1 {
         return collect_numbers(alloc, &each, shape);
     }
-    match column_folds(alloc, step, lines) {
-        Ok(folds) => Ok(Array::from_numbers(shape, folds)?),
-        Err(ApplyFault::NoMemory) => Err(ApplyFault::NoMemory),
-        Err(ApplyFault::Kind(_)) => collect_numbers(alloc, &each, shape),
+    match column_folds(alloc, step, lines)? {
+        Some(folds) => Ok(Array::from_numbers(shape, folds)?),
+        None => collect_numbers(alloc, &each, shape),
     }
 }
 
@@ -123,7 +89,7 @@ impl<'a> WithFunction for Foldable<'a> {
     ghost makes = { λ f gives result. IsAnswerTo (line_folds gives f.lines f.shape.now.items) result };
 
     fn with<S: TwoNumbers + Copy>(self, step: S) -> Result<Array, ApplyFault> {
-        folds_by(self.alloc, &Numberwise { step }, &self.lines, self.shape)
+        folds_by(self.alloc, &step, &self.lines, self.shape)
     }
 }
 
@@ -138,9 +104,6 @@ fn folds(
     requires shaped { size shape.now.items ≡ lines.now.places }
     ensures { IsAnswerTo (line_folds (dyadic_on_numbers function) lines.now shape.now.items) result }
 {
-    if function == Scalar2::Plus {
-        return sums(alloc, lines, shape);
-    }
     let foldable = Foldable {
         alloc,
         lines: *lines,

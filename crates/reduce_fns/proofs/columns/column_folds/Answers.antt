@@ -1,4 +1,4 @@
-use Rattle.std.{proofs.Common.{◌≡◌, ◌∙◌, ◌+◌, ◌-◌, ◌*◌, ap, sym, drop, take, length, pos, arith, subst}, proofs.lemmas.List.{length-append}}
+use Rattle.std.{proofs.Common.{◌≡◌, ◌∙◌, ◌+◌, ◌*◌, ap, sym, drop, take, length, pos, arith, subst, rules}, proofs.lemmas.List.{length-append}}
 use Rattle.reduce_fns.{specs.Columns.{EndsInFolds}, proofs.ColumnFolds.{at_place, block_more, block_high, all_blocks}, proofs.Firsts.{all_places}}
 use Rattle.reduce_fns.proofs.columns.column_folds.Goals as goal
 
@@ -8,14 +8,14 @@ overflow_mul-size g c = omega (arith, block_high c.loop-block.block c.args.lines
 pub overflow_mul-first : goal.overflow_mul-first
 overflow_mul-first g c = omega (arith, block_high c.loop-block.block c.args.lines.now.stride c.args.lines.now.count c.args.lines.now.places _ c.loop-block-test.true c.args.lines.now.even c.args.lines.now.whole)
 
-pub overflow_add-first : goal.overflow_add-first
-overflow_add-first g c = omega (arith, block_high c.loop-block.block c.args.lines.now.stride c.args.lines.now.count c.args.lines.now.places _ c.loop-block-test.true c.args.lines.now.even c.args.lines.now.whole)
+pub overflow_add-rows : goal.overflow_add-rows
+overflow_add-rows g c = omega (arith, block_high c.loop-block.block c.args.lines.now.stride c.args.lines.now.count c.args.lines.now.places _ c.loop-block-test.true c.args.lines.now.even c.args.lines.now.whole)
 
 pub offset_bounds-lines-first : goal.offset_bounds-lines-first
 offset_bounds-lines-first g c = omega (arith, block_high c.loop-block.block c.args.lines.now.stride c.args.lines.now.count c.args.lines.now.places _ c.loop-block-test.true c.args.lines.now.even c.args.lines.now.whole)
 
-pub slice_bounds-push_folds-end : goal.slice_bounds-push_folds-end
-slice_bounds-push_folds-end g c = omega (arith, block_high c.loop-block.block c.args.lines.now.stride c.args.lines.now.count c.args.lines.now.places _ c.loop-block-test.true c.args.lines.now.even c.args.lines.now.whole)
+pub slice_bounds-rows-end : goal.slice_bounds-rows-end
+slice_bounds-rows-end g c = omega (arith, block_high c.loop-block.block c.args.lines.now.stride c.args.lines.now.count c.args.lines.now.places _ c.loop-block-test.true c.args.lines.now.even c.args.lines.now.whole)
 
 pub loop-block-preserved : goal.loop-block-preserved
 loop-block-preserved g c =
@@ -27,7 +27,7 @@ loop-block-preserved g c =
     let before = c.loop-block.folds.items in
     let all = c.push_folds.new.folds in
     let ends : EndsInFolds f (take (n * s) (drop first xs)) s n before all.items =
-    subst (λ m. EndsInFolds f (take m (drop first xs)) s n before all.items) (omega arith) c.in_ok-push_folds.ensures in
+    subst (λ m. EndsInFolds f (take m (drop first xs)) s n before all.items) (omega arith) (c.in_ok-push_folds.ensures (search rules)) in
     let joined : length all.items ≡ length before + length ends.folds = ap length ends.is ∙ length-append before ends.folds in
     record {
       long = all.ok.0 ∙ omega arith;

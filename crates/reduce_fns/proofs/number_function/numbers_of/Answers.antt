@@ -1,4 +1,4 @@
-use Rattle.std.{proofs.Common.{◌≡◌, ◌∙◌, ◌+◌, ◌++◌, ◌∷◌, [], ap, sym, length, map, arith, Ok, Err, to_z, of_z, w64, SFits, rules}, specs.List.{range_with_len}, proofs.lemmas.List.{take_all}, proofs.lemmas.List.FromFn.{length-map-range_with_len, get_or-map-range_with_len}, proofs.lemmas.Int.{to_z-of_z}}
+use Rattle.std.{proofs.Common.{◌≡◌, ◌∙◌, ◌+◌, ◌++◌, ◌∷◌, [], ap, sym, length, map, arith, Ok, Err, w64, SFits, rules}, specs.List.{range_with_len}, proofs.lemmas.List.{take_all}, proofs.lemmas.List.FromFn.{length-map-range_with_len, get_or-map-range_with_len}, proofs.lemmas.Int.{to_z-of_z}}
 use Rattle.{arrays_core.{specs.Items.{all_or_first_error}, proofs.Order.{front_more, front_error}}, item_fns.proofs.Errors.{list_error}}
 use Rattle.reduce_fns.proofs.number_function.numbers_of.Goals as goal
 

@@ -1,4 +1,4 @@
-use Rattle.{std.proofs.Common.{◌∙◌, ◌-◌, ap, sym, arith}, item_fns.specs.RightFold.{fold_right}}
+use Rattle.{std.proofs.Common.{◌∙◌, ap, sym, arith}, item_fns.specs.RightFold.{fold_right}}
 use Rattle.reduce_fns.{specs.Laws.LineIndices.{inside}, proofs.Lines.{LineTaken, long_with_axis, line_taken}, proofs.right_fold.fold_line.Goals.{After-stride}}
 use Rattle.reduce_fns.proofs.right_fold.fold_line.Goals as goal
 

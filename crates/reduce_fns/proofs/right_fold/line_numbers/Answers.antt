@@ -1,5 +1,5 @@
 use Rattle.std.proofs.Common.{◌∙◌, ◌-◌, sym, arith}
-use Rattle.reduce_fns.{specs.Lines.{line}, specs.Laws.LineIndices.{inside}, proofs.Lines.{LineTaken, long_with_axis, line_taken}, proofs.LineNumbers.{numbers_there, as_items}, proofs.right_fold.line_numbers.Goals.{After-stride-apart}}
+use Rattle.reduce_fns.{specs.Laws.LineIndices.{inside}, proofs.Lines.{LineTaken, long_with_axis, line_taken}, proofs.LineNumbers.{numbers_there, as_items}, proofs.right_fold.line_numbers.Goals.{After-stride-apart}}
 use Rattle.reduce_fns.proofs.right_fold.line_numbers.Goals as goal
 
 pub with_axis-first-requires-clause-rank : goal.with_axis-first-requires-clause-rank

@@ -1,4 +1,4 @@
-use Rattle.{std.proofs.Common.{rules, ◌∙◌, ◌<◌, ap, get_or, length}, function_names.specs.Axes.{axis_at}, item_fns.specs.RightFold.{fold_right}}
+use Rattle.{std.proofs.Common.{rules, ◌∙◌, ◌<◌, ap, get_or, length}, item_fns.specs.RightFold.{fold_right}}
 use Rattle.reduce_fns.{specs.Lines.{line}, proofs.Reduced.{all_of_line}}
 use Rattle.reduce_fns.proofs.reduce.Reduce.folded_at.Goals as goal
 
