@@ -17,3 +17,4 @@ pub mod Collected
 pub mod Doubts
 pub mod AtOnce
 pub mod Differences
+pub mod Reciprocals

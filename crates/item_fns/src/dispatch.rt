@@ -9,6 +9,7 @@ ghost use Rattle.item_fns.specs.NumberLists.{monadic_results, dyadic_results, re
 use crate::kernels::*;
 use crate::loops::{on_each, on_lists};
 use crate::power_loops::on_powers;
+use crate::quotient_loops::on_quotients;
 use arrays_core::{ApplyFault, Kind};
 use function_names::{Scalar1, Scalar2};
 use std::alloc::Global;
@@ -151,8 +152,9 @@ pub fn on_number_lists(
     ensures is { IsListAnswerTo (all_or_first_error (dyadic_results function left.now right.now)) result }
     ensures long { IfOk result (λ v. vec_len v ≡ paired_length left.now right.now) }
 {
-    if function == Scalar2::Power {
-        return on_powers(alloc, left, right);
+    match function {
+        Scalar2::Power => on_powers(alloc, left, right),
+        Scalar2::Divide => on_quotients(alloc, left, right),
+        _ => with_function(function, Results { alloc, left, right }),
     }
-    with_function(function, Results { alloc, left, right })
 }

@@ -10,9 +10,11 @@ pub mod kernels;
 mod loops;
 mod numbers;
 mod power_loops;
+mod quotient_loops;
 
 pub use dispatch::{WithFunction, on_number_lists, on_numbers, two_numbers, with_function};
 pub use function_names::{Scalar1, Scalar2};
 pub use identities::identity;
 pub use items::{one, two};
 pub use numbers::{floor_quotient, residue, truth};
+pub use quotient_loops::Reciprocal;
