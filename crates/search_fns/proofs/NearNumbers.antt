@@ -1,20 +1,19 @@
 -- Numbers so near 0 that one more digit keeps them within 64 bits.
-use Rattle.std.{proofs.Common.{◌≡◌, ◌+◌, ◌^◌, ◌≤◌, ltb, true, ℤ, pos, negsuc, ◌+ℤ◌, ◌*ℤ◌, unsigned_abs, FitsSigned, w64, Ok, refl, ap, ◌∙◌, arith}, proofs.lemmas.Int.{ints, unsigned_abs-mul, fits_signed_from_abs}, proofs.lemmas.Bool.{lt-ltb}, proofs.Math.Nat.{mul-le-mul}}
-use Rattle.{arrays_core.specs.Items.{and_then}, item_fns.specs.Numbers.{number_or_limit}, search_fns.specs.DecodedRows.{with_one_more, StaysWithin}}
+use Rattle.std.{proofs.Common.{◌≡◌, ◌+◌, ◌*◌, ◌%◌, ◌^◌, ◌<◌, ◌≤◌, ℕ, ℤ, pos, negsuc, ◌+ℤ◌, of_z, to_z, SFits, w64, Ok, ap, sym, ◌∙◌, arith}, proofs.lemmas.Int.{to_z-of_z}, proofs.lemmas.Nat.{mul-le}}
+use Rattle.{arrays_core.specs.Items.{and_then}, item_fns.specs.Numbers.{number_or_limit}, item_fns.proofs.Within.{held}, search_fns.specs.DecodedRows.{with_one_more}}
 
-held : (z : ℤ) → FitsSigned w64 z → number_or_limit z ≡ Ok z
-held (pos n) f = let inside : ltb n (2 ^ 63) ≡ true = lt-ltb n (2 ^ 63) (let h = f.sfits in omega arith) in rw inside refl
-held (negsuc n) f = let inside : ltb n (2 ^ 63) ≡ true = lt-ltb n (2 ^ 63) (let h = f.sfits in omega arith) in rw inside refl
+fits_below : (n : ℕ) → n < 2 ^ 63 → SFits w64 (pos n)
+fits_below n h = record { sfits = h }
 
-pub stays : (number radix digit : ℤ) → unsigned_abs number ≤ 1099511627776 → unsigned_abs radix ≤ 2097152 → unsigned_abs digit ≤ 1099511627776 → StaysWithin number radix digit
-stays number radix digit near few small =
-    let product = unsigned_abs-mul number radix in
-    let high = mul-le-mul near few in
-    let sum : unsigned_abs (number *ℤ radix +ℤ digit) ≤ unsigned_abs (number *ℤ radix) + unsigned_abs digit = sum_near (number *ℤ radix) digit in
-    record { product = fits_signed_from_abs w64 (number *ℤ radix) (omega arith); sum = fits_signed_from_abs w64 (number *ℤ radix +ℤ digit) (omega arith) }
-  where
-    sum_near : (a b : ℤ) → unsigned_abs (a +ℤ b) ≤ unsigned_abs a + unsigned_abs b
-    sum_near a b = omega (arith, ints)
-
-pub stays_held : (number radix digit : ℤ) → StaysWithin number radix digit → with_one_more number radix digit ≡ Ok (number *ℤ radix +ℤ digit)
-stays_held number radix digit s = ap (λ r. and_then r (λ product. number_or_limit (product +ℤ digit))) (held (number *ℤ radix) s.product) ∙ held (number *ℤ radix +ℤ digit) s.sum
+-- the machine's sum of a product and a digit
+pub near_more : (z d : ℤ) (r : ℕ) → SFits w64 z → SFits w64 d → r < 2 ^ 32 → of_z w64 z < 2 ^ 31 → of_z w64 d < 2 ^ 31
+    → with_one_more z (pos r) d ≡ Ok (to_z w64 ((of_z w64 z % 2147483648 * r + of_z w64 d) % 2 ^ 64))
+near_more (negsuc n) d r f g few near small = absurd (let h = f.sfits in omega arith)
+near_more (pos n) (negsuc d) r f g few near small = absurd (let h = g.sfits in omega arith)
+near_more (pos n) (pos d) r f g few near small =
+    let high : n * r ≤ 2147483647 * 4294967295 = mul-le n r 2147483647 4294967295 (omega arith) (omega arith) in
+    let below : n % 2147483648 ≡ n = omega arith in
+    let value : (n % 2147483648 * r + d) % 2 ^ 64 ≡ n * r + d = rw below (omega arith) in
+    ap (λ q. and_then q (λ product. number_or_limit (product +ℤ pos d))) (held (pos (n * r)) (fits_below (n * r) (omega arith)))
+    ∙ held (pos (n * r + d)) (fits_below (n * r + d) (omega arith))
+    ∙ ap Ok (sym (ap (to_z w64) value ∙ to_z-of_z w64 (pos (n * r + d)) (fits_below (n * r + d) (omega arith))))

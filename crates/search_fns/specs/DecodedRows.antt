@@ -1,5 +1,5 @@
 -- Decode, a row of digits at a time.
-use Rattle.std.{specs.Prelude.{◌≡◌, IsTrue, ℕ, ◌<◌, ◌≤◌, nat_eq, ◌||◌, ℤ, pos, ◌+ℤ◌, ◌*ℤ◌, List, length, get_or, drop, Result, Ok, Err, FitsSigned}, specs.Int.{w64}}
+use Rattle.std.specs.Prelude.{◌≡◌, IsTrue, ℕ, ◌<◌, ◌≤◌, nat_eq, ◌||◌, ℤ, pos, ◌+ℤ◌, ◌*ℤ◌, List, length, get_or, drop, Result, Ok, Err}
 use Rattle.arrays_core.{specs.declared.item.Item.TheVariants.{Num}, specs.declared.item.Kind.{Kind}, specs.declared.item.Kind.TheVariants.{Limit}, specs.Items.{and_then}, specs.Shapes.{size, index_after}, specs.Arrays.{ArrayValue}}
 use Rattle.item_fns.specs.Numbers.{number_or_limit}
 use Rattle.index_region.{specs.Arguments.{has_one_item}, specs.Axes.{places_along}}
@@ -13,11 +13,6 @@ pub record HaveRadices (a b : ArrayValue) : Type 0 where
 -- a number with one more digit: times its radix, plus the digit
 abbrev pub with_one_more : ℤ → ℤ → ℤ → Result ℤ Kind
 with_one_more number radix digit = and_then (number_or_limit (number *ℤ radix)) (λ product. number_or_limit (product +ℤ digit))
-
--- both the product and the sum are of 64 bits
-pub record StaysWithin (number radix digit : ℤ) : Type 0 where
-  pub product : FitsSigned w64 (number *ℤ radix)
-  pub sum : FitsSigned w64 (number *ℤ radix +ℤ digit)
 
 -- each number is the one before, with the digit at its place appended
 pub record HaveOneMore (radix : ℤ) (digits before numbers : List ℤ) : Type 0 where

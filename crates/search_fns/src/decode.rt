@@ -19,7 +19,7 @@ ghost use Rattle.search_fns.specs.Decode.{decode_form, decode_item, decode_whole
 ghost use Rattle.search_fns.specs.DecodedRows.{HaveRadices, AreDecoded, HasLimit};
 ghost use Rattle.search_fns.specs.Laws.Decode.{decode_tight};
 
-use crate::more_digits::{add_digits, one_more};
+use crate::more_digits::{one_more, put_more};
 use crate::number_at::number_at;
 use arrays_core::{
     ApplyFault, Array, Item, ItemType, Kind, Shape, append_axes, repeated, shape_of, size,
@@ -28,6 +28,7 @@ use change_core::Announced;
 use index_region::{IndexBox, Intervals, Primitive, Seen, apply, limited};
 use selection_fns::places_along;
 use std::alloc::{AllocError, Global};
+use std::mem::swap;
 
 /// Decode, `A⊥B` (ISO/IEC 13751, "Base value"): the numbers whose digits stand along the first axis of B, the most
 /// significant first. The result has the other axes of B. A number starts at 0; for each digit it is multiplied by the
@@ -125,13 +126,21 @@ fn decoded_at(radices: &Seen, array: &Seen, index: &[u32]) -> Result<i64, Kind>
     Ok(value)
 }
 
-/// Adds all digits to numbers that are 0, one row of B after another. LIMIT where a number leaves 64 bits.
-fn add_rows(numbers: &mut [i64], radices: &Seen, array: &Seen, digits: &[i64]) -> Result<(), Kind>
+/// Adds all digits to numbers that are 0, one row of B after another. LIMIT where a number leaves 64 bits. Each row of
+/// digits makes new numbers in `spare`, which takes the place of the old ones.
+fn add_rows(
+    numbers: &mut Vec<i64>,
+    spare: &mut Vec<i64>,
+    radices: &Seen,
+    array: &Seen,
+    digits: &[i64],
+) -> Result<(), Kind>
     requires radices { HaveRadices radices.now array.now }
     requires digits { array.now.items ≡ map (λ z. Num z) digits.now }
-    requires none { numbers.old ≡ replicate (size (drop 1 array.now.shape)) (pos 0) }
-    ensures long { length numbers.new ≡ length numbers.old }
-    ensures is { OnOk result (AreDecoded radices.now array.now numbers.new) }
+    requires none { numbers.old.items ≡ replicate (size (drop 1 array.now.shape)) (pos 0) }
+    requires spare { length spare.old.items ≡ length numbers.old.items }
+    ensures long { length numbers.new.items ≡ length numbers.old.items }
+    ensures is { OnOk result (AreDecoded radices.now array.now numbers.new.items) }
     ensures beyond { IfErr result (λ kind. (kind ≡ Limit) × HasLimit radices.now array.now) }
 {
     let width = numbers.len();
@@ -141,7 +150,8 @@ fn add_rows(numbers: &mut [i64], radices: &Seen, array: &Seen, digits: &[i64]) -
         let row = index_along(rows, before + 1) - 1;
         let first = row as usize * width;
         let radix = radix_at(radices, before + 1);
-        add_digits(numbers, radix, &digits[first..first + width])?;
+        put_more(spare, numbers, radix, &digits[first..first + width])?;
+        swap(numbers, spare);
     }
     Ok(())
 }
@@ -160,8 +170,10 @@ fn decoded_rows(
     requires within { IsWithinLimits shape.now.items }
     ensures { IsAnswerTo (collect Nums shape.now.items (decode_item radices.now array.now)) result }
 {
-    let mut numbers = repeated(alloc, 0, size(shape.as_slice()) as usize)?;
-    add_rows(&mut numbers, radices, array, digits)?;
+    let places = size(shape.as_slice()) as usize;
+    let mut numbers = repeated(alloc, 0, places)?;
+    let mut spare = repeated(alloc, 0, places)?;
+    add_rows(&mut numbers, &mut spare, radices, array, digits)?;
     Ok(Array::from_numbers(shape, numbers)?)
 }
 

@@ -1,4 +1,4 @@
-use Rattle.std.{proofs.Common.{◌≡◌, ◌∙◌, ap, sym, drop, length, Ok, Err, List, ℕ, ℤ, map, take, ◌++◌, vec_len, rules}, proofs.lemmas.List.{take_at, length-replicate}}
+use Rattle.std.{proofs.Common.{◌≡◌, ◌∙◌, ap, sym, drop, length, Ok, Err, List, ℕ, map, rules}, proofs.lemmas.List.{length-replicate}}
 use Rattle.arrays_core.{specs.declared.item.Item.TheVariants.{Num}, specs.declared.item.ItemType.TheVariants.{Nums}, specs.declared.item.Kind.{Kind}, specs.declared.item.Kind.TheVariants.{Limit}, specs.declared.fault.ApplyFault.TheVariants.{Kind as KindFault}, specs.Shapes.{size}, specs.Arrays.{ArrayValue, collect}}
 use Rattle.search_fns.{specs.Decode.{decode_item}, specs.DecodedRows.{AreDecoded, HasLimit}, proofs.DecodedRows.{rows_collected, limit_collected}}
 use Rattle.search_fns.proofs.decode.decoded_rows.Goals as goal
@@ -17,14 +17,10 @@ returns-in_err-add_rows c =
 pub returns : goal.returns
 returns c =
     let b = c.args.array.now in
-    let zs = c.add_rows.new.numbers in
+    let zs = c.add_rows.new.numbers.items in
     let made : AreDecoded c.args.radices.now b zs = c.in_ok-add_rows.ensures.is in
-    let numbers = c.in_ok-numbers.numbers in
-    let as_many : length zs ≡ vec_len numbers = c.in_ok-add_rows.ensures.long ∙ ap length c.deref_mut.ensures.value ∙ sym numbers.ok.0 in
-    let long : length zs ≡ size (drop 1 b.shape) = as_many ∙ numbers.ok.0 ∙ ap length c.in_ok-numbers.ensures ∙ length-replicate _ _ ∙ c.size.ensures ∙ ap size (c.as_slice.ensures ∙ c.requires.shape) in
-    let kept : take (vec_len numbers) (zs ++ drop (length zs) numbers.items) ≡ zs = take_at zs (drop (length zs) numbers.items) (vec_len numbers) as_many in
+    let long : length zs ≡ size (drop 1 b.shape) = c.in_ok-add_rows.ensures.long ∙ ap length c.in_ok-numbers.ensures ∙ length-replicate _ _ ∙ c.size-places.ensures ∙ ap size (c.as_slice.ensures ∙ c.requires.shape) in
     ap (λ (s : List ℕ). collect Nums s (decode_item c.args.radices.now b)) c.requires.shape
     ∙ rows_collected c.args.radices.now b zs long made
     ∙ ap (λ (s : List ℕ). Ok (record { item_type = Nums; shape = s; items = map (λ z. Num z) zs })) (sym c.requires.shape)
-    ∙ ap (λ (made : List ℤ). Ok (record { item_type = Nums; shape = c.args.shape.now.items; items = map (λ z. Num z) made })) (sym kept)
     ∙ ap (λ (w : ArrayValue). Ok w) (sym c.in_ok-from_numbers.ensures)
