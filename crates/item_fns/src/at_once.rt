@@ -14,11 +14,11 @@ use crate::kernels::{And, Equal, Maximum, Minimum, NotEqual, Or, Plus};
 use arrays_core::MOST_PLACES;
 
 /// A bound on numbers: 2^20 of them, the most that an array holds, have sums and differences within 64 bits.
-const NEAR: u64 = 4_398_046_511_104;
+pub const NEAR: u64 = 4_398_046_511_104;
 
 /// Returns 0 only if the number is at least `-bound` and at most `bound`.
 #[inline]
-pub(crate) fn beyond(number: i64, bound: u64) -> u64
+pub fn beyond(number: i64, bound: u64) -> u64
     requires some { 0 < bound }
     requires within { bound < 4611686018427387905 }
     ensures { result ≡ 0 → IsNear bound number }

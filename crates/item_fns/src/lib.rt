@@ -12,6 +12,7 @@ mod numbers;
 mod power_loops;
 mod quotient_loops;
 
+pub use at_once::{NEAR, beyond};
 pub use dispatch::{WithFunction, on_number_lists, on_numbers, two_numbers, with_function};
 pub use function_names::{Scalar1, Scalar2};
 pub use identities::identity;

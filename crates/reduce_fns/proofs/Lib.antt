@@ -7,7 +7,6 @@ pub mod Reduced
 pub mod Firsts
 pub mod LineNumbers
 pub mod Endings
-pub mod SmallSums
 pub mod WithinBounds
 pub mod FoldCases
 pub mod ReductionCases

@@ -3,9 +3,6 @@
 ghost use Rattle.std.specs.Prelude.{◌≡◌, All, true};
 ghost use Rattle.reduce_fns.specs.Sum.{IsWithinBound};
 
-/// A bound on numbers: if all are at least `-SMALL` and less than `SMALL`, an array of them has a sum within 64 bits.
-pub const SMALL: u64 = 8_796_093_022_208;
-
 /// Returns true only if each number is at least `-bound` and less than `bound`. One pass without branches: it compares the OR of all `number + bound`
 /// with twice the bound. If the bound is a power of two, the answer is exact.
 pub fn are_within(numbers: &[i64], bound: u64) -> bool

@@ -11,7 +11,7 @@ mod reduce;
 mod right_fold;
 
 pub use axis_lines::AxisLines;
-pub use bounds::{SMALL, are_within};
+pub use bounds::are_within;
 pub use columns::put_over;
 pub use later_axis::is_along_a_later_axis;
 pub use limits::MOST_ITEMS;

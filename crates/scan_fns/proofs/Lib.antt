@@ -12,7 +12,7 @@ pub mod ScannedLine
 pub mod ScanCases
 pub mod Prefixes
 pub mod NextDifferences
-pub mod SmallDifferences
+pub mod NearTotals
 pub mod NextProducts
 pub mod UnitProducts
 pub mod NextOutcomes

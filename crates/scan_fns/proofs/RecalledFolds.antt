@@ -1,5 +1,5 @@
 -- The right fold up to a place, from the values that reach the places before it.
-use Rattle.std.{proofs.Common.{◌≡◌, ℕ, ◌+◌, ◌-◌, ◌<◌, ◌≤◌, List, [], ◌∷◌, ◌++◌, length, get_or, set, refl, inl, inr, ap, sym, ◌∙◌, arith, pos, ℤ, Result, Ok}, proofs.lemmas.Bool.{cases_eq, cases_lt}, proofs.lemmas.List.{length-set, get_or-set_same, get_or-set_other, get_or_append_left, length-append}}
+use Rattle.std.{proofs.Common.{◌≡◌, ℕ, ◌-◌, ◌<◌, ◌≤◌, List, [], ◌∷◌, ◌++◌, length, get_or, set, refl, inl, inr, ap, sym, ◌∙◌, arith, pos, ℤ, Result, Ok}, proofs.lemmas.Bool.{cases_eq, cases_lt}, proofs.lemmas.List.{length-set, get_or-set_same, get_or-set_other, get_or_append_left, length-append}}
 use Rattle.{std.proofs.Math.Seq.{get_or-append_right}, arrays_core.{specs.declared.item.Kind.{Kind}, specs.Items.{and_then}}, item_fns.specs.Folds.{folded}}
 use Rattle.scan_fns.{specs.LinearScan.{depth}, specs.declared.recalled_scan.Recalled.{Recalled}, specs.Prefixes.{fold_to}, specs.RecalledScan.{run_before, given_at, nothing, IsRecalled, AreRecalled}, proofs.Runs.{run_last, run_before_is}, proofs.Prefixes.{fold_two}}
 

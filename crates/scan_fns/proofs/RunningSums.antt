@@ -1,10 +1,10 @@
 -- The running sums of lines, from their greatest and least suffix sums.
-use Rattle.std.{proofs.Common.{◌≡◌, ℕ, zero, suc, ◌+◌, ◌-◌, ◌*◌, ◌<◌, ◌≤◌, List, [], ◌∷◌, ◌++◌, length, get_or, refl, ap, sym, subst, ◌∙◌, arith, pos, ℤ, ◌+ℤ◌, FitsSigned, Result, Ok, Err}, specs.Int.{int_max, int_min, w64}, specs.List.{All}, proofs.Math.Nat.{mul-le-mul_left, mul-le-mul_right}}
+use Rattle.std.{proofs.Common.{◌≡◌, ℕ, zero, suc, ◌+◌, ◌-◌, ◌*◌, ◌<◌, ◌≤◌, List, [], ◌∷◌, ◌++◌, length, get_or, refl, ap, sym, subst, ◌∙◌, arith, pos, ℤ, ◌+ℤ◌, FitsSigned, Result, Ok, Err}, specs.Int.{int_max, int_min, w64}, specs.List.{All}, proofs.Math.Nat.{mul-le-mul_right}}
 use Rattle.arrays_core.{specs.Items.{all_or_first_error, and_then}, specs.declared.item.Kind.{Kind}, specs.declared.item.Kind.TheVariants.{Limit}}
 use Rattle.function_names.specs.declared.scalar.Scalar2.TheVariants.{Plus}
 use Rattle.item_fns.{specs.Numbers.{dyadic_on_numbers}, specs.Folds.{folded}, proofs.RightFolds.{length-strided, get_or-strided}, proofs.Within.{Within, within_of, held_error}}
 use Rattle.scan_fns.{specs.LinearScan.{depth, run_to, scanned, FailsAt}, proofs.Runs.{one_deeper, depth_high, run_more, run_some, left_first, left_later}}
-use Rattle.reduce_fns.{specs.LeftFolds.{fold_on, folded_left}, specs.Sum.{IsSmall}, proofs.SmallSums.{small_left}, proofs.Firsts.{Given, rule_entry, rule_error, same_rules}, proofs.Endings.{folded_error, greatest_step, least_step, sum_from_left, more_most, more_fewest}}
+use Rattle.reduce_fns.{specs.LeftFolds.{fold_on, folded_left}, proofs.Firsts.{Given, rule_entry, rule_error, same_rules}, proofs.Endings.{folded_error, greatest_step, least_step, sum_from_left, more_most, more_fewest}}
 
 module _ (zs : List ℤ) (stride count : ℕ) (apart : 0 < stride) (some : 1 ≤ count) where
   abbrev run : ℕ → List ℤ
@@ -98,13 +98,3 @@ module _ (zs : List ℤ) (stride count : ℕ) (apart : 0 < stride) (some : 1 ≤
       sum_from_left (run q) (get_or tops q (pos 0)) (get_or bottoms q (pos 0)) (run_within (length zs) numbers q below)
       (rule_entry (λ p. folded_left greatest_step (run p)) (length zs) tops q (pos 0) g below)
       (rule_entry (λ p. folded_left least_step (run p)) (length zs) bottoms q (pos 0) l below)))
-
-  -- for small numbers, the right folds are the left folds
-  pub small_sums : All IsSmall zs → length zs ≤ 1048576 → scanned (folded_left (dyadic_on_numbers Plus)) zs stride count ≡ scanned (folded (dyadic_on_numbers Plus)) zs stride count
-  small_sums small few =
-      ap all_or_first_error (same_rules _ _ (length zs) (λ q below.
-      let deep = depth stride count q in
-      let long = length-strided (pos 0) zs (q - deep * stride) stride (deep + 1) in
-      let high = depth_high stride count apart some q in
-      let least : deep * 1 ≤ deep * stride = mul-le-mul_left deep (omega arith) in
-      small_left (run q) (run_some stride count apart some (pos 0) zs q) (omega arith) (run_each IsSmall (length zs) (λ k inside. small k (pos 0) inside) q below)))

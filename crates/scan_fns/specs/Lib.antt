@@ -3,6 +3,7 @@ pub mod Scan
 -- Used by proofs and bodies.
 pub mod LinearScan
 pub mod Prefixes
+pub mod NearTotals
 pub mod RecalledScan
 pub mod ResidueScan
 -- Effect of changes on results.

@@ -1,13 +1,18 @@
 //! A prefix of a line under `-`.
 
-ghost use Rattle.std.specs.Prelude.{◌≡◌, ◌+ℤ◌, ◌-ℤ◌, if◌then◌else◌};
+ghost use Rattle.std.specs.Prelude.{◌≡◌, ◌+ℤ◌, ◌-ℤ◌, if◌then◌else◌, length, IfOk, vec_len};
 ghost use Rattle.function_names.specs.declared.scalar.Scalar2.TheVariants.{Minus as Difference};
 ghost use Rattle.item_fns.specs.Numbers.{dyadic_on_numbers, number_or_limit};
+ghost use Rattle.item_fns.specs.NumberLists.{IsListAnswerTo};
+ghost use Rattle.scan_fns.specs.LinearScan.{scans_of};
 ghost use Rattle.scan_fns.specs.Prefixes.{IsFresh, difference};
 
-use crate::prefix::Prefix;
-use arrays_core::Kind;
+use crate::near_totals::near_totals;
+use crate::prefix::{Prefix, prefix_folds};
+use arrays_core::{ApplyFault, Kind};
 use item_fns::kernels::{Minus, Plus, TwoNumbers};
+use reduce_fns::AxisLines;
+use std::alloc::Global;
 
 /// `x1 - (x2 - (.. (xk - v)))` of v: `total + v` and `total - v` in turn. Intermediate differences fit 64 bits exactly if `low <= v <= high`. The
 /// bounds always admit 0.
@@ -61,5 +66,16 @@ impl Prefix for Differences {
             high: number.saturating_sub(self.low),
         };
         Ok(total)
+    }
+}
+
+/// Scans each line by `-`. Near numbers take one pass without overflow checks, others one more.
+pub(crate) fn running_differences(alloc: Global, lines: &AxisLines) -> Result<Vec<i64>, ApplyFault>
+    ensures is { IsListAnswerTo (scans_of (dyadic_on_numbers Difference) lines.now) result }
+    ensures long { IfOk result (λ v. vec_len v ≡ length lines.now.numbers.now) }
+{
+    match near_totals(alloc, lines, true)? {
+        Some(totals) => Ok(totals),
+        None => prefix_folds(alloc, &Differences::none(), lines),
     }
 }

@@ -4,6 +4,7 @@
 mod box_lines;
 mod differences;
 mod linear_scan;
+mod near_totals;
 mod number_scan;
 mod outcomes;
 mod prefix;
@@ -11,7 +12,6 @@ mod products;
 mod recalled_scan;
 mod residue_scan;
 mod scan;
-mod small_differences;
 mod unit_products;
 
 pub use scan::Scan;

@@ -10,9 +10,10 @@ ghost use Rattle.scan_fns.specs.LinearScan.{left_rule, scanned, AreResultsTo, Fa
 ghost use Rattle.reduce_fns.specs.LeftFolds.{folded_left};
 ghost use Rattle.item_fns.specs.Folds.{IsAssociative};
 
+use crate::near_totals::near_totals;
 use arrays_core::{ApplyFault, Kind, room_of};
 use item_fns::kernels::{Plus, TwoNumbers};
-use reduce_fns::{AxisLines, MOST_ITEMS, SMALL, are_within};
+use reduce_fns::AxisLines;
 use std::alloc::Global;
 
 /// Computes the greatest suffix sum from the previous one: the last number, plus the previous sum if it is above 0.
@@ -184,14 +185,14 @@ pub(crate) fn running_folds<S: TwoNumbers>(
     running(alloc, step, lines)
 }
 
-/// Scans each line by `+`. Right folds stay within 64 bits if the greatest and the least suffix sums do. Small numbers take one pass without that
-/// check, others take three.
+/// Scans each line by `+`. Right folds stay within 64 bits if the greatest and the least suffix sums do. Near numbers take one pass without that
+/// check, others take three more.
 pub(crate) fn running_sums(alloc: Global, lines: &AxisLines) -> Result<Vec<i64>, ApplyFault>
     ensures is { IsListAnswerTo (scans_of (dyadic_on_numbers Sum) lines.now) result }
     ensures long { IfOk result (λ v. vec_len v ≡ length lines.now.numbers.now) }
 {
-    if lines.numbers.len() <= MOST_ITEMS && are_within(lines.numbers, SMALL) {
-        return running(alloc, &Plus, lines);
+    if let Some(totals) = near_totals(alloc, lines, false)? {
+        return Ok(totals);
     }
     running(alloc, &GreatestEnding, lines)?;
     running(alloc, &LeastEnding, lines)?;

@@ -9,12 +9,12 @@ ghost use Rattle.scan_fns.specs.LinearScan.{scans_of};
 ghost use Rattle.scan_fns.specs.LinearScan.{scanned, folds_from};
 ghost use Rattle.scan_fns.specs.Prefixes.{GivesTruths};
 
+use crate::differences::running_differences;
 use crate::linear_scan::{running_folds, running_sums};
 use crate::outcomes::Outcomes;
 use crate::prefix::prefix_folds;
 use crate::recalled_scan::recalled_folds;
 use crate::residue_scan::{are_one_sided, running_residues};
-use crate::small_differences::running_differences;
 use crate::unit_products::running_products;
 use arrays_core::ApplyFault;
 use item_fns::Scalar2;

@@ -1,4 +1,4 @@
-use Rattle.std.{proofs.Common.{◌≡◌, ◌≤◌, subst, get_or, pos, inl, inr, unsigned_abs, arith, of_z, to_z, w64, rules}, proofs.lemmas.Bool.{cases_lt, ltb-true}, proofs.lemmas.Int.{to_z-of_z}, proofs.lemmas.List.{get_or_default}, proofs.lemmas.Nat.{le_or_l, le_or_r}}
+use Rattle.std.{proofs.Common.{◌≡◌, ◌≤◌, subst, get_or, pos, inl, inr, unsigned_abs, arith, w64, rules}, proofs.lemmas.Bool.{cases_lt, ltb-true}, proofs.lemmas.Int.{to_z-of_z}, proofs.lemmas.List.{get_or_default}, proofs.lemmas.Nat.{le_or_l, le_or_r}}
 use Rattle.scan_fns.specs.Prefixes.{IsUnit}
 use Rattle.scan_fns.proofs.unit_products.are_units.Goals as goal
 

@@ -1,4 +1,4 @@
-use Rattle.std.{proofs.Common.{◌≡◌, ◌∙◌, ap, sym, length, get_or, arith, Ok, pos, to_z, of_z, w64, SFits, rules}, proofs.lemmas.Int.{to_z-of_z}}
+use Rattle.std.{proofs.Common.{◌≡◌, ◌∙◌, ap, sym, length, get_or, arith, Ok, pos, w64, SFits, rules}, proofs.lemmas.Int.{to_z-of_z}}
 use Rattle.{function_names.specs.declared.scalar.Scalar2.TheVariants.{Residue as ByResidue}, item_fns.specs.Numbers.{dyadic_on_numbers}}
 use Rattle.scan_fns.{specs.Prefixes.{fold_to}, specs.ResidueScan.{from, IsDivisor}, proofs.LeftScans.{one_more, results_end}, proofs.RecalledFolds.{own_number}, proofs.Divisors.{at_place, next_divisors}}
 use Rattle.scan_fns.proofs.residue_scan.SidedLines.residues.Goals as goal
