@@ -1,16 +1,13 @@
 //! The digits of numbers, a row at a time: a row has the digits of all numbers by one radix.
 
-ghost use Rattle.std.specs.Prelude.{◌≡◌, ◌≤◌, ◌<◌, ◌+◌, ◌*◌, Ok, OnOk, IfOk, length};
+ghost use Rattle.std.specs.Prelude.{◌≡◌, ◌≤◌, ◌<◌, ◌+◌, ◌*◌, OnOk, IfOk, length};
 ghost use Rattle.arrays_core.specs.Arrays.{IsArray};
 ghost use Rattle.index_region.specs.Arguments.{numbers};
-ghost use Rattle.item_fns.specs.Numbers.{residue};
-ghost use Rattle.search_fns.specs.Encode.{carried};
 ghost use Rattle.search_fns.specs.EncodedRows.{AreCarried, AreDigits, HasRow};
 
-use crate::encode::carried;
+use crate::radix::{Radix, digit_beside};
 use arrays_core::{ApplyFault, Kind, repeated};
 use index_region::Seen;
-use item_fns::residue;
 use selection_fns::numbers_of;
 use std::alloc::Global;
 
@@ -19,17 +16,10 @@ fn put_row(digits: &mut [i64], before: usize, radix: i64, rests: &[i64])
     requires { before + length rests.now ≤ length digits.old }
     ensures { HasRow radix rests.now before digits.old digits.new }
 {
+    let by = Radix::new(radix);
     for place in 0..rests.len() {
-        digits[before + place] = residue(radix, rests[place]);
+        digits[before + place] = by.digit(rests[place]);
     }
-}
-
-/// Returns the digit of a number by a radix, from the rest `left` that the radix leaves.
-fn digit_beside(radix: i64, number: i64, left: i64) -> i64
-    requires { carried radix number ≡ Ok left }
-    ensures { result ≡ residue radix number }
-{
-    number.wrapping_sub(radix.wrapping_mul(left))
 }
 
 /// Writes the digits of numbers by a radix into the row that begins at `before`. Replaces each number with the rest
@@ -44,9 +34,10 @@ fn put_row_and_carry(
     ensures row { OnOk result (HasRow radix rests.old before digits.old digits.new) }
     ensures carried { OnOk result (AreCarried radix rests.old rests.new) }
 {
+    let by = Radix::new(radix);
     for place in 0..rests.len() {
         let rest = rests[place];
-        let left = carried(radix, rest)?;
+        let left = by.left(rest)?;
         digits[before + place] = digit_beside(radix, rest, left);
         rests[place] = left;
     }

@@ -10,6 +10,7 @@ mod lookup;
 mod member;
 mod more_digits;
 mod number_at;
+mod radix;
 
 pub use decode::Decode;
 pub use encode::Encode;

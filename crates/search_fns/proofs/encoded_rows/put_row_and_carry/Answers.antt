@@ -18,7 +18,8 @@ loop-place-preserved c =
     let rest_is : to_z w64 (of_z w64 (get_or rests k (pos 0))) ≡ get_or rests k (pos 0) = to_z-of_z w64 _ (search rules) in
     let old : get_or rests k (pos 0) ≡ get_or zs k (pos 0) = c.loop-place.invariant.left k (omega arith) in
     let made : digit ≡ residue radix (get_or zs k (pos 0)) = rw (radix_is, rest_is) at c.digit_beside.ensures ∙ ap (residue radix) old in
-    let gave : carried radix (get_or rests k (pos 0)) ≡ Ok left = rw (radix_is, rest_is) at (sym c.carried.ensures) ∙ c.in_ok-left.was in
+    let prepared : c.new-by.result.number ≡ radix = c.new-by.ensures ∙ radix_is in
+    let gave : carried radix (get_or rests k (pos 0)) ≡ Ok left = rw (prepared, rest_is) at (sym c.left.ensures) ∙ c.in_ok-left.was in
     let here : k < length rests = omega (arith, c.loop-place.invariant.many) in
     let inside : before + k < length digits = omega (arith, c.loop-place.invariant.many, c.requires, c.loop-place.invariant.long) in
     rw (digit_is, left_is)
