@@ -1,7 +1,7 @@
 -- Folds of the paired results of a row and a column, from the last pair to the first.
-use Rattle.std.{proofs.Common.{◌≡◌, ℕ, zero, suc, ◌+◌, ◌-◌, ◌<◌, ◌≤◌, List, [], ◌∷◌, ◌++◌, length, get_or, set, drop, take, map, refl, ap, sym, ◌∙◌, arith, Result, Ok, Err}, specs.List.{range_with_len}, proofs.lemmas.List.{drop_more, drop_all, drop-set}}
+use Rattle.std.{proofs.Common.{◌≡◌, ℕ, zero, suc, ◌+◌, ◌-◌, ◌<◌, ◌≤◌, List, [], ◌∷◌, ◌++◌, length, get_or, set, drop, take, map, refl, ap, sym, ◌∙◌, arith, Result, Ok, Err}, specs.List.{range_with_len}, proofs.lemmas.List.{drop_more, drop_all, drop-set, ext_get_or}}
 use Rattle.std.proofs.lemmas.List.FromFn.{length-map-range_with_len, get_or-map-range_with_len, map-range_with_len_more, take-map-range_with_len}
-use Rattle.{arrays_core.{specs.declared.item.Kind.{Kind}, specs.Items.{and_then}}, item_fns.{specs.Folds.{folded}, proofs.RightFolds.{fold_more}}}
+use Rattle.{arrays_core.{specs.declared.item.Kind.{Kind}, specs.Items.{and_then}}, item_fns.{specs.Folds.{folded}, proofs.RightFolds.{fold_more}}, reduce_fns.proofs.Firsts.{same_rules}}
 use Rattle.operator_fns.{specs.InnerProduct.{all_or_last_error}, specs.RowByColumn.{all_met, last_error_or, folded_all}}
 
 -- ---- the error of the last entry that fails
@@ -130,6 +130,26 @@ module _ {A : Type 0} (f : A → A → Result A Kind) (rule : ℕ → Result A K
         let fails : folded f (x ∷ so_far.later) ≡ Err e = fold_more f x so_far.later so_far.some ∙ ap (λ r. and_then r (f x)) so_far.is ∙ gave in
         fails_after (firsts rule n) (place - 1) (x ∷ so_far.later) (folded f) e made (λ front. (still_fails f front (x ∷ so_far.later) e (omega arith) fails).0)
         ∙ ap (λ rs. Err (last_error_or e rs)) (take-firsts rule n (place - 1) (omega arith))
+
+  -- all entries are folded
+  pub folded_whole : (y : A) → FoldedTo 0 y → folded_all f (firsts rule n) ≡ Ok y
+  folded_whole y whole = ap (λ r. and_then r (folded f)) whole.made ∙ whole.is
+
+-- ---- results without an error
+
+pub all_fine : {A : Type 0} (value : ℕ → A) (places : List ℕ) → all_or_last_error (map (λ k. Ok (value k)) places) ≡ Ok (map value places)
+all_fine value [] = refl
+all_fine value (k ∷ places) = ap (λ r. and_then r (λ items. Ok (value k ∷ items))) (all_fine value places)
+
+-- the fold of results that a list holds
+pub met_folded : {A : Type 0} (f : A → A → Result A Kind) (rule : ℕ → Result A Kind) (n : ℕ) (xs : List A) (d : A) → length xs ≡ n
+    → ((k : ℕ) → k < n → rule k ≡ Ok (get_or xs k d)) → folded_all f (firsts rule n) ≡ folded f xs
+met_folded f rule n xs d long h =
+    let value = λ (k : ℕ). get_or xs k d in
+    let same = length-map-range_with_len value 0 n in
+    ap (folded_all f) (same_rules rule (λ k. Ok (value k)) n h)
+    ∙ ap (λ r. and_then r (folded f)) (all_fine value (range_with_len 0 n))
+    ∙ ap (folded f) (ext_get_or d (map value (range_with_len 0 n)) xs (same ∙ sym long) (λ k below. get_or-map-range_with_len value 0 n k k d (omega arith) (omega arith)))
 
 -- ---- paired results
 

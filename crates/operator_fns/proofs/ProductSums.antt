@@ -1,11 +1,11 @@
 -- Sums of products of small numbers: the fold is the sum.
-use Rattle.std.{proofs.Common.{◌≡◌, ℕ, suc, ◌+◌, ◌-◌, ◌*◌, ◌/◌, ◌%◌, inl, inr, ◌^◌, ◌<◌, ◌≤◌, List, [], ◌∷◌, ◌++◌, length, get_or, take, drop, map, refl, ap, subst, sym, ◌∙◌, arith, ℤ, pos, negsuc, ◌+ℤ◌, ◌*ℤ◌, unsigned_abs, FitsSigned, Ok}, specs.Int.{w64}, specs.List.{All, range_with_len}}
+use Rattle.std.{proofs.Common.{◌≡◌, ℕ, suc, ◌+◌, ◌-◌, ◌*◌, ◌^◌, ◌<◌, ◌≤◌, List, [], ◌∷◌, ◌++◌, length, get_or, take, drop, map, ap, subst, sym, ◌∙◌, arith, ℤ, pos, negsuc, ◌+ℤ◌, ◌*ℤ◌, unsigned_abs, FitsSigned, Ok}, specs.Int.{w64}, specs.List.{All, range_with_len}}
 use Rattle.std.{proofs.lemmas.Int.{ints, unsigned_abs-mul, fits_signed_from_abs}, proofs.lemmas.List.FromFn.{length-map-range_with_len, get_or-map-range_with_len, map-range_with_len_more}, proofs.Math.Nat.{mul-le-mul, mul-le-mul_left, mul-le-mul_right}}
-use Rattle.std.{proofs.lemmas.List.{get_or-take, get_or-drop, get_or_append_left, get_or-append_right, length-take, length-drop}, proofs.lemmas.List.Elements.{All-take, All-drop}, proofs.lemmas.Bool.{cases_lt}, proofs.lemmas.Nat.{div-mul-add, mod-mul-add}}
-use Rattle.{arrays_core.specs.Items.{and_then}, function_names.specs.declared.scalar.Scalar2.TheVariants.{Plus, Times}}
+use Rattle.std.{proofs.lemmas.List.{get_or-take, get_or-drop}, proofs.lemmas.List.Elements.{All-take, All-drop}}
+use Rattle.{arrays_core.specs.Items.{and_then}, function_names.{specs.declared.scalar.Scalar2.{Scalar2}, specs.declared.scalar.Scalar2.TheVariants.{Plus, Times}}}
 use Rattle.item_fns.{specs.Numbers.{dyadic_on_numbers, number_or_limit}, specs.Folds.{folded}, proofs.Within.{held_within, within_of}}
 use Rattle.reduce_fns.{specs.Sum.{IsWithinBound, sum_of}, proofs.Firsts.{same_rules}}
-use Rattle.operator_fns.{specs.InnerProduct.{all_or_last_error}, specs.RowByColumn.{all_met, folded_all}, specs.SmallProducts.{sum_of_products, IsNoFurther, AddUp, EndsInSums, IsProduct}}
+use Rattle.operator_fns.{proofs.Meetings.{all_fine}, specs.RowByColumn.{all_met, folded_all}, specs.SmallProducts.{sum_of_products, IsNoFurther, AddUp, EndsInSums}, specs.RowFolds.{EndsInFolds}}
 
 abs_add : (a b : ℤ) → unsigned_abs (a +ℤ b) ≤ unsigned_abs a + unsigned_abs b
 abs_add a b = omega (arith, ints)
@@ -40,16 +40,6 @@ near_folded most (x ∷ y ∷ rest) some few h =
     ∙ near_held (x +ℤ sum_of (y ∷ rest)) (most * length (x ∷ y ∷ rest)) (sum_near most (x ∷ y ∷ rest) h) few
 
 -- ---- the products
-
-all_fine : {A : Type 0} (value : ℕ → A) (places : List ℕ) → all_or_last_error (map (λ k. Ok (value k)) places) ≡ Ok (map value places)
-all_fine value [] = refl
-all_fine value (k ∷ places) = ap (λ r. and_then r (λ items. Ok (value k ∷ items))) (all_fine value places)
-
--- equal entries have equal sums of products
-pub same_sums : (row column other next : ℕ → ℤ) (n : ℕ) → ((k : ℕ) → k < n → row k ≡ other k) → ((k : ℕ) → k < n → column k ≡ next k)
-    → sum_of_products row column n ≡ sum_of_products other next n
-same_sums row column other next n rows columns =
-    ap sum_of (same_rules (λ k. row k *ℤ column k) (λ k. other k *ℤ next k) n (λ k below. let r = rows k below in let c = columns k below in cc))
 
 pub next_sum : (row column : ℕ → ℤ) (k : ℕ) → sum_of_products row column (k + 1) ≡ sum_of_products row column k +ℤ row k *ℤ column k
 next_sum row column k =
@@ -151,34 +141,20 @@ parts_add_up xs ys first long count most small same =
       few = subst (λ n. small.most_x * small.most_y * n < 2 ^ 63) (sym same) small.few;
     }
 
-module _ (xs ys : List ℤ) (columns count : ℕ) where
-  -- one more row
-  pub row_more : (row : ℕ) (before all : List ℤ) → row * count + count ≤ length xs → length before ≡ row * columns
-      → EndsInSums (take (row * count + count - row * count) (drop (row * count) xs)) (take (count * columns) ys) columns before all
-      → ((place : ℕ) → place < row * columns → IsProduct xs ys columns count place (get_or before place (pos 0)))
-      → (place : ℕ) → place < (row + 1) * columns → IsProduct xs ys columns count place (get_or all place (pos 0))
-  row_more row before all inside long ends made place below =
-      elim (cases_lt place (row * columns)) [
-        | inl h ↦ subst (IsProduct xs ys columns count place) (sym (ap (λ zs. get_or zs place (pos 0)) ends.is ∙ get_or_append_left before ends.sums (pos 0) place (omega arith))) (made place h)
-        | inr h ↦
-            (let column = place - row * columns in
-            let low : column < columns = omega arith in
-            let parts : place ≡ row * columns + column = omega arith in
-            let d : place / columns ≡ row = ap (λ p. p / columns) parts ∙ div-mul-add row columns column low in
-            let m : place % columns ≡ column = ap (λ p. p % columns) parts ∙ mod-mul-add row columns column low in
-            let some : length (take (row * count + count - row * count) (drop (row * count) xs)) ≡ count =
-            length-take (row * count + count - row * count) (drop (row * count) xs) ∙ omega (arith, length-drop (row * count) xs) in
-            record {
-              is = ap (λ zs. get_or zs place (pos 0)) ends.is
-                  ∙ get_or-append_right before ends.sums (row * columns) place (pos 0) long h
-                  ∙ (ends.summed.each column low)
-                  ∙ ap (sum_of_products (λ k. get_or (take (row * count + count - row * count) (drop (row * count) xs)) k (pos 0)) (λ k. get_or (take (count * columns) ys) (column + k * columns) (pos 0))) some
-                  ∙ same_sums _ _ (λ k. get_or xs (place / columns * count + k) (pos 0)) (λ k. get_or ys (place % columns + k * columns) (pos 0)) count
-                  (λ k inside. get_or-take (row * count + count - row * count) (drop (row * count) xs) k (pos 0) (omega arith) ∙ get_or-drop (row * count) xs k (pos 0)
-                  ∙ ap (λ r. get_or xs (r * count + k) (pos 0)) (sym d))
-                  (λ k inside. get_or-take (count * columns) ys (column + k * columns) (pos 0) (in_rows column columns k count low inside) ∙ ap (λ c. get_or ys (c + k * columns) (pos 0)) (sym m));
-            })
-      ]
+-- sums of small products are their folds
+pub sums_are_folds : (f g : Scalar2) (row rows : List ℤ) (columns : ℕ) (before all : List ℤ) → f ≡ Plus → g ≡ Times → 1 ≤ length row → length rows ≡ length row * columns
+    → AddUp (length row) row rows → EndsInSums row rows columns before all → EndsInFolds (dyadic_on_numbers f) (dyadic_on_numbers g) row rows columns before all
+sums_are_folds f g row rows columns before all plus times some whole small ends =
+    rw (plus, times) (record {
+      folds = ends.sums;
+      long = ends.long;
+      is = ends.is;
+      folded = record {
+        each = λ column below.
+            let near = small_entries row rows (length row) (λ k. k) (λ k. column + k * columns) small (λ k low. low) (λ k low. omega (arith, in_rows column columns k (length row) below low)) in
+            products_folded (λ k. get_or row k (pos 0)) (λ k. get_or rows (column + k * columns) (pos 0)) (length row) near some ∙ ap Ok (sym (ends.summed.each column below));
+      };
+    })
 
 -- ---- numbers within a bound
 

@@ -1,5 +1,6 @@
 -- Sums of products of small numbers.
-use Rattle.std.{specs.Prelude.{◌≡◌, ℕ, ◌+◌, ◌*◌, ◌/◌, ◌%◌, ◌^◌, ◌<◌, ◌≤◌, ◌++◌, ℤ, pos, length, get_or, ◌+ℤ◌, ◌*ℤ◌, unsigned_abs, FitsSigned, List, map, All}, specs.Int.{w64}, specs.List.{range_with_len}}
+use Rattle.std.{specs.Prelude.{◌≡◌, ℕ, ◌+◌, ◌*◌, ◌^◌, ◌<◌, ◌≤◌, ◌++◌, ℤ, pos, length, get_or, ◌+ℤ◌, ◌*ℤ◌, unsigned_abs, FitsSigned, List, map, All}, specs.Int.{w64}, specs.List.{range_with_len}}
+use Rattle.function_names.{specs.declared.scalar.Scalar2.{Scalar2}, specs.declared.scalar.Scalar2.TheVariants.{Plus, Times}}
 use Rattle.reduce_fns.specs.Sum.{sum_of}
 
 -- the sum of the products of the first entries of a row and a column
@@ -18,6 +19,12 @@ pub record AddUp (count : ℕ) (xs ys : List ℤ) : Type 0 where
   pub near_y : All (IsNoFurther most_y) ys
   pub few : most_x * most_y * count < 2 ^ 63
 
+-- f.g is a sum of such products
+pub record IsSmallSum (f g : Scalar2) (count : ℕ) (xs ys : List ℤ) : Type 0 where
+  pub fold : f ≡ Plus
+  pub each : g ≡ Times
+  pub small : AddUp count xs ys
+
 -- a product fits 64 bits, and so does a sum with it
 pub record RowFits (factor number sum : ℤ) : Type 0 where
   pub product : FitsSigned w64 (factor *ℤ number)
@@ -34,7 +41,3 @@ pub record EndsInSums (factors rows : List ℤ) (columns : ℕ) (before all : Li
   pub long : length sums ≡ columns
   pub is : all ≡ before ++ sums
   pub summed : AreSums factors rows columns sums
-
--- a number is the sum of the products of the row and the column of a place
-pub record IsProduct (xs ys : List ℤ) (columns count place : ℕ) (z : ℤ) : Type 0 where
-  pub is : z ≡ sum_of_products (λ k. get_or xs (place / columns * count + k) (pos 0)) (λ k. get_or ys (place % columns + k * columns) (pos 0)) count

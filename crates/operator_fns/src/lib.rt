@@ -3,9 +3,9 @@
 
 mod grid;
 mod inner_product;
-mod met_numbers;
 mod outer_product;
 mod row_by_column;
+mod row_folds;
 mod small_products;
 
 pub use fold_trees::SumTree;

@@ -7,12 +7,12 @@ ghost use Rattle.arrays_core.specs.Items.{fill, type_of};
 ghost use Rattle.arrays_core.specs.declared.item.ItemType.TheVariants.{Nums};
 ghost use Rattle.arrays_core.specs.declared.item.Kind.{Kind as AKind};
 ghost use Rattle.item_fns.specs.Items.{dyadic_on_items};
+ghost use Rattle.item_fns.specs.Numbers.{dyadic_on_numbers};
 ghost use Rattle.operator_fns.specs.RowByColumn.{entry, IsInside, last_error_or, folded_all};
 
 use arrays_core::{Item, Kind};
 use index_region::Seen;
-use item_fns::kernels::TwoNumbers;
-use item_fns::{Scalar2, two};
+use item_fns::{Scalar2, two, two_numbers};
 
 /// Entries of a list at a fixed distance.
 #[derive(Clone, Copy)]
@@ -85,9 +85,9 @@ pub(crate) fn fold_row<M: Meeting>(lines: &M) -> Result<M::Output, Kind>
 
 /// A row of one list of numbers and a column of another, each of `count` entries.
 #[derive(Drop)]
-pub(crate) struct NumberLines<'a, F: TwoNumbers, G: TwoNumbers> {
-    pub(crate) fold: &'a F,
-    pub(crate) each: &'a G,
+pub(crate) struct NumberLines<'a> {
+    pub(crate) fold: Scalar2,
+    pub(crate) each: Scalar2,
     pub(crate) left: &'a [i64],
     pub(crate) row: StridedLine,
     pub(crate) right: &'a [i64],
@@ -97,14 +97,14 @@ pub(crate) struct NumberLines<'a, F: TwoNumbers, G: TwoNumbers> {
     ghost in_right: { IsInside column count (length right.now) },
 }
 
-impl<'a, F: TwoNumbers, G: TwoNumbers> Meeting for NumberLines<'a, F, G> {
+impl<'a> Meeting for NumberLines<'a> {
     type Output = i64;
 
     ghost places = { λ r. r.count };
 
-    ghost met = { λ r place. G.gives r.each.now (entry (pos 0) r.left.now r.row place) (entry (pos 0) r.right.now r.column place) };
+    ghost met = { λ r place. dyadic_on_numbers r.each (entry (pos 0) r.left.now r.row place) (entry (pos 0) r.right.now r.column place) };
 
-    ghost fold = { λ r. F.gives r.fold.now };
+    ghost fold = { λ r. dyadic_on_numbers r.fold };
 
     ghost is_output = { λ _ _. Unit {0} };
 
@@ -112,16 +112,14 @@ impl<'a, F: TwoNumbers, G: TwoNumbers> Meeting for NumberLines<'a, F, G> {
         self.count
     }
 
-    #[inline]
     fn met_at(&self, place: usize) -> Result<i64, Kind> {
         let number = self.left[self.row.first + place * self.row.stride];
         let other = self.right[self.column.first + place * self.column.stride];
-        self.each.at(number, other)
+        two_numbers(self.each, number, other)
     }
 
-    #[inline]
     fn folded(&self, here: i64, later: i64) -> Result<i64, Kind> {
-        self.fold.at(here, later)
+        two_numbers(self.fold, here, later)
     }
 }
 

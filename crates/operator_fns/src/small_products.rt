@@ -1,11 +1,11 @@
 //! Sums of products of small numbers, which fit 64 bits in any order of addition.
 
-ghost use Rattle.std.specs.Prelude.{◌≡◌, ◌<◌, ◌≤◌, ℕ, ◌+◌, ◌*◌, ◌/◌, ◌%◌, ◌^◌, ◌+ℤ◌, ◌*ℤ◌, true, pos, length, get_or, All, OnOk, IfOk, vec_len};
-ghost use Rattle.operator_fns.specs.SmallProducts.{sum_of_products, IsNoFurther, AddUp, RowFits, AreSums, EndsInSums, IsProduct};
+ghost use Rattle.std.specs.Prelude.{◌≡◌, ◌<◌, ℕ, ◌+◌, ◌*◌, ◌^◌, ◌+ℤ◌, ◌*ℤ◌, true, pos, length, get_or, All, OnOk, vec_len};
+ghost use Rattle.operator_fns.specs.SmallProducts.{sum_of_products, IsNoFurther, AddUp, IsSmallSum, RowFits, AreSums, EndsInSums};
 
-use arrays_core::room_of;
+use item_fns::Scalar2;
 use reduce_fns::{MOST_ITEMS, are_within};
-use std::alloc::{AllocError, Global};
+use std::alloc::AllocError;
 
 /// Returns the greatest magnitude in a list.
 fn farthest(numbers: &[i64]) -> u64
@@ -24,7 +24,7 @@ fn farthest(numbers: &[i64]) -> u64
 const NEAR: u64 = 2_097_152;
 
 /// Returns true only if `count` products of a number of `left` and a number of `right` have a sum within 64 bits, in any order.
-pub(crate) fn add_up(left: &[i64], right: &[i64], count: usize) -> bool
+fn add_up(left: &[i64], right: &[i64], count: usize) -> bool
     ensures { result ≡ true → AddUp count left.now right.now }
 {
     if count <= MOST_ITEMS && are_within(right, NEAR) && are_within(left, NEAR) {
@@ -37,6 +37,19 @@ pub(crate) fn add_up(left: &[i64], right: &[i64], count: usize) -> bool
             Some(sum) => sum <= i64::MAX as u64,
         },
     }
+}
+
+/// Returns true only if f.g is `+.×`, and `count` products have a sum within 64 bits, in any order.
+pub(crate) fn is_small_sum(
+    fold: Scalar2,
+    each: Scalar2,
+    left: &[i64],
+    right: &[i64],
+    count: usize,
+) -> bool
+    ensures { result ≡ true → IsSmallSum fold each count left.now right.now }
+{
+    fold == Scalar2::Plus && each == Scalar2::Times && add_up(left, right, count)
 }
 
 /// Sums the products of two lists, number by number.
@@ -80,7 +93,7 @@ fn sum_rows(sums: &mut [i64], factors: &[i64], rows: &[i64])
 }
 
 /// Appends the sums of the products of the factors with each column of the rows.
-fn push_sums(
+pub(crate) fn push_sums(
     sums: &mut Vec<i64>,
     factors: &[i64],
     rows: &[i64],
@@ -99,30 +112,4 @@ fn push_sums(
     sums.resize(before + columns, 0)?;
     sum_rows(&mut sums[before..], factors, rows);
     Ok(())
-}
-
-/// Computes the sums of products of each row of `count` numbers with each of the columns.
-pub(crate) fn small_products(
-    alloc: Global,
-    left: &[i64],
-    right: &[i64],
-    columns: usize,
-    count: usize,
-    places: usize,
-) -> Result<Vec<i64>, AllocError>
-    requires some { 0 < columns }
-    requires even { places % columns ≡ 0 }
-    requires rows { places / columns * count ≤ length left.now }
-    requires columns { count * columns ≤ length right.now }
-    requires small { AddUp count left.now right.now }
-    ensures long { IfOk result (λ v. vec_len v ≡ places) }
-    ensures is { IfOk result (λ v. (place : ℕ) → place < places → IsProduct left.now right.now columns count place (get_or v.items place (pos 0))) }
-{
-    let mut sums = Vec::with_capacity(alloc, room_of(places))?;
-    let rows = &right[..count * columns];
-    for row in 0..places / columns {
-        let first = row * count;
-        push_sums(&mut sums, &left[first..first + count], rows, columns)?;
-    }
-    Ok(sums)
 }

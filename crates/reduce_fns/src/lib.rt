@@ -9,6 +9,7 @@ mod limits;
 mod number_function;
 mod reduce;
 mod right_fold;
+mod row_over_row;
 
 pub use axis_lines::AxisLines;
 pub use bounds::are_within;
@@ -18,3 +19,4 @@ pub use limits::MOST_ITEMS;
 pub use number_function::{NumberFunction, collect_numbers};
 pub use reduce::Reduce;
 pub use right_fold::{fold_line, identity_item, line_numbers, stride};
+pub use row_over_row::put_row_over;

@@ -1,4 +1,4 @@
-use Rattle.std.{proofs.Common.{◌≡◌, ◌≢◌, ◌∙◌, ◌+◌, ◌-◌, ◌++◌, ◌∷◌, [], ap, sym, get_or, arith}, proofs.lemmas.List.Edits.{insert_end}}
+use Rattle.std.{proofs.Common.{◌≡◌, ◌≢◌, ◌∙◌, ◌+◌, ◌++◌, ◌∷◌, [], ap, sym, get_or, arith}, proofs.lemmas.List.Edits.{insert_end}}
 use Rattle.arrays_core.{specs.Items.{fill}, specs.Shapes.{size, places_before}}
 use Rattle.operator_fns.{specs.InnerProduct.{row_length}, specs.Laws.InnerPlaces.{row_place, extended_many}}
 use Rattle.operator_fns.proofs.inner_product.row_line.Goals as goal

@@ -1,4 +1,4 @@
-use Rattle.std.{proofs.Common.{◌≡◌, ◌∙◌, ◌≢◌, ap, get_or, length, pos, arith, to_z, of_z, ◌+ℤ◌, ◌*ℤ◌, w64, rules, below_more, get_or-set_same, get_or-set_other}, proofs.Math.ListN.{length-set}, proofs.lemmas.Int.{to_z-of_z}}
+use Rattle.std.{proofs.Common.{◌≡◌, ◌∙◌, ◌≢◌, ap, get_or, pos, arith, to_z, of_z, ◌+ℤ◌, ◌*ℤ◌, w64, rules, below_more, get_or-set_same, get_or-set_other}, proofs.Math.ListN.{length-set}, proofs.lemmas.Int.{to_z-of_z}}
 use Rattle.operator_fns.proofs.small_products.add_row.Goals as goal
 
 pub loop-column-preserved : goal.loop-column-preserved
