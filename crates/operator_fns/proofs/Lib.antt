@@ -1,4 +1,5 @@
 pub mod ProductSums
+pub mod TruthUnions
 pub mod PlainGrids
 pub mod OuterRows
 pub mod Joined

@@ -5,6 +5,7 @@ pub mod InnerProduct
 pub mod SmallProducts
 pub mod RowByColumn
 pub mod RowFolds
+pub mod Unions
 pub mod OuterResults
 -- Proofs that impls supply with their functions: changes stay inside the boxes, and results grow as announced.
 pub mod Laws

@@ -7,6 +7,7 @@ mod outer_product;
 mod row_by_column;
 mod row_folds;
 mod small_products;
+mod unions;
 
 pub use fold_trees::SumTree;
 pub use inner_product::Inner;

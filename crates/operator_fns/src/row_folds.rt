@@ -8,6 +8,7 @@ ghost use Rattle.operator_fns.specs.RowFolds.{AreMet, AreFolds, EndsInFolds, col
 
 use crate::grid::Grid;
 use crate::small_products::{is_small_sum, push_sums};
+use crate::unions::{are_unions, push_unions};
 use arrays_core::{ApplyFault, Kind, room_of};
 use item_fns::folds::fold_list;
 use item_fns::kernels::TwoNumbers;
@@ -129,8 +130,8 @@ fn push_folds(
     Ok(())
 }
 
-/// Folds each row of one matrix with each column of another. If some place fails, returns the error of one of them, not always the first. Sums of
-/// products are added without overflow checks if they are small.
+/// Folds each row of one matrix with each column of another. If some place fails, returns the error of one of them, not always the first. Small
+/// sums of products and `∨.∧` of truth values have loops of their own.
 pub(crate) fn fold_matrices(
     alloc: Global,
     fold: Scalar2,
@@ -148,6 +149,7 @@ pub(crate) fn fold_matrices(
     ensures is { IfOk result (λ v. (place : ℕ) → place < places → cell (dyadic_on_numbers fold) (dyadic_on_numbers each) left.now right.now grid place ≡ Ok (get_or v.items place (pos 0))) }
 {
     let is_small = is_small_sum(fold, each, left, right, grid.count);
+    let is_union = are_unions(fold, each, left, right, grid.columns);
     let rows = &right[..grid.count * grid.columns];
     let mut made = Vec::with_capacity(alloc, room_of(places))?;
     let mut buffers = Buffers {
@@ -159,6 +161,8 @@ pub(crate) fn fold_matrices(
         let row = &left[first..first + grid.count];
         if is_small {
             push_sums(&mut made, row, rows, grid.columns)?;
+        } else if is_union {
+            push_unions(&mut made, row, rows, grid.columns)?;
         } else {
             push_folds(&mut made, fold, each, row, rows, grid.columns, &mut buffers)?;
         }
