@@ -92,6 +92,11 @@ def decimals(bench: Bench) -> None:
     page.press("2.345", "Enter")
     page.until_text("#message", "no decimal point")
     page.until("P", [["12.50", "1,004.50"], ["1,234,567.89", "−0.05"]])
+    page.press("Escape")
+    page.click(page.cell("P", 1, 2))
+    page.paste("1\r\n2.345\r\n")
+    page.until_text("#message", "P[2;2] takes a number with at most 2 decimals, and not 2.345")
+    page.until("P", [["12.50", "1,004.50"], ["1,234,567.89", "−0.05"]])
 
 
 def german_numbers(bench: Bench) -> None:

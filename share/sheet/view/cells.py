@@ -68,12 +68,13 @@ def check_shown(name: str, cell: Cell, item: str) -> None:
         raise Mistake(f"{expression(name, cell)} was changed meanwhile: it is {item}, and this window showed {cell.shown or 'nothing'}")
 
 
-def check_numbers(name: str, cells: Iterable[Cell]) -> None:
-    """Raises a Mistake if an item is no number of 64 bits."""
+def check_numbers(name: str, cells: Iterable[Cell], decimals: int) -> None:
+    """Raises a Mistake if an item is no number of 64 bits. The page sends an item that has too many decimals as it was typed."""
+    wanted = f"a number with at most {counted(decimals, 'decimal')}" if decimals else "a whole number"
     for cell in cells:
         number = NUMBER.fullmatch(cell.item)
         if not number:
-            raise Mistake(f"{expression(name, cell)} takes a whole number, and not {cell.item[:60] or 'an empty cell'}")
+            raise Mistake(f"{expression(name, cell)} takes {wanted}, and not {cell.item[:60] or 'an empty cell'}")
         if not is_within("-" * (cell.item[0] == "¯") + number[1]):
             raise Mistake(f"{expression(name, cell)} is beyond 64 bits: {cell.item[:60]}")
 
@@ -83,7 +84,7 @@ def change_cells(session: Session, name: str, cells: Sequence[Cell], is_text: bo
     if not session.binding(name).is_data:
         raise Mistake(f"{name} is a formula, and no data that can be edited")
     if not is_text:
-        check_numbers(name, cells)
+        check_numbers(name, cells, session.binding(name).decimals)
     title = f"{name}: {counted(len(cells), 'cell')}"
     if len(cells) <= FEW:
         check_cells(session, name, cells)
