@@ -1,6 +1,6 @@
 -- Results at each place of two lists.
 use Rattle.std.{proofs.Common.{◌≡◌, ℕ, ◌<◌, ◌==◌, false, List, length, get_or, map, refl, ap, sym, ◌∙◌, inl, inr, arith, ℤ, pos, Result, Ok}, proofs.lemmas.Bool.{eq-eqb, eqb-true, false_from_ne_true, cases_Bool}, proofs.lemmas.List.{length-map, ext_get_or, get_or-map}}
-use Rattle.{std.proofs.lemmas.List.FromFn.{length-map-range_with_len, get_or-map-range_with_len}, arrays_core.specs.declared.item.Kind.{Kind}}
+use Rattle.{std.{specs.List.{range_with_len}, proofs.lemmas.List.FromFn.{length-map-range_with_len, get_or-map-range_with_len, fill_by_all}}, arrays_core.specs.declared.item.Kind.{Kind}}
 use Rattle.item_fns.specs.NumberLists.{number_at, paired_length, results_by}
 
 not_one : (n : ℕ) → (n ≡ 1 → ⊥) → (n == 1) ≡ false
@@ -25,6 +25,11 @@ pub places_of_equal : (xs ys : List ℤ) → length xs ≡ length ys → paired_
 places_of_equal xs ys h =
     elim (cases_Bool (length xs == 1)) [ inl one ↦ rw one (sym h) | inr many ↦ rw many refl ]
 
+pub each_place : (f : ℤ → Result ℤ Kind) (xs : List ℤ) → map f xs ≡ map (λ k. f (get_or xs k (pos 0))) (range_with_len 0 (length xs))
+each_place f xs =
+    let d : Result ℤ Kind = Ok (pos 0) in
+    fill_by_all (λ k. f (get_or xs k (pos 0))) (map f xs) (length xs) d (length-map xs f) (λ k below. get_or-map f xs k (pos 0) d below)
+
 module _ (f : ℤ → ℤ → Result ℤ Kind) (xs ys : List ℤ) where
   pub length-results : length (results_by f xs ys) ≡ paired_length xs ys
   length-results = length-map-range_with_len (λ k. f (number_at xs k) (number_at ys k)) 0 (paired_length xs ys)
@@ -37,6 +42,11 @@ module _ (f : ℤ → ℤ → Result ℤ Kind) (xs ys : List ℤ) where
   own_result k d equal h =
       get_or-results k d (omega (arith, places_of_equal xs ys equal))
       ∙ (rw (number_at_own xs k h, number_at_own ys k (omega arith)) refl)
+
+  pub results_of_pairs : length xs ≡ length ys → results_by f xs ys ≡ map (λ k. f (get_or xs k (pos 0)) (get_or ys k (pos 0))) (range_with_len 0 (length xs))
+  results_of_pairs equal =
+      let d : Result ℤ Kind = Ok (pos 0) in
+      fill_by_all (λ k. f (get_or xs k (pos 0)) (get_or ys k (pos 0))) (results_by f xs ys) (length xs) d (length-results ∙ places_of_equal xs ys equal) (λ k below. own_result k d equal below)
 
   pub results_of_one_left : length xs ≡ 1 → results_by f xs ys ≡ map (f (get_or xs 0 (pos 0))) ys
   results_of_one_left h =

@@ -16,6 +16,16 @@ use arrays_core::MOST_PLACES;
 /// A bound on numbers: 2^20 of them, the most that an array holds, have sums and differences within 64 bits.
 pub const NEAR: u64 = 4_398_046_511_104;
 
+/// Returns a word below `2 * bound` only if the number is at least `-bound` and at most `bound`.
+#[inline]
+fn above_least(number: i64, bound: u64) -> u64
+    requires some { 0 < bound }
+    requires within { bound < 4611686018427387905 }
+    ensures { result < 2 * bound → IsNear bound number }
+{
+    number.cast_unsigned().wrapping_add(bound)
+}
+
 /// Returns 0 only if the number is at least `-bound` and at most `bound`.
 #[inline]
 pub fn beyond(number: i64, bound: u64) -> u64
@@ -26,12 +36,20 @@ pub fn beyond(number: i64, bound: u64) -> u64
     number.cast_unsigned().wrapping_add(bound) / (2 * bound)
 }
 
+/// Returns a word below 2 only if the number is 0 or 1.
+#[inline]
+fn truth_word(number: i64) -> u64
+    ensures { result < 2 → IsTruth number }
+{
+    number.cast_unsigned()
+}
+
 /// Returns 0 only if the number is 0 or 1.
 #[inline]
 pub(crate) fn untrue(number: i64) -> u64
     ensures { result ≡ 0 → IsTruth number }
 {
-    number.cast_unsigned() / 2
+    truth_word(number) / 2
 }
 
 /// A function whose right fold of near numbers is their left fold, without an error.
@@ -46,9 +64,14 @@ pub(crate) trait AtOnce {
     fn plain(&self, a: i64, b: i64) -> i64
         ensures { result ≡ plain self.now a b };
 
-    /// Returns 0 only if the number is near.
-    fn doubt(&self, number: i64) -> u64
-        ensures { result ≡ 0 → near self.now 1 number };
+    /// The limit of the words of near numbers.
+    const LIMIT: u64;
+
+    ghost LIMIT: { ℕ };
+
+    /// Returns a word, which is below the limit only if the number is near. So one test of the OR of the words of many numbers serves all.
+    fn word(&self, number: i64) -> u64
+        ensures { result < LIMIT → near self.now 1 number };
 
     ghost law: { (s : Self) → IsAtOnce (gives s) (plain s) (near s) };
 }
@@ -64,8 +87,12 @@ impl AtOnce for Plus {
         a.wrapping_add(b)
     }
 
-    fn doubt(&self, number: i64) -> u64 {
-        beyond(number, NEAR)
+    const LIMIT: u64 = 2 * NEAR;
+
+    ghost LIMIT = { 8796093022208 };
+
+    fn word(&self, number: i64) -> u64 {
+        above_least(number, NEAR)
     }
 
     ghost law = { λ s. sums };
@@ -82,8 +109,12 @@ impl AtOnce for And {
         a & b
     }
 
-    fn doubt(&self, number: i64) -> u64 {
-        untrue(number)
+    const LIMIT: u64 = 2;
+
+    ghost LIMIT = { 2 };
+
+    fn word(&self, number: i64) -> u64 {
+        truth_word(number)
     }
 
     ghost law = { λ s. both_true };
@@ -100,8 +131,12 @@ impl AtOnce for Or {
         a | b
     }
 
-    fn doubt(&self, number: i64) -> u64 {
-        untrue(number)
+    const LIMIT: u64 = 2;
+
+    ghost LIMIT = { 2 };
+
+    fn word(&self, number: i64) -> u64 {
+        truth_word(number)
     }
 
     ghost law = { λ s. any_true };
@@ -118,8 +153,12 @@ impl AtOnce for NotEqual {
         a ^ b
     }
 
-    fn doubt(&self, number: i64) -> u64 {
-        untrue(number)
+    const LIMIT: u64 = 2;
+
+    ghost LIMIT = { 2 };
+
+    fn word(&self, number: i64) -> u64 {
+        truth_word(number)
     }
 
     ghost law = { λ s. differ };
@@ -136,8 +175,12 @@ impl AtOnce for Equal {
         a ^ b ^ 1
     }
 
-    fn doubt(&self, number: i64) -> u64 {
-        untrue(number)
+    const LIMIT: u64 = 2;
+
+    ghost LIMIT = { 2 };
+
+    fn word(&self, number: i64) -> u64 {
+        truth_word(number)
     }
 
     ghost law = { λ s. agree };
@@ -154,7 +197,11 @@ impl AtOnce for Maximum {
         a.max(b)
     }
 
-    fn doubt(&self, _number: i64) -> u64 {
+    const LIMIT: u64 = 1;
+
+    ghost LIMIT = { 1 };
+
+    fn word(&self, _number: i64) -> u64 {
         0
     }
 
@@ -172,7 +219,11 @@ impl AtOnce for Minimum {
         a.min(b)
     }
 
-    fn doubt(&self, _number: i64) -> u64 {
+    const LIMIT: u64 = 1;
+
+    ghost LIMIT = { 1 };
+
+    fn word(&self, _number: i64) -> u64 {
         0
     }
 
@@ -188,12 +239,13 @@ pub(crate) fn fold_forwards<S: AtOnce>(step: &S, numbers: &[i64]) -> Option<i64>
         return None;
     }
     let mut fold = numbers[0];
-    let mut doubt = step.doubt(fold);
+    let mut doubt = step.word(fold);
     for place in 1..numbers.len() {
         fold = step.plain(fold, numbers[place]);
-        doubt |= step.doubt(numbers[place]);
+        doubt |= step.word(numbers[place]);
     }
-    if doubt == 0 { Some(fold) } else { None }
+    let limit = S::LIMIT;
+    if doubt < limit { Some(fold) } else { None }
 }
 
 /// Adds a - b to a total without a check.
@@ -225,12 +277,12 @@ pub(crate) fn fold_by_pairs(numbers: &[i64]) -> Option<i64>
     }
     let end = odd_end(numbers);
     let mut total = end;
-    let mut doubt = beyond(end, NEAR);
+    let mut doubt = above_least(end, NEAR);
     for pair in 0..numbers.len() / 2 {
         let a = numbers[2 * pair];
         let b = numbers[2 * pair + 1];
         total = with_difference(total, a, b);
-        doubt |= beyond(a, NEAR) | beyond(b, NEAR);
+        doubt |= above_least(a, NEAR) | above_least(b, NEAR);
     }
-    if doubt == 0 { Some(total) } else { None }
+    if doubt < 2 * NEAR { Some(total) } else { None }
 }

@@ -6,6 +6,7 @@ ghost use Rattle.function_names.specs.declared.scalar.Scalar1.TheVariants as one
 ghost use Rattle.function_names.specs.declared.scalar.Scalar2.TheVariants as two;
 ghost use Rattle.item_fns.specs.Numbers.{monadic_on_number, dyadic_on_numbers};
 ghost use Rattle.item_fns.specs.Folds.{folded};
+ghost use Rattle.item_fns.specs.AtOnce.{IsNear};
 
 use crate::at_once::{beyond, fold_by_pairs, fold_forwards, untrue};
 use crate::numbers::{as_truth, in_range, power, quotient, residue, truth};
@@ -14,6 +15,17 @@ use arrays_core::Kind;
 /// A bound on two numbers: their sum and their difference are within 64 bits.
 const HALF: u64 = 2_305_843_009_213_693_952;
 
+/// A bound on two numbers of 31 bits and a sign: their product is within 64 bits.
+const SHORT: u64 = 1_073_741_824;
+
+/// Returns the lower half of a number with its sign: a short number itself. So the compiler sees that two factors are short.
+#[inline]
+fn lower_half(number: i64) -> i64
+    ensures { IsNear 1073741824 number → result ≡ number }
+{
+    number.wrapping_shl(32) >> 32
+}
+
 /// A function of one number.
 pub(crate) trait OneNumber {
     ghost gives: { Self → ℤ → Result ℤ Kind };
@@ -21,6 +33,21 @@ pub(crate) trait OneNumber {
     /// Applies the function.
     fn at(&self, b: i64) -> Result<i64, Kind>
         ensures { result ≡ gives self.now b };
+
+    /// Returns true if `step` is quicker than `at`.
+    fn has_step(&self) -> bool {
+        false
+    }
+
+    /// Applies the function without an early exit. Returns its result, and 0 unless an error is possible.
+    fn step(&self, b: i64) -> (i64, u64)
+        ensures { result.1 ≡ 0 → gives self.now b ≡ Ok result.0 }
+    {
+        match self.at(b) {
+            Ok(number) => (number, 0),
+            Err(_) => (0, 1),
+        }
+    }
 }
 
 /// A function of two numbers that returns a number or an error. It allocates nothing.
@@ -37,6 +64,11 @@ pub trait TwoNumbers {
         ensures { IfSome result (λ z. folded (gives self.now) _numbers.now ≡ Ok z) }
     {
         None
+    }
+
+    /// Returns true if `step` is quicker than `at`.
+    fn has_step(&self) -> bool {
+        false
     }
 
     /// Applies the function without an early exit. Returns its result, and 0 unless an error is possible.
@@ -63,6 +95,14 @@ impl<S: TwoNumbers> OneNumber for WithLeft<S> {
     fn at(&self, b: i64) -> Result<i64, Kind> {
         self.step.at(self.left, b)
     }
+
+    fn has_step(&self) -> bool {
+        self.step.has_step()
+    }
+
+    fn step(&self, b: i64) -> (i64, u64) {
+        self.step.step(self.left, b)
+    }
 }
 
 /// A function of two numbers with a fixed right argument.
@@ -77,6 +117,14 @@ impl<S: TwoNumbers> OneNumber for WithRight<S> {
 
     fn at(&self, a: i64) -> Result<i64, Kind> {
         self.step.at(a, self.right)
+    }
+
+    fn has_step(&self) -> bool {
+        self.step.has_step()
+    }
+
+    fn step(&self, a: i64) -> (i64, u64) {
+        self.step.step(a, self.right)
     }
 }
 
@@ -102,6 +150,14 @@ impl OneNumber for Negative {
     fn at(&self, b: i64) -> Result<i64, Kind> {
         in_range(b.checked_neg())
     }
+
+    fn has_step(&self) -> bool {
+        true
+    }
+
+    fn step(&self, b: i64) -> (i64, u64) {
+        Minus.step(0, b)
+    }
 }
 
 /// Sign: ¯1, 0 or 1.
@@ -126,6 +182,15 @@ impl OneNumber for Magnitude {
     fn at(&self, b: i64) -> Result<i64, Kind> {
         in_range(b.checked_abs())
     }
+
+    fn has_step(&self) -> bool {
+        true
+    }
+
+    fn step(&self, b: i64) -> (i64, u64) {
+        let (opposite, doubt) = Minus.step(0, b);
+        (b.max(opposite), doubt)
+    }
 }
 
 /// Logical not, of 0 and 1.
@@ -137,6 +202,14 @@ impl OneNumber for Not {
 
     fn at(&self, b: i64) -> Result<i64, Kind> {
         Ok(truth(!as_truth(b)?))
+    }
+
+    fn has_step(&self) -> bool {
+        true
+    }
+
+    fn step(&self, b: i64) -> (i64, u64) {
+        (b ^ 1, untrue(b))
     }
 }
 
@@ -153,6 +226,10 @@ impl TwoNumbers for Plus {
 
     fn fold_at_once(&self, numbers: &[i64]) -> Option<i64> {
         fold_forwards(self, numbers)
+    }
+
+    fn has_step(&self) -> bool {
+        true
     }
 
     fn step(&self, a: i64, b: i64) -> (i64, u64) {
@@ -175,6 +252,10 @@ impl TwoNumbers for Minus {
         fold_by_pairs(numbers)
     }
 
+    fn has_step(&self) -> bool {
+        true
+    }
+
     fn step(&self, a: i64, b: i64) -> (i64, u64) {
         (a.wrapping_sub(b), beyond(a, HALF) | beyond(b, HALF))
     }
@@ -189,6 +270,17 @@ impl TwoNumbers for Times {
 
     fn at(&self, a: i64, b: i64) -> Result<i64, Kind> {
         in_range(a.checked_mul(b))
+    }
+
+    fn has_step(&self) -> bool {
+        true
+    }
+
+    fn step(&self, a: i64, b: i64) -> (i64, u64) {
+        (
+            lower_half(a).wrapping_mul(lower_half(b)),
+            beyond(a, SHORT) | beyond(b, SHORT),
+        )
     }
 }
 
@@ -355,6 +447,10 @@ impl TwoNumbers for And {
         fold_forwards(self, numbers)
     }
 
+    fn has_step(&self) -> bool {
+        true
+    }
+
     fn step(&self, a: i64, b: i64) -> (i64, u64) {
         (a & b, untrue(a) | untrue(b))
     }
@@ -373,6 +469,10 @@ impl TwoNumbers for Or {
 
     fn fold_at_once(&self, numbers: &[i64]) -> Option<i64> {
         fold_forwards(self, numbers)
+    }
+
+    fn has_step(&self) -> bool {
+        true
     }
 
     fn step(&self, a: i64, b: i64) -> (i64, u64) {

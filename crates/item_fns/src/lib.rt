@@ -17,5 +17,6 @@ pub use dispatch::{WithFunction, on_number_lists, on_numbers, two_numbers, with_
 pub use function_names::{Scalar1, Scalar2};
 pub use identities::identity;
 pub use items::{one, two};
+pub use loops::with_left;
 pub use numbers::{floor_quotient, residue, truth};
 pub use quotient_loops::Reciprocal;

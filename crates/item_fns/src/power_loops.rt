@@ -6,7 +6,7 @@ ghost use Rattle.function_names.specs.declared.scalar.Scalar2.TheVariants as two
 ghost use Rattle.item_fns.specs.Numbers.{dyadic_on_numbers, power};
 ghost use Rattle.item_fns.specs.NumberLists.{dyadic_results, paired_length, IsListAnswerTo};
 
-use crate::kernels::{OneNumber, Power};
+use crate::kernels::{OneNumber, Power, Times, TwoNumbers};
 use crate::loops::{on_each, on_lists};
 use crate::numbers::{in_range, power};
 use arrays_core::{ApplyFault, Kind};
@@ -69,6 +69,14 @@ impl OneNumber for Square {
 
     fn at(&self, a: i64) -> Result<i64, Kind> {
         in_range(a.checked_mul(a))
+    }
+
+    fn has_step(&self) -> bool {
+        true
+    }
+
+    fn step(&self, a: i64) -> (i64, u64) {
+        Times.step(a, a)
     }
 }
 

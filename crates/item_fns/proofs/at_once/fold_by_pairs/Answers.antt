@@ -1,5 +1,5 @@
 use Rattle.std.{proofs.Common.{◌≡◌, ◌∙◌, ◌+◌, ◌*◌, ◌/◌, ◌<◌, ◌-ℤ◌, to_z, of_z, bit_or, ap, sym, subst, get_or, pos, length, drop, arith, Ok, inl, inr, ℕ, ◌∷◌, below_more, w64, rules}, proofs.lemmas.Bool.{cases_lt}, proofs.lemmas.Int.{ints, to_z-of_z}, proofs.lemmas.List.{drop_more, get_or_default}}
-use Rattle.item_fns.{specs.AtOnce.{IsSum, in_turn}, proofs.Differences.{difference, last_alone}, proofs.Doubts.{none_left, none_right}}
+use Rattle.item_fns.{specs.AtOnce.{IsSum, in_turn}, proofs.Differences.{difference, last_alone}, proofs.Doubts.{below_left, below_right}}
 use Rattle.item_fns.proofs.at_once.fold_by_pairs.Goals as goal
 
 pub loop-pair-init : goal.loop-pair-init
@@ -7,8 +7,8 @@ loop-pair-init c =
     let same = to_z-of_z w64 c.odd_end-end.result (search rules) in
     rw same (record {
       whole = λ h. omega (arith, ints);
-      total_near = λ h. rw same at c.beyond-doubt.ensures h;
-      end_near = λ h. rw same at c.beyond-doubt.ensures h;
+      total_near = λ h. rw same at c.above_least-doubt.ensures h;
+      end_near = λ h. rw same at c.above_least-doubt.ensures h;
       near = λ h k below. absurd (omega arith);
     })
 
@@ -25,41 +25,41 @@ loop-pair-preserved c =
     let there : p + 1 < length xs = omega (arith, c.loop-pair-test.true) in
     let next : 2 * (c.loop-pair.pair + 1) ≡ p + 1 + 1 = omega arith in
     let wrapped = rw (c.loop-pair.total-is, same_a, same_b) at c.with_difference-total.ensures in
-    let near_a = rw same_a at c.beyond.ensures in
-    let near_b = rw same_b at c.beyond-in-loop-pair.ensures in
+    let near_a = rw same_a at c.above_least.ensures in
+    let near_b = rw same_b at c.above_least-in-loop-pair.ensures in
     let near = rw c.loop-pair.total-is at c.loop-pair.invariant.total_near in
     let whole = rw c.loop-pair.total-is at c.loop-pair.invariant.whole in
     let d = c.loop-pair.doubt in
-    let m = c.beyond.result in
-    let n = c.beyond-in-loop-pair.result in
+    let m = c.above_least.result in
+    let n = c.above_least-in-loop-pair.result in
     let rest : in_turn (drop p xs) ≡ a -ℤ (b -ℤ in_turn (drop (2 * (c.loop-pair.pair + 1)) xs)) =
     ap in_turn (drop_more xs p (pos 0) (omega arith) ∙ ap (λ ys. a ∷ ys) (drop_more xs (p + 1) (pos 0) there) ∙ ap (λ k. a ∷ b ∷ drop k xs) (omega arith)) in
     rw (to_z-of_z w64 c.with_difference-total.result (search rules))
     (record {
       whole = λ h.
-          let old = none_left d (bit_or m n) h in
-          let new = none_right d (bit_or m n) h in
-          let made = wrapped (p + 1) (omega arith) (near old) (near_a (none_left m n new)) (near_b (none_right m n new)) in
+          let old = below_left d (bit_or m n) _ h in
+          let new = below_right d (bit_or m n) _ h in
+          let made = wrapped (p + 1) (omega arith) (near old) (near_a (below_left m n _ new)) (near_b (below_right m n _ new)) in
           omega (arith, ints, made, rest, whole old);
       total_near = λ h.
-          let old = none_left d (bit_or m n) h in
-          let new = none_right d (bit_or m n) h in
-          let i = near_a (none_left m n new) in
-          let j = near_b (none_right m n new) in
+          let old = below_left d (bit_or m n) _ h in
+          let new = below_right d (bit_or m n) _ h in
+          let i = near_a (below_left m n _ new) in
+          let j = near_b (below_right m n _ new) in
           let k = near old in
           let made = wrapped (p + 1) (omega arith) k i j in
           record { low = omega (arith, ints, made, k.low, i.low, j.high); high = omega (arith, ints, made, k.high, i.high, j.low) };
-      end_near = λ h. c.loop-pair.invariant.end_near (none_left d (bit_or m n) h);
+      end_near = λ h. c.loop-pair.invariant.end_near (below_left d (bit_or m n) _ h);
       near = λ h k below.
-          let new = none_right d (bit_or m n) h in
+          let new = below_right d (bit_or m n) _ h in
           subst (λ j. (i : ℕ) → i < j → IsSum 1 (get_or xs i (pos 0))) (sym next)
-          (below_more _ _ (below_more _ _ (c.loop-pair.invariant.near (none_left d (bit_or m n) h)) (near_a (none_left m n new))) (near_b (none_right m n new))) k below;
+          (below_more _ _ (below_more _ _ (c.loop-pair.invariant.near (below_left d (bit_or m n) _ h)) (near_a (below_left m n _ new))) (near_b (below_right m n _ new))) k below;
     })
 
-pub returns-then-doubt-eq0 : goal.returns-then-doubt-eq0
-returns-then-doubt-eq0 c =
+pub returns-then-doubt : goal.returns-then-doubt
+returns-then-doubt c =
     let xs = c.args.numbers.now in
-    let sure = c.if-doubt-eq0.true in
+    let sure = c.if-doubt.true in
     let half : c.loop-pair.pair ≡ length xs / 2 = omega (arith, c.loop-pair-test.false, c.loop-pair.auto.pair-end) in
     let end = to_z-of_z w64 c.odd_end-end.result (search rules) ∙ c.odd_end-end.ensures in
     let left : in_turn (drop (2 * c.loop-pair.pair) xs) ≡ in_turn (drop (2 * (length xs / 2)) xs) = ap (λ k. in_turn (drop (2 * k) xs)) half in
