@@ -1,4 +1,4 @@
-"""Reductions, products, digits and quotients of random numbers beside their definitions."""
+"""Reductions, products, digits and functions of random lists beside their definitions."""
 
 from __future__ import annotations
 
@@ -10,6 +10,13 @@ from .program_calls import needs, watched
 from .scans import KINDS_OF_NUMBERS, OF_TWO_NUMBERS, Failed, as_literal, folded, in_range
 from .vocabulary import SCALAR
 
+OF_ONE_NUMBER: dict[str, Callable[[int], int]] = {
+    "-": lambda number: in_range(-number),
+    "|": lambda number: in_range(abs(number)),
+    "×": lambda number: (number > 0) - (number < 0),
+    "~": lambda number: OF_TWO_NUMBERS["⍲"](number, number),
+    "÷": lambda number: OF_TWO_NUMBERS["÷"](1, number),
+}
 PERIOD = 60  # an array of more numbers repeats them, which keeps lines short
 
 
@@ -99,22 +106,41 @@ def some_encoding(chance: Random) -> tuple[str, str]:
 
 def some_list(chance: Random) -> tuple[str, str]:
     """Returns a line that shows a list of numbers by a function with one number, or with another list, and its answer."""
-    function, count = chance.choice([chance.choice(SCALAR), "÷", "*", "×"]), chance.choice([2, 3, 9, 70])
+    function, count = chance.choice([chance.choice(SCALAR), *"÷*×+-∧∨"]), chance.choice([2, 3, 9, 70])
     left, right = some_numbers(chance, count, function), some_numbers(chance, count, function)
-    if chance.random() < 0.6:
+    one = chance.choice(["left", "right", "right", "none"])
+    if one == "left":
+        left = [chance.choice([left[0], 10, 0])] * count
+    if one == "right":
         right = [chance.choice([right[0], 2, 7, 3])] * count
         if function == "÷" and chance.random() < 0.8:
             left = [number // right[0] * right[0] if right[0] else number for number in left]
             left = [number if -(2**63) <= number < 2**63 else 0 for number in left]
     pairs = [*zip(left, right)]
-    line = f"{array([len(left)], left)}{function}{as_literal(right[:1]) if len({*right}) == 1 else array([len(right)], right)}"
+    sides = [as_literal(side[:1]) if one == name else array([count], side) for name, side in (("left", left), ("right", right))]
+    return function.join(sides), text_of(lambda it=it: OF_TWO_NUMBERS[function](*it) for it in pairs)
+
+
+def some_each(chance: Random) -> tuple[str, str]:
+    """Returns a line that shows a function of each number of a list, and its answer."""
+    function, count = chance.choice([*OF_ONE_NUMBER]), chance.choice([2, 3, 9, 70])
+    numbers = some_numbers(chance, count, "∧" if function == "~" else "")
+    return f"{function}{array([count], numbers)}", text_of(lambda it=it: OF_ONE_NUMBER[function](it) for it in numbers)
+
+
+def some_table(chance: Random) -> tuple[str, str]:
+    """Returns a line that shows the ravel of an outer product of two lists, and its answer."""
+    function, rows, columns = chance.choice([chance.choice(SCALAR), *"×+-∧∨"]), chance.choice([2, 3, 9]), chance.choice([2, 3, 9, 17])
+    left, right = some_numbers(chance, rows, function), some_numbers(chance, columns, function)
+    pairs = [(number, other) for number in left for other in right]
+    line = f",{array([rows], left)}∘.{function}{array([columns], right)}"
     return line, text_of(lambda it=it: OF_TWO_NUMBERS[function](*it) for it in pairs)
 
 
 def try_results(program: str, seed: int, count: int) -> str:
     """Compares `count` results of each function below with their definitions."""
     chance = Random(seed)
-    kinds = [some_reduction, some_product, some_decoding, some_encoding, some_list]
+    kinds = [some_reduction, some_product, some_decoding, some_encoding, some_list, some_each, some_table]
     due = [kind(chance) for kind in kinds for _ in range(count)]
     output, _, _ = watched(program, [f"{line}\n".encode() for line, _ in due])
     answers = output.decode().split("\n")

@@ -71,7 +71,7 @@ OF_TWO_NUMBERS: dict[str, Function] = {
     "⍲": of_truths(lambda left, right: not (left and right)),
     "⍱": of_truths(lambda left, right: not (left or right)),
 }
-EDGES = [1 << bits for bits in (20, 21, 31, 32, 40, 41, 42, 43, 44, 60, 61, 62, 63)]  # near which a fast way may end
+EDGES = [1 << bits for bits in (20, 21, 30, 31, 32, 40, 41, 42, 43, 44, 60, 61, 62, 63)]  # near which a fast way may end
 KINDS_OF_NUMBERS = {
     "truths": [0, 1], "ones": [1, 1, 1, 1, 1, -1, 0, 2], "few": [0, 1, 1, 2, 3, -1, -2, 12], "small": [*range(-9, 10)],
     "ends": [2**63 - 1, -(2**63), 2**62, -(2**62), 2**63 - 9, 9 - 2**63, 1, 0, -1], "factors": [1, 2, 3, 4, 6, 12, 24, 2, 2, 1],
