@@ -11,8 +11,12 @@ use arrays_core::room_of;
 use item_fns::kernels::TwoNumbers;
 use std::alloc::{AllocError, Global};
 
+/// The least length of a row whose loop is called. A shorter one takes less time inlined.
+const WIDE: usize = 16;
+
 /// Combines each number of a row with the fold of the numbers below it, in place. Returns 0 only if no step fails.
-pub fn put_over<S: TwoNumbers>(step: &S, row: &[i64], folds: &mut [i64]) -> u64
+#[inline]
+fn put_each<S: TwoNumbers>(step: &S, row: &[i64], folds: &mut [i64]) -> u64
     requires { length row.now ≡ length folds.old }
     ensures long { length folds.new ≡ length folds.old }
     ensures is { result ≡ 0 → ArePutOver (S.gives step.now) row.now folds.old folds.new }
@@ -24,6 +28,29 @@ pub fn put_over<S: TwoNumbers>(step: &S, row: &[i64], folds: &mut [i64]) -> u64
         doubt |= more;
     }
     doubt
+}
+
+/// Does the same, not inlined. The compiler does not vectorize the loop within a loop over rows from the last to the first.
+#[inline(never)]
+fn put_apart<S: TwoNumbers>(step: &S, row: &[i64], folds: &mut [i64]) -> u64
+    requires { length row.now ≡ length folds.old }
+    ensures long { length folds.new ≡ length folds.old }
+    ensures is { result ≡ 0 → ArePutOver (S.gives step.now) row.now folds.old folds.new }
+{
+    put_each(step, row, folds)
+}
+
+/// Combines each number of a row with the fold of the numbers below it, in place. Returns 0 only if no step fails.
+pub fn put_over<S: TwoNumbers>(step: &S, row: &[i64], folds: &mut [i64]) -> u64
+    requires { length row.now ≡ length folds.old }
+    ensures long { length folds.new ≡ length folds.old }
+    ensures is { result ≡ 0 → ArePutOver (S.gives step.now) row.now folds.old folds.new }
+{
+    if row.len() < WIDE {
+        put_each(step, row, folds)
+    } else {
+        put_apart(step, row, folds)
+    }
 }
 
 /// Folds the columns of `count` rows in place; `folds` holds the last row at the start. Returns 0 only if no step fails.

@@ -1,5 +1,5 @@
 use Rattle.std.proofs.Common.{◌≡◌, ℕ, ◌<◌, ◌≤◌, get_or, length, pos, Ok}
-use Rattle.reduce_fns.proofs.columns.put_over.Given as goal
+use Rattle.reduce_fns.proofs.columns.put_each.Given as goal
 
 abbrev pub invariant-loop-column : goal.invariant-loop-column
 invariant-loop-column g l = record {

@@ -1,6 +1,6 @@
 use Rattle.std.{proofs.Common.{◌≡◌, ◌∙◌, ◌≢◌, ap, sym, get_or, pos, arith, Ok, to_z, of_z, w64, SFits, rules, below_more, get_or-set_same, get_or-set_other}, proofs.Math.ListN.{length-set}, proofs.lemmas.Int.{to_z-of_z}}
 use Rattle.item_fns.proofs.Doubts.{none_left, none_right}
-use Rattle.reduce_fns.proofs.columns.put_over.Goals as goal
+use Rattle.reduce_fns.proofs.columns.put_each.Goals as goal
 
 pub loop-column-preserved : goal.loop-column-preserved
 loop-column-preserved g c =
