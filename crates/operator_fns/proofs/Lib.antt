@@ -1,5 +1,6 @@
 pub mod ProductSums
 pub mod TruthUnions
+pub mod RowBits
 pub mod PlainGrids
 pub mod OuterRows
 pub mod Joined

@@ -122,12 +122,12 @@ row_high row count rows inside =
 pub in_rows : (column columns row rows : ℕ) → column < columns → row < rows → column + row * columns < rows * columns
 in_rows column columns row rows below inside = omega (arith, row_high row columns rows inside)
 
-pub row_entry : (rows : List ℤ) (columns row column : ℕ) → column < columns
-    → get_or (take (row * columns + columns - row * columns) (drop (row * columns) rows)) column (pos 0) ≡ get_or rows (column + row * columns) (pos 0)
-row_entry rows columns row column below =
-    get_or-take (row * columns + columns - row * columns) (drop (row * columns) rows) column (pos 0) (omega arith)
-    ∙ get_or-drop (row * columns) rows column (pos 0)
-    ∙ ap (λ p. get_or rows p (pos 0)) (omega arith)
+pub row_entry : {X : Type 0} → (rows : List X) (d : X) (columns row column : ℕ) → column < columns
+    → get_or (take (row * columns + columns - row * columns) (drop (row * columns) rows)) column d ≡ get_or rows (column + row * columns) d
+row_entry rows d columns row column below =
+    get_or-take (row * columns + columns - row * columns) (drop (row * columns) rows) column d (omega arith)
+    ∙ get_or-drop (row * columns) rows column d
+    ∙ ap (λ p. get_or rows p d) (omega arith)
 
 -- parts of two lists
 pub parts_add_up : (xs ys : List ℤ) (first long count most : ℕ) → AddUp count xs ys → length (take long (drop first xs)) ≡ count

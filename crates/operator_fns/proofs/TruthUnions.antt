@@ -1,7 +1,7 @@
 -- The fold of ∨.∧ over truth values is a union.
-use Rattle.std.proofs.Common.{◌≡◌, ℕ, zero, suc, ◌-◌, ◌<◌, ◌≤◌, ℤ, pos, negsuc, ◌⊎◌, inl, inr, refl, ap, sym, subst, ◌∙◌, arith, Result, Ok}
+use Rattle.std.proofs.Common.{◌≡◌, ℕ, zero, suc, max, ◌-◌, ◌<◌, ◌≤◌, ℤ, pos, negsuc, ◌⊎◌, inl, inr, refl, ap, sym, subst, ◌∙◌, arith, Result, Ok}
 use Rattle.std.proofs.lemmas.Int.{ints}
-use Rattle.{arrays_core.specs.declared.item.Kind.{Kind}, function_names.specs.declared.scalar.Scalar2.TheVariants.{And, Or, Maximum}}
+use Rattle.{arrays_core.specs.declared.item.Kind.{Kind}, function_names.specs.declared.scalar.Scalar2.TheVariants.{And, Or}}
 use Rattle.{item_fns.specs.Numbers.{dyadic_on_numbers}, operator_fns.{specs.Unions.{IsTruth}, specs.RowByColumn.{folded_all}, proofs.Meetings.{FoldedTo, firsts, folded_last, folded_whole, one_more}}}
 
 by_truth : (P : ℤ → Type 0) → P (pos 0) → P (pos 1) → (z : ℤ) → IsTruth z → P z
@@ -33,14 +33,14 @@ none = record { low = omega (arith, ints); high = omega (arith, ints) }
 one : IsTruth (pos 1)
 one = record { low = omega (arith, ints); high = omega (arith, ints) }
 
-made : (a b w z : ℤ) → dyadic_on_numbers Or a b ≡ Ok w → IsTruth w → dyadic_on_numbers Maximum a b ≡ Ok w → dyadic_on_numbers Maximum a b ≡ Ok z → IsUnion a b z
-made a b w z is truth max same = let here : w ≡ z = cc in record { truth = subst IsTruth here truth; is = is ∙ ap Ok here }
-
-pub union_of : (a b z : ℤ) → IsTruth a → IsTruth b → dyadic_on_numbers Maximum a b ≡ Ok z → IsUnion a b z
-union_of a b z p q = by_truth (λ a. dyadic_on_numbers Maximum a b ≡ Ok z → IsUnion a b z)
-    (by_truth (λ b. dyadic_on_numbers Maximum (pos 0) b ≡ Ok z → IsUnion (pos 0) b z) (made (pos 0) (pos 0) (pos 0) z refl none refl) (made (pos 0) (pos 1) (pos 1) z refl one refl) b q)
-    (by_truth (λ b. dyadic_on_numbers Maximum (pos 1) b ≡ Ok z → IsUnion (pos 1) b z) (made (pos 1) (pos 0) (pos 1) z refl one refl) (made (pos 1) (pos 1) (pos 1) z refl one refl) b q)
-    a p
+pub union_of_bits : (a b : ℕ) → a < 2 → b < 2 → IsUnion (pos b) (pos a) (pos (max a b))
+union_of_bits zero zero p q = record { truth = none; is = refl }
+union_of_bits zero (suc zero) p q = record { truth = one; is = refl }
+union_of_bits (suc zero) zero p q = record { truth = one; is = refl }
+union_of_bits (suc zero) (suc zero) p q = record { truth = one; is = refl }
+union_of_bits (suc (suc a)) b p q = absurd (omega arith)
+union_of_bits zero (suc (suc b)) p q = absurd (omega arith)
+union_of_bits (suc zero) (suc (suc b)) p q = absurd (omega arith)
 
 -- the union of the entries from a place on: 0 if there is none
 pub record UnionTo (rule : ℕ → Result ℤ Kind) (n place : ℕ) (y : ℤ) : Type 0 where

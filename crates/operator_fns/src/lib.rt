@@ -1,6 +1,7 @@
 //! Outer and inner products of scalar functions. Re-exports reduction, scan and sum trees.
 #![tactic(auto)]
 
+mod bit_rows;
 mod grid;
 mod inner_product;
 mod outer_product;

@@ -8,7 +8,7 @@ ghost use Rattle.operator_fns.specs.RowFolds.{AreMet, AreFolds, EndsInFolds, col
 
 use crate::grid::Grid;
 use crate::small_products::{is_small_sum, push_sums};
-use crate::unions::{are_unions, push_unions};
+use crate::unions::rows_to_join;
 use arrays_core::{ApplyFault, Kind, room_of};
 use item_fns::folds::fold_list;
 use item_fns::kernels::TwoNumbers;
@@ -148,9 +148,11 @@ pub(crate) fn fold_matrices(
     ensures long { IfOk result (λ v. vec_len v ≡ places) }
     ensures is { IfOk result (λ v. (place : ℕ) → place < places → cell (dyadic_on_numbers fold) (dyadic_on_numbers each) left.now right.now grid place ≡ Ok (get_or v.items place (pos 0))) }
 {
-    let is_small = is_small_sum(fold, each, left, right, grid.count);
-    let is_union = are_unions(fold, each, left, right, grid.columns);
     let rows = &right[..grid.count * grid.columns];
+    if let Some(bits) = rows_to_join(alloc, fold, each, left, rows, grid.count, grid.columns)? {
+        return Ok(bits.join_matrices(alloc, left, grid, places)?);
+    }
+    let is_small = is_small_sum(fold, each, left, right, grid.count);
     let mut made = Vec::with_capacity(alloc, room_of(places))?;
     let mut buffers = Buffers {
         numbers: Vec::new(alloc),
@@ -161,8 +163,6 @@ pub(crate) fn fold_matrices(
         let row = &left[first..first + grid.count];
         if is_small {
             push_sums(&mut made, row, rows, grid.columns)?;
-        } else if is_union {
-            push_unions(&mut made, row, rows, grid.columns)?;
         } else {
             push_folds(&mut made, fold, each, row, rows, grid.columns, &mut buffers)?;
         }

@@ -1,14 +1,11 @@
-//! Inner products `∨.∧` of truth values: unions of rows.
+//! Inner products `∨.∧` of truth values.
 
-ghost use Rattle.std.specs.Prelude.{◌≡◌, ◌<◌, ◌≤◌, ℕ, ◌+◌, ◌*◌, ◌^◌, true, pos, length, get_or, All, OnOk, vec_len};
-ghost use Rattle.function_names.specs.declared.scalar.Scalar2.TheVariants.{And, Or};
-ghost use Rattle.item_fns.specs.Numbers.{dyadic_on_numbers};
-ghost use Rattle.operator_fns.specs.RowFolds.{AreFolds, EndsInFolds};
+ghost use Rattle.std.specs.Prelude.{◌≡◌, ◌*◌, true, length, All, IfOk, IfSome};
 ghost use Rattle.operator_fns.specs.Unions.{IsTruth, AreUnions};
 
-use arrays_core::{ApplyFault, Kind};
+use crate::bit_rows::BitRows;
 use item_fns::Scalar2;
-use reduce_fns::put_row_over;
+use std::alloc::{AllocError, Global};
 
 /// Returns true only if all numbers are 0 or 1.
 fn are_truths(numbers: &[i64]) -> bool
@@ -23,61 +20,27 @@ fn are_truths(numbers: &[i64]) -> bool
     least == 0 && greatest <= 1
 }
 
-/// Returns true only if f.g is `∨.∧`, and all numbers are 0 or 1. Returns false if there is only one column.
-pub(crate) fn are_unions(
+/// Returns the rows as bits if f.g is `∨.∧`, all numbers are 0 or 1, and there is more than one column.
+pub(crate) fn rows_to_join<'a>(
+    alloc: Global,
     fold: Scalar2,
     each: Scalar2,
     left: &[i64],
-    right: &[i64],
+    rows: &'a [i64],
+    count: usize,
     columns: usize,
-) -> bool
-    ensures { result ≡ true → AreUnions fold each left.now right.now }
+) -> Result<Option<BitRows<'a>>, AllocError>
+    requires { length rows.now ≡ count * columns }
+    ensures unions { IfOk result (λ made. IfSome made (λ b. AreUnions fold each left.now)) }
+    ensures rows { IfOk result (λ made. IfSome made (λ b. b.rows.now ≡ rows.now)) }
+    ensures columns { IfOk result (λ made. IfSome made (λ b. b.columns ≡ columns)) }
+    ensures count { IfOk result (λ made. IfSome made (λ b. b.count ≡ count)) }
 {
-    fold == Scalar2::Or
-        && each == Scalar2::And
-        && columns > 1
-        && are_truths(left)
-        && are_truths(right)
-}
-
-/// Joins the rows at which `chosen` has a 1, column by column, to folds that start at 0.
-#[tactic(auto, using(crate::proofs::ProductSums::row_high))]
-fn join_rows(folds: &mut [i64], chosen: &[i64], rows: &[i64]) -> Result<(), Kind>
-    requires some { 1 ≤ length chosen.now }
-    requires whole { length rows.now ≡ length chosen.now * length folds.old }
-    requires none { (j : ℕ) → j < length folds.old → get_or folds.old j (pos 0) ≡ pos 0 }
-    requires truths { All IsTruth chosen.now }
-    requires row_truths { All IsTruth rows.now }
-    ensures long { length folds.new ≡ length folds.old }
-    ensures is { OnOk result (AreFolds (dyadic_on_numbers Or) (dyadic_on_numbers And) chosen.now rows.now (length folds.old) folds.new) }
-{
-    let columns = folds.len();
-    for place in (0..chosen.len()).rev() {
-        if chosen[place] != 1 {
-            continue;
-        }
-        let first = place * columns;
-        put_row_over(Scalar2::Maximum, &rows[first..first + columns], folds)?;
+    if fold != Scalar2::Or || each != Scalar2::And || columns < 2 {
+        return Ok(None);
     }
-    Ok(())
-}
-
-/// Appends the unions of the rows at which `chosen` has a 1.
-pub(crate) fn push_unions(
-    made: &mut Vec<i64>,
-    chosen: &[i64],
-    rows: &[i64],
-    columns: usize,
-) -> Result<(), ApplyFault>
-    requires room { vec_len made.old + columns < 2 ^ 64 }
-    requires some { 1 ≤ length chosen.now }
-    requires whole { length rows.now ≡ length chosen.now * columns }
-    requires truths { All IsTruth chosen.now }
-    requires row_truths { All IsTruth rows.now }
-    ensures { OnOk result (EndsInFolds (dyadic_on_numbers Or) (dyadic_on_numbers And) chosen.now rows.now columns made.old.items made.new.items) }
-{
-    let before = made.len();
-    made.resize(before + columns, 0)?;
-    join_rows(&mut made[before..], chosen, rows)?;
-    Ok(())
+    if !are_truths(left) || !are_truths(rows) {
+        return Ok(None);
+    }
+    Ok(Some(BitRows::of(alloc, rows, count, columns)?))
 }

@@ -49,7 +49,7 @@ loop-place-preserved c =
       folded = λ column below.
           one_more f (λ k. g (get_or row k (pos 0)) (get_or rows (column + k * s) (pos 0))) n c.loop-place.place (get_or folds column (pos 0)) (omega arith) (omega (arith, c.loop-place.invariant.below))
           (c.loop-place.invariant.folded column below) (get_or met column (pos 0)) (get_or c.put_row_over.new.below column (pos 0))
-          (ap (g (get_or row k (pos 0))) (sym (row_entry rows s k column below)) ∙ (rw number at (c.in_ok-meet-2.ensures.each column (omega arith))))
+          (ap (g (get_or row k (pos 0))) (sym (row_entry rows (pos 0) s k column below)) ∙ (rw number at (c.in_ok-meet-2.ensures.each column (omega arith))))
           (ap (λ xs. f (get_or xs column (pos 0)) (get_or folds column (pos 0))) (sym upper) ∙ c.in_ok-put_row_over.ensures.is.each column (omega arith));
       below = omega (arith, c.loop-place.invariant.below);
     }

@@ -1,7 +1,7 @@
-use Rattle.std.{proofs.Common.{◌≡◌, ◌∙◌, ◌+◌, ◌-◌, ◌*◌, ◌/◌, ap, sym, drop, take, length, arith}, proofs.lemmas.List.{length-take, length-drop}, proofs.lemmas.List.Elements.{All-take, All-drop}}
+use Rattle.std.{proofs.Common.{◌≡◌, ◌∙◌, ◌+◌, ◌-◌, ◌*◌, ◌/◌, ap, sym, drop, take, length, arith}, proofs.lemmas.List.{length-take, length-drop}}
 use Rattle.item_fns.specs.Numbers.{dyadic_on_numbers}
-use Rattle.operator_fns.{specs.RowFolds.{EndsInFolds}, specs.Unions.{IsTruth}, proofs.ProductSums.{parts_add_up, row_high, sums_are_folds}, proofs.PlainGrids.{row_more}}
-use Rattle.operator_fns.proofs.row_folds.fold_matrices.Goals.{then-is_small+in_ok-push_sums, else-is_small+then-is_union+in_ok-push_unions, else-is_small+else-is_union+in_ok-push_folds}
+use Rattle.operator_fns.{proofs.ProductSums.{parts_add_up, row_high, sums_are_folds}, proofs.PlainGrids.{row_more}}
+use Rattle.operator_fns.proofs.row_folds.fold_matrices.Goals.{then-is_small+in_ok-push_sums, else-is_small+in_ok-push_folds}
 use Rattle.operator_fns.proofs.row_folds.fold_matrices.Goals as goal
 
 pub push_sums-requires-clause-small : goal.push_sums-requires-clause-small
@@ -11,15 +11,6 @@ push_sums-requires-clause-small c =
     let high = row_high r n (c.args.places / c.args.grid.columns) c.loop-place-test.true in
     parts_add_up c.args.left.now c.args.right.now (r * n) (r * n + n - r * n) n (n * c.args.grid.columns) (c.is_small_sum-is_small.ensures c.if-is_small.true).small
     (length-take (r * n + n - r * n) (drop (r * n) c.args.left.now) ∙ omega (arith, length-drop (r * n) c.args.left.now, c.requires.rows))
-
-pub push_unions-requires-clause-truths : goal.push_unions-requires-clause-truths
-push_unions-requires-clause-truths c =
-    let n = c.args.grid.count in
-    let first = c.loop-place.place * n in
-    All-take IsTruth (first + n - first) (drop first c.args.left.now) (All-drop IsTruth first c.args.left.now (c.are_unions-is_union.ensures c.if-is_union.true).left)
-
-pub push_unions-requires-clause-row_truths : goal.push_unions-requires-clause-row_truths
-push_unions-requires-clause-row_truths c = All-take IsTruth (c.args.grid.count * c.args.grid.columns) c.args.right.now (c.are_unions-is_union.ensures c.if-is_union.true).right
 
 pub loop-place-preserved : goal.loop-place-preserved
 loop-place-preserved c =
@@ -42,10 +33,6 @@ loop-place-preserved c =
           let small = parts_add_up xs ys (r * n) (r * n + n - r * n) n (n * m) is.small long in
           rw w.made-is (row_more f g xs ys c.args.grid c.args.places c.requires.fits c.requires.plain r before _ c.loop-place-test.true c.loop-place.invariant
           (sums_are_folds c.args.fold c.args.each row rows m before _ is.fold is.each (omega (arith, c.requires.fits.some)) whole small w.in_ok-push_sums.ensures)))
-      | else-is_small+then-is_union+in_ok-push_unions w ↦
-          (let is = c.are_unions-is_union.ensures w.if-is_union.true in
-          let ends : EndsInFolds f g row rows m before _ = rw (is.fold, is.each) w.in_ok-push_unions.ensures in
-          rw w.made-is (row_more f g xs ys c.args.grid c.args.places c.requires.fits c.requires.plain r before _ c.loop-place-test.true c.loop-place.invariant ends))
-      | else-is_small+else-is_union+in_ok-push_folds w ↦
+      | else-is_small+in_ok-push_folds w ↦
           rw w.made-is (row_more f g xs ys c.args.grid c.args.places c.requires.fits c.requires.plain r before _ c.loop-place-test.true c.loop-place.invariant w.in_ok-push_folds.ensures)
     ]

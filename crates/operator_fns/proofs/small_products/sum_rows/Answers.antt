@@ -15,7 +15,7 @@ add_row-requires-clause-fits c = λ j inside.
     let column = λ (k : ℕ). get_or rows (j + k * s) (pos 0) in
     let small = small_entries xs rows n (λ k. k) (λ k. j + k * s) c.requires.small (λ k low. low) (λ k low. omega (arith, in_rows j s k n below low)) in
     let x_is : to_z w64 (of_z w64 (get_or xs p (pos 0))) ≡ get_or xs p (pos 0) = to_z-of_z w64 _ (search rules) in
-    rw (x_is, row_entry rows s p j below, c.loop-place.invariant.made j below)
+    rw (x_is, row_entry rows (pos 0) s p j below, c.loop-place.invariant.made j below)
     (record { product = product_fits row column n small p c.loop-place-test.true; total = next_fits row column n small p c.loop-place-test.true })
 
 pub loop-place-preserved : goal.loop-place-preserved
@@ -26,6 +26,6 @@ loop-place-preserved c =
     record {
       long = c.add_row.ensures.long ∙ c.loop-place.invariant.long;
       made = λ j below.
-          (rw (x_is, row_entry c.args.rows.now s p j below, c.loop-place.invariant.made j below) at (c.add_row.ensures.is j (omega arith)))
+          (rw (x_is, row_entry c.args.rows.now (pos 0) s p j below, c.loop-place.invariant.made j below) at (c.add_row.ensures.is j (omega arith)))
           ∙ sym (next_sum (λ k. get_or c.args.factors.now k (pos 0)) (λ k. get_or c.args.rows.now (j + k * s) (pos 0)) p);
     }
