@@ -211,7 +211,7 @@ pub one_count_ends : (n count total k : ℕ) (before : List ℕ) → total ≡ n
 one_count_ends n count total k before all past made = all_copies (replicate n count) k before (rw (length-replicate n count) past) made ∙ (sum_same n count ∙ sym all)
 
 -- ---- counts of 0 and 1
-bit_small : (z : ℤ) → is_bit z ≡ true → unsigned_abs z ≤ 1
+pub bit_small : (z : ℤ) → is_bit z ≡ true → unsigned_abs z ≤ 1
 bit_small (pos k) h = leb-true k 1 (and_parts _ _ h).1
 bit_small (negsuc k) h = let no : ⊥ = cc in absurd no
 

@@ -1,34 +1,32 @@
 //! The numbers that a mask keeps.
 
-ghost use Rattle.std.specs.Prelude.{◌≡◌, IfOk, length};
-ghost use Rattle.selection_fns.specs.Replicate.{IsMask};
-ghost use Rattle.selection_fns.specs.Kept.{AreKept};
+ghost use Rattle.std.specs.Prelude.{◌≡◌, IfOk, IfSome, length};
+ghost use Rattle.selection_fns.specs.Kept.{AreMasked};
 
+use crate::replicate::is_bit;
 use arrays_core::room_of;
 use std::alloc::{AllocError, Global};
 
-/// Returns the numbers whose count is 1; each count is 0 or 1, and `total` of them are 1. Pushes each number, and pops
-/// it again where its count is 0. The push has no branch to predict, and the scan stops after `total` numbers.
+/// Returns the numbers whose count is 1. None where a count is neither 0 nor 1. Pushes each number, and pops it again
+/// where its count is 0, so the push has no branch to predict. Has room for all numbers, or for four times those kept.
 pub(crate) fn kept_numbers(
     alloc: Global,
     counts: &[i64],
     numbers: &[i64],
-    total: u32,
-) -> Result<Vec<i64>, AllocError>
+) -> Result<Option<Vec<i64>>, AllocError>
     requires even { length counts.now ≡ length numbers.now }
-    requires mask { IsMask counts.now total }
-    ensures { IfOk result (λ v. AreKept counts.now numbers.now v.items) }
+    ensures { IfOk result (λ o. IfSome o (λ v. AreMasked counts.now numbers.now v.items)) }
 {
-    let total = total as usize;
-    let mut kept = Vec::with_capacity(alloc, room_of(total))?;
+    let mut kept = Vec::with_capacity(alloc, room_of(counts.len()))?;
     for place in 0..counts.len() {
-        if kept.len() == total {
-            return Ok(kept);
+        if !is_bit(counts[place]) {
+            return Ok(None);
         }
         kept.push_reserved(numbers[place]);
         if counts[place] == 0 {
             kept.take_last();
         }
     }
-    Ok(kept)
+    kept.shrink_to(room_of(kept.len() * 2));
+    Ok(Some(kept))
 }

@@ -14,6 +14,7 @@ ghost use Rattle.function_names.specs.Axes.{axis_at};
 ghost use Rattle.index_region.specs.Axes.{places_along};
 ghost use Rattle.index_region.specs.Sources.{Place};
 ghost use Rattle.index_region.specs.Answers.{IsFormAnswerTo, IsPlaceOf, IsSourceIn, source_value};
+ghost use Rattle.selection_fns.specs.Kept.{IsKept};
 ghost use Rattle.selection_fns.specs.Replicate.{is_bit, IsMask, times, counts_checked, maker, copied_place, replicate_form, replicate_source, replicate_item, replicate_whole};
 
 use crate::axes::{LONGEST_AXIS, places_along};
@@ -28,7 +29,7 @@ use std::alloc::{AllocError, Global};
 
 /// Returns whether a count is 0 or 1.
 #[inline]
-fn is_bit(count: i64) -> bool
+pub(crate) fn is_bit(count: i64) -> bool
     ensures { result ≡ is_bit count }
 {
     0 <= count && count <= 1
@@ -346,6 +347,23 @@ fn before_each_copy(
     }
 }
 
+/// Returns the numbers of a vector that a mask keeps. None unless counts and numbers are contiguous, of one length, and each count is 0 or 1.
+fn kept_of(counts: &Seen, array: &Seen) -> Result<Option<Vec<i64>>, AllocError>
+    ensures { IfOk result (λ o. IfSome o (λ kept. IsKept counts.now array.now kept.items)) }
+{
+    let axes = array.shape();
+    if axes.len() != 1 || counts.places() == 1 || counts.places() != array.places() {
+        return Ok(None);
+    }
+    let Some(list) = counts.numbers() else {
+        return Ok(None);
+    };
+    let Some(numbers) = array.numbers() else {
+        return Ok(None);
+    };
+    kept_numbers(*axes.allocator(), list, numbers)
+}
+
 /// Returns the index list in the array for an index list of the result.
 fn copied_index(alloc: Global, counts: &Seen, axes: &[u32], axis: usize, index: &[u32]) -> Shape
     requires rank { length axes.now ≤ most_axes }
@@ -453,45 +471,25 @@ impl Replicate {
         self.copied(alloc, &args[0], &args[1])
     }
 
-    /// Returns the numbers of a vector that a mask keeps. None unless the counts are a mask, and counts and numbers are contiguous.
-    fn kept(
-        self,
-        counts: &Seen,
-        array: &Seen,
-        mask: Option<u32>,
-        shape: &Shape,
-    ) -> Result<Option<Array>, AllocError>
-        requires mask { IfSome mask (IsMask (numbers counts.now)) }
-        requires form { replicate_form self.along counts.now array.now ≡ Ok (form_of shape.now.items array.now.item_type) }
-        requires within { IsWithinLimits shape.now.items }
-        ensures { IfOk result (λ o. IfSome o (λ a. replicate_whole self.along counts.now array.now ≡ Ok a)) }
+    /// Returns the numbers that a mask keeps as a vector, after the checks.
+    fn kept(self, counts: &Seen, array: &Seen, kept: Vec<i64>) -> Result<Array, ApplyFault>
+        requires { IsKept counts.now array.now kept.items }
+        ensures { IsAnswerTo (replicate_whole self.along counts.now array.now) result }
     {
-        let axes = array.shape();
-        if axes.len() != 1 || counts.places() == 1 || counts.places() != array.places() {
-            return Ok(None);
-        }
-        let Some(total) = mask else {
-            return Ok(None);
-        };
-        let Some(list) = counts.numbers() else {
-            return Ok(None);
-        };
-        let Some(numbers) = array.numbers() else {
-            return Ok(None);
-        };
-        let kept = kept_numbers(*axes.allocator(), list, numbers, total)?;
-        Ok(Some(Array::from_numbers(shape, kept)?))
+        let (_sound, _also) = (counts.places(), array.places());
+        let (shape, _) = self.checked(counts, array, Some(kept.len() as u32))?;
+        Ok(Array::from_numbers(&shape, kept)?)
     }
 
     /// Returns the copies of the places of an array.
     fn copied(self, alloc: Global, counts: &Seen, array: &Seen) -> Result<Array, ApplyFault>
         ensures { IsAnswerTo (replicate_whole self.along counts.now array.now) result }
     {
+        if let Some(kept) = kept_of(counts, array)? {
+            return self.kept(counts, array, kept);
+        }
         let mask = mask_of(counts);
         let (shape, item_type) = self.checked(counts, array, mask)?;
-        if let Some(kept) = self.kept(counts, array, mask, &shape)? {
-            return Ok(kept);
-        }
         let axes = array.shape();
         let axis = self.along.axis_at(axes.len().max(1) as u32);
         let places = places_along(axes.as_slice(), axis);

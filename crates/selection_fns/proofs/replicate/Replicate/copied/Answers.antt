@@ -79,6 +79,3 @@ returns-then-len-le1 c =
     few c.shape-axes.ensures.sound.one_item_a_place c.in_ok-shape.ensures.0 told.0 told.1
     ∙ sym (ap (λ (r : ArrayValue). Ok r) c.in_ok-picked.ensures
     ∙ ap (λ (xs : List ℕ). Ok (record { item_type = b.item_type; shape = c.in_ok-shape.shape.items; items = map (λ k. get_or b.items k (fill b.item_type)) xs })) before)
-
-pub kept-requires-clause-form : goal.kept-requires-clause-form
-kept-requires-clause-form c = form_is (goal.at.kept-requires-clause-form c).In_ok-shape
