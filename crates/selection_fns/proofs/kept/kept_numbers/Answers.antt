@@ -1,5 +1,5 @@
 use Rattle.std.{proofs.Common.{◌≡◌, ◌<◌, ◌++◌, ◌∷◌, [], ◌∙◌, ap, sym, length, get_or, pos, unsigned_abs, true, arith, w64, to_z, of_z}, proofs.lemmas.Int.{ints}, proofs.lemmas.List.{length_push, same_from_push}, proofs.lemmas.List.Folds.{list_all_more}, proofs.lemmas.Bool.{and_from}}
-use Rattle.selection_fns.{specs.Replicate.{is_bit}, proofs.Copies.{bit_small}, proofs.KeptNumbers.{one_of_bit, one_kept, not_kept, all_masked}, proofs.kept.kept_numbers.Goals.{then-counts-place-eq0, else-counts-place-eq0}}
+use Rattle.selection_fns.{specs.Replicate.{is_bit}, proofs.Copies.{bit_small}, proofs.KeptNumbers.{one_of_bit, one_kept, not_kept}, proofs.kept.kept_numbers.Goals.{then-counts-place-eq0, else-counts-place-eq0}}
 use Rattle.selection_fns.proofs.kept.kept_numbers.Goals as goal
 
 pub loop-place-preserved : goal.loop-place-preserved

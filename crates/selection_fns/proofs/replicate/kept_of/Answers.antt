@@ -1,5 +1,5 @@
 use Rattle.std.{proofs.Common.{rules, ◌≡◌, false, nat_eq, length, arith}, proofs.lemmas.Bool.Decides.{nat_tests}, proofs.lemmas.Result.{IfOk-weaker}, proofs.lemmas.Option.{IfSome_then}, specs.Prelude.{IfSome}}
-use Rattle.{index_region.{specs.Arguments.{numbers}, proofs.Numbers.{numbers_read}}, selection_fns.specs.Kept.{AreMasked, IsKept}}
+use Rattle.{index_region.{proofs.Numbers.{numbers_read}}, selection_fns.specs.Kept.{AreMasked, IsKept}}
 use Rattle.selection_fns.proofs.replicate.kept_of.Goals as goal
 
 pub returns : goal.returns
@@ -12,6 +12,11 @@ returns c =
     let all = c.in-Some-numbers.numbers.now in
     IfOk-weaker c.kept_numbers.result (λ o. IfSome o (λ v. AreMasked list all v.items)) (λ o. IfSome o (λ v. IsKept a b v.items))
     (λ o known. IfSome_then o known (λ v masked. record {
-      vector = search rules; several = several; even = search rules; all = all; typed = read.0; items = read.1;
+      vector = search rules;
+      several = several;
+      even = search rules;
+      all = all;
+      typed = read.0;
+      items = read.1;
       masked = rw (numbers_read a list c.in-Some.ensures.is.1) masked;
     })) c.kept_numbers.ensures

@@ -1,4 +1,4 @@
-use Rattle.std.proofs.Common.{◌≡◌, Ok, length, ap, sym, ◌∙◌, arith, rules}
+use Rattle.std.proofs.Common.{◌≡◌, Ok, length, ap, sym, ◌∙◌, rules}
 use Rattle.{arrays_core.{specs.declared.item.ItemType.{ItemType}, specs.Arrays.{ArrayValue}, specs.Shapes.{size}}, index_region.specs.Checks.{form_of}}
 use Rattle.selection_fns.{specs.Replicate.{replicate_form}, specs.Laws.CopiedPlaces.{replicate_gives}, proofs.KeptNumbers.{kept_copies, kept_long}, proofs.replicate.Replicate.kept.Goals.{In_ok-shape}}
 use Rattle.selection_fns.proofs.replicate.Replicate.kept.Goals as goal
