@@ -1,129 +1,138 @@
-//! Tokens of each kind, and the texts of faults.
+//! Tokens of each kind with their spans, edits and rows that are read from the bytes of a line, and the messages of faults.
 
-use apl_tokens::{
-    NumberEdit, NumberRow, RowNumbers, Token, TokenFault, number_edit, number_row, tokens,
-};
+use crate::fixtures::{assert_said, assert_written};
+use apl_tokens::{RowNumbers, Span, TokenFault, number_edit, number_row, tokens};
 use std::alloc::Global;
+use std::process::Abort;
 
-/// Returns the tokens of a line, written out.
-fn written(alloc: Global, line: &str) -> Option<String> {
-    let found = tokens(alloc, line).ok()?;
-    format!(in alloc; "{found:?}").ok()
-}
-
-/// Returns whether the first token of a line is this name.
-fn begins_with_name(alloc: Global, line: &str, name: &str) -> bool {
-    let Ok(found) = tokens(alloc, line) else {
-        return false;
-    };
-    match found.first() {
-        Some(first) => matches!(&first.token, Token::Word(word) if word.text() == name),
-        None => false,
-    }
-}
-
-/// Returns the text of the fault of a line.
-fn message(alloc: Global, line: &str) -> Option<String> {
-    let fault = tokens(alloc, line).err()?;
-    format!(in alloc; "{fault}").ok()
+/// Ends the test unless a line has these tokens, or this fault, written out.
+fn assert_tokens(rt: &impl Abort, alloc: Global, line: &str, wanted: &str) {
+    assert_written(rt, alloc, &tokens(alloc, line), wanted);
 }
 
 #[test]
-fn reads_each_kind_of_token(rt: HostRuntime) {
-    for (line, wanted) in [
-        (" ⍝ none", "[]"),
+fn reads_tokens_or_finds_the_first_fault(rt: HostRuntime) {
+    for (line, wanted) in &[
+        (" ⍝ none", "Ok([])"),
         (
             "¯5",
-            "[Spanned { token: Num(-5), span: Span { start: 0, end: 3 } }]",
+            "Ok([Spanned { token: Num(-5), span: Span { start: 0, end: 3 } }])",
         ),
         (
             "\t∣",
-            "[Spanned { token: Mark('|'), span: Span { start: 1, end: 4 } }]",
+            "Ok([Spanned { token: Mark('|'), span: Span { start: 1, end: 4 } }])",
         ),
         (
             "'a'''",
-            "[Spanned { token: Text(['a', '\\'']), span: Span { start: 0, end: 5 } }]",
+            "Ok([Spanned { token: Text(['a', '\\'']), span: Span { start: 0, end: 5 } }])",
+        ),
+        ("⍴'ab", "Err(Syntax(Span { start: 3, end: 6 }))"),
+        (
+            "1 ¯9223372036854775809 '",
+            "Err(Limit(Span { start: 2, end: 23 }))",
         ),
     ] {
-        let found = written(rt.alloc(), line);
-        assert!(rt;
-            matches!(&found, Some(text) if text.as_str() == wanted),
-            "{line}"
-        );
+        assert_tokens(&rt, rt.alloc(), line, wanted);
     }
-    assert!(rt; begins_with_name(rt.alloc(), "∆x2←7", "∆x2"));
-}
-
-/// Returns the edit of an item of this name that a line reads as: its first and last position, their count, and the number.
-fn edit_of(alloc: Global, line: &str, name: &str) -> Option<([i64; 2], usize, i64)> {
-    let NumberEdit {
-        name: edited,
-        positions,
-        number,
-    } = number_edit(alloc, line)?;
-    if edited.text() != name {
-        return None;
-    }
-    let first = *positions.first()?;
-    let last = *positions.last()?;
-    Some(([first, last], positions.len(), number))
 }
 
 #[test]
+fn says_what_is_wrong(rt: HostRuntime) {
+    let span = Span { start: 3, end: 6 };
+    let syntax = TokenFault::Syntax(span);
+    let limit = TokenFault::Limit(span);
+    assert_said(&rt, rt.alloc(), &syntax, "no token at bytes 3 to 6");
+    assert_said(&rt, rt.alloc(), &limit, "too large a token at bytes 3 to 6");
+    assert_said(&rt, rt.alloc(), &TokenFault::NoMemory, "out of memory");
+}
+
+/// An edit of an item, and its line.
+struct Edit<'a> {
+    line: &'a str,
+    name: &'a str,
+    positions: &'a [i64],
+    number: i64,
+}
+
+/// Ends the test unless the line of an edit is read from its bytes.
+fn assert_edit(rt: &impl Abort, alloc: Global, wanted: &Edit<'_>) {
+    let edit = number_edit(alloc, wanted.line).expect(rt, "an edit");
+    assert!(rt;
+        edit.name.text() == wanted.name
+            && edit.positions.as_slice() == wanted.positions
+            && edit.number == wanted.number
+    );
+}
+
+const EDITS: [Edit<'static>; 3] = [
+    Edit {
+        line: "D[2]←10",
+        name: "D",
+        positions: &[2],
+        number: 10,
+    },
+    Edit {
+        line: "D_2[¯3;1;4]←¯7",
+        name: "D_2",
+        positions: &[-3, 1, 4],
+        number: -7,
+    },
+    Edit {
+        line: "A[1;2;3;4]←0",
+        name: "A",
+        positions: &[1, 2, 3, 4],
+        number: 0,
+    },
+];
+
+#[test]
 fn reads_the_edit_of_an_item(rt: HostRuntime) {
-    for (line, name, wanted) in [
-        ("D[2]←10", "D", ([2, 2], 1, 10)),
-        ("D_2[¯3;1;4]←¯7", "D_2", ([-3, 4], 3, -7)),
-        ("A[1;2;3;4]←0", "A", ([1, 4], 4, 0)),
-    ] {
-        assert!(rt; edit_of(rt.alloc(), line, name) == Some(wanted), "{line}");
-    }
-    for line in ["D[2] ← 10", "D[2]←1 2", "∆[2]←1", "D[1;2;3;4;5]←1", "D←2"] {
-        assert!(rt; number_edit(rt.alloc(), line).is_none(), "{line}");
+    for edit in &EDITS {
+        assert_edit(&rt, rt.alloc(), edit);
     }
 }
 
-/// Returns whether a row of `D` has these numbers, at most four. A list of several has room for `room` numbers; one is stored as such.
-fn is_row(row: &Option<NumberRow>, numbers: &[i64], room: usize) -> bool {
-    match row {
-        Some(row) if row.name.text() == "D" => match &row.numbers {
-            RowNumbers::One(number) => room == 0 && numbers == [*number].as_slice(),
-            RowNumbers::Several(several) => {
-                several.capacity() == room && several.as_slice() == numbers
-            }
-        },
-        _ => false,
-    }
+/// Ends the test unless a row of `D` has these numbers, at most four. A list of several has room for `room` numbers.
+fn assert_row(rt: &impl Abort, alloc: Global, line: &str, numbers: &[i64], room: usize) {
+    let row = number_row(alloc, line, 4).expect(rt, "a row");
+    let RowNumbers::Several(several) = &row.numbers else {
+        assert!(rt; false, "{line}");
+        return;
+    };
+    assert!(rt;
+        row.name.text() == "D" && several.as_slice() == numbers && several.capacity() == room
+    );
 }
 
 #[test]
 fn reads_a_row_of_numbers(rt: HostRuntime) {
     let alloc = rt.alloc();
-    assert!(rt; is_row(&number_row(alloc, ")ROW D 7", 4), &[7], 0));
-    assert!(rt; is_row(&number_row(alloc, ")ROW D ¯12 3", 4), &[-12, 3], 2));
-    assert!(rt;
-        is_row(
-            &number_row(
-                alloc,
-                ")ROW D 0 ¯9223372036854775808 9223372036854775807",
-                4
-            ),
-            &[0, i64::MIN, i64::MAX],
-            4
-        )
-    );
-    assert!(rt;
-        is_row(
-            &number_row(alloc, ")ROW D 1 2 ¯3 007", 4),
-            &[1, 2, -3, 7],
-            4
-        )
-    );
+    let extremes = ")ROW D 0 ¯9223372036854775808 9223372036854775807";
+    assert_row(&rt, alloc, ")ROW D ¯12 3", &[-12, 3], 2);
+    assert_row(&rt, alloc, extremes, &[0, i64::MIN, i64::MAX], 4);
+    assert_row(&rt, alloc, ")ROW D 1 2 ¯3 007", &[1, 2, -3, 7], 4);
 }
 
 #[test]
-fn leaves_other_rows_to_the_tokens(rt: HostRuntime) {
-    for line in [
+fn stores_one_number_of_a_row_without_a_list(rt: HostRuntime) {
+    let row = number_row(rt.alloc(), ")ROW D 7", 4).expect(&rt, "a row");
+    assert!(rt; row.name.text() == "D" && matches!(row.numbers, RowNumbers::One(7)));
+}
+
+/// Ends the test unless a line is left to the tokens.
+fn assert_left(rt: &impl Abort, alloc: Global, line: &str) {
+    let is_left = number_edit(alloc, line).is_none() && number_row(alloc, line, 4).is_none();
+    assert!(rt; is_left, "{line}");
+}
+
+#[test]
+fn leaves_other_lines_to_the_tokens(rt: HostRuntime) {
+    for line in &[
+        "D[2] ← 10",
+        "D[2]←1 2",
+        "∆[2]←1",
+        "D[1;2;3;4;5]←1",
+        "D←2",
         ")ROW D  7",
         ") ROW D 7",
         ")ROW D 'a'",
@@ -142,25 +151,6 @@ fn leaves_other_rows_to_the_tokens(rt: HostRuntime) {
         ")ROW D 7 8a",
         ")ROW D 1 2 3 4 5",
     ] {
-        assert!(rt; number_row(rt.alloc(), line, 4).is_none(), "{line}");
+        assert_left(&rt, rt.alloc(), line);
     }
-}
-
-#[test]
-fn says_what_is_wrong(rt: HostRuntime) {
-    for (line, wanted) in [
-        ("⍴'ab", "no token at bytes 3 to 6"),
-        (
-            "1 ¯9223372036854775809 '",
-            "too large a token at bytes 2 to 23",
-        ),
-    ] {
-        let found = message(rt.alloc(), line);
-        assert!(rt;
-            matches!(&found, Some(text) if text.as_str() == wanted),
-            "{line}"
-        );
-    }
-    let refused = format!(in rt.alloc(); "{}", TokenFault::NoMemory);
-    assert!(rt; matches!(&refused, Ok(text) if text.as_str() == "out of memory"));
 }

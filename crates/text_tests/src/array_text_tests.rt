@@ -1,54 +1,68 @@
-//! Printed text.
+//! Arrays as printed text, and tables read from files.
 
-use apl_tokens::Name;
-use array_text::{print, print_fault};
-use arrays_core::{Array, Fault, Kind, is_within_limits, shape_of, size};
+use crate::fixtures::assert_written;
+use array_text::{print, read_table};
+use arrays_core::{Array, is_within_limits, shape_of, size};
 use std::alloc::Global;
+use std::process::Abort;
 
-#[test]
-fn prints_faults(rt: HostRuntime) {
-    for (kind, origin, wanted) in [
-        (Kind::Domain, None, "DOMAIN ERROR\n"),
-        (Kind::Rank, None, "RANK ERROR\n"),
-        (Kind::Length, None, "LENGTH ERROR\n"),
-        (Kind::Index, None, "INDEX ERROR\n"),
-        (Kind::Axis, None, "AXIS ERROR\n"),
-        (Kind::Limit, None, "LIMIT ERROR\n"),
-        (Kind::Value, Name::read("∆total"), "VALUE ERROR IN ∆total\n"),
-    ] {
-        let printed = print_fault(rt.alloc(), &Fault { kind, origin });
-        assert!(rt; matches!(&printed, Ok(text) if text.as_str() == wanted));
-    }
-}
-
-/// Returns the text of an array of numbers, if there are as many as places.
-fn text_of(alloc: Global, axes: &[u32], numbers: &[i64]) -> Option<String> {
-    if !is_within_limits(axes) || size(axes) as usize != numbers.len() {
-        return None;
-    }
-    let numbers = numbers.to_vec(alloc).ok()?;
-    let array = Array::from_numbers(&shape_of(alloc, axes), numbers).ok()?;
-    print(alloc, &array).ok()
+/// Ends the test unless the array of these numbers is printed like this.
+fn assert_printed(rt: &impl Abort, alloc: Global, axes: &[u32], numbers: &[i64], wanted: &str) {
+    assert!(rt; is_within_limits(axes) && size(axes) as usize == numbers.len());
+    let numbers = numbers.to_vec(alloc).expect(rt, "numbers");
+    let array = Array::from_numbers(&shape_of(alloc, axes), numbers).expect(rt, "an array");
+    let text = print(alloc, &array).expect(rt, "a text");
+    assert!(rt; text.as_str() == wanted, "{text}");
 }
 
 #[test]
 fn prints_arrays(rt: HostRuntime) {
-    for (axes, numbers, wanted) in [
-        ([2].as_slice(), [7, -8].as_slice(), "7 ¯8\n"),
-        (
-            [2, 2].as_slice(),
-            [5, 11, 11, 25].as_slice(),
-            " 5 11\n11 25\n",
-        ),
-        (
-            [2, 1, 2].as_slice(),
-            [1, 2, 3, 4].as_slice(),
-            "1 2\n\n3 4\n",
-        ),
-        ([3, 0].as_slice(), [].as_slice(), "\n\n\n"),
-        ([0, 3].as_slice(), [].as_slice(), ""),
+    let alloc = rt.alloc();
+    assert_printed(&rt, alloc, &[2], &[7, -8], "7 ¯8\n");
+    assert_printed(&rt, alloc, &[2, 2], &[5, 11, 11, 25], " 5 11\n11 25\n");
+    assert_printed(&rt, alloc, &[2, 1, 2], &[1, 2, 3, 4], "1 2\n\n3 4\n");
+    assert_printed(&rt, alloc, &[3, 0], &[], "\n\n\n");
+    assert_printed(&rt, alloc, &[0, 3], &[], "");
+}
+
+/// Ends the test unless a file is the table of these numbers.
+fn assert_table(
+    rt: &impl Abort,
+    alloc: Global,
+    file: &str,
+    header: bool,
+    axes: &[u32],
+    numbers: &[i64],
+) {
+    let table = read_table(alloc, file.as_bytes(), header).expect(rt, "a table");
+    assert!(rt;
+        table.shape().as_slice() == axes && table.numbers() == Some(numbers),
+        "{file}"
+    );
+}
+
+#[test]
+fn reads_tables(rt: HostRuntime) {
+    assert_table(&rt, rt.alloc(), " +7 , ¯2", false, &[1, 2], &[7, -2]);
+    assert_table(&rt, rt.alloc(), "", false, &[0, 0], &[]);
+    assert_table(&rt, rt.alloc(), "a,b\n", true, &[0, 2], &[]);
+}
+
+/// Ends the test unless a file without a header has this first fault, written out.
+fn assert_fault(rt: &impl Abort, alloc: Global, file: &str, wanted: &str) {
+    let fault = read_table(alloc, file.as_bytes(), false).err();
+    assert_written(rt, alloc, &fault, wanted);
+}
+
+#[test]
+fn finds_the_first_fault_of_a_table(rt: HostRuntime) {
+    for (file, wanted) in &[
+        ("1,2\n3", "Some(Length { row: 2 })"),
+        ("1,x", "Some(Field { row: 1, field: 2 })"),
+        ("1,,2", "Some(Field { row: 1, field: 2 })"),
+        ("--1", "Some(Field { row: 1, field: 1 })"),
+        ("9223372036854775808", "Some(Field { row: 1, field: 1 })"),
     ] {
-        let printed = text_of(rt.alloc(), axes, numbers);
-        assert!(rt; matches!(&printed, Some(text) if text.as_str() == wanted));
+        assert_fault(&rt, rt.alloc(), file, wanted);
     }
 }

@@ -9,4 +9,4 @@ mod apl_tokens_tests;
 #[cfg(test)]
 mod array_text_tests;
 #[cfg(test)]
-mod tables_tests;
+mod fixtures;
