@@ -1,36 +1,30 @@
-//! Boxes: each call once, as a caller writes it.
+//! The part that two boxes share, and the places that a rule reaches from the changed box of an argument. The boxes of
+//! each function are worked cases in the proofs of its rule.
 
-use arrays_core::{is_within_limits, shape_of, size};
+use crate::fixtures::array_of;
+use change_rules::{Reach, Rule, Seen};
 use index_region::IndexBox;
-use std::alloc::Global;
-use std::process::Abort;
+use item_fns::Scalar2;
+use scalar_fns::EachDyadic;
 
 #[test]
-fn boxes_hold_and_meet(rt: HostRuntime) {
+fn boxes_meet(rt: HostRuntime) {
     let one = IndexBox::of(&[(1, 2), (2, 3)]).expect(&rt, "a box");
     let other = IndexBox::of(&[(2, 4), (1, 2)]).expect(&rt, "a box");
     assert!(rt; one.as_slice().len() == other.as_slice().len());
-    assert!(rt; one.hull(&other).as_slice() == [(1, 4), (1, 3)].as_slice());
     let meet = one.meet(&other);
     assert!(rt; matches!(meet, Some(meet) if meet.as_slice() == [(2, 2), (2, 2)].as_slice()));
 }
 
 #[test]
-fn a_walk_goes_along_rows(rt: HostRuntime) {
-    let region = IndexBox::of(&[(1, 2), (2, 3)]).expect(&rt, "a box");
-    let mut index = region.index_at(0);
-    region.advance(&mut index);
-    assert!(rt; index.as_slice() == [1, 3].as_slice());
-}
-
-/// Returns the box that covers some places of a shape.
-fn cover_of(rt: &impl Abort, alloc: Global, axes: &[u32], first: u32, last: u32) -> IndexBox {
-    assert!(rt; is_within_limits(axes) && 1 <= first && first <= last && last <= size(axes));
-    IndexBox::cover(&shape_of(alloc, axes), first, last)
-}
-
-#[test]
-fn a_box_covers_places(rt: HostRuntime) {
-    let cover = cover_of(&rt, rt.alloc(), &[2, 3], 2, 4);
-    assert!(rt; cover.as_slice() == [(1, 2), (1, 3)].as_slice());
+fn a_sum_reaches_the_changed_box(rt: HostRuntime) {
+    let numbers = array_of(&rt, rt.alloc(), &[5], &[1, 2, 3, 4, 5]);
+    let region = IndexBox::of(&[(2, 3)]).expect(&rt, "a box");
+    assert!(rt; region.lies_in(numbers.shape().as_slice()));
+    let sum = EachDyadic {
+        function: Scalar2::Plus,
+    };
+    let args = [Seen::plain(&numbers), Seen::plain(&numbers)];
+    let reach = sum.reach(&args, &[Some(region), None]);
+    assert!(rt; matches!(reach, Reach::Inside(region) if region.as_slice() == [(2, 3)].as_slice()));
 }

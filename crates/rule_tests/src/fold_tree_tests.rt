@@ -3,7 +3,6 @@
 
 ghost use Rattle.std.specs.Prelude.{◌≡◌, length};
 
-use crate::fixtures::ones;
 use fold_trees::{FoldTrees, has_trees};
 use item_fns::Scalar2;
 use std::alloc::Global;
@@ -26,9 +25,20 @@ fn fold_with_zero(rt: &impl Abort, alloc: Global, function: Scalar2) -> Option<i
     tree.result(0).ok()
 }
 
+#[test]
+fn each_function_has_trees(rt: HostRuntime) {
+    let alloc = rt.alloc();
+    assert!(rt; fold_with_zero(&rt, alloc, Scalar2::Plus) == Some(2));
+    assert!(rt; fold_with_zero(&rt, alloc, Scalar2::Times) == Some(0));
+    assert!(rt; fold_with_zero(&rt, alloc, Scalar2::Maximum) == Some(1));
+    assert!(rt; fold_with_zero(&rt, alloc, Scalar2::Minimum) == Some(0));
+    assert!(rt; fold_with_zero(&rt, alloc, Scalar2::And) == Some(0));
+    assert!(rt; fold_with_zero(&rt, alloc, Scalar2::Or) == Some(1));
+}
+
 /// Returns the greatest number of joins where one number of a row of this length is replaced.
 fn greatest_count(rt: &impl Abort, alloc: Global, function: Scalar2, length: usize) -> u32 {
-    let row = ones(rt, alloc, length);
+    let row = [1].repeat(alloc, length).expect(rt, "a row");
     let tree = tree_of(rt, alloc, function, &row);
     let mut greatest = 0;
     for place in 0..row.len() {
@@ -38,19 +48,23 @@ fn greatest_count(rt: &impl Abort, alloc: Global, function: Scalar2, length: usi
     greatest
 }
 
+/// Ends the test unless the greatest numbers of joins are the binary digits of the lengths less one.
+fn assert_counts(rt: &impl Abort, alloc: Global, function: Scalar2) {
+    for (length, joins) in &[(1, 0), (2, 1), (5, 3), (1024, 10), (1025, 11)] {
+        assert!(rt; greatest_count(rt, alloc, function, *length) == *joins);
+    }
+}
+
 #[test]
-fn each_function_has_trees(rt: HostRuntime) {
-    for (function, fold) in [
-        (Scalar2::Plus, 2),
-        (Scalar2::Times, 0),
-        (Scalar2::Maximum, 1),
-        (Scalar2::Minimum, 0),
-        (Scalar2::And, 0),
-        (Scalar2::Or, 1),
+fn one_number_takes_as_many_joins_as_a_tree_has_levels(rt: HostRuntime) {
+    for function in &[
+        Scalar2::Plus,
+        Scalar2::Times,
+        Scalar2::Maximum,
+        Scalar2::Minimum,
+        Scalar2::And,
+        Scalar2::Or,
     ] {
-        assert_eq!(rt; fold_with_zero(&rt, rt.alloc(), function), Some(fold));
-        for (length, joins) in [(1, 0), (2, 1), (5, 3), (1024, 10), (1025, 11)] {
-            assert_eq!(rt; greatest_count(&rt, rt.alloc(), function, length), joins);
-        }
+        assert_counts(&rt, rt.alloc(), *function);
     }
 }

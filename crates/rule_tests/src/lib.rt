@@ -8,16 +8,8 @@ mod fixtures;
 #[cfg(test)]
 mod fold_tree_tests;
 #[cfg(test)]
-mod growth_tests;
-#[cfg(test)]
-mod item_tests;
-#[cfg(test)]
-mod line_sums_tests;
-#[cfg(test)]
-mod reach_tests;
-#[cfg(test)]
 mod refresh_tests;
 #[cfg(test)]
-mod source_tests;
+mod row_sums_tests;
 #[cfg(test)]
 mod sum_tree_tests;

@@ -1,7 +1,7 @@
 use Rattle.{std.proofs.Common.{◌≡◌, sym, subst, rules}, arrays_core.specs.Arrays.{ArrayValue}, function_names.specs.declared.along.Along.TheVariants.{Last}}
 use Rattle.{index_region.specs.Patches.{PatchValue}, sum_rules.{specs.LineSums.{length_along}, specs.Totals.{AreAllAsLong, all_trees, StoodFor}}}
 use Rattle.rule_tests.proofs.TwoLines.{summed_by_lines}
-use Rattle.rule_tests.proofs.line_sums_tests.sums_with.Goals as goal
+use Rattle.rule_tests.proofs.row_sums_tests.sums_with.Goals as goal
 
 pub refresh_sums-requires-clause-sums : goal.refresh_sums-requires-clause-sums
 refresh_sums-requires-clause-sums g c = record {
