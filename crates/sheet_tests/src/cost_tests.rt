@@ -1,6 +1,6 @@
-//! The costs of changes and the number of items that they compute, and a long run of edits of cells.
+//! A long run of edits of cells, with the cost of each and the number of items that it computes.
 
-use crate::fixtures::{are_made, is_made};
+use crate::fixtures::are_made;
 use apl_expr::Literal;
 use apl_tokens::Name;
 use sheet_recalc::Sheet;
@@ -9,43 +9,6 @@ use std::alloc::Global;
 /// Returns whether the last change of a sheet has this cost, and computed as many items.
 fn has_cost(sheet: &Sheet, cost: u64) -> bool {
     sheet.last_cost() == cost && sheet.last_ticks() == cost
-}
-
-/// Changes with their costs. An error in an item costs the item; an error in a check costs nothing; boxes join in a
-/// product.
-const COSTS: [(&str, u64); 16] = [
-    (")DATA D←2 3⍴⍳6", 12),
-    ("T←+/D", 2),
-    ("D[2;3]←10", 1),
-    (")DATA V←¯5 9223372036854775807 0", 0),
-    ("S←+/V", 1),
-    ("V[3]←1", 1),
-    ("V[3]←0", 1),
-    (")DATA M←2 2⍴1 2 3 4", 4),
-    ("P←M+.×⍉M", 8),
-    ("M[1;2]←0", 5),
-    (")DATA I←1 3", 0),
-    ("X←(10 20 30)[I]", 2),
-    ("Y←X+1", 2),
-    ("I[2]←4", 0),
-    ("I[2]←2", 4),
-    (")ERASE I", 0),
-];
-
-/// Makes changes up to one that is refused or has another cost, and returns whether there is none.
-fn have_costs(alloc: Global, sheet: &mut Sheet, changes: &[(&str, u64)]) -> bool {
-    for (text, cost) in changes {
-        if !is_made(alloc, sheet, text) || !has_cost(sheet, *cost) {
-            return false;
-        }
-    }
-    true
-}
-
-#[test]
-fn each_change_computes_what_it_costs(rt: HostRuntime) {
-    let mut sheet = Sheet::new(rt.alloc());
-    assert!(rt; has_cost(&sheet, 0) && have_costs(rt.alloc(), &mut sheet, &COSTS));
 }
 
 const PLACES: usize = 1048576;

@@ -1,7 +1,7 @@
 use Rattle.{std.proofs.Common.{◌≡◌, Ok, refl, ap, subst}, arrays_core.specs.Arrays.{ArrayValue, IsArray}}
 use Rattle.{index_region.{specs.declared.delta.Delta.{Delta}, specs.Patches.{patched}}, change_rules.specs.Currency.{applied}}
-use Rattle.formula_tests.proofs.OneName.{one_change, told_of_one}
-use Rattle.formula_tests.proofs.formula_core_tests.joins_of.Goals as goal
+use Rattle.sheet_tests.proofs.OneName.{one_change, told_of_one}
+use Rattle.sheet_tests.proofs.formula_core_tests.joins_of.Goals as goal
 
 pub plan-requires : goal.plan-requires
 plan-requires g c =
