@@ -13,7 +13,6 @@ pub mod Indices
 pub mod Keeping
 pub mod Live
 mod Locality
-pub mod Making
 pub mod NameEquality
 pub mod PlannedNames
 pub mod Proposed

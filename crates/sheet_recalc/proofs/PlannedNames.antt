@@ -1,5 +1,5 @@
 -- A formula that adopts its plan gives its name the value it shall show.
-use Rattle.std.{proofs.Common.{◌≡◌, ℕ, zero, suc, ◌<◌, ◌-◌, Bool, true, false, List, [], ◌∷◌, ◌++◌, length, map, get_or, Option, Some, None, IsSome, Ok, Err, IfOk, refl, sym, ap, ◌∙◌, subst, arith, ⊎_elim}, specs.Borrow.{Bor}, specs.Str.{bytes_eq}, specs.Map.{lookup}, specs.List.{Contains}}
+use Rattle.std.{proofs.Common.{◌≡◌, ℕ, zero, suc, ◌<◌, ◌-◌, Bool, true, false, List, [], ◌∷◌, ◌++◌, length, map, get_or, Option, Some, None, is_some, Ok, Err, IfOk, refl, sym, ap, ◌∙◌, subst, arith, ⊎_elim}, specs.Borrow.{Bor}, specs.Str.{bytes_eq}, specs.Map.{lookup}, specs.List.{Contains}}
 use Rattle.std.{specs.Option.{option_map, option_map_or}, proofs.lemmas.Bool.{false≢true}, proofs.lemmas.List.{length-map, length-append, map-append, get_or-map}, proofs.lemmas.List.Elements.{Contains-append_cases}, proofs.Math.Seq.{get_or-append_seam}}
 use Rattle.{dep_order.proofs.Following.{contains_one}, apl_expr.specs.Trees.{Tree}}
 use Rattle.arrays_core.{specs.Arrays.{ArrayValue, IsArray}, specs.declared.fault.Fault.{Fault}, specs.declared.item.Kind.TheVariants.{Value}, specs.Growth.{grown_by}, specs.Outcomes.{Outcome, fault}}
@@ -9,7 +9,7 @@ use Rattle.formula_core.{specs.Meaning.{eval, names_in}, specs.Tables.{subtrees}
 use Rattle.formula_core.{specs.Inputs.{IsInput, IsAllOrNothing}, specs.Plans.{PlanValue, IsPlanOf, IsPlanned, root_change, node_change, IsNameSound, AreInputs, IsTold, tree_cost}, specs.declared.input.Input.{Input}, specs.declared.input.Input.TheVariants.{Good, Bad}, proofs.Rooted.{before_root, root_last}}
 use Rattle.formula_core.specs.Outcomes.{arisen_in}
 use Rattle.sheet_recalc.{specs.Names.{Names, Binding, Formula, binding}, specs.Meaning.{with_origin, shown_beside, val}, specs.Costs.{origin_delta, delta_by, binding_cost}, specs.Entries.{names_of, binding_of}, specs.Live.{IsRightEntry}}
-use Rattle.sheet_recalc.{specs.ProposedSheet.{Outline, is_data, data_entry, proposed_entry, own_entry, proposed_names, proposed_delta, proposed_change, entry_of}, specs.Planning.{IsProposed, IsPlanAt, ArePlans, HasItsPlan, IsUntouched, NeedsNoPlan, IsProposalAt, name_cost}, specs.declared.entry.Entry.{Entry}}
+use Rattle.sheet_recalc.{specs.ProposedSheet.{Outline, is_data, data_entry, proposed_entry, own_entry, proposed_names, proposed_delta, proposed_change, entry_of}, specs.Planning.{IsProposed, IsPlanAt, HasItsPlan, IsUntouched, NeedsNoPlan, IsProposalAt, name_cost}, specs.declared.entry.Entry.{Entry}}
 use Rattle.sheet_recalc.{specs.declared.proposal.Proposal.{Proposal}, proofs.NameEquality.{equal-true, equal-same}, proofs.Scratch.{val_absent}, proofs.Live.{val_data, binding_of_name}, proofs.Proposed.{bound_own, bound_other}}
 use Rattle.sheet_recalc.specs.declared.entry.Entry.TheVariants as entry
 use Rattle.sheet_recalc.specs.declared.proposal.Proposal.TheVariants as proposed
@@ -303,6 +303,9 @@ module _ (o : Outline) where
     own_bound : (s : Proposal) → o.proposal ≡ s → binding new o.name ≡ option_map binding_of (proposed_entry (val old o.name) s)
     own_bound s is = bound_own es o.name (option_map binding_of (own_entry o)) o.name (equal-same o.name o.name refl) ∙ ap (λ p. option_map binding_of (proposed_entry (val old o.name) p)) is
 
+    pub own_held : (f : FormulaValue) → o.proposal ≡ proposed.Formula f → entry_of o o.name ≡ Some (entry.Formula f)
+    own_held f is = rw (equal-same o.name o.name refl) (ap (proposed_entry (val old o.name)) is)
+
     pub own_formula : (f : FormulaValue) → o.proposal ≡ proposed.Formula f → NeedsNoPlan o o.name → ⊥
     own_formula f is done = (done.reads f.tree (own_bound (proposed.Formula f) is)).0 refl
 
@@ -351,27 +354,16 @@ module _ (o : Outline) where
       pub none_sound : IsNameSound c o.name
       none_sound = record { old = ready.sound (ap is_data is); new = subst (λ r. IfOk r IsArray) (sym none_shows) tt }
 
--- the name under which data is put needs no plan
-pub data_needs_none : (o : Outline) (plans : List ℕ → Option PlanValue) → is_data o.proposal ≡ true → ArePlans o plans → HasItsPlan o plans o.name → NeedsNoPlan o o.name
-data_needs_none o plans is_put are done = ⊎_elim (λ some. absurd (planned (plans o.name) refl some)) (λ none. none) done
-  where
-    formula : (s : Proposal) (f : FormulaValue) → is_data s ≡ true → proposed_entry (val (names_of o.entries) o.name) s ≡ Some (entry.Formula f) → ⊥
-    formula (proposed.Formula g) f is h = false≢true is
-    formula (proposed.Data d) f is h = no_formula (applied d (val (names_of o.entries) o.name)) f h
-    formula proposed.Removed f is h = false≢true is
-
-    planned : (p : Option PlanValue) → plans o.name ≡ p → IsSome p → ⊥
-    planned None is some = false≢true some
-    planned (Some p) is some =
-        let at = are o.name p is in
-        formula o.proposal at.formula is_put (entry_own o o.name (Some (entry.Formula at.formula)) (equal-same o.name o.name refl) at.held)
-
 -- the plan of a name is one of the formula that stands there
 pub plan_now : (o : Outline) (q : List ℕ) (p : PlanValue) (f : FormulaValue) → IsPlanAt o q p → entry_of o q ≡ Some (entry.Formula f) → IsPlanOf f p × IsPlanned f (proposed_change o) p
 plan_now o q p f plan held =
     let both : Some (entry.Formula plan.formula) ≡ Some (entry.Formula f) = sym plan.held ∙ held in
     let same : plan.formula ≡ f = cc in
     subst (λ (g : FormulaValue). IsPlanOf g p × IsPlanned g (proposed_change o) p) same (plan.of, plan.planned)
+
+-- another name without a plan stays
+pub stays_untouched : (o : Outline) (plans : List ℕ → Option PlanValue) (q : List ℕ) → HasItsPlan o plans q → plans q ≡ None → (q ≡ o.name → ⊥) → IsUntouched o q
+stays_untouched o plans q done none apart = ⊎_elim (λ some. absurd (false≢true (subst (λ p. is_some p ≡ true) none some))) (λ n. n.others apart) done
 
 -- the inputs of further names
 pub inputs_more : (c : NamesChange) (names : List (List ℕ)) (inputs : List Input) (x : List ℕ) (i : Input) → AreInputs c names inputs → IsInput (c.new x) (c.delta x) i → AreInputs c (names ++ x ∷ []) (inputs ++ i ∷ [])
@@ -383,8 +375,11 @@ inputs_more c (y ∷ names) (j ∷ inputs) x i are is = (are.0, inputs_more c na
 pub all_more : (P : List ℕ → Type 0) (names : List (List ℕ)) (x : List ℕ) → ((y : List ℕ) → Contains names y → P y) → P x → (y : List ℕ) → Contains (names ++ x ∷ []) y → P y
 all_more P names x all one y c = ⊎_elim (λ l. all y l) (λ r. subst P (sym (contains_one x y r)) one) (Contains-append_cases names (x ∷ []) y c)
 
+-- a list of one item
+pub one_item : (xs : List (List ℕ)) (x : List ℕ) → length xs ≡ 1 → x ≡ get_or xs 0 x → xs ≡ x ∷ []
+one_item [] x long is = absurd (omega (arith, long))
+one_item (y ∷ []) x long is = ap (λ (z : List ℕ). z ∷ []) (sym is)
+one_item (y ∷ z ∷ xs) x long is = absurd (omega (arith, long))
+
 pub of_one : (P : List ℕ → Type 0) (x : List ℕ) → P x → (y : List ℕ) → Contains (x ∷ []) y → P y
 of_one P x one y c = subst P (sym (contains_one x y c)) one
-
-pub of_two : (P : List ℕ → Type 0) (x z : List ℕ) → P x → P z → (y : List ℕ) → Contains (x ∷ z ∷ []) y → P y
-of_two P x z one two = all_more P (x ∷ []) z (of_one P x one) two

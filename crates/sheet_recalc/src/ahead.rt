@@ -1,27 +1,29 @@
 //! The values of names after a change, before it is made.
 
-ghost use Rattle.std.specs.Prelude.{◌≡◌, ◌∷◌, [], ℕ, IfOk, IfSome, MatchOption, get_or, Some, None, List};
+ghost use Rattle.std.specs.Prelude.{◌≡◌, ℕ, IfOk, OnOk, OnErr, IsSome, MatchBool, MatchOption, Some, None, List};
 ghost use Rattle.std.specs.List.{Contains};
-ghost use Rattle.std.specs.Map.{keys_of};
 ghost use Rattle.arrays_core.specs.Outcomes.{Outcome};
 ghost use Rattle.formula_core.specs.Meaning.{names_in};
-ghost use Rattle.formula_core.specs.Changes.{IsNameChanged};
 ghost use Rattle.formula_core.specs.Inputs.{IsInput};
-ghost use Rattle.formula_core.specs.Plans.{AreInputs, IsNameSound, IsTold};
+ghost use Rattle.formula_core.specs.Plans.{PlanValue, IsTold};
 ghost use Rattle.index_region.specs.declared.delta.Delta.{Delta as AnyDelta};
 ghost use Rattle.change_rules.specs.Currency.{applied};
+ghost use Rattle.sheet_recalc.specs.declared.budget.Budget.TheVariants.{Spent};
 ghost use Rattle.sheet_recalc.specs.declared.entry.Entry.TheVariants.{Formula as FormulaEntry};
+ghost use Rattle.sheet_recalc.specs.declared.plans.Plans.{Plans};
 ghost use Rattle.sheet_recalc.specs.Costs.{origin_delta};
 ghost use Rattle.sheet_recalc.specs.Meaning.{with_origin};
 ghost use Rattle.sheet_recalc.specs.ProposedSheet.{outline_of, proposed_change, entry_of};
-ghost use Rattle.sheet_recalc.specs.Planning.{IsAhead, HasItsPlan, NeedsNoPlan, IsPlanAt};
+ghost use Rattle.sheet_recalc.specs.Planning.{IsAhead, HasItsPlan, IsInputOf, AreInputsOf, IsNext, IsPaid, IsStopped, IsPlanAt};
 ghost use Rattle.sheet_recalc.specs.Live.{plan_in};
 
+use crate::budget::Budget;
 use crate::evaluation::{Inputs, lent};
 use crate::plans::Found;
 use crate::proposal::Proposal;
 use crate::proposed_sheet::ProposedSheet;
 use apl_tokens::Name;
+use change_core::Meter;
 use formula_core::{Formula, Input, LentFault, Plan};
 use index_region::Delta;
 use smallvec::SmallVec;
@@ -34,6 +36,9 @@ pub(crate) struct Ahead<'a, 'b> {
     pub(crate) found: &'b Found,
     /// The change of a name that shows the same as before: none.
     pub(crate) unchanged: &'b Delta,
+    /// The formula of the newest plan, which is at `place` of the map: most often the next formula refers to its name.
+    pub(crate) last: Option<&'b Formula>,
+    pub(crate) place: usize,
 }
 
 /// Returns the plan of a name. Compares the name where the map has only one, and hashes it otherwise.
@@ -52,91 +57,112 @@ fn plan_in<'a>(found: &'a Found, name: &Name) -> Option<&'a Plan>
 }
 
 impl<'a, 'b> Ahead<'a, 'b> {
-    /// Returns an input for each reference of a formula.
-    pub(crate) fn inputs_of<'c>(
-        &'c self,
+    /// Applies functions of a formula within the budget, and starts its plan if there is none. Returns true if the plan is whole. The input of one
+    /// name takes no memory.
+    #[inline(always)]
+    pub(crate) fn work(
+        &self,
         alloc: Global,
-        name: Name,
-        formula: &'c Formula,
-    ) -> Result<Inputs<'c>, AllocError>
-        requires ahead { IsAhead self.now }
-        requires held { entry_of (outline_of self.now.proposed.now) name ≡ Some (FormulaEntry formula.now) }
-        requires done { (x : List ℕ) → Contains (names_in formula.now.tree) x → HasItsPlan (outline_of self.now.proposed.now) (plan_in self.now.found.now.entries) x }
-        ensures { IfOk result (λ inputs. IsTold formula.now (proposed_change (outline_of self.now.proposed.now)) inputs.items) }
-    {
-        self.all_inputs(alloc, formula.references())
-    }
-
-    /// Returns the input of a formula with one reference. It takes no memory. With `last`, the plan at `place` of the map is one of this formula, and
-    /// the reference is compared with that name first.
-    pub(crate) fn input_of_one<'c>(
-        &'c self,
-        name: Name,
         formula: &Formula,
-        one: &'c Name,
-        place: usize,
-        last: Option<&'c Formula>,
-    ) -> [Input<'c>; 1]
+        current: &mut Option<Plan>,
+        budget: &mut Budget,
+        meter: &mut Meter,
+    ) -> Result<bool, AllocError>
         requires ahead { IsAhead self.now }
-        requires held { entry_of (outline_of self.now.proposed.now) name ≡ Some (FormulaEntry formula.now) }
+        requires next { (base left : ℕ) × (w : Plans) × IsNext (outline_of self.now.proposed.now) base left w formula.now current.old meter.old.ticks }
         requires done { (x : List ℕ) → Contains (names_in formula.now.tree) x → HasItsPlan (outline_of self.now.proposed.now) (plan_in self.now.found.now.entries) x }
-        requires names { names_in formula.now.tree ≡ one.now ∷ [] }
-        requires last { IfSome last (λ f. entry_of (outline_of self.now.proposed.now) (get_or (keys_of self.now.found.now.entries) place []) ≡ Some (FormulaEntry f.now)) }
-        ensures { IsTold formula.now (proposed_change (outline_of self.now.proposed.now)) result }
+        ensures way { (base left : ℕ) (w : Plans) → IsNext (outline_of self.now.proposed.now) base left w formula.now current.old meter.old.ticks
+            → (rest : ℕ) × IsNext (outline_of self.now.proposed.now) base rest w formula.now current.new meter.new.ticks × IsPaid (outline_of self.now.proposed.now) budget.old budget.new left rest meter.old.ticks meter.new.ticks }
+        ensures whole { IfOk result (λ is_whole. IsStopped formula.now current.new is_whole budget.new) }
     {
-        [self.input_near(one, place, last)]
-    }
-
-    /// Returns the input of a name: by the plan at `place`, of the formula `last`, if the name is there; by a lookup otherwise.
-    fn input_near<'c>(
-        &'c self,
-        name: &'c Name,
-        place: usize,
-        last: Option<&'c Formula>,
-    ) -> Input<'c>
-        requires ahead { IsAhead self.now }
-        requires done { HasItsPlan (outline_of self.now.proposed.now) (plan_in self.now.found.now.entries) name.now }
-        requires last { IfSome last (λ f. entry_of (outline_of self.now.proposed.now) (get_or (keys_of self.now.found.now.entries) place []) ≡ Some (FormulaEntry f.now)) }
-        ensures input { IsInput ((proposed_change (outline_of self.now.proposed.now)).new name.now) ((proposed_change (outline_of self.now.proposed.now)).delta name.now) result }
-        ensures changed { IsNameChanged (proposed_change (outline_of self.now.proposed.now)) name.now }
-        ensures sound { IsNameSound (proposed_change (outline_of self.now.proposed.now)) name.now }
-    {
-        match (last, self.found.get_index(place)) {
-            (Some(formula), Some((there, Some(plan)))) if *there == *name => {
-                self.by_plan(there, formula, plan)
-            }
-            _ => self.input_of(name),
+        match formula.references() {
+            [one] => self.apply(formula, &[self.input_of(one)], current, budget, meter),
+            _ => self.work_on_many(alloc, formula, current, budget, meter),
         }
     }
 
-    /// Returns the inputs of a formula with two references. They take no memory.
-    pub(crate) fn inputs_of_two<'c>(
-        &'c self,
-        name: Name,
+    /// Does the work of a formula with any number of references. Inputs of up to four names take no memory. Not inlined: the path of one reference
+    /// must not clear four inputs on its stack.
+    #[inline(never)]
+    fn work_on_many(
+        &self,
+        alloc: Global,
         formula: &Formula,
-        one: &'c Name,
-        two: &'c Name,
-    ) -> [Input<'c>; 2]
+        current: &mut Option<Plan>,
+        budget: &mut Budget,
+        meter: &mut Meter,
+    ) -> Result<bool, AllocError>
         requires ahead { IsAhead self.now }
-        requires held { entry_of (outline_of self.now.proposed.now) name ≡ Some (FormulaEntry formula.now) }
+        requires next { (base left : ℕ) × (w : Plans) × IsNext (outline_of self.now.proposed.now) base left w formula.now current.old meter.old.ticks }
         requires done { (x : List ℕ) → Contains (names_in formula.now.tree) x → HasItsPlan (outline_of self.now.proposed.now) (plan_in self.now.found.now.entries) x }
-        requires names { names_in formula.now.tree ≡ one.now ∷ two.now ∷ [] }
-        ensures { IsTold formula.now (proposed_change (outline_of self.now.proposed.now)) result }
+        ensures way { (base left : ℕ) (w : Plans) → IsNext (outline_of self.now.proposed.now) base left w formula.now current.old meter.old.ticks
+            → (rest : ℕ) × IsNext (outline_of self.now.proposed.now) base rest w formula.now current.new meter.new.ticks × IsPaid (outline_of self.now.proposed.now) budget.old budget.new left rest meter.old.ticks meter.new.ticks }
+        ensures whole { IfOk result (λ is_whole. IsStopped formula.now current.new is_whole budget.new) }
     {
-        [self.input_of(one), self.input_of(two)]
+        let inputs = self.inputs_of(alloc, formula.references())?;
+        self.apply(formula, inputs.as_slice(), current, budget, meter)
+    }
+
+    /// Applies functions of a formula with these inputs, one for each of its references.
+    fn apply(
+        &self,
+        formula: &Formula,
+        inputs: &[Input],
+        current: &mut Option<Plan>,
+        budget: &mut Budget,
+        meter: &mut Meter,
+    ) -> Result<bool, AllocError>
+        requires ahead { IsAhead self.now }
+        requires told { IsTold formula.now (proposed_change (outline_of self.now.proposed.now)) inputs.now }
+        requires next { (base left : ℕ) × (w : Plans) × IsNext (outline_of self.now.proposed.now) base left w formula.now current.old meter.old.ticks }
+        ensures way { (base left : ℕ) (w : Plans) → IsNext (outline_of self.now.proposed.now) base left w formula.now current.old meter.old.ticks
+            → (rest : ℕ) × IsNext (outline_of self.now.proposed.now) base rest w formula.now current.new meter.new.ticks × IsPaid (outline_of self.now.proposed.now) budget.old budget.new left rest meter.old.ticks meter.new.ticks }
+        ensures whole { IfOk result (λ is_whole. IsStopped formula.now current.new is_whole budget.new) }
+    {
+        self.start(formula, inputs, current)?;
+        let Some(plan) = current else {
+            return Ok(false);
+        };
+        while !formula.is_whole(plan) {
+            if budget.is_spent() {
+                return Ok(false);
+            }
+            formula.advance(plan, inputs, meter)?;
+            budget.pay();
+        }
+        Ok(true)
+    }
+
+    /// Starts the plan of a formula, if there is none.
+    #[inline(always)]
+    fn start(
+        &self,
+        formula: &Formula,
+        inputs: &[Input],
+        current: &mut Option<Plan>,
+    ) -> Result<(), AllocError>
+        requires ahead { IsAhead self.now }
+        requires told { IsTold formula.now (proposed_change (outline_of self.now.proposed.now)) inputs.now }
+        ensures way { OnOk result ((base left ticks : ℕ) (w : Plans) → IsNext (outline_of self.now.proposed.now) base left w formula.now current.old ticks
+            → IsNext (outline_of self.now.proposed.now) base left w formula.now current.new ticks) }
+        ensures some { OnOk result (IsSome current.new) }
+        ensures err { OnErr result (current.new ≡ current.old) }
+    {
+        if current.is_none() {
+            *current = Some(formula.start(inputs)?);
+        }
+        Ok(())
     }
 
     /// Returns an input for each of these names.
-    fn all_inputs<'c>(
+    fn inputs_of<'c>(
         &'c self,
         alloc: Global,
         references: &'c [Name],
     ) -> Result<Inputs<'c>, AllocError>
         requires ahead { IsAhead self.now }
         requires done { (x : List ℕ) → Contains references.now x → HasItsPlan (outline_of self.now.proposed.now) (plan_in self.now.found.now.entries) x }
-        ensures inputs { IfOk result (λ inputs. AreInputs (proposed_change (outline_of self.now.proposed.now)) references.now inputs.items) }
-        ensures changed { IfOk result (λ inputs. (x : List ℕ) → Contains references.now x → IsNameChanged (proposed_change (outline_of self.now.proposed.now)) x) }
-        ensures sound { IfOk result (λ inputs. (x : List ℕ) → Contains references.now x → IsNameSound (proposed_change (outline_of self.now.proposed.now)) x) }
+        ensures { IfOk result (λ inputs. AreInputsOf (outline_of self.now.proposed.now) references.now inputs.items) }
     {
         let mut inputs = SmallVec::new(alloc);
         for reference in references {
@@ -145,36 +171,57 @@ impl<'a, 'b> Ahead<'a, 'b> {
         Ok(inputs)
     }
 
-    /// Returns the input of a name: its value and its change.
+    /// Returns the input of a name: its value and its change. Compares the name with that of the newest plan before a lookup.
     #[inline(always)]
     fn input_of<'c>(&'c self, name: &'c Name) -> Input<'c>
         requires ahead { IsAhead self.now }
         requires done { HasItsPlan (outline_of self.now.proposed.now) (plan_in self.now.found.now.entries) name.now }
-        ensures input { IsInput ((proposed_change (outline_of self.now.proposed.now)).new name.now) ((proposed_change (outline_of self.now.proposed.now)).delta name.now) result }
-        ensures changed { IsNameChanged (proposed_change (outline_of self.now.proposed.now)) name.now }
-        ensures sound { IsNameSound (proposed_change (outline_of self.now.proposed.now)) name.now }
+        ensures { IsInputOf (outline_of self.now.proposed.now) name.now result }
     {
-        if *name == self.proposed.name && self.proposed.proposal.is_data() {
-            return self.own();
-        }
-        match plan_in(self.found, name) {
-            Some(plan) => self.planned(name, plan),
-            None => self.standing(name),
+        match (self.last, self.found.get_index(self.place)) {
+            (Some(formula), Some((there, Some(plan)))) if *there == *name => {
+                self.by_plan(there, formula, plan)
+            }
+            _ => self.looked_up(name),
         }
     }
 
-    /// Returns the input of a name that has a plan.
-    #[inline(always)]
-    fn planned<'c>(&'c self, name: &'c Name, plan: &'c Plan) -> Input<'c>
+    /// Returns the input of a name by lookups.
+    fn looked_up<'c>(&'c self, name: &'c Name) -> Input<'c>
         requires ahead { IsAhead self.now }
-        requires plan { IsPlanAt (outline_of self.now.proposed.now) name.now plan.now }
-        ensures input { IsInput ((proposed_change (outline_of self.now.proposed.now)).new name.now) ((proposed_change (outline_of self.now.proposed.now)).delta name.now) result }
-        ensures changed { IsNameChanged (proposed_change (outline_of self.now.proposed.now)) name.now }
-        ensures sound { IsNameSound (proposed_change (outline_of self.now.proposed.now)) name.now }
+        requires done { HasItsPlan (outline_of self.now.proposed.now) (plan_in self.now.found.now.entries) name.now }
+        ensures { IsInputOf (outline_of self.now.proposed.now) name.now result }
     {
+        if *name == self.proposed.name {
+            return self.own();
+        }
+        let Some(plan) = plan_in(self.found, name) else {
+            return Input::of(lent(self.proposed.entries, name), self.unchanged);
+        };
         match self.proposed.formula_of(*name) {
             Some(formula) => self.by_plan(name, formula, plan),
             None => unreachable!(),
+        }
+    }
+
+    /// Returns the input of the name that the change is about.
+    #[inline(always)]
+    fn own(&self) -> Input<'_>
+        requires ahead { IsAhead self.now }
+        requires done { HasItsPlan (outline_of self.now.proposed.now) (plan_in self.now.found.now.entries) self.now.proposed.now.name }
+        ensures { IsInputOf (outline_of self.now.proposed.now) self.now.proposed.now.name result }
+    {
+        let name = &self.proposed.name;
+        match self.proposed.proposal {
+            Proposal::Data(delta) => Input::of(lent(self.proposed.entries, name), delta),
+            Proposal::Removed => Input::Bad {
+                fault: LentFault::unknown(),
+                changed: true,
+            },
+            Proposal::Formula(formula) => match plan_in(self.found, name) {
+                Some(plan) => self.by_plan(name, formula, plan),
+                None => unreachable!(),
+            },
         }
     }
 
@@ -183,47 +230,9 @@ impl<'a, 'b> Ahead<'a, 'b> {
         requires ahead { IsAhead self.now }
         requires held { entry_of (outline_of self.now.proposed.now) name.now ≡ Some (FormulaEntry formula.now) }
         requires plan { IsPlanAt (outline_of self.now.proposed.now) name.now plan.now }
-        ensures input { IsInput ((proposed_change (outline_of self.now.proposed.now)).new name.now) ((proposed_change (outline_of self.now.proposed.now)).delta name.now) result }
-        ensures changed { IsNameChanged (proposed_change (outline_of self.now.proposed.now)) name.now }
-        ensures sound { IsNameSound (proposed_change (outline_of self.now.proposed.now)) name.now }
+        ensures { IsInputOf (outline_of self.now.proposed.now) name.now result }
     {
         with_origin(name, Input::of(formula.lent(), plan.delta()))
-    }
-
-    /// Returns the input of a name without a plan.
-    #[inline(always)]
-    fn standing<'c>(&'c self, name: &'c Name) -> Input<'c>
-        requires ahead { IsAhead self.now }
-        requires done { NeedsNoPlan (outline_of self.now.proposed.now) name.now }
-        ensures input { IsInput ((proposed_change (outline_of self.now.proposed.now)).new name.now) ((proposed_change (outline_of self.now.proposed.now)).delta name.now) result }
-        ensures changed { IsNameChanged (proposed_change (outline_of self.now.proposed.now)) name.now }
-        ensures sound { IsNameSound (proposed_change (outline_of self.now.proposed.now)) name.now }
-    {
-        if *name == self.proposed.name {
-            return self.own();
-        }
-        Input::of(lent(self.proposed.entries, name), self.unchanged)
-    }
-
-    /// Returns the input of the name that the change binds to data or removes.
-    #[inline(always)]
-    fn own(&self) -> Input<'_>
-        requires ahead { IsAhead self.now }
-        requires done { NeedsNoPlan (outline_of self.now.proposed.now) self.now.proposed.now.name }
-        ensures input { IsInput ((proposed_change (outline_of self.now.proposed.now)).new self.now.proposed.now.name) ((proposed_change (outline_of self.now.proposed.now)).delta self.now.proposed.now.name) result }
-        ensures changed { IsNameChanged (proposed_change (outline_of self.now.proposed.now)) self.now.proposed.now.name }
-        ensures sound { IsNameSound (proposed_change (outline_of self.now.proposed.now)) self.now.proposed.now.name }
-    {
-        match self.proposed.proposal {
-            Proposal::Data(delta) => {
-                Input::of(lent(self.proposed.entries, &self.proposed.name), delta)
-            }
-            Proposal::Removed => Input::Bad {
-                fault: LentFault::unknown(),
-                changed: true,
-            },
-            Proposal::Formula(_) => unreachable!(),
-        }
     }
 }
 

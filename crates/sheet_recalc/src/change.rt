@@ -38,9 +38,7 @@ impl Sheet {
     {
         let mut meter = Meter::new();
         let proposal = self.proposal_of(change, &mut meter)?;
-        let mut pending = self.propose(name_of(change), proposal, meter)?;
-        self.count(&mut pending)?;
-        Ok(pending)
+        self.propose(name_of(change), proposal, meter)
     }
 
     /// Makes a change as `define`, `data`, `set_cell`, `add_row` and `erase` do, or refuses it.

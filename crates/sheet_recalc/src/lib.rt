@@ -2,6 +2,7 @@
 #![tactic(auto)]
 
 mod ahead;
+mod budget;
 mod cell;
 mod change;
 mod commit;

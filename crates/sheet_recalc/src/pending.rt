@@ -3,6 +3,7 @@
 ghost use Rattle.std.specs.Prelude.{◌≡◌, min};
 ghost use Rattle.sheet_recalc.specs.Pending.{steps_left};
 
+use crate::budget::Budget;
 use crate::growth::Growth;
 use crate::plans::Plans;
 use crate::proposal::Proposal;
@@ -16,8 +17,10 @@ pub struct Pending {
     pub(crate) proposal: Proposal,
     pub(crate) plans: Plans,
     pub(crate) growth: Option<Box<Growth>>,
-    /// A step applied its function, and had no memory to plan what follows.
-    pub(crate) is_cut: bool,
+    /// The number of steps left, one for each function.
+    pub(crate) left: u128,
+    /// The budget of the next step. It is spent if a step applied its function, and had no memory to plan what follows.
+    pub(crate) budget: Budget,
     /// The number of items that the finished steps have computed.
     pub(crate) ticks: u64,
     /// The items computed, a step that was cut off included.
@@ -29,7 +32,6 @@ impl Pending {
     pub fn left(&self) -> u32
         ensures { result ≡ min (steps_left self.now) 4294967295 }
     {
-        let left = self.plans.left.saturating_add(u128::from(self.is_cut));
-        u32::try_from(left).unwrap_or(u32::MAX)
+        u32::try_from(self.left).unwrap_or(u32::MAX)
     }
 }

@@ -1,11 +1,11 @@
 //! The plans of a change.
 
-ghost use Rattle.std.specs.Prelude.{◌≡◌, ◌+◌, ◌-◌, ◌<◌, ◌≤◌, ◌∷◌, ◌++◌, ℕ, [], List, true, Some, IsTrue, MatchOption, length, min, take, get_or, if◌then◌else◌};
+ghost use Rattle.std.specs.Prelude.{◌≡◌, ◌+◌, ◌-◌, ◌<◌, ◌≤◌, ◌∷◌, ◌++◌, ℕ, [], List, true, None, IsSome, IsTrue, MatchOption, length, min, take, get_or, if◌then◌else◌};
 ghost use Rattle.std.specs.Str.{bytes_eq};
 ghost use Rattle.std.specs.Map.{keys_of};
 ghost use Rattle.dep_order.specs.Users.{EndsWith};
 ghost use Rattle.sheet_recalc.specs.Live.{plan_in};
-ghost use Rattle.sheet_recalc.specs.Planning.{waiting_names};
+ghost use Rattle.sheet_recalc.specs.Planning.{waiting_names, coming_cost};
 
 use apl_tokens::Name;
 use formula_core::Plan;
@@ -24,8 +24,6 @@ pub(crate) struct Plans {
     pub(crate) waiting: usize,
     /// The plan of the last name that waits, if it is begun.
     pub(crate) current: Option<Plan>,
-    /// The number of functions that the waiting names have left to apply.
-    pub(crate) left: u128,
     /// The cost of the whole plans, with the cost before them; at most the greatest number of 64 bits.
     pub(crate) cost: u64,
     /// For each name, its place in the sheet at the last lookup. A hint: a lookup tries it first, and nothing depends on it.
@@ -39,7 +37,6 @@ impl Plans {
             found: IndexMap::new(alloc),
             waiting: 0,
             current: None,
-            left: 0,
             cost: 0,
             places: Vec::new(alloc),
         }
@@ -79,17 +76,21 @@ impl Plans {
         hint_at(self.places.as_slice(), self.waiting.saturating_sub(1))
     }
 
-    /// Stores the plan of the last name that waits, and its place in the sheet as a hint.
-    pub(crate) fn keep(&mut self, plan: Plan, place: usize)
+    /// Stores the plan under way as the plan of the last name that waits, and the name's place in the sheet as a hint.
+    #[inline(always)]
+    pub(crate) fn keep(&mut self, place: usize)
         requires waits { 0 < self.old.waiting }
         requires few { self.old.waiting ≤ length self.old.found.entries }
+        requires some { IsSome self.old.current }
         ensures waiting { self.new.waiting ≡ self.old.waiting - 1 }
         ensures keys { keys_of self.new.found.entries ≡ keys_of self.old.found.entries }
-        ensures plans { (q : List ℕ) → plan_in self.new.found.entries q ≡ (if bytes_eq (get_or (keys_of self.old.found.entries) (self.old.waiting - 1) []) q then Some plan else plan_in self.old.found.entries q) }
-        ensures cost { self.new.cost ≡ min (self.old.cost + plan.cost) 18446744073709551615 }
-        ensures left { self.new.left ≡ self.old.left }
-        ensures current { self.new.current ≡ self.old.current }
+        ensures plans { (q : List ℕ) → plan_in self.new.found.entries q ≡ (if bytes_eq (get_or (keys_of self.old.found.entries) (self.old.waiting - 1) []) q then self.old.current else plan_in self.old.found.entries q) }
+        ensures cost { self.new.cost ≡ min (self.old.cost + coming_cost self.old.current) 18446744073709551615 }
+        ensures current { self.new.current ≡ None }
     {
+        let Some(plan) = self.current.take() else {
+            return;
+        };
         self.cost = self.cost.saturating_add(plan.cost());
         self.waiting -= 1;
         note_at(&mut self.places, self.waiting, place);

@@ -9,17 +9,18 @@ ghost use Rattle.formula_core.specs.Outcomes.{read};
 ghost use Rattle.formula_core.specs.Meaning.{eval};
 ghost use Rattle.sheet_recalc.specs.Names.{Names, binding, IsSheet};
 ghost use Rattle.sheet_recalc.specs.Meaning.{val, IsOnlySolution};
-ghost use Rattle.sheet_recalc.specs.Pending.{IsBetweenSteps, IsLaidOutOn, IsPendingOn, IsProposalOf, steps_left};
+ghost use Rattle.sheet_recalc.specs.Pending.{IsBetweenSteps, IsPendingOn, IsProposalOf, steps_left};
 ghost use Rattle.sheet_recalc.specs.Changes.{SheetChange, Accepts, Refuses, Define, Store, Put, SetCell, AddRow, Erase};
 ghost use Rattle.sheet_recalc.specs.Costs.{HasCost, HasTicks, changed_name, IsStepCost, IsStepCount};
 ghost use Rattle.sheet_recalc.specs.History.{change_of};
 
+use crate::budget::Budget;
 use crate::cell::cell_patch;
 use crate::commit::make;
 use crate::entry::Entry;
 use crate::growth::growth_for;
 use crate::pending::Pending;
-use crate::planning::{apply_next, begun, functions_in, plan_all, settle};
+use crate::planning::{begun, functions_in, run};
 use crate::plans::Plans;
 use crate::proposal::Proposal;
 use crate::proposed_sheet::ProposedSheet;
@@ -57,7 +58,7 @@ pub struct Sheet {
     /// The memory of the plans of the next change, with the names that the last change reached: an edit of the same name reaches the same.
     room: Plans,
     /// The memory of the plans of the next change in steps. Its contents do not matter.
-    lent: Cell<Plans>,
+    step_room: Cell<Plans>,
 }
 
 impl Model for Sheet {
@@ -109,7 +110,7 @@ impl Sheet {
             ticks: 0,
             edited: false,
             room: Plans::none(alloc),
-            lent: Cell::new(Plans::none(alloc)),
+            step_room: Cell::new(Plans::none(alloc)),
         }
     }
 
@@ -185,80 +186,25 @@ impl Sheet {
         ensures err { OnErr result (steps_left pending.new ≡ steps_left pending.old) }
         ensures err_ticks { OnErr result (pending.new.ticks ≡ pending.old.ticks) }
     {
-        if pending.left() == 0 {
+        if pending.left == 0 {
             return Ok(0);
-        }
-        self.apply_function(pending)?;
-        self.plan_ahead(pending)?;
-        Ok(pending.left())
-    }
-
-    /// Applies the next function of a change, unless a step that was cut off has.
-    fn apply_function(&self, pending: &mut Pending) -> Result<(), AllocError>
-        requires begun { (change : SheetChange) × IsPendingOn self.now change pending.old }
-        requires left { 0 < steps_left pending.old }
-        ensures kept { (change : SheetChange) → IsPendingOn self.now change pending.old → IsPendingOn self.now change pending.new }
-        ensures cut { OnOk result (pending.new.is_cut ≡ true) }
-        ensures steps { steps_left pending.new ≡ steps_left pending.old }
-        ensures ticks { pending.new.ticks ≡ pending.old.ticks }
-    {
-        if pending.is_cut {
-            return Ok(());
         }
         let proposed = ProposedSheet {
             entries: &self.entries,
             name: pending.name,
             proposal: &pending.proposal,
         };
-        apply_next(
+        run(
             self.alloc,
             &proposed,
             &mut pending.plans,
+            &mut pending.budget,
             &mut pending.meter,
         )?;
-        pending.is_cut = true;
-        Ok(())
-    }
-
-    /// Plans what follows the function that a step applied, which ends the step.
-    fn plan_ahead(&self, pending: &mut Pending) -> Result<(), AllocError>
-        requires begun { (change : SheetChange) × IsPendingOn self.now change pending.old }
-        requires cut { pending.old.is_cut ≡ true }
-        ensures kept { (change : SheetChange) → IsPendingOn self.now change pending.old → IsPendingOn self.now change pending.new }
-        ensures one { OnOk result (steps_left pending.new + 1 ≡ steps_left pending.old) }
-        ensures ticks { OnOk result ((change : SheetChange) → IsPendingOn self.now change pending.old → (cost : ℕ) × IsStepCost self.now.names change cost × (pending.new.ticks ≤ pending.old.ticks + cost)) }
-        ensures rises { pending.old.ticks ≤ pending.new.ticks }
-        ensures between { OnOk result (IsBetweenSteps pending.new) }
-        ensures err { OnErr result (steps_left pending.new ≡ steps_left pending.old) }
-        ensures err_ticks { OnErr result (pending.new.ticks ≡ pending.old.ticks) }
-    {
-        let proposed = ProposedSheet {
-            entries: &self.entries,
-            name: pending.name,
-            proposal: &pending.proposal,
-        };
-        settle(self.alloc, &proposed, &mut pending.plans)?;
-        pending.is_cut = false;
+        pending.budget = Budget::One;
+        pending.left -= 1;
         pending.ticks = pending.meter.ticks();
-        Ok(())
-    }
-
-    /// Counts the functions of a change, and plans what precedes the first.
-    pub(crate) fn count(&self, pending: &mut Pending) -> Result<(), AllocError>
-        requires { (change : SheetChange) × IsLaidOutOn self.now change pending.old }
-        ensures begun { OnOk result ((change : SheetChange) → IsLaidOutOn self.now change pending.old → IsPendingOn self.now change pending.new) }
-        ensures steps { OnOk result ((change : SheetChange) → IsLaidOutOn self.now change pending.old → (new : Names) × Accepts self.now.names change new × IsStepCount new (changed_name change) (steps_left pending.new)) }
-        ensures ticks { pending.new.ticks ≡ pending.old.ticks }
-        ensures between { OnOk result (IsBetweenSteps pending.new) }
-    {
-        let proposed = ProposedSheet {
-            entries: &self.entries,
-            name: pending.name,
-            proposal: &pending.proposal,
-        };
-        pending.plans.left = functions_in(&proposed, &pending.plans.found);
-        settle(self.alloc, &proposed, &mut pending.plans)?;
-        Ok(())
+        Ok(pending.left())
     }
 
     /// Makes a change begun on this sheet, with no step left. It takes no memory.
@@ -291,7 +237,7 @@ impl Sheet {
             growth,
         );
         self.edited = false;
-        self.lent.set(plans);
+        self.step_room.set(plans);
     }
 
     /// Plans a proposal formula by formula, and makes it. The meter has the cost of finding the proposal.
@@ -321,7 +267,7 @@ impl Sheet {
         begun(self.alloc, &proposed, &self.users, spent, is_known, plans)?;
         let growth = growth_for(self.alloc, &self.entries, &self.users, &proposal)?;
         let mut meter = meter;
-        plan_all(self.alloc, &proposed, plans, &mut meter)?;
+        run(self.alloc, &proposed, plans, &mut Budget::All, &mut meter)?;
         self.cost = plans.cost;
         self.ticks = meter.ticks();
         make(
@@ -483,7 +429,8 @@ impl Sheet {
         Ok(Proposal::Removed)
     }
 
-    /// Finds the names that a proposal reaches, and allocates the memory of making it. The meter has the cost of finding the proposal.
+    /// Begins a proposal: finds the names that it reaches, allocates the memory of making it, and plans what precedes the first function. The meter
+    /// has the cost of finding the proposal.
     pub(crate) fn propose(
         &self,
         name: Name,
@@ -491,8 +438,10 @@ impl Sheet {
         meter: Meter,
     ) -> Result<Pending, Refusal>
         requires { (change : SheetChange) × IsProposalOf self.now change name proposal meter.ticks }
-        ensures ok { IfOk result (λ pending. (change : SheetChange) → IsProposalOf self.now change name proposal meter.ticks → IsLaidOutOn self.now change pending) }
+        ensures ok { IfOk result (λ pending. (change : SheetChange) → IsProposalOf self.now change name proposal meter.ticks
+            → IsPendingOn self.now change pending × ((new : Names) × Accepts self.now.names change new × IsStepCount new (changed_name change) (steps_left pending))) }
         ensures ticks { IfOk result (λ pending. pending.ticks ≡ meter.ticks) }
+        ensures between { IfOk result IsBetweenSteps }
         ensures refused { IfErr result (λ cause. (change : SheetChange) → IsProposalOf self.now change name proposal meter.ticks → Refuses self.now.names change cause) }
     {
         let spent = meter.ticks();
@@ -501,15 +450,25 @@ impl Sheet {
             name,
             proposal: &proposal,
         };
-        let mut plans = self.lent.replace(Plans::none(self.alloc));
+        let mut plans = self.step_room.replace(Plans::none(self.alloc));
         begun(self.alloc, &proposed, &self.users, spent, false, &mut plans)?;
         let growth = growth_for(self.alloc, &self.entries, &self.users, &proposal)?;
+        let left = functions_in(&proposed, &plans.found);
+        let mut meter = meter;
+        run(
+            self.alloc,
+            &proposed,
+            &mut plans,
+            &mut Budget::Spent,
+            &mut meter,
+        )?;
         Ok(Pending {
             name,
             proposal,
             plans,
             growth,
-            is_cut: false,
+            left,
+            budget: Budget::One,
             ticks: spent,
             meter,
         })

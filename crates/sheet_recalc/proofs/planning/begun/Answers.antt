@@ -1,4 +1,4 @@
-use Rattle.std.{proofs.Common.{ℕ, List, [], Option, ◌∙◌, sym, ap, subst, refl, None}, specs.List.{Contains}, specs.Map.{keys_of}, specs.Option.{option_map, option_map_or}}
+use Rattle.std.{proofs.Common.{ℕ, List, [], Option, ◌∙◌, sym, ap, subst, refl, None, arith}, specs.List.{Contains}, specs.Map.{keys_of}, specs.Option.{option_map, option_map_or}}
 use Rattle.sheet_recalc.{specs.Names.{Binding, referred}, specs.Meaning.{val}, specs.Entries.{names_of, binding_of}, specs.ProposedSheet.{outline_of, own_entry, proposed_names, proposed_references}, specs.declared.plans.Plans.{Plans}, proofs.Forward.{first_way}, proofs.NameEquality.{equal-true}}
 use Rattle.sheet_recalc.{proofs.Rebound.{reaching_new, referred_refers}, proofs.Readied.{references_made, ready_acyclic, ready_proposed, ready_affected, ready_names, ready_all, ready_cost}, proofs.Binding.{rebound_own}}
 use Rattle.sheet_recalc.proofs.planning.begun.Goals as goal
@@ -27,7 +27,7 @@ returns-then-not-has_room-clause-refused c =
     (ready_acyclic o c.args.users.now.entries c.requires.live (keys_of c.reach.new.found.entries) f.closed f.named f.sound f.distinct apart, rw c.if-not-has_room.true at c.has_room.ensures)
 
 pub returns-clause-way : goal.returns-clause-way
-returns-clause-way c = λ ticks even.
+returns-clause-way c = λ base even.
     let o = outline_of c.args.proposed.now in
     let f = c.in_ok-reach.ensures in
     let keys = keys_of c.reach.new.found.entries in
@@ -37,8 +37,8 @@ returns-clause-way c = λ ticks even.
     let ready = ready_proposed o users live keys f.closed f.named f.sound f.distinct apart c.requires.proposal c.shown_is_sound.ensures in
     let affected = ready_affected o users live keys f.closed f.named f.sound f.distinct apart in
     let costs = ready_cost o users live keys f.closed f.named f.sound f.distinct apart in
-    let plans : Plans = record { found = c.reach.new.found; waiting = c.len-plans.result; current = None; left = 0; cost = c.args.spent; places = c.resize.new.self } in
-    first_way o ready c.args.spent plans ticks c.len-plans.ensures.len refl c.ranges.spent.fits f.distinct affected f.none costs even
+    let plans : Plans = record { found = c.reach.new.found; waiting = c.len-plans.result; current = None; cost = c.args.spent; places = c.resize.new.self } in
+    first_way o ready base plans c.len-plans.ensures.len refl (sym even) (omega (arith, even, c.ranges.spent.fits)) f.distinct affected f.none costs
 
 pub returns-clause-can : goal.returns-clause-can
 returns-clause-can c =

@@ -1,10 +1,11 @@
-use Rattle.std.proofs.Common.{◌≡◌, ◌∙◌, List, ℕ, sym, subst}
-use Rattle.sheet_recalc.{specs.Live.{plan_in}, specs.ProposedSheet.{outline_of}, specs.Planning.{HasItsPlan}, proofs.NameEquality.{equal-true}, proofs.PlannedNames.{data_needs_none}}
+use Rattle.std.{proofs.Common.{◌≡◌, ◌∙◌, [], Option, Some, Bor, IfSome, get_or, sym, ap, subst}, specs.Map.{keys_of}}
+use Rattle.{formula_core.specs.Formulas.{FormulaValue}, sheet_recalc.{specs.ProposedSheet.{outline_of, entry_of}, proofs.Entered.{name_at}}}
+use Rattle.sheet_recalc.specs.declared.entry.Entry.TheVariants as entry
 use Rattle.sheet_recalc.proofs.ahead.Ahead.input_of.Goals as goal
 
-pub own-requires-clause-done : goal.own-requires-clause-done
-own-requires-clause-done c =
+pub by_plan-requires-clause-held : goal.by_plan-requires-clause-held
+by_plan-requires-clause-held c =
     let o = outline_of c.args.self.now.proposed.now in
-    let plans = plan_in c.args.self.now.found.now.entries in
-    let name : c.args.name.now ≡ o.name = equal-true c.args.name.now o.name (sym c.eq.ensures ∙ c.if-eq.true) in
-    data_needs_none o plans (sym c.is_data.ensures ∙ c.if-is_data.true) c.requires.ahead.plans (subst (λ (x : List ℕ). HasItsPlan o plans x) name c.requires.done)
+    let found = c.args.self.now.found.now.entries in
+    let told = subst (λ (f : Option (Bor FormulaValue)). IfSome f (λ g. entry_of o (get_or (keys_of found) c.args.self.now.place []) ≡ Some (entry.Formula g.now))) c.in-Some-Some-default-Some.is-0 c.requires.ahead.newest in
+    ap (entry_of o) (sym (name_at found c.args.self.now.place _ (sym c.in-Some-Some-default-Some.ensures.entry))) ∙ told

@@ -1,0 +1,8 @@
+use Rattle.std.proofs.Common.{take}
+use Rattle.sheet_recalc.{specs.ProposedSheet.{outline_of}, specs.Planning.{AreInputsOf}}
+use Rattle.sheet_recalc.proofs.ahead.Ahead.inputs_of.Given as goal
+
+abbrev pub invariant-loop-reference : goal.invariant-loop-reference
+invariant-loop-reference l = record {
+  inputs : AreInputsOf (outline_of l.self.proposed.now) (take l.reference-index l.references) l.inputs.items;
+}
