@@ -24,11 +24,12 @@ class Signals:
 
     are_held        whether no signal raises
     is_interrupted  whether Ctrl-C came since a block of `delayed` began
+    is_reading      whether the main thread reads a line, with signals released before
     ending          the first one of ENDING that came, or None
     """
 
     def __init__(self) -> None:
-        self.are_held = self.is_interrupted = False
+        self.are_held = self.is_interrupted = self.is_reading = False
         self.ending: Optional[int] = None
 
     def install(self) -> None:
@@ -36,6 +37,7 @@ class Signals:
         for number in (signal.SIGINT, *ENDING):
             if signal.getsignal(number) != signal.SIG_IGN:
                 signal.signal(number, self.take)
+        signal.signal(WAKING, self.take_waking)
         wake_behind_signals()
 
     def take(self, number: int, _frame: Optional[FrameType]) -> None:
@@ -47,6 +49,16 @@ class Signals:
         if not self.are_held:
             self.act()
 
+    def take_waking(self, _number: int, _frame: Optional[FrameType]) -> None:
+        """Handles WAKING: if readline has dropped an exception, it is raised again."""
+        if self.is_dropped:
+            self.act()
+
+    @property
+    def is_dropped(self) -> bool:
+        """True if a signal has raised, and the line is read on: readline drops the exceptions of its hooks and of completions."""
+        return self.is_reading and self.are_held
+
     def act(self) -> None:
         """Raises SystemExit if one of ENDING has come, else KeyboardInterrupt."""
         self.are_held = True
@@ -56,6 +68,7 @@ class Signals:
 
     def hold(self) -> None:
         """Holds signals from now on."""
+        self.is_reading = False
         self.are_held = True
 
     def release(self) -> None:
@@ -115,17 +128,18 @@ def wake_behind_signals() -> None:
     """Ends a wait of the main thread shortly after each signal, since readline misses a signal just before it waits for a key."""
     numbers, pipe = os.pipe()
     os.set_blocking(pipe, False)
-    signal.signal(WAKING, lambda number, frame: None)
     signal.set_wakeup_fd(pipe, warn_on_full_buffer=False)
     threading.Thread(target=wake, args=(numbers, threading.get_ident()), daemon=True).start()
 
 
 def wake(numbers: int, thread: int) -> None:
-    """Reads the numbers of incoming signals, and sends WAKING to a thread after each other signal."""
+    """Reads the numbers of incoming signals, and sends WAKING to a thread after each other signal, until none is dropped."""
     while read := os.read(numbers, 512):
-        if {*read} != {WAKING}:
+        is_waiting = {*read} != {WAKING}
+        while is_waiting:
             time.sleep(DELAY)
             signal.pthread_kill(thread, WAKING)
+            is_waiting = signals.is_dropped
 
 
 signals = Signals()

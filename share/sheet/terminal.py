@@ -112,10 +112,13 @@ class Terminal:
 
 def read_line() -> str:
     """Reads a line. If a second signal follows at once, readline hides the exception of the first in a SystemError."""
+    signals.is_reading = True
     try:
         return input(PROMPT)
     except SystemError as error:
         raise error.__cause__ or error
+    finally:
+        signals.is_reading = False
 
 
 def quoted(path: str) -> str:

@@ -101,6 +101,31 @@ def signals_at_any_time(room: Room, times: int, *signs: signal.Signals) -> Outco
     return logs, [["A←5\n"]] * times
 
 
+DURING_A_COMPLETION = [(signal.SIGINT,), (signal.SIGHUP,), (signal.SIGINT, signal.SIGTERM)]
+
+
+def signals_in_a_completion(room: Room, *signs: signal.Signals) -> Outcome:
+    """Signals are seen while the files of a large folder are listed for a completion, where readline drops exceptions."""
+    files = room.folder / "many"
+    files.mkdir()
+    for number in range(20000):
+        (files / f"f{number}").touch()
+    screen = Screen(room, program=room.fake())
+    screen.keys("A`[5\n")
+    os.write(screen.master, f"]load {files}/\t".encode())
+    time.sleep(0.05)
+    for sign in signs:
+        screen.process.send_signal(sign)
+    if signs == (signal.SIGINT,):
+        screen.read(lambda: screen.shown.count(f"\n{PROMPT}") > 2)
+        screen.keys("\n")
+        screen.end()
+    else:
+        screen.read(lambda: False)
+        screen.process.wait(SECONDS)
+    return room.kept(), ["A←5\n"]
+
+
 def interrupted_end(room: Room, times: int) -> Outcome:
     """Ctrl-C after Ctrl-D does not cut the end off either, with a sheet of 600,000 numbers.
 
@@ -128,4 +153,5 @@ def tests(times: int) -> list[Test]:
     kept = [Test(f"signals at the end: {name}", signals_at_the_end, (times, end)) for name, end in ENDS.items()]
     pairs = [(signal.SIGTERM, signal.SIGHUP), (signal.SIGHUP, signal.SIGINT), (signal.SIGINT, signal.SIGTERM, signal.SIGINT)]
     kept += [Test(f"signals at any time: {signs}", signals_at_any_time, (3 * times, *signs)) for signs in pairs]
+    kept += [Test(f"signals in a completion: {signs}", signals_in_a_completion, signs) for signs in DURING_A_COMPLETION]
     return [*named_tests([hang_up]), *closed, *kept, Test("interrupted end", interrupted_end, (3 * times,))]
