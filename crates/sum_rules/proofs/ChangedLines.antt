@@ -11,7 +11,7 @@ use Rattle.reduce_fns.{specs.Laws.LineIndices.{inside}, proofs.Lines.{long_with_
 use Rattle.sum_rules.{specs.LineSums.{StandFor, array_of_shape, line_length, line_step}, specs.Totals.{StoodFor, is_one_a_line, box_of_lines}, proofs.OneAxis.{FitsAxis, fits_axis, size_with_one, walk_with_one, within_axis}, proofs.KeptLines.{line_of_numbers}, proofs.Lines.{line_through_place, some_step}}
 
 -- an item of numbers is its number
-number_item_is : (x : Item) → type_of x ≡ Nums → x ≡ Num (number_of x)
+pub number_item_is : (x : Item) → type_of x ≡ Nums → x ≡ Num (number_of x)
 number_item_is (Num z) h = refl
 number_item_is (Char c) h = absurd (let no : ⊥ = cc in no)
 

@@ -1,10 +1,10 @@
 -- The totals of lines with one new number each.
-use Rattle.std.{proofs.Common.{◌≡◌, ℕ, ◌-◌, ◌*◌, ◌≤◌, Bool, true, false, ◌&&◌, not, if◌then◌else◌, nat_eq, is_ok, List, [], ◌∷◌, length, map, remove, Option, Some, None, Result, Ok, Err, IfOk, OnOk, refl, ap, sym, subst, ◌∙◌, arith}, specs.Prelude.{◌==◌}, specs.List.{range_with_len}}
+use Rattle.std.{proofs.Common.{◌≡◌, ℕ, ◌-◌, ◌*◌, ◌≤◌, Bool, true, false, ◌&&◌, not, is_ok, List, [], ◌∷◌, length, map, remove, Option, Some, None, Result, Ok, Err, IfOk, OnOk, refl, ap, sym, subst, ◌∙◌, arith}, specs.Prelude.{◌==◌}, specs.List.{range_with_len}}
 use Rattle.std.{specs.declared.alloc.AllocError.{AllocError}, proofs.lemmas.Bool.{cond-false, false≢true}}
-use Rattle.arrays_core.{specs.Arrays.{ArrayValue, collect}, specs.Items.{all_or_first_error, and_then}, specs.declared.item.ItemType.TheVariants.{Nums}, specs.declared.item.Item.{Item}, specs.declared.item.Kind.{Kind}, specs.declared.item.ItemType.{ItemType}, specs.Outcomes.{Outcome}}
-use Rattle.index_region.{specs.Axes.{places_along}, specs.Boxes.{Interval, box_size, walk_at, met, unless_empty, join_boxes}, specs.Checks.{Form, form_of}, specs.Patches.{PatchValue, patched}, specs.Tails.{TailValue}, specs.declared.delta.Delta.{Delta}}
+use Rattle.arrays_core.{specs.Arrays.{ArrayValue}, specs.Items.{all_or_first_error}, specs.declared.item.Item.{Item}, specs.declared.item.Kind.{Kind}, specs.declared.item.ItemType.{ItemType}, specs.Outcomes.{Outcome}}
+use Rattle.index_region.{specs.Boxes.{Interval, box_size, walk_at, met, unless_empty, join_boxes}, specs.Checks.{Form, form_of}, specs.Patches.{PatchValue, patched}, specs.Tails.{TailValue}, specs.declared.delta.Delta.{Delta}}
 use Rattle.index_region.specs.declared.delta.Delta.TheVariants.{Same, Patch, Grown, Whole}
-use Rattle.reduce_fns.{specs.declared.reduce.Reduce.{Reduce}, specs.Reduce.{reduce_form, reduce_item, reduce_whole}, specs.Laws.ReducedShapes.{reduce_facts}, specs.Growth.{is_along_a_later_axis}}
+use Rattle.reduce_fns.{specs.declared.reduce.Reduce.{Reduce}, specs.Reduce.{reduce_form, reduce_item}, specs.Laws.ReducedShapes.{reduce_facts}, specs.Growth.{is_along_a_later_axis}}
 use Rattle.{function_names.{specs.Axes.{axis_at, is_axis}, specs.declared.along.Along.{Along}}, fold_trees.specs.ArrayLines.{TreesValue}}
 use Rattle.change_core.{specs.declared.reach.Reach.TheVariants.{Inside, Unmoved}, specs.Parts.{items_in}, specs.Reaches.{as_reach, reach_by, reach_of}, proofs.Filling.{few_places}, specs.RuleModels.{form_size}, specs.Meters.{ticked}, proofs.Regions.{fit_some, met_fit}}
 use Rattle.change_rules.{specs.Nodes.{Argument, all_patched_at_most, all_same, is_patched_at_most, is_same, is_error, moved_by, node_cost, node_delta, node_grows, reached_cost, reached_delta, size_in}, specs.Evaluation.{evaluation}, proofs.Nodes.{delta_reached}}
@@ -141,18 +141,3 @@ pub cost_anew : (fold : Reduce) (arg : Argument) (p : PatchValue) (old : Outcome
     → node_cost (total_rule fold) (arg ∷ []) old ≡ form_size ((total_rule fold).form (arg.0 ∷ []))
 cost_anew fold arg p (Ok v) is failed = absurd (false≢true (sym failed))
 cost_anew fold arg p (Err e) is failed = ap (λ (d : Delta). node_cost (total_rule fold) ((arg.0, record { ref_ptr = arg.1.ref_ptr; now = d }) ∷ []) (Err e)) is
-
-same_type : (b : Bool) (t : ItemType) → t ≡ Nums → (if b then t else Nums) ≡ Nums
-same_type true t h = h
-same_type false t h = refl
-
--- all totals of the patched array, from its trees
-pub whole_now : (fold : Reduce) (t : TreesValue) (p : PatchValue) (now : ArrayValue) → StoodFor fold.along t p now → (shape : List ℕ) (type : ItemType) → reduce_form fold.along now ≡ Ok (form_of shape type)
-    → (axes : List ℕ) → axes ≡ now.shape → reduce_whole fold.function fold.along now ≡ collect Nums shape (reduce_item fold.function fold.along (patched (array_of_shape axes t.numbers) p))
-whole_now fold t p now stood shape type form axes shaped =
-    let numbers : now.item_type ≡ Nums = ap (λ (a : ArrayValue). a.item_type) stood.is ∙ ap (λ (a : ArrayValue). a.item_type) stood.lines.is in
-    let typed : type ≡ Nums = (reduce_facts fold.along now shape type form).typed ∙ same_type (nat_eq (places_along now.shape (axis_at (length now.shape) fold.along)) 1) now.item_type numbers in
-    let items = reduce_item fold.function fold.along in
-    ap (λ (r : Result Form Kind). and_then r (λ g. collect g.item_type g.shape (items now))) form
-    ∙ ap (λ (u : ItemType). collect u shape (items now)) typed
-    ∙ ap (λ (a : ArrayValue). collect Nums shape (items a)) (sym (ap (λ (s : List ℕ). patched (array_of_shape s t.numbers) p) shaped ∙ now_is fold.along t p now stood))

@@ -1,14 +1,13 @@
 -- The lines that a patch with one place for each line leaves alone.
-use Rattle.std.{proofs.Common.{◌≡◌, ◌∙◌, ℕ, zero, suc, ◌+◌, ◌*◌, ◌/◌, ◌<◌, ℤ, pos, true, false, List, [], ◌∷◌, length, get_or, map, remove, insert, refl, ap, sym, subst, arith, inl, inr, Result}, specs.List.{range_with_len}, proofs.lemmas.Bool.{and_from, and_parts, cases_Bool, cond-false, eqb-true, false≢true}}
+use Rattle.std.{proofs.Common.{◌≡◌, ◌∙◌, ℕ, zero, suc, ◌+◌, ◌*◌, ◌/◌, ◌<◌, ℤ, pos, true, false, List, [], ◌∷◌, length, get_or, map, remove, insert, refl, ap, sym, arith, inl, inr}, proofs.lemmas.Bool.{and_from, and_parts, cases_Bool, cond-false, false≢true}}
 use Rattle.std.{proofs.lemmas.List.{length-map, ext_get_or, get_or_default}, proofs.lemmas.List.FromFn.{length-map-range_with_len, get_or-map-range_with_len}, proofs.Math.ListN.{get_or-map}, proofs.Math.Nat.{mul-div_cancel}}
-use Rattle.arrays_core.{specs.declared.item.Kind.{Kind}, specs.Items.{all_or_first_error, fill}, specs.declared.item.Item.{Item}, specs.declared.item.Item.TheVariants.{Num}, specs.Arrays.{ArrayValue, item_of}, specs.Shapes.{indices, is_index_of, places_before, size}, proofs.Shapes.{places_below}}
-use Rattle.change_core.{proofs.Collected.{along as items_along, collected, collected_is}, proofs.Walking.{box_size-whole, walk_is}}
+use Rattle.arrays_core.{specs.Items.{fill}, specs.declared.item.Item.TheVariants.{Num}, specs.Arrays.{ArrayValue, item_of}, specs.Shapes.{is_index_of, places_before, size}, proofs.Shapes.{places_below}}
 use Rattle.function_names.specs.declared.scalar.Scalar2.{Scalar2}
 use Rattle.item_fns.{specs.Folds.{strided, line_start}, proofs.RightFolds.{length-strided, get_or-strided}, specs.RightFold.{fold_right}}
-use Rattle.index_region.{specs.Axes.{places_along}, specs.Boxes.{Interval, box_offset, is_within, walk_at, whole_of}, proofs.Walks.{offset_below, walk_of_offset, walk_within}, specs.Patches.{PatchValue, FitsPatch, patched}, proofs.Boxes.{fits_length}, proofs.Patched.{patched_at}}
+use Rattle.index_region.{specs.Axes.{places_along}, specs.Boxes.{Interval, is_within}, specs.Patches.{PatchValue, FitsPatch, patched}, proofs.Boxes.{fits_length}, proofs.Patched.{patched_at}}
 use Rattle.fold_trees.specs.ArrayLines.{TreesValue, line_count, numbers_of_line}
 use Rattle.reduce_fns.{specs.Laws.LineIndices.{inside}, proofs.Lines.{long_with_axis, stride}, proofs.Reduced.{lines_whole, start_is}, specs.Lines.{line}}
-use Rattle.sum_rules.{specs.LineSums.{StandFor, line_length, line_step}, specs.Totals.{box_of_lines, is_one_a_line}, proofs.OneAxis.{size_with_one, walk_with_one}, proofs.Lines.{some_step}}
+use Rattle.sum_rules.{specs.LineSums.{StandFor, line_length, line_step}, specs.Totals.{box_of_lines}, proofs.Lines.{some_step}}
 
 -- an index list in a box is in it on the other axes
 within_rest : (axis : ℕ) (region : List Interval) (index : List ℕ) (j : ℕ) → axis < length region → length index + 1 ≡ length region → is_within region (insert index axis j) ≡ true → is_within (remove region axis) index ≡ true
@@ -18,18 +17,6 @@ within_rest (suc axis) (s ∷ region) [] j h e inside = absurd (omega arith)
 within_rest (suc axis) (s ∷ region) (i ∷ index) j h e inside =
     let here = and_parts _ _ inside in
     and_from _ _ here.0 (within_rest axis region index j (omega arith) (omega arith) here.1)
-
--- a box with one place on the axis holds every index list that it holds on the others
-pub within_one : (axis : ℕ) (region : List Interval) (index : List ℕ) → axis < length region → is_one_a_line axis region ≡ true → is_within (box_of_lines axis region) index ≡ true
-    → is_within region (insert index axis (get_or region axis (1, 0)).0) ≡ true
-within_one axis region index on one within =
-    let same = eqb-true _ _ one in
-    let rest = remove region axis in
-    let before = box_offset rest index in
-    let below = offset_below rest index within in
-    let at : walk_at region before ≡ insert index axis (get_or region axis (1, 0)).0 =
-    walk_with_one axis region before on same below ∙ ap (λ (i : List ℕ). insert i axis (get_or region axis (1, 0)).0) (walk_of_offset rest index within) in
-    subst (λ (i : List ℕ). is_within region i ≡ true) at (walk_within region before (omega (arith, below, size_with_one axis region on same)))
 
 -- the number of trees is the number of lines
 pub lines_counted : (axis : ℕ) (t : TreesValue) (a : ArrayValue) → StandFor t axis a → line_count t ≡ size (remove a.shape axis)
@@ -43,13 +30,6 @@ lines_counted axis t a stand =
 -- a line has a tree
 pub line_below : (axis : ℕ) (t : TreesValue) (a : ArrayValue) → StandFor t axis a → (index : List ℕ) → is_index_of (remove a.shape axis) index ≡ true → places_before (remove a.shape axis) index < line_count t
 line_below axis t a stand index on = omega (arith, lines_counted axis t a stand, places_below (remove a.shape axis) index on)
-
--- the items at all index lists, in the order of the walk of the whole
-pub items_walked : (shape : List ℕ) (item : List ℕ → Result Item Kind) → all_or_first_error (map item (indices shape)) ≡ collected (map (λ (q : ℕ). item (walk_at (whole_of shape) q)) (range_with_len 0 (size shape)))
-items_walked shape item =
-    ap (λ (rs : List (Result Item Kind)). all_or_first_error rs) (sym (walk_is shape item))
-    ∙ sym (collected_is (items_along item (whole_of shape)))
-    ∙ ap (λ k. collected (map (λ (q : ℕ). item (walk_at (whole_of shape) q)) (range_with_len 0 k))) (box_size-whole shape)
 
 -- a line of numbers, at a fixed distance in a list
 pub line_of_numbers : (a : ArrayValue) (axis : ℕ) (index : List ℕ) (numbers : List ℤ) (first step n : ℕ) → places_along a.shape axis ≡ n

@@ -1,31 +1,15 @@
 -- The totals of lines with one more number each.
-use Rattle.std.{proofs.Common.{◌≡◌, ◌∙◌, ℕ, zero, suc, ◌+◌, ◌-◌, ◌*◌, ◌/◌, ◌<◌, ◌≤◌, ℤ, pos, List, [], ◌∷◌, ◌++◌, length, drop, get_or, map, remove, refl, ap, sym, subst, arith, inl, inr, Result, Ok}, specs.List.{range_with_len}, proofs.lemmas.Bool.{cases_lt}}
-use Rattle.std.{proofs.lemmas.List.{ext_get_or, length-append, length-map, map-append, get_or_append_left, get_or-append_right}, proofs.lemmas.List.FromFn.{length-map-range_with_len, get_or-map-range_with_len}, proofs.Math.ListN.{get_or-map}}
+use Rattle.std.{proofs.Common.{◌≡◌, ◌∙◌, ℕ, zero, suc, ◌+◌, ◌-◌, ◌*◌, ◌/◌, ◌<◌, ◌≤◌, ℤ, pos, List, [], ◌∷◌, ◌++◌, length, drop, get_or, map, remove, refl, ap, sym, subst, arith, inl, inr, Ok}, specs.Borrow.{Bor}, proofs.lemmas.Bool.{cases_lt}}
+use Rattle.std.{proofs.lemmas.List.{ext_get_or, length-append, length-map, map-append, get_or_append_left, get_or-append_right}}
 use Rattle.std.{proofs.Math.Nat.{div-eq_of_lt, mod-eq_of_lt, mul-div_cancel, mul-le-mul_left}, proofs.lemmas.Nat.{mul-add-lt}}
-use Rattle.arrays_core.{specs.declared.item.Item.{Item}, specs.declared.item.Item.TheVariants.{Num}, specs.declared.item.ItemType.{ItemType}, specs.declared.item.ItemType.TheVariants.{Nums}, specs.declared.item.Kind.{Kind}, specs.Arrays.{ArrayValue, with_items}, specs.Growth.{one_longer}}
-use Rattle.arrays_core.{specs.Items.{all_or_first_error}, specs.Shapes.{size, indices, places_before}, proofs.Growing.{rank_longer, size_longer}, proofs.Order.{length-indices, get_or-indices, places_before-index_after}, proofs.Shapes.{places_below}}
+use Rattle.arrays_core.{specs.declared.item.Item.{Item}, specs.declared.item.Item.TheVariants.{Num}, specs.declared.item.ItemType.{ItemType}, specs.declared.item.ItemType.TheVariants.{Nums}, specs.Arrays.{ArrayValue, collect}, specs.Growth.{one_longer}}
+use Rattle.arrays_core.{specs.Shapes.{size, places_before}, proofs.Growing.{rank_longer, size_longer}, proofs.Shapes.{places_below}}
 use Rattle.function_names.{specs.declared.scalar.Scalar2.{Scalar2}, specs.Axes.{axis_at, is_axis}}
-use Rattle.item_fns.{specs.Folds.{strided, folded, line_start}, specs.Items.{number_item}, specs.Numbers.{dyadic_on_numbers}, proofs.RightFolds.{length-strided, get_or-strided}, specs.RightFold.{fold_right}, proofs.ItemFolds.{number_items_folded}}
+use Rattle.item_fns.{specs.Folds.{strided, folded, line_start}, specs.Items.{number_item}, specs.Numbers.{dyadic_on_numbers}, proofs.RightFolds.{length-strided, get_or-strided}}
 use Rattle.index_region.{specs.Checks.{form_of}, specs.Tails.{TailValue}}
-use Rattle.reduce_fns.{specs.Reduce.{reduce_form, reduce_whole}, specs.declared.reduce.Reduce.{Reduce}, proofs.Placewise.{collected_same}, specs.Laws.ReducedShapes.{reduce_facts}, proofs.Reduced.{reduced_whole}}
+use Rattle.reduce_fns.{specs.Reduce.{reduce_form}, specs.declared.reduce.Reduce.{Reduce}, proofs.Placewise.{collected_same}, specs.Laws.ReducedShapes.{reduce_facts}, proofs.Reduced.{reduced_whole}}
 use Rattle.fold_trees.specs.ArrayLines.{TreesValue, line_count, numbers_of_line}
-use Rattle.sum_rules.{specs.LineSums.{StandFor, length_along, line_length, line_step}, specs.Totals.{StoodBefore, AreJoinsWithin, longer_totals}, proofs.KeptSums.{along_axis}, proofs.Lines.{some_in_line, some_step}, proofs.MorePlaces.{between, longer, same_step}}
-
--- the total of one line
-abbrev pub longer_total : Scalar2 → TreesValue → List ℤ → ℕ → Result Item Kind
-longer_total f t numbers line = fold_right f (map (λ (z : ℤ). Num z) (numbers_of_line t line ++ get_or numbers line (pos 0) ∷ []))
-
--- items computed from places come in the order of the places
-pub items_by_place : (shape : List ℕ) (f : ℕ → Result Item Kind) → map (λ index. f (places_before shape index)) (indices shape) ≡ map f (range_with_len 0 (size shape))
-items_by_place shape f =
-    let rule = λ (index : List ℕ). f (places_before shape index) in
-    let n = length-map (indices shape) rule ∙ length-indices shape in
-    ext_get_or (rule []) (map rule (indices shape)) (map f (range_with_len 0 (size shape))) (n ∙ sym (length-map-range_with_len f 0 (size shape))) (λ i h.
-    let below : i < size shape = omega (arith, h, n) in
-    get_or-map rule (indices shape) i []
-    ∙ ap rule (get_or-indices shape i below)
-    ∙ ap f (places_before-index_after shape i below)
-    ∙ sym (get_or-map-range_with_len f 0 (size shape) i i (rule []) below (omega arith)))
+use Rattle.sum_rules.{specs.LineSums.{StandFor, length_along, line_length, line_step}, specs.Totals.{StoodBefore, AreJoinsWithin}, specs.Summed.{AreTotals, total_at}, specs.declared.summed.News.TheVariants.{Behind}, proofs.KeptSums.{along_axis}, proofs.Lines.{some_in_line, some_step}, proofs.MorePlaces.{between, longer, same_step}}
 
 -- if the lines are interleaved, line n begins at place n
 first_of_line : (step count line : ℕ) → line < step → line_start step count line ≡ line
@@ -149,27 +133,26 @@ module _ (fold : Reduce) (t : TreesValue) (tail : TailValue) (now : ArrayValue) 
     pub places_are : size shape ≡ length tail.items
     places_are = ap size shaped ∙ sym apart ∙ sym items_are
 
-    -- the result is the list of these totals
-    pub whole_is : (f : Scalar2) → (numbers : List ℤ) → tail.items ≡ map (λ (z : ℤ). Num z) numbers
-        → reduce_whole f fold.along now ≡ with_items Nums shape (all_or_first_error (longer_totals f t numbers))
-    whole_is f numbers are =
-        let xs = t.numbers ++ numbers in
+    -- the result has these totals
+    pub told_longer : (f : Scalar2) → f ≡ fold.function → (numbers : Bor (List ℤ)) → tail.items ≡ map (λ (z : ℤ). Num z) numbers.now → AreTotals fold f t (Behind numbers) now shape
+    told_longer f same numbers are =
+        let xs = t.numbers ++ numbers.now in
         let n = t.count + 1 in
         let s = t.step in
-        let given = λ (place : ℕ). number_item (folded (dyadic_on_numbers f) (strided (pos 0) xs (line_start s n place) s n)) in
+        let given = λ (g : Scalar2) (place : ℕ). number_item (folded (dyadic_on_numbers g) (strided (pos 0) xs (line_start s n place) s n)) in
         let items : now.items ≡ map (λ (z : ℤ). Num z) xs =
-        ap (λ (a : ArrayValue). a.items) stood.is ∙ (λ i. (stand.is i).items ++ are i) ∙ sym (map-append (λ (z : ℤ). Num z) t.numbers numbers) in
+        ap (λ (a : ArrayValue). a.items) stood.is ∙ (λ i. (stand.is i).items ++ are i) ∙ sym (map-append (λ (z : ℤ). Num z) t.numbers numbers.now) in
         let typed : now.item_type ≡ Nums = ap (λ (a : ArrayValue). a.item_type) stood.is ∙ ap (λ (a : ArrayValue). a.item_type) stand.is in
         let there : 0 < length now.shape = omega (arith, rank, stand.there) in
         let step_is : s ≡ size (drop 1 now.shape) = stand.apart ∙ sym (ap (line_step 0) shape_now ∙ same_step b.shape) in
         let some : 0 < size now.shape = omega (arith, ap size shape_now, size_longer b.shape stand.there, stand.some) in
-        let alike = λ (place : ℕ) (below : place < size shape).
-        let zs = strided (pos 0) xs (line_start s n place) s n in
-        let long : length zs ≡ n = length-strided (pos 0) xs (line_start s n place) s n in
-        let line = line_longer t numbers place some_apart old_places (omega (arith, below, places_are, items_are)) in
-        sym (ap (λ (l : List ℤ). fold_right f (map (λ (z : ℤ). Num z) l)) line ∙ number_items_folded f zs (omega (arith, long))) in
-        reduced_whole f now xs items typed fold.along shape type 0 n s form (sym first) there (sym now_longer) step_is some
-        ∙ collected_same Nums shape (λ index. given (places_before shape index)) (λ index. longer_total f t numbers (places_before shape index)) (λ index inside.
-        alike (places_before shape index) (places_below shape index inside))
-        ∙ ap (λ (rs : List (Result Item Kind)). with_items Nums shape (all_or_first_error rs)) (items_by_place shape (longer_total f t numbers))
-        ∙ ap (λ (k : ℕ). with_items Nums shape (all_or_first_error (map (longer_total f t numbers) (range_with_len 0 k)))) (places_are ∙ sym (as_many_numbers numbers are))
+        record {
+          places = places_are ∙ sym lines_are;
+          some = some_count;
+          fit = λ more is. ap (λ (l : List ℤ). length l) (let same : more.now ≡ numbers.now = cc in same) ∙ as_many_numbers numbers.now are ∙ sym places_are;
+          whole = reduced_whole fold.function now xs items typed fold.along shape type 0 n s form (sym first) there (sym now_longer) step_is some
+              ∙ ap (λ (g : Scalar2). collect Nums shape (λ index. given g (places_before shape index))) (sym same)
+              ∙ collected_same Nums shape (λ index. given f (places_before shape index)) (λ index. number_item (total_at f t (Behind numbers) shape (places_before shape index))) (λ index inside.
+              ap (λ (l : List ℤ). number_item (folded (dyadic_on_numbers f) l))
+              (sym (line_longer t numbers.now (places_before shape index) some_apart old_places (omega (arith, places_below shape index inside, places_are, items_are)))));
+        }

@@ -3,3 +3,4 @@ pub mod LineSums
 pub mod JoinedPatches
 pub mod NewLines
 pub mod Totals
+pub mod Summed

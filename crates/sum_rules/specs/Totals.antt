@@ -1,13 +1,12 @@
 -- The totals of the lines of an array whose sums are kept as trees.
-use Rattle.std.{specs.Prelude.{◌≡◌, ℕ, ◌+◌, ◌-◌, ◌*◌, ◌<◌, ◌≤◌, ◌^◌, ℤ, pos, nat_eq, Bool, true, false, List, [], ◌∷◌, ◌++◌, length, get_or, map, remove, All, Result}, specs.List.{flat_map, range_with_len}}
+use Rattle.std.{specs.Prelude.{◌≡◌, ℕ, ◌+◌, ◌-◌, ◌*◌, ◌<◌, ◌≤◌, ◌^◌, ℤ, nat_eq, Bool, true, false, List, [], ◌∷◌, length, get_or, remove, All}, specs.List.{flat_map}}
 use Rattle.function_names.{specs.declared.scalar.Scalar2.{Scalar2}, specs.declared.scalar.Scalar2.TheVariants.{Plus}, specs.Axes.{is_axis, axis_at}, specs.declared.along.Along.{Along}, specs.declared.along.Along.TheVariants.{Last}}
-use Rattle.arrays_core.{specs.Arrays.{ArrayValue}, specs.Growth.{grown_by}, specs.declared.item.Item.{Item}, specs.declared.item.Item.TheVariants.{Num}, specs.declared.item.Kind.{Kind}, specs.Outcomes.{Outcome}}
+use Rattle.arrays_core.{specs.Arrays.{ArrayValue}, specs.Growth.{grown_by}, specs.Outcomes.{Outcome}}
 use Rattle.index_region.{specs.declared.delta.Delta.{Delta}, specs.declared.delta.Delta.TheVariants.{Patch, Grown}, specs.Boxes.{Interval, box_size}, specs.Patches.{PatchValue, FitsPatch, patched}, specs.Tails.{TailValue, FitsTail}}
 use Rattle.change_core.{specs.RuleModels.{RuleModel}, specs.Meters.{ticked}}
 use Rattle.change_rules.specs.Nodes.{Argument, node_cost}
 use Rattle.reduce_fns.{specs.declared.reduce.Reduce.{Reduce}, specs.Reduce.{reduce_rule}}
-use Rattle.item_fns.specs.RightFold.{fold_right}
-use Rattle.fold_trees.specs.ArrayLines.{TreesValue, line_count, numbers_of_line}
+use Rattle.fold_trees.specs.ArrayLines.{TreesValue}
 use Rattle.sum_rules.specs.LineSums.{StandFor, length_along}
 
 -- the totals of a reduction, such as +/B
@@ -52,14 +51,6 @@ pub record IsSummedByLines (arg : Argument) (lines : List (List ℤ)) : Type 0 w
   pub changed : (p : PatchValue) → arg.1.now ≡ Patch p → AreAllAsLong (length_along Last arg.0.shape) lines × StoodFor Last (all_trees (length_along Last arg.0.shape) lines) p arg.0
   pub grew : (tail : TailValue) → arg.1.now ≡ Grown tail → length arg.0.shape ≡ 1 → 1 < length_along Last arg.0.shape
       → AreAllAsLong (length_along Last arg.0.shape - 1) lines × StoodBefore Last (all_trees (length_along Last arg.0.shape - 1) lines) tail arg.0
-
--- the totals of lines with one more number at the end of each
-abbrev pub longer_totals : Scalar2 → TreesValue → (numbers : List ℤ) → List (Result Item Kind)
-longer_totals function t numbers = map (λ line. fold_right function (map (λ z. Num z) (numbers_of_line t line ++ get_or numbers line (pos 0) ∷ []))) (range_with_len 0 (length numbers))
-
--- the totals of all lines
-abbrev pub all_totals : Scalar2 → TreesValue → List (Result Item Kind)
-all_totals function t = map (λ line. fold_right function (map (λ z. Num z) (numbers_of_line t line))) (range_with_len 0 (line_count t))
 
 -- the number of items that are new by a patch or a growth
 abbrev pub new_items : Delta → ℕ

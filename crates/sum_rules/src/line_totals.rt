@@ -1,7 +1,7 @@
 //! Trees that compute the total of a line with another number at a place, or one more at its end.
 
-ghost use Rattle.std.specs.Prelude.{◌≡◌, ◌<◌, ◌-◌, ◌/◌, ◌%◌, ◌++◌, ◌∷◌, [], length};
-ghost use Rattle.fold_trees.specs.FoldTrees.{IsWithinDigitsOf, IsReductionBy};
+ghost use Rattle.std.specs.Prelude.{◌≡◌, true, ◌<◌, ◌-◌, ◌/◌, ◌%◌, ◌++◌, ◌∷◌, [], length};
+ghost use Rattle.fold_trees.specs.FoldTrees.{IsWithinDigitsOf, IsReductionBy, has_trees};
 ghost use Rattle.fold_trees.specs.Joined.{IsJoinedFor};
 ghost use Rattle.fold_trees.specs.ArrayLines.{TreesValue, line_count, numbers_of_line, numbers_through, with_number};
 ghost use Rattle.function_names.specs.declared.scalar.Scalar2.{Scalar2 as Function};
@@ -10,12 +10,13 @@ ghost use Rattle.sum_rules.specs.Totals.{AreAllAsLong, all_trees};
 
 use arrays_core::Kind;
 use fold_trees::{FoldTrees, Joined, SumTree};
+use item_fns::Scalar2;
 use std::marker::Model;
 
 /// Trees of the lines of an array along an axis, for one function.
 pub trait LineTotals {
-    ghost use Rattle.std.specs.Prelude.{◌<◌, ◌-◌, ◌++◌, ◌∷◌, [], length};
-    ghost use Rattle.fold_trees.specs.FoldTrees.{IsWithinDigitsOf, IsReductionBy};
+    ghost use Rattle.std.specs.Prelude.{◌≡◌, true, ◌<◌, ◌-◌, ◌++◌, ◌∷◌, [], length};
+    ghost use Rattle.fold_trees.specs.FoldTrees.{IsWithinDigitsOf, IsReductionBy, has_trees};
     ghost use Rattle.fold_trees.specs.ArrayLines.{TreesValue, line_count, numbers_of_line, numbers_through, with_number};
     ghost use Rattle.function_names.specs.declared.scalar.Scalar2.{Scalar2 as Function};
 
@@ -24,6 +25,11 @@ pub trait LineTotals {
 
     // The numbers of all lines.
     ghost trees: { Self → TreesValue };
+
+    /// Returns the function that folds the lines.
+    fn folds_by(&self) -> Scalar2
+        ensures is { result ≡ function self.now }
+        ensures one { has_trees result ≡ true };
 
     /// Returns the total of the line through a place with another number there, and the number of parts joined for it. Places count from 0. Fails
     /// with the error of the right fold.
@@ -50,32 +56,6 @@ pub trait LineTotals {
     fn total_behind(&self, line: usize, number: i64) -> Result<i64, Kind>
         requires { line < line_count (trees self.now) }
         ensures { IsReductionBy (function self.now) (numbers_of_line (trees self.now) line ++ number ∷ []) result };
-}
-
-impl LineTotals for FoldTrees {
-    ghost function = { λ t. t.function };
-
-    ghost trees = { λ t. t.lines };
-
-    fn total_with(&self, place: usize, number: i64) -> (Result<i64, Kind>, u32) {
-        self.result_with(place, number)
-    }
-
-    fn total(&self, line: usize) -> Result<i64, Kind> {
-        self.result(line)
-    }
-
-    fn failing_line(&self) -> usize {
-        FoldTrees::failing_line(self)
-    }
-
-    fn remember_failing(&self, line: usize) {
-        FoldTrees::remember_failing(self, line);
-    }
-
-    fn total_behind(&self, line: usize, number: i64) -> Result<i64, Kind> {
-        self.result_behind(line, number)
-    }
 }
 
 /// Trees, with the parts joined for another number at one place, if any.
@@ -125,6 +105,10 @@ impl<'a> LineTotals for JoinedTrees<'a> {
 
     ghost trees = { λ t. t.lines };
 
+    fn folds_by(&self) -> Scalar2 {
+        self.trees.function()
+    }
+
     fn total_with(&self, place: usize, number: i64) -> (Result<i64, Kind>, u32) {
         if let Some(joined) = self.joined {
             if joined.is_for(place, number) {
@@ -164,6 +148,10 @@ impl<'a> LineTotals for TreeALine<'a> {
     ghost function = { λ t. Sum };
 
     ghost trees = { λ t. all_trees t.count t.trees.now };
+
+    fn folds_by(&self) -> Scalar2 {
+        Scalar2::Plus
+    }
 
     fn total_with(&self, place: usize, number: i64) -> (Result<i64, Kind>, u32) {
         self.trees[place / self.count].result_with(place % self.count, number)

@@ -2,8 +2,7 @@
 
 ghost use Rattle.std.specs.Prelude.{◌≡◌, ◌-◌, ◌+◌, ◌≤◌, ◌<◌, ◌∷◌, [], true, false, Some, length, map, remove, IfOk, OnOk, IsTrue};
 ghost use Rattle.arrays_core.specs.declared.item.Item.TheVariants.{Num};
-ghost use Rattle.arrays_core.specs.Arrays.{with_items, IsAnswerTo};
-ghost use Rattle.arrays_core.specs.Items.{all_or_first_error, type_of};
+ghost use Rattle.arrays_core.specs.Items.{type_of};
 ghost use Rattle.arrays_core.specs.Shapes.{size, IsWithinLimits};
 ghost use Rattle.arrays_core.specs.declared.item.ItemType.TheVariants.{Nums};
 ghost use Rattle.index_region.specs.declared.delta.Delta.TheVariants.{Whole};
@@ -23,11 +22,11 @@ ghost use Rattle.change_rules.specs.Evaluation.{evaluation};
 ghost use Rattle.change_rules.specs.Nodes.{views, moved, is_error, node_delta, node_cost, reached_delta, reached_cost, patch_delta};
 ghost use Rattle.change_rules.specs.Currency.{BringsUpToDate, HasAxis, IsRight};
 ghost use Rattle.sum_rules.specs.LineSums.{StandFor, array_of_shape, length_along};
-ghost use Rattle.sum_rules.specs.Totals.{total_rule, longer_totals, StoodFor, StoodBefore, IsSummedUp, IsSummedByLines, AreJoinsWithin, AreJoinsFrom, AreFoldsWithin, AreFolds, HasJoins, HasAllJoins, is_one_a_line, box_of_lines, row_sums};
+ghost use Rattle.sum_rules.specs.Totals.{total_rule, StoodFor, StoodBefore, IsSummedUp, IsSummedByLines, AreJoinsWithin, AreJoinsFrom, AreFoldsWithin, AreFolds, HasJoins, HasAllJoins, is_one_a_line, box_of_lines, row_sums};
 
-use crate::after_error::change_after_error;
 use crate::line_sums::length_along;
 use crate::line_totals::{LineTotals, TreeALine};
+use crate::summed::{News, change_after_error, change_whole};
 use arrays_core::{
     ApplyFault, Array, Fault, Item, ItemType, Kind, Shape, outcome, places_before, shape_of,
 };
@@ -69,7 +68,7 @@ fn total_with<S: LineTotals>(sums: &S, place: usize, item: Item) -> (Result<Item
 }
 
 /// Returns the total of the line through a place of the patch, with its new number. Does not allocate.
-pub(crate) fn line_total<S: LineTotals>(
+fn line_total<S: LineTotals>(
     fold: Reduce,
     shape: &Shape,
     sums: &S,
@@ -209,7 +208,7 @@ fn patch_of_one<S: LineTotals>(
 }
 
 /// Replaces `change` by the patch of the totals of the changed lines, or by the first error among them. For one total it does not allocate.
-fn patch_of<S: LineTotals>(
+pub(crate) fn patch_of<S: LineTotals>(
     alloc: Global,
     fold: Reduce,
     region: IndexBox,
@@ -241,38 +240,6 @@ fn patch_of<S: LineTotals>(
     Ok(())
 }
 
-/// Returns the totals of all lines with one more number after each line, or the first error among them.
-fn totals_behind<S: LineTotals>(
-    alloc: Global,
-    shape: &Shape,
-    sums: &S,
-    numbers: &[i64],
-    meter: &mut Meter,
-) -> Result<Array, ApplyFault>
-    requires within { IsWithinLimits shape.now.items }
-    requires places { size shape.now.items ≡ length numbers.now }
-    requires some { 0 < length numbers.now }
-    requires lines { line_count (S.trees sums.now) ≡ length numbers.now }
-    ensures totals { IsAnswerTo (with_items Nums shape.now.items (all_or_first_error (longer_totals (S.function sums.now) (S.trees sums.now) numbers.now))) result }
-    ensures ticks { meter.new.ticks ≤ meter.old.ticks + length numbers.now }
-    ensures exact { IfOk result (λ _. meter.new.ticks ≡ ticked meter.old.ticks (length numbers.now)) }
-    ensures rises { meter.old.ticks ≤ meter.new.ticks }
-    ensures joins { meter.new.joins ≤ meter.old.joins + length numbers.now }
-    ensures least { IfOk result (λ _. ticked meter.old.joins (length numbers.now) ≤ meter.new.joins) }
-{
-    let mut totals = Array::filled(alloc, ItemType::Nums, shape)?;
-    for line in 0..numbers.len() {
-        let total = sums.total_behind(line, numbers[line]);
-        meter.tick();
-        meter.count_joins(1);
-        match total {
-            Ok(total) => totals.write_at(line as u32 + 1, Item::Num(total)),
-            Err(kind) => return Err(ApplyFault::Kind(kind)),
-        }
-    }
-    Ok(totals)
-}
-
 /// Replaces `change` by all totals of an array whose lines got one more place each. Returns their number as the cost. Takes one join for each total.
 fn change_by_growth<S: LineTotals>(
     alloc: Global,
@@ -294,18 +261,12 @@ fn change_by_growth<S: LineTotals>(
     ensures joins { AreJoinsWithin (length tail.now.items) (length_along fold.along array.now.shape) meter.old.joins meter.new.joins }
     ensures least { OnOk result (is_error change.new ≡ false → AreJoinsFrom (length tail.now.items) (length_along fold.along array.now.shape) meter.old.joins meter.new.joins) }
 {
-    let form = match fold.shape(&[array.again()]) {
-        Ok(form) => form,
-        Err(kind) => {
-            *change = Delta::Whole(Err(kind.into()));
-            return Ok(0);
-        }
-    };
     let Some(numbers) = tail.numbers() else {
         unreachable!()
     };
-    let cost = numbers.len() as u32;
-    *change = Delta::Whole(outcome(totals_behind(alloc, &form.0, sums, numbers, meter))?);
+    let cost = change_whole(alloc, fold, array, sums, News::Behind(numbers), change)?;
+    meter.add(cost);
+    meter.count_joins(numbers.len() as u64);
     Ok(cost)
 }
 
