@@ -2,6 +2,7 @@ pub mod Walked
 pub mod PatchRight
 pub mod Refreshed
 pub mod Nodes
+pub mod Told
 mod OneBox
 pub mod GrownRight
 pub mod NodeRight

@@ -3,4 +3,5 @@ pub mod Evaluation
 pub mod Nodes
 pub mod Currency
 -- Used by bodies.
+pub mod Together
 pub mod Copies

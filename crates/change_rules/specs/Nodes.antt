@@ -1,9 +1,9 @@
 -- The change of a node, from the changes of its arguments.
-use Rattle.std.{specs.Prelude.{ℕ, List, [], ◌∷◌, ◌&&◌, Bool, true, false, ◌||◌, not, Option, Some, None, Result, Ok, Err, if◌then◌else◌, map, is_ok}, specs.Borrow.{Bor}, specs.List.{list_all, list_any}}
-use Rattle.arrays_core.{specs.declared.item.Item.{Item}, specs.declared.item.ItemType.{ItemType}, specs.declared.item.Kind.{Kind}, specs.Arrays.{ArrayValue}, specs.Items.{type_of}, specs.Shapes.{size}, specs.Outcomes.{Outcome, fault, given}}
-use Rattle.index_region.{specs.declared.delta.Delta.{Delta}, specs.declared.delta.Delta.TheVariants.{Same, Patch, Grown, Whole}, specs.Boxes.{Interval, box_size}, specs.Checks.{Form, whole}}
+use Rattle.std.{specs.Prelude.{◌≡◌, ℕ, List, [], ◌∷◌, ◌&&◌, Bool, true, false, ◌||◌, not, Option, Some, None, Result, Ok, Err, if◌then◌else◌, map, is_ok}, specs.Borrow.{Bor}, specs.List.{list_all, list_any}}
+use Rattle.arrays_core.{specs.declared.item.Item.{Item}, specs.declared.item.ItemType.{ItemType}, specs.declared.item.Kind.{Kind}, specs.Arrays.{ArrayValue}, specs.Shapes.{size}, specs.Outcomes.{Outcome, fault, given}}
+use Rattle.index_region.{specs.declared.delta.Delta.{Delta}, specs.declared.delta.Delta.TheVariants.{Same, Patch, Grown, Whole}, specs.declared.moved.Moved.{Moved}, specs.Boxes.{Interval, box_size}, specs.Checks.{Form, whole}, specs.Moves.{Tells}}
 use Rattle.change_core.{specs.declared.reach.Reach.{Reach}, specs.declared.reach.Reach.TheVariants.{Unmoved, Inside, Anew}, specs.Parts.{items_in}, specs.Growth.{last_place}, specs.Reaches.{reach_of}, specs.RuleModels.{RuleModel, form_size}}
-use Rattle.change_rules.{specs.declared.one_place.OnePlace.{OnePlace}, specs.Evaluation.{evaluation}}
+use Rattle.change_rules.specs.Evaluation.{evaluation}
 
 -- an argument of a node: its new array, and its change
 abbrev pub Argument : Type 0
@@ -11,6 +11,12 @@ Argument = ArrayValue × Bor Delta
 
 abbrev pub views : List Argument → List ArrayValue
 views args = map (λ a. a.0) args
+
+-- the arguments have these views, and each `Moved` agrees with the change of its argument
+abbrev pub AreArguments : List ArrayValue → List Moved → List Argument → Type 0
+AreArguments [] [] [] = Unit {0}
+AreArguments (v ∷ seen) (m ∷ moved) (a ∷ args) = (a.0 ≡ v) × Tells m a.1.now × AreArguments seen moved args
+AreArguments _ _ _ = ⊥
 
 abbrev pub is_same : Delta → Bool
 is_same Same = true
@@ -70,14 +76,6 @@ starts_anew args old = list_any (λ a. is_whole a.1.now) args || not (is_ok old)
 abbrev pub patch_delta : ItemType → List Interval → Result (List Item) Kind → Delta
 patch_delta item_type region (Ok items) = Patch (record { region = region; item_type = item_type; items = items })
 patch_delta item_type region (Err kind) = Whole (Err (fault kind))
-
--- a patch of one place of a result, or its error
-abbrev pub place_delta : List Interval → Result Item Kind → Delta
-place_delta region (Ok item) = Patch (record { region = region; item_type = type_of item; items = item ∷ [] })
-place_delta region (Err kind) = Whole (Err (fault kind))
-
-abbrev pub delta_of_place : OnePlace → Delta
-delta_of_place p = place_delta p.region p.given
 
 -- nothing, a patch of the box, or the whole, according to the reach; or the error of the checks
 abbrev pub delta_in : Result Form Kind → (List ℕ → Result Item Kind) → Reach → Delta

@@ -1,105 +1,93 @@
-//! The arguments of a node: each is a view of its new value, with its change.
+//! The arguments of a node: their views, and the changed places of each.
 
-ghost use Rattle.std.specs.Prelude.{◌≡◌, IfOk, map, ◌||◌};
-ghost use Rattle.change_rules.specs.Nodes.{views, moved, all_same, starts_anew, is_whole, is_grown, is_grown_at_most, all_patched_at_most, marks};
+ghost use Rattle.std.specs.Prelude.{◌≡◌, ◌||◌, IfOk, is_ok, map, not};
 ghost use Rattle.std.specs.List.{list_all, list_any};
-ghost use Rattle.index_region.specs.Moves.{changed_box};
 ghost use Rattle.arrays_core.specs.Arrays.{IsArray};
 ghost use Rattle.change_core.specs.Tightness.{Each};
+ghost use Rattle.change_rules.specs.Nodes.{AreArguments};
+ghost use Rattle.change_rules.specs.Together.{is_unmoved, is_replaced, is_longer, is_longer_at_most};
 
 use arrays_core::{Array, Fault};
 use index_region::{Delta, Moved, Seen};
+use smallvec::SmallVec;
 use std::alloc::{AllocError, Global};
 
-/// Returns the views of the new arguments.
-pub(crate) fn views_of<'x>(
+/// For each argument, whether it grew. Up to four arguments need no allocation.
+type Marks = SmallVec<bool, 4>;
+
+/// The views of arguments, and the changed places of each.
+type Lists<'x> = (Vec<Seen<'x>>, Vec<Moved<'x>>);
+
+/// Splits arguments into their views and their changed places.
+pub(crate) fn lists_of<'x>(
     alloc: Global,
     args: &'x [(Seen, &Delta)],
-) -> Result<Vec<Seen<'x>>, AllocError>
-    ensures { IfOk result (λ v. v.items ≡ views args.now) }
+) -> Result<Lists<'x>, AllocError>
+    ensures { IfOk result (λ lists. AreArguments lists.0.items lists.1.items args.now) }
 {
-    let mut views = Vec::new(alloc);
-    for (view, _) in args {
-        views.push(view.again())?;
+    let mut seen = Vec::new(alloc);
+    let mut moved = Vec::new(alloc);
+    for (view, delta) in args {
+        seen.push(view.again())?;
+        moved.push(Moved::of(delta))?;
     }
-    Ok(views)
+    Ok((seen, moved))
 }
 
-/// Establishes that the arguments are arrays, by reading the shape of each view.
-pub(crate) fn views_are_arrays(args: &[(Seen, &Delta)])
-    ensures { Each IsArray (views args.now) }
+/// Establishes that the views are of arrays, by reading the shape of each.
+pub(crate) fn views_are_arrays(seen: &[Seen])
+    ensures { Each IsArray seen.now }
 {
-    if let Some(((view, _), args)) = args.split_first() {
+    if let Some((view, seen)) = seen.split_first() {
         let _is_array = view.shape();
-        views_are_arrays(args);
+        views_are_arrays(seen);
     }
-}
-
-/// Returns the changed places of each argument.
-#[tactic(auto, using(crate::proofs::OneBox::tells_box))]
-pub(crate) fn moves_of<'c>(
-    alloc: Global,
-    args: &[(Seen, &'c Delta)],
-) -> Result<Vec<Moved<'c>>, AllocError>
-    ensures { IfOk result (λ v. map changed_box v.items ≡ moved args.now) }
-{
-    let mut moves = Vec::new(alloc);
-    for (_, delta) in args {
-        moves.push(Moved::of(delta))?;
-    }
-    Ok(moves)
 }
 
 /// Tells if no argument changed.
-pub(crate) fn all_same(args: &[(Seen, &Delta)]) -> bool
-    ensures { result ≡ all_same args.now }
+pub(crate) fn none_moved(moved: &[Moved]) -> bool
+    ensures { result ≡ list_all is_unmoved moved.now }
 {
-    args.iter().all(|(_, delta)| matches!(delta, Delta::Same))
+    moved.iter().all(|places| matches!(places, Moved::Not))
 }
 
 /// Tells if some argument was replaced as a whole, by an array or an error.
-fn any_whole(args: &[(Seen, &Delta)]) -> bool
-    ensures { result ≡ list_any (λ a. is_whole a.1.now) args.now }
+fn any_anew(moved: &[Moved]) -> bool
+    ensures { result ≡ list_any is_replaced moved.now }
 {
-    args.iter()
-        .any(|(_, delta)| matches!(delta, Delta::Whole(_)))
+    moved.iter().any(|places| matches!(places, Moved::Anew))
 }
 
 /// Tells if the node is evaluated from scratch: an argument was replaced as a whole, or the node held an error.
-pub(crate) fn starts_anew(args: &[(Seen, &Delta)], old: &Result<Array, Fault>) -> bool
-    ensures { result ≡ starts_anew args.now old.now }
+pub(crate) fn starts_anew(moved: &[Moved], held: &Result<Array, Fault>) -> bool
+    ensures { result ≡ (list_any is_replaced moved.now || not (is_ok held.now)) }
 {
-    any_whole(args) || old.is_err()
+    any_anew(moved) || held.is_err()
 }
 
-/// Tells if each argument is the same or was patched.
-pub(crate) fn patched_at_most(args: &[(Seen, &Delta)]) -> bool
-    ensures { result ≡ all_patched_at_most args.now }
+/// Tells if some argument grew.
+pub(crate) fn any_longer(moved: &[Moved]) -> bool
+    ensures { result ≡ list_any is_longer moved.now }
 {
-    args.iter().all(|(_, delta)| matches!(delta, Delta::Same | Delta::Patch(_)))
+    moved.iter().any(|places| matches!(places, Moved::Longer))
 }
 
 /// Tells if each argument is the same or grew.
-pub(crate) fn grown_at_most(args: &[(Seen, &Delta)]) -> bool
-    ensures { result ≡ list_all (λ a. is_grown_at_most a.1.now) args.now }
+pub(crate) fn longer_at_most(moved: &[Moved]) -> bool
+    ensures { result ≡ list_all is_longer_at_most moved.now }
 {
-    args.iter().all(|(_, delta)| matches!(delta, Delta::Same | Delta::Grown(_)))
-}
-
-/// Tells if a change is a growth.
-pub(crate) fn is_grown(delta: &Delta) -> bool
-    ensures { result ≡ is_grown delta.now }
-{
-    matches!(delta, Delta::Grown(_))
+    moved
+        .iter()
+        .all(|places| matches!(places, Moved::Not | Moved::Longer))
 }
 
 /// Marks the arguments that grew.
-pub(crate) fn marks_of(alloc: Global, args: &[(Seen, &Delta)]) -> Result<Vec<bool>, AllocError>
-    ensures { IfOk result (λ v. v.items ≡ marks args.now) }
+pub(crate) fn marks_of(alloc: Global, moved: &[Moved]) -> Result<Marks, AllocError>
+    ensures { IfOk result (λ marks. marks.items ≡ map is_longer moved.now) }
 {
-    let mut marks = Vec::new(alloc);
-    for (_, delta) in args {
-        marks.push(is_grown(delta))?;
+    let mut marks = SmallVec::new(alloc);
+    for places in moved {
+        marks.push(matches!(places, Moved::Longer))?;
     }
     Ok(marks)
 }

@@ -4,10 +4,8 @@
 mod arguments;
 mod evaluation;
 mod node;
-mod one_place;
 mod patch;
 
 pub use change_core::{Meter, Reach, Rule, growth_extends, reach_covers};
 pub use index_region::{Delta, Patch, Seen, Tail};
-pub use node::{refresh, refresh_with_cost};
-pub use one_place::{OnePlace, refreshed_place};
+pub use node::{change_of, refresh, refresh_with_cost};

@@ -1,29 +1,26 @@
 //! The change of a node, from the changes of its arguments.
 
-ghost use Rattle.std.specs.Prelude.{◌≡◌, ◌+◌, is_ok, ◌≤◌, ◌<◌, length, map, IfOk, OnOk, Ok, Some, false};
-ghost use Rattle.arrays_core.specs.Arrays.{IsArray};
+ghost use Rattle.std.specs.Prelude.{◌≡◌, ◌+◌, ◌≤◌, List, length, map, IfOk, OnOk, Ok, Some, false};
 ghost use Rattle.arrays_core.specs.Shapes.{IsWithinLimits};
 ghost use Rattle.arrays_core.specs.declared.item.ItemType.{ItemType as TypeOfItems};
 ghost use Rattle.index_region.specs.Boxes.{box_size};
 ghost use Rattle.index_region.specs.Checks.{form_of};
 ghost use Rattle.index_region.specs.Moves.{changed_box};
 ghost use Rattle.change_core.specs.Growth.{last_place};
-ghost use Rattle.change_core.specs.Tightness.{Each};
 ghost use Rattle.change_core.specs.Reaches.{AllFit};
 ghost use Rattle.change_core.specs.Meters.{ticked, most_ticks};
 ghost use Rattle.change_core.specs.RuleModels.{form_size};
 ghost use Rattle.index_region.specs.declared.delta.Delta.TheVariants.{Whole};
 ghost use Rattle.change_rules.specs.Evaluation.{evaluation};
-ghost use Rattle.change_rules.specs.Nodes.{views, moved, is_error, all_same, node_delta, node_cost, reached_delta, reached_cost, node_grows, grown_delta, grown_cost, grown_in, grown_size};
+ghost use Rattle.change_rules.specs.Nodes.{Argument, AreArguments, views, moved, is_error, node_delta, node_cost, reached_delta, reached_cost, grown_in, grown_size};
+ghost use Rattle.change_rules.specs.Together.{lengthens, longer_delta, longer_cost, moved_delta, moved_cost};
 ghost use Rattle.change_rules.specs.Currency.{BringsUpToDate, HasAxis, IsRight};
 
 use crate::arguments::{
-    all_same, grown_at_most, is_grown, marks_of, moves_of, patched_at_most, starts_anew,
-    views_are_arrays, views_of,
+    any_longer, lists_of, longer_at_most, marks_of, none_moved, starts_anew, views_are_arrays,
 };
 use crate::evaluation::evaluate;
-use crate::one_place::{OnePlace, is_one_place};
-use crate::patch::patch_of;
+use crate::patch::{is_one_place, patch_of, patch_of_one};
 use arrays_core::{Array, Fault, Shape, outcome, shape_of, size};
 use change_core::{Meter, Reach, Reached, Rule, last_place};
 use index_region::{Delta, IndexBox, Moved, Seen, Tail};
@@ -34,23 +31,23 @@ use std::alloc::{AllocError, Global};
 fn reached<R: Rule>(
     alloc: Global,
     rule: &R,
-    args: &[Seen],
-    moves: &[Moved],
+    seen: &[Seen],
+    moved: &[Moved],
     change: &mut Delta,
     meter: &mut Meter,
 ) -> Result<u32, AllocError>
-    requires count { length args.now ≡ length (R.model rule.now).selectors }
-    requires moves { length moves.now ≡ length args.now }
-    requires fit { AllFit args.now (map changed_box moves.now) }
+    requires count { length seen.now ≡ length (R.model rule.now).selectors }
+    requires moves { length moved.now ≡ length seen.now }
+    requires fit { AllFit seen.now (map changed_box moved.now) }
     requires small { meter.old.ticks ≤ most_ticks }
-    ensures delta { OnOk result (change.new ≡ reached_delta (R.model rule.now) args.now (map changed_box moves.now)) }
-    ensures cost { IfOk result (λ n. n ≡ reached_cost (R.model rule.now) args.now (map changed_box moves.now)) }
-    ensures ticks { meter.new.ticks ≤ meter.old.ticks + reached_cost (R.model rule.now) args.now (map changed_box moves.now) }
+    ensures delta { OnOk result (change.new ≡ reached_delta (R.model rule.now) seen.now (map changed_box moved.now)) }
+    ensures cost { IfOk result (λ n. n ≡ reached_cost (R.model rule.now) seen.now (map changed_box moved.now)) }
+    ensures ticks { meter.new.ticks ≤ meter.old.ticks + reached_cost (R.model rule.now) seen.now (map changed_box moved.now) }
     ensures exact { IfOk result (λ n. is_error change.new ≡ false → meter.new.ticks ≡ ticked meter.old.ticks n) }
     ensures rises { meter.old.ticks ≤ meter.new.ticks }
     ensures joins { meter.new.joins ≡ meter.old.joins }
 {
-    let reached = match rule.reached(args, moves) {
+    let reached = match rule.reached(seen, moved) {
         Ok(reached) => reached,
         Err(kind) => {
             *change = Delta::Whole(Err(kind.into()));
@@ -65,46 +62,13 @@ fn reached<R: Rule>(
         }
         Reach::Inside(region) => {
             if reads_few && is_one_place(&region) {
-                *change = OnePlace::of(rule, args, region, meter).delta();
+                patch_of_one(rule, seen, region, change, meter);
                 return Ok(1);
             }
-            patch_of(alloc, rule, args, region, change, meter)
+            patch_of(alloc, rule, seen, region, change, meter)
         }
-        Reach::Anew => change_anew(alloc, rule, args, change, meter),
+        Reach::Anew => change_anew(alloc, rule, seen, change, meter),
     }
-}
-
-/// Writes the change of a node with a changed argument, and returns its cost.
-fn change_from<R: Rule>(
-    alloc: Global,
-    rule: &R,
-    seen: &[Seen],
-    moves: &[Moved],
-    args: &[(Seen, &Delta)],
-    old: &Result<Array, Fault>,
-    change: &mut Delta,
-    meter: &mut Meter,
-) -> Result<u32, AllocError>
-    requires count { length args.now ≡ length (R.model rule.now).selectors }
-    requires fit { AllFit (views args.now) (moved args.now) }
-    requires seen { seen.now ≡ views args.now }
-    requires moves { map changed_box moves.now ≡ moved args.now }
-    requires some { all_same args.now ≡ false }
-    requires small { meter.old.ticks ≤ most_ticks }
-    ensures delta { OnOk result (change.new ≡ node_delta (R.model rule.now) args.now old.now) }
-    ensures cost { IfOk result (λ n. n ≡ node_cost (R.model rule.now) args.now old.now) }
-    ensures ticks { meter.new.ticks ≤ meter.old.ticks + node_cost (R.model rule.now) args.now old.now }
-    ensures exact { IfOk result (λ n. is_error change.new ≡ false → meter.new.ticks ≡ ticked meter.old.ticks n) }
-    ensures rises { meter.old.ticks ≤ meter.new.ticks }
-    ensures joins { meter.new.joins ≡ meter.old.joins }
-{
-    if old.is_ok() && patched_at_most(args) {
-        return reached(alloc, rule, seen, moves, change, meter);
-    }
-    if starts_anew(args, old) {
-        return change_anew(alloc, rule, seen, change, meter);
-    }
-    change_grown(alloc, rule, seen, args, change, meter)
 }
 
 /// Evaluates the node from scratch, writes the result as the change, and returns its cost.
@@ -138,52 +102,43 @@ fn change_grown<R: Rule>(
     alloc: Global,
     rule: &R,
     seen: &[Seen],
-    args: &[(Seen, &Delta)],
+    moved: &[Moved],
     change: &mut Delta,
     meter: &mut Meter,
 ) -> Result<u32, AllocError>
-    requires count { length args.now ≡ length (R.model rule.now).selectors }
-    requires seen { seen.now ≡ views args.now }
+    requires count { length seen.now ≡ length (R.model rule.now).selectors }
+    requires moves { length moved.now ≡ length seen.now }
     requires small { meter.old.ticks ≤ most_ticks }
-    ensures delta { OnOk result (change.new ≡ grown_delta (R.model rule.now) args.now) }
-    ensures cost { IfOk result (λ n. n ≡ grown_cost (R.model rule.now) args.now) }
-    ensures ticks { meter.new.ticks ≤ meter.old.ticks + grown_cost (R.model rule.now) args.now }
+    ensures delta { OnOk result (change.new ≡ longer_delta (R.model rule.now) seen.now moved.now) }
+    ensures cost { IfOk result (λ n. n ≡ longer_cost (R.model rule.now) seen.now moved.now) }
+    ensures ticks { meter.new.ticks ≤ meter.old.ticks + longer_cost (R.model rule.now) seen.now moved.now }
     ensures exact { IfOk result (λ n. is_error change.new ≡ false → meter.new.ticks ≡ ticked meter.old.ticks n) }
     ensures rises { meter.old.ticks ≤ meter.new.ticks }
     ensures joins { meter.new.joins ≡ meter.old.joins }
 {
-    if node_grows(alloc, rule, seen, args)? {
+    if node_grows(alloc, rule, seen, moved)? {
         tail_of(alloc, rule, seen, change, meter)
     } else {
         change_anew(alloc, rule, seen, change, meter)
     }
 }
 
-/// Tells if the node grows by one place of its first axis. Up to three arguments are marked without allocation.
+/// Tells if the node grows by one place of its first axis.
 fn node_grows<R: Rule>(
     alloc: Global,
     rule: &R,
     seen: &[Seen],
-    args: &[(Seen, &Delta)],
+    moved: &[Moved],
 ) -> Result<bool, AllocError>
-    requires count { length args.now ≡ length (R.model rule.now).selectors }
-    requires seen { seen.now ≡ views args.now }
-    ensures { IfOk result (λ b. b ≡ node_grows (R.model rule.now) args.now) }
+    requires count { length seen.now ≡ length (R.model rule.now).selectors }
+    requires moves { length moved.now ≡ length seen.now }
+    ensures { IfOk result (λ b. b ≡ lengthens (R.model rule.now) seen.now moved.now) }
 {
-    if !grown_at_most(args) {
+    if !longer_at_most(moved) {
         return Ok(false);
     }
-    match args {
-        [(_, d)] => Ok(rule.grows(seen, &[is_grown(d)])),
-        [(_, d), (_, e)] => Ok(rule.grows(seen, &[is_grown(d), is_grown(e)])),
-        [(_, d), (_, e), (_, f)] => {
-            Ok(rule.grows(seen, &[is_grown(d), is_grown(e), is_grown(f)]))
-        }
-        _ => {
-            let marks = marks_of(alloc, args)?;
-            Ok(rule.grows(seen, &marks))
-        }
-    }
+    let marks = marks_of(alloc, moved)?;
+    Ok(rule.grows(seen, marks.as_slice()))
 }
 
 /// Runs the checks, then writes the items of the new last place as the change. Returns its cost.
@@ -256,79 +211,69 @@ fn tail_of_one<R: Rule>(
     Ok(())
 }
 
-/// Writes the change of a node, and returns its cost. Views and boxes of up to three arguments are not allocated.
+/// Writes the change of a node, by cases on the changed places of its arguments. Returns its cost.
 #[inline(always)]
-#[tactic(auto, using(crate::proofs::OneBox::moved_of_one, crate::proofs::OneBox::moved_of_two))]
-fn change_of<R: Rule>(
+fn change_by_moves<R: Rule>(
     alloc: Global,
     rule: &R,
-    args: &[(Seen, &Delta)],
-    old: &Result<Array, Fault>,
+    seen: &[Seen],
+    moved: &[Moved],
+    held: &Result<Array, Fault>,
     change: &mut Delta,
     meter: &mut Meter,
 ) -> Result<u32, AllocError>
-    requires count { length args.now ≡ length (R.model rule.now).selectors }
-    requires fit { AllFit (views args.now) (moved args.now) }
-    requires sound { Each IsArray (views args.now) }
+    requires count { length seen.now ≡ length (R.model rule.now).selectors }
+    requires moves { length moved.now ≡ length seen.now }
+    requires fit { AllFit seen.now (map changed_box moved.now) }
     requires small { meter.old.ticks ≤ most_ticks }
-    ensures delta { OnOk result (change.new ≡ node_delta (R.model rule.now) args.now old.now) }
-    ensures cost { IfOk result (λ n. n ≡ node_cost (R.model rule.now) args.now old.now) }
-    ensures ticks { meter.new.ticks ≤ meter.old.ticks + node_cost (R.model rule.now) args.now old.now }
+    ensures delta { OnOk result (change.new ≡ moved_delta (R.model rule.now) seen.now moved.now held.now) }
+    ensures cost { IfOk result (λ n. n ≡ moved_cost (R.model rule.now) seen.now moved.now held.now) }
+    ensures ticks { meter.new.ticks ≤ meter.old.ticks + moved_cost (R.model rule.now) seen.now moved.now held.now }
     ensures exact { IfOk result (λ n. is_error change.new ≡ false → meter.new.ticks ≡ ticked meter.old.ticks n) }
     ensures rises { meter.old.ticks ≤ meter.new.ticks }
     ensures joins { meter.new.joins ≡ meter.old.joins }
 {
-    if all_same(args) {
+    if none_moved(moved) {
         *change = Delta::Same;
         return Ok(0);
     }
-    match args {
-        [(a, d)] => {
-            let seen = [a.again()];
-            let moves = [Moved::of(d)];
-            change_from(alloc, rule, &seen, &moves, args, old, change, meter)
-        }
-        [(a, d), (b, e)] => {
-            let seen = [a.again(), b.again()];
-            let moves = [Moved::of(d), Moved::of(e)];
-            change_from(alloc, rule, &seen, &moves, args, old, change, meter)
-        }
-        _ => change_of_more(alloc, rule, args, old, change, meter),
+    if starts_anew(moved, held) {
+        return change_anew(alloc, rule, seen, change, meter);
     }
+    if any_longer(moved) {
+        return change_grown(alloc, rule, seen, moved, change, meter);
+    }
+    reached(alloc, rule, seen, moved, change, meter)
 }
 
-/// Writes the change of a node with more than two arguments, of which some changed. Returns its cost.
-fn change_of_more<R: Rule>(
+/// Replaces `change` by the change of a node, given the views of its arguments, the changed places of each and the value that it held. Returns the cost:
+/// the most items of the result that it computes. Does not allocate if one place of the result changes, unless `patch_of` does.
+#[inline(always)]
+pub fn change_of<R: Rule>(
     alloc: Global,
     rule: &R,
-    args: &[(Seen, &Delta)],
-    old: &Result<Array, Fault>,
+    seen: &[Seen],
+    moved: &[Moved],
+    held: &Result<Array, Fault>,
     change: &mut Delta,
     meter: &mut Meter,
 ) -> Result<u32, AllocError>
-    requires count { length args.now ≡ length (R.model rule.now).selectors }
-    requires fit { AllFit (views args.now) (moved args.now) }
-    requires some { all_same args.now ≡ false }
-    requires small { meter.old.ticks ≤ most_ticks }
-    ensures delta { OnOk result (change.new ≡ node_delta (R.model rule.now) args.now old.now) }
-    ensures cost { IfOk result (λ n. n ≡ node_cost (R.model rule.now) args.now old.now) }
-    ensures ticks { meter.new.ticks ≤ meter.old.ticks + node_cost (R.model rule.now) args.now old.now }
+    requires count { length seen.now ≡ length (R.model rule.now).selectors }
+    requires moves { length moved.now ≡ length seen.now }
+    requires fit { AllFit seen.now (map changed_box moved.now) }
+    ensures delta { OnOk result ((args : List Argument) → AreArguments seen.now moved.now args → change.new ≡ node_delta (R.model rule.now) args held.now) }
+    ensures cost { IfOk result (λ n. (args : List Argument) → AreArguments seen.now moved.now args → n ≡ node_cost (R.model rule.now) args held.now) }
+    ensures ticks { (args : List Argument) → AreArguments seen.now moved.now args → meter.new.ticks ≤ meter.old.ticks + node_cost (R.model rule.now) args held.now }
     ensures exact { IfOk result (λ n. is_error change.new ≡ false → meter.new.ticks ≡ ticked meter.old.ticks n) }
     ensures rises { meter.old.ticks ≤ meter.new.ticks }
     ensures joins { meter.new.joins ≡ meter.old.joins }
+    ensures right { OnOk result ((args : List Argument) → AreArguments seen.now moved.now args → IsRight (R.model rule.now) (views args) change.new) }
+    ensures whole { OnOk result ((args : List Argument) → AreArguments seen.now moved.now args → HasAxis args → BringsUpToDate (R.model rule.now) args held.now change.new) }
 {
-    match args {
-        [(a, d), (b, e), (c, f)] => {
-            let seen = [a.again(), b.again(), c.again()];
-            let moves = [Moved::of(d), Moved::of(e), Moved::of(f)];
-            change_from(alloc, rule, &seen, &moves, args, old, change, meter)
-        }
-        _ => {
-            let seen = views_of(alloc, args)?;
-            let moves = moves_of(alloc, args)?;
-            change_from(alloc, rule, &seen, &moves, args, old, change, meter)
-        }
-    }
+    views_are_arrays(seen);
+    // Reading the count brings in the fact that it fits 64 bits.
+    let _counted = meter.ticks();
+    change_by_moves(alloc, rule, seen, moved, held, change, meter)
 }
 
 /// Returns the change of a node from the changes of its arguments. If `old` was the evaluation of the old arguments, applying the change yields the
@@ -357,7 +302,7 @@ pub fn refresh<R: Rule>(
 }
 
 /// Replaces `change` by the change that `refresh` returns. Returns the cost: the most items of the result that it computes.
-#[inline(always)]
+#[tactic(auto, using(crate::proofs::Told::count_told, crate::proofs::Told::moves_told, crate::proofs::Told::fit_told))]
 pub fn refresh_with_cost<R: Rule>(
     alloc: Global,
     rule: &R,
@@ -378,8 +323,18 @@ pub fn refresh_with_cost<R: Rule>(
     ensures right { OnOk result (IsRight (R.model rule.now) (views args.now) change.new) }
     ensures whole { OnOk result (BringsUpToDate (R.model rule.now) args.now old.now change.new) }
 {
-    views_are_arrays(args);
-    // Reading the count brings in the fact that it fits 64 bits.
-    let _counted = meter.ticks();
-    change_of(alloc, rule, args, old, change, meter)
+    // One argument needs no allocation.
+    if let [(array, delta)] = args {
+        return change_of(
+            alloc,
+            rule,
+            &[array.again()],
+            &[Moved::of(delta)],
+            old,
+            change,
+            meter,
+        );
+    }
+    let (seen, moved) = lists_of(alloc, args)?;
+    change_of(alloc, rule, &seen, &moved, old, change, meter)
 }

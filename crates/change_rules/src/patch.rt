@@ -1,6 +1,7 @@
 //! The new items of a box of a result.
 
-ghost use Rattle.std.specs.Prelude.{◌≡◌, ◌+◌, ◌≤◌, length, false, Ok, IsTrue, IfOk, OnOk};
+ghost use Rattle.std.specs.Prelude.{◌≡◌, ◌==◌, ◌+◌, ◌≤◌, length, false, Ok, IsTrue, IfOk, OnOk};
+ghost use Rattle.std.specs.List.{list_all};
 ghost use Rattle.index_region.specs.Answers.{IsFormAnswerTo};
 ghost use Rattle.index_region.specs.Boxes.{box_size, fits};
 ghost use Rattle.index_region.specs.Checks.{Form};
@@ -10,7 +11,6 @@ ghost use Rattle.change_core.specs.Parts.{HoldsItems, items_in};
 ghost use Rattle.change_rules.specs.Nodes.{is_error, delta_in};
 
 use crate::evaluation::all_of;
-use crate::one_place::OnePlace;
 use arrays_core::{ApplyFault, Array, ItemType, Shape, outcome, size};
 use change_core::{Meter, Rule};
 use index_region::{Delta, IndexBox, Patch, Seen};
@@ -50,6 +50,37 @@ fn goes_item_by_item<R: Rule>(rule: &R, args: &[Seen]) -> bool {
     !rule.reads_many_items() || args.iter().all(|arg| arg.places() <= FEW_PLACES)
 }
 
+/// Tells if the box has one place.
+pub(crate) fn is_one_place(region: &IndexBox) -> bool
+    ensures { result ≡ list_all (λ s. s.0 == s.1) region.now }
+{
+    region.as_slice().iter().all(|(first, last)| first == last)
+}
+
+/// Replaces `change` by the patch of a box of one place, or by the error there. Ticks once, and does not allocate.
+#[inline(always)]
+pub(crate) fn patch_of_one<R: Rule>(
+    rule: &R,
+    args: &[Seen],
+    region: IndexBox,
+    change: &mut Delta,
+    meter: &mut Meter,
+)
+    requires count { length args.now ≡ length (R.model rule.now).selectors }
+    requires one { box_size region ≡ 1 }
+    requires checked { (f : Form) × ((R.model rule.now).form args.now ≡ Ok f) × IsTrue (fits region f.shape) }
+    ensures delta { change.new ≡ delta_in ((R.model rule.now).form args.now) ((R.model rule.now).item args.now) (Inside region) }
+    ensures ticks { meter.new.ticks ≡ ticked meter.old.ticks 1 }
+    ensures rises { meter.old.ticks ≤ meter.new.ticks }
+    ensures joins { meter.new.joins ≡ meter.old.joins }
+{
+    let index = region.index_at(0);
+    match rule.item(args, index.as_slice(), meter) {
+        Ok(item) => *change = Delta::Patch(Patch::one(region, item)),
+        Err(kind) => *change = Delta::Whole(Err(kind.into())),
+    }
+}
+
 /// Replaces `change` by the patch of a box of the result, or by the first error in it. Returns the cost. A single place does not allocate, unless it
 /// is the whole result and reads many items of a large argument.
 pub(crate) fn patch_of<R: Rule>(
@@ -75,7 +106,7 @@ pub(crate) fn patch_of<R: Rule>(
     };
     let cost = region.size() as u32;
     if cost == 1 && (size(form.0.as_slice()) > 1 || goes_item_by_item(rule, args)) {
-        *change = OnePlace::of(rule, args, region, meter).delta();
+        patch_of_one(rule, args, region, change, meter);
         return Ok(cost);
     }
     match outcome(items_of(alloc, rule, args, &form, &region, meter))? {

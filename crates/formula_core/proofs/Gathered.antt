@@ -1,16 +1,16 @@
 -- The inputs of an operation, collected for its rule if none is an error.
-use Rattle.std.{proofs.Common.{◌≡◌, ℕ, suc, ◌+◌, ◌≤◌, List, [], ◌∷◌, length, map, Bool, ◌&&◌, Option, Some, None, is_some, Result, Ok, Err, refl, sym, ap, ◌∙◌, subst, IfOk, OnOk, false, if◌then◌else◌, arith}, specs.Borrow.{Bor}, specs.List.{list_all}, specs.Result.{result_err}}
+use Rattle.std.{proofs.Common.{◌≡◌, ℕ, suc, ◌+◌, ◌≤◌, List, [], ◌∷◌, length, map, Bool, ◌&&◌, Option, Some, None, is_some, Result, Ok, Err, refl, sym, ap, ◌∙◌, subst, IfOk, if◌then◌else◌, arith}, specs.Borrow.{Bor}, specs.List.{list_all}, specs.Result.{result_err}}
 use Rattle.std.specs.declared.alloc.AllocError.{AllocError}
 use Rattle.arrays_core.{specs.Arrays.{ArrayValue}, specs.declared.fault.Fault.{Fault}, specs.Outcomes.{Outcome}}
 use Rattle.index_region.{specs.declared.delta.Delta.{Delta}, specs.declared.delta.Delta.TheVariants.{Same, Patch, Grown, Whole}}
-use Rattle.change_core.{specs.Reaches.{Fits, AllFit}, specs.Meters.{ticked}, specs.RuleModels.{RuleModel}}
-use Rattle.change_rules.{specs.Nodes.{Argument, is_error as shows_error, views, moved, moved_by, is_same, node_delta, node_cost}, specs.Currency.{HasAxis}}
+use Rattle.change_core.{specs.Reaches.{Fits, AllFit}, specs.RuleModels.{RuleModel}}
+use Rattle.change_rules.specs.Nodes.{Argument, views, moved, moved_by, is_same}
 use Rattle.selection_fns.specs.Index.{count_written}
 use Rattle.formula_core.{specs.declared.input.Input.{Input}, specs.declared.input.Input.TheVariants.{Good, Bad}, specs.Rules.{with_change, IsRefreshed}, specs.Changes.{FitsNow, argument_in_front, arguments, operation_delta, operation_cost}}
-use Rattle.formula_core.{specs.Inputs.{shown, stays, delta_of, HasFit, AllHaveFit, IsOperationChange, written_inputs, arrays_among, last_error}, proofs.Fitting.{axis_lies}, proofs.Stepping.{stays_same}, proofs.Values.{HaveValues, no_values, values_more, delta_by_values, cost_by_values}}
+use Rattle.formula_core.{specs.Inputs.{shown, stays, delta_of, HasFit, AllHaveFit, IsOperationChange, written_inputs, arrays_among, last_error}, proofs.Stepping.{stays_same}, proofs.Values.{HaveValues, no_values, values_more, delta_by_values, cost_by_values}}
 
 -- the inputs are all arrays, and these are the arrays
-record IsGathered (inputs : List Input) : Type 0 where
+pub record IsGathered (inputs : List Input) : Type 0 where
   pub are : arguments (map shown inputs) ≡ Ok (views (arrays_among inputs))
   pub told : HaveValues (arrays_among inputs) (views (arrays_among inputs)) (map delta_of inputs)
   pub count : length (arrays_among inputs) ≡ length inputs
@@ -23,7 +23,7 @@ some_in_front : (f : Fault) (r : Result (List ArrayValue) Fault) → result_err 
 some_in_front f (Err e) h = cc
 some_in_front f (Ok arrays) h = cc
 
-gathered : (inputs : List Input) → last_error inputs ≡ None → IsGathered inputs
+pub gathered : (inputs : List Input) → last_error inputs ≡ None → IsGathered inputs
 gathered [] h = record { are = refl; told = no_values; count = refl }
 gathered (Good a d ∷ inputs) h =
     let rest = gathered inputs (none_behind a (arguments (map shown inputs)) h) in
@@ -43,14 +43,6 @@ pub in_place : (P : Delta × ℕ → Type 0) (change : Delta) (r : Result ℕ Al
 in_place P change (Ok n) h = h
 in_place P change (Err e) h = tt
 
--- the refresh of an operation that stores its change, by the contract of the call
-pub refreshed_by : (p : RuleModel) (args : List Argument) (held : Outcome) (before after : ℕ) (change : Delta) (r : Result ℕ AllocError)
-    → OnOk r (change ≡ node_delta p args held) → IfOk r (λ n. n ≡ node_cost p args held) → after ≤ before + node_cost p args held
-    → IfOk r (λ n. shows_error change ≡ false → after ≡ ticked before n) → before ≤ after → IsRefreshed p args held before after (with_change change r)
-refreshed_by p args held before after change (Ok n) delta cost most exact rises =
-    record { delta = delta; cost = cost; ticks = most; least = λ sound. omega (arith, exact sound); rises = rises }
-refreshed_by p args held before after change (Err e) delta cost most exact rises = record { delta = tt; cost = tt; ticks = most; least = tt; rises = rises }
-
 -- if all inputs are arrays, the change by the rule is the change of the operation
 pub refreshed_change : (p : RuleModel) (inputs : List Input) (held : Outcome) (before after : ℕ) (r : Result (Delta × ℕ) AllocError) → last_error inputs ≡ None
     → IsRefreshed p (arrays_among inputs) held before after r → IsOperationChange p inputs held before after r
@@ -68,7 +60,7 @@ refreshed_change p inputs held before after r none made =
     }
 
 -- beside an error
-list_stays : (inputs : List Input) → list_all stays inputs ≡ list_all is_same (map delta_of inputs)
+pub list_stays : (inputs : List Input) → list_all stays inputs ≡ list_all is_same (map delta_of inputs)
 list_stays [] = refl
 list_stays (i ∷ inputs) = let here = stays_same i in let rest = list_stays inputs in λ k. here k && rest k
 
@@ -117,11 +109,6 @@ pub arrays_fit : (inputs : List Input) → EachHasFit inputs → AllFit (views (
 arrays_fit [] h = tt
 arrays_fit (Good a d ∷ inputs) h = (box_lies a d.now h.0, arrays_fit inputs h.1)
 arrays_fit (Bad f changed ∷ inputs) h = arrays_fit inputs h.1
-
-pub arrays_have_axes : (inputs : List Input) → EachHasFit inputs → HasAxis (arrays_among inputs)
-arrays_have_axes [] h = tt
-arrays_have_axes (Good a d ∷ inputs) h = (axis_lies a d.now h.0, arrays_have_axes inputs h.1)
-arrays_have_axes (Bad f changed ∷ inputs) h = arrays_have_axes inputs h.1
 
 -- the number of written positions
 written_count : (positions : List (Option Input)) → length (written_inputs positions) ≡ count_written (map is_some positions)

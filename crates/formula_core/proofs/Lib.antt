@@ -13,7 +13,9 @@ pub mod Stepping
 pub mod Digits
 pub mod Narrow
 pub mod Totalled
+pub mod Told
 pub mod Gathered
+pub mod Refused
 pub mod Counted
 pub mod Steps
 pub mod Summed
@@ -22,7 +24,7 @@ pub mod Adopted
 pub mod Placed
 pub mod Planned
 pub mod Progressed
+pub mod Pushed
 pub mod Tallied
 pub mod AtRest
 mod Origins
-pub mod Places

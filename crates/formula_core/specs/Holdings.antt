@@ -2,7 +2,7 @@
 use Rattle.std.specs.Prelude.{◌≡◌, ℕ, ◌<◌, All, Bool, true, false, ◌&&◌, List, Option, None, Err, length, get_or, map}
 use Rattle.arrays_core.{specs.declared.item.Kind.TheVariants.{Value}, specs.Outcomes.{Outcome, fault}}
 use Rattle.index_region.{specs.declared.delta.Delta.{Delta}, specs.declared.delta.Delta.TheVariants.{Same, Patch, Grown, Whole}}
-use Rattle.change_rules.{specs.Currency.{applied}, specs.declared.one_place.OnePlace.{OnePlace}, specs.Nodes.{delta_of_place}}
+use Rattle.change_rules.specs.Currency.{applied}
 use Rattle.sum_rules.specs.LineSums.{SummedValue}
 use Rattle.apl_expr.specs.Trees.{Tree}
 use Rattle.formula_core.{specs.declared.kept.Kept.{Kept}, specs.declared.kept.NodeChange.{NodeChange}, specs.declared.sums.SumsDelta.{SumsDelta}, specs.declared.table.Node.{Node}, specs.Changes.{FitsIn, each_with}, specs.Meaning.{eval}, specs.Sums.{summed_at, resummed, FitsInSums}}
@@ -38,10 +38,6 @@ AreNotWorkedOut nodes = All (λ k. holding k ≡ not_worked_out) nodes
 -- the change of a node that stays
 abbrev pub no_change : NodeChange
 no_change = record { delta = Same; sums = sums.Same }
-
--- the change of a node in one place, or to the error found there
-abbrev pub place_change : OnePlace → NodeChange
-place_change p = record { delta = delta_of_place p; sums = sums.Same }
 
 -- nothing changes, or only items of the result
 abbrev pub lent_delta : Delta → Bool

@@ -11,7 +11,7 @@ use crate::refreshing::Operation;
 use apl_expr::{Function1, Function2};
 use arrays_core::{Array, Fault};
 use change_core::Meter;
-use index_region::{Delta, Seen};
+use index_region::{Delta, Moved, Seen};
 use std::alloc::{AllocError, Global};
 
 /// Applies a function of one argument. Returns the array or the error without an origin.
@@ -22,10 +22,10 @@ pub(crate) fn of_right(
 ) -> Result<Result<Array, Fault>, AllocError>
     ensures { IfOk result (λ outcome. outcome ≡ given (of_right function array.now)) }
 {
-    let anew = Delta::Whole(Err(unknown()));
     let operation = Operation {
         alloc,
-        args: &[(Seen::plain(array), &anew)],
+        seen: &[Seen::plain(array)],
+        moved: &[Moved::Anew],
         held: &Err(unknown()),
     };
     let mut change = Delta::Same;
@@ -42,10 +42,10 @@ pub(crate) fn of_both(
 ) -> Result<Result<Array, Fault>, AllocError>
     ensures { IfOk result (λ outcome. outcome ≡ given (of_both function left.now right.now)) }
 {
-    let anew = Delta::Whole(Err(unknown()));
     let operation = Operation {
         alloc,
-        args: &[(Seen::plain(left), &anew), (Seen::plain(right), &anew)],
+        seen: &[Seen::plain(left), Seen::plain(right)],
+        moved: &[Moved::Anew, Moved::Anew],
         held: &Err(unknown()),
     };
     let mut change = Delta::Same;

@@ -1,25 +1,24 @@
 //! A formula: an expression as a table of nodes, with the last result of each node.
 
-ghost use Rattle.std.specs.Prelude.{◌≡◌, ◌+◌, ◌≤◌, ◌<◌, ℕ, List, true, false, [], length, get_or, min, IfOk, IfSome, IsNone, OnOk, OnErr, MatchBool};
+ghost use Rattle.std.specs.Prelude.{◌≡◌, ◌+◌, ◌≤◌, ◌<◌, ℕ, List, true, false, [], length, min, IfOk, OnOk, OnErr, MatchBool};
 ghost use Rattle.std.specs.List.{Contains, count_by};
 ghost use Rattle.apl_expr.specs.Trees.{tree_of};
 ghost use Rattle.change_core.specs.Meters.{ticked};
-ghost use Rattle.index_region.specs.Boxes.{box_size};
 ghost use Rattle.index_region.specs.declared.delta.Delta.TheVariants.{Same};
 ghost use Rattle.formula_core.specs.Outcomes.{read};
 ghost use Rattle.formula_core.specs.Meaning.{eval, names_in};
 ghost use Rattle.formula_core.specs.Changes.{NamesChange, at_rest};
-ghost use Rattle.formula_core.specs.Holdings.{nodes_of, not_worked_out, place_change, adopted, AreNotWorkedOut};
+ghost use Rattle.formula_core.specs.Holdings.{nodes_of, adopted, AreNotWorkedOut};
 ghost use Rattle.formula_core.specs.Formulas.{new_formula, root_result, operations, IsHeld, IsTableOf};
 ghost use Rattle.formula_core.specs.Joins.{most_joins, least_joins, tree_joins, tree_least_joins};
 ghost use Rattle.formula_core.specs.Plans.{tree_cost, node_cost_at, IsComputed, AllComputed, IsPlanOf, IsTold, IsPlanned};
 ghost use Rattle.formula_core.specs.Progress.{operations_among, IsPlannedTo};
-ghost use Rattle.formula_core.specs.Stages.{IsBegun, IsLiteralChange, IsNodeStep, IsOneMore};
+ghost use Rattle.formula_core.specs.Stages.{IsBegun, IsLiteralChange, IsOneMore};
 ghost use Rattle.formula_core.specs.Tables.{applies, subtrees, tree_at};
 
 use crate::evaluation::{Shows, errors_shown, inputs_at_rest};
 use crate::input::Input;
-use crate::kept::{Kept, NodeChange, adopt_all, push_place};
+use crate::kept::{Kept, NodeChange, adopt_all};
 use crate::lent_fault::{LentFault, unknown};
 use crate::plan::Plan;
 use crate::stage::Stage;
@@ -28,7 +27,6 @@ use apl_expr::Expr;
 use apl_tokens::Name;
 use arrays_core::{Array, Fault};
 use change_core::{Count, Meter};
-use change_rules::OnePlace;
 use index_region::Delta;
 use std::alloc::{AllocError, Global};
 use std::cell::Cell;
@@ -185,7 +183,7 @@ impl Formula {
         if self.nodes[0].node.applies() {
             return Ok(plan);
         }
-        let _items = self.push_by_rule(&mut plan.changes, inputs, &mut Meter::new())?;
+        let _items = self.push_apart(self.is_new, &mut plan.changes, inputs, &mut Meter::new())?;
         Ok(plan)
     }
 
@@ -236,72 +234,69 @@ impl Formula {
             → IsOneMore self.now c changes.old.items changes.new.items n meter.old meter.new) }
         ensures err { OnErr result (changes.new.items ≡ changes.old.items) }
     {
-        let Some(place) = self.next_place(changes.as_slice(), inputs, meter) else {
-            return self.push_by_rule(changes, inputs, meter);
-        };
-        push_place(changes, place)?;
-        Ok(1)
+        if self.is_new {
+            return self.push_apart(true, changes, inputs, meter);
+        }
+        self.push(false, changes, inputs, meter)
     }
 
-    /// Appends the change of the next node by its rule. Returns its cost. Not inlined: its locals need stack that an edit of one place need not
-    /// clear.
+    /// Does the work of `push`. Not inlined: an edit does not use it.
     #[inline(never)]
-    fn push_by_rule(
+    fn push_apart(
         &self,
+        is_new: bool,
         changes: &mut Vec<NodeChange>,
         inputs: &[Input],
         meter: &mut Meter,
     ) -> Result<u32, AllocError>
+        requires new { is_new ≡ self.now.is_new }
         requires below { length changes.old.items < length self.now.nodes }
         requires begun { (c : NamesChange) × (IsTold self.now c inputs.now × ((cost : ℕ) × IsBegun self.now c changes.old.items cost)) }
         ensures more { IfOk result (λ n. (c : NamesChange) → IsTold self.now c inputs.now → (cost : ℕ) → IsBegun self.now c changes.old.items cost
             → IsOneMore self.now c changes.old.items changes.new.items n meter.old meter.new) }
         ensures err { OnErr result (changes.new.items ≡ changes.old.items) }
     {
-        let of_literals = of_literals(self.is_new);
-        let stage = Stage {
-            alloc: self.alloc,
-            is_new: self.is_new,
-            inputs,
-            nodes: self.nodes.as_slice(),
-            changes: changes.as_slice(),
-            of_literals: &of_literals,
-        };
-        let mut change = NodeChange::none();
-        let items = stage.next(&mut change, meter)?;
-        changes.push(change)?;
-        Ok(items)
+        self.push(is_new, changes, inputs, meter)
     }
 
-    /// Returns the one changed place of the next node if `Stage::next_place` knows it; `None` in a new formula.
+    /// Appends the change of the next node. Returns its cost. The change is large, so it is written in its place in the list.
     #[inline(always)]
-    fn next_place(
+    fn push(
         &self,
-        changes: &[NodeChange],
+        is_new: bool,
+        changes: &mut Vec<NodeChange>,
         inputs: &[Input],
         meter: &mut Meter,
-    ) -> Option<OnePlace>
-        requires below { length changes.now < length self.now.nodes }
-        requires begun { (c : NamesChange) × (IsTold self.now c inputs.now × ((cost : ℕ) × IsBegun self.now c changes.now cost)) }
-        ensures one { IfSome result (λ p. box_size p.region ≡ 1) }
-        ensures step { IfSome result (λ p. (c : NamesChange) → IsTold self.now c inputs.now → (cost : ℕ) → IsBegun self.now c changes.now cost
-            → IsNodeStep self.now.is_new c (tree_at (subtrees self.now.tree) (length changes.now)) (get_or self.now.nodes (length changes.now) not_worked_out)
-            (place_change p) 1 meter.old meter.new) }
-        ensures none { IsNone result → meter.new ≡ meter.old }
+    ) -> Result<u32, AllocError>
+        requires new { is_new ≡ self.now.is_new }
+        requires below { length changes.old.items < length self.now.nodes }
+        requires begun { (c : NamesChange) × (IsTold self.now c inputs.now × ((cost : ℕ) × IsBegun self.now c changes.old.items cost)) }
+        ensures more { IfOk result (λ n. (c : NamesChange) → IsTold self.now c inputs.now → (cost : ℕ) → IsBegun self.now c changes.old.items cost
+            → IsOneMore self.now c changes.old.items changes.new.items n meter.old meter.new) }
+        ensures err { OnErr result (changes.new.items ≡ changes.old.items) }
     {
-        if self.is_new {
-            return None;
-        }
-        let unchanged = Delta::Same;
+        let place = changes.len();
+        changes.push(NodeChange::none())?;
+        let Some((change, done)) = changes.split_last_mut() else {
+            unreachable!()
+        };
+        let of_literals = of_literals(is_new);
         let stage = Stage {
             alloc: self.alloc,
-            is_new: false,
+            is_new,
             inputs,
             nodes: self.nodes.as_slice(),
-            changes,
-            of_literals: &unchanged,
+            changes: done,
+            of_literals: &of_literals,
         };
-        stage.next_place(meter)
+        let items = match stage.next(change, meter) {
+            Ok(items) => items,
+            Err(refused) => {
+                changes.truncate(place);
+                return Err(refused);
+            }
+        };
+        Ok(items)
     }
 
     /// Applies a plan of this formula. Allocates nothing: patches are written in place. Keeps the memory of an edit's plan for the next plan. Frees

@@ -1,21 +1,17 @@
 //! A node with its stored results, and the changes of these.
 
-ghost use Rattle.std.specs.Prelude.{◌≡◌, ◌++◌, ◌∷◌, [], true, length, None, Err, OnOk, OnErr};
+ghost use Rattle.std.specs.Prelude.{◌≡◌, true, length, None, Err};
 ghost use Rattle.arrays_core.specs.declared.item.Kind.TheVariants.{Value};
-ghost use Rattle.index_region.specs.Boxes.{box_size};
 ghost use Rattle.change_rules.specs.Currency.{applied};
 ghost use Rattle.formula_core.specs.Changes.{FitsIn, each_with};
 ghost use Rattle.arrays_core.specs.Outcomes.{fault};
-ghost use Rattle.formula_core.specs.declared.sums.SumsDelta.TheVariants.{Same as Stays};
-ghost use Rattle.formula_core.specs.Holdings.{holding, holdings_of, can_be_lent, no_change, place_change, node_taking, IsFit, AllChangesFit};
+ghost use Rattle.formula_core.specs.Holdings.{holding, holdings_of, can_be_lent, no_change, node_taking, IsFit, AllChangesFit};
 
 use crate::lent_fault::unknown;
 use crate::sums::{SumsDelta, take_sums_delta};
 use crate::table::Node;
 use arrays_core::{Array, Fault};
-use change_rules::OnePlace;
-use index_region::{Delta, Patch};
-use std::alloc::AllocError;
+use index_region::Delta;
 use sum_rules::LineSums;
 
 /// A node of a formula with its stored results.
@@ -85,17 +81,6 @@ impl NodeChange {
         }
     }
 
-    /// Makes the change of a node without sums, or whose sums stay.
-    #[inline(always)]
-    fn of(delta: Delta) -> NodeChange
-        ensures { result ≡ record { delta = delta; sums = Stays } }
-    {
-        NodeChange {
-            delta,
-            sums: SumsDelta::Same,
-        }
-    }
-
     /// Returns whether the change can be applied while it is borrowed: nothing changes, or only items of the result.
     fn can_be_lent(&self) -> bool
         ensures { result ≡ can_be_lent self.now }
@@ -105,20 +90,6 @@ impl NodeChange {
             (Delta::Same | Delta::Patch(_), SumsDelta::Same)
         )
     }
-}
-
-/// Appends the change of one place, or its error. A change is large, so each variant is built where it is stored.
-#[inline(always)]
-pub(crate) fn push_place(changes: &mut Vec<NodeChange>, place: OnePlace) -> Result<(), AllocError>
-    requires { box_size place.region ≡ 1 }
-    ensures pushed { OnOk result (changes.new.items ≡ changes.old.items ++ place_change place ∷ []) }
-    ensures err { OnErr result (changes.new.items ≡ changes.old.items) }
-{
-    match place.given {
-        Ok(item) => changes.push(NodeChange::of(Delta::Patch(Patch::one(place.region, item))))?,
-        Err(kind) => changes.push(NodeChange::of(Delta::Whole(Err(kind.into()))))?,
-    }
-    Ok(())
 }
 
 /// Applies a change to a result. Allocates nothing: a patch writes its items in place, and a tail brings the memory that its items may need.

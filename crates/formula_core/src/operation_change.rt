@@ -1,11 +1,6 @@
 //! The change of an operation, from its inputs. An error among the inputs is the result.
 
-ghost use Rattle.std.specs.Prelude.{◌≡◌, [], ◌∷◌, Some, None, Ok, Err, IfSome, IsNone, if◌then◌else◌};
-ghost use Rattle.index_region.specs.Boxes.{box_size};
-ghost use Rattle.change_core.specs.Meters.{ticked};
-ghost use Rattle.change_rules.specs.Nodes.{delta_of_place};
-ghost use Rattle.scalar_fns.specs.EachMonadic.{each_monadic_rule};
-ghost use Rattle.scalar_fns.specs.EachDyadic.{each_dyadic_rule};
+ghost use Rattle.std.specs.Prelude.{◌≡◌, [], ◌∷◌, Some, None, Err, if◌then◌else◌};
 ghost use Rattle.index_region.specs.declared.delta.Delta.TheVariants.{Same, Whole as WholeDelta};
 ghost use Rattle.sum_rules.specs.Totals.{total_rule};
 ghost use Rattle.formula_core.specs.Inputs.{shown, delta_of, HasFit, IsOperationChange};
@@ -14,20 +9,19 @@ ghost use Rattle.formula_core.specs.Stages.{AreTotalsJoined};
 ghost use Rattle.formula_core.specs.Sums.{total_of as fold_of_total, IsSummedFor, IsJoinedFrom, AreNewSums, AreSumsKept};
 
 use crate::input::Input;
+use crate::lent_fault::LentFault;
 use crate::refreshing::Operation;
 use crate::sums::{SumsDelta, total_of, trees_with};
 use apl_expr::{Function1, Function2};
 use arrays_core::{Array, Fault};
 use change_core::Meter;
-use change_rules::OnePlace;
-use function_names::{Scalar1, Scalar2};
-use index_region::Delta;
+use index_region::{Delta, Moved};
 use operator_fns::Reduce;
-use scalar_fns::{EachDyadic, EachMonadic};
 use std::alloc::{AllocError, Global};
 use sum_rules::{LineSums, fold_totals_with_cost, read_totals_with_cost, refresh_totals_with_cost};
 
 /// Replaces `change` with the change of a function of one argument; returns its cost. An error of the argument is the result.
+#[inline(always)]
 fn change_of_right(
     alloc: Global,
     function: Function1,
@@ -42,16 +36,16 @@ fn change_of_right(
 {
     match right {
         Input::Good(array, delta) => {
-            let args = [(array.again(), *delta)];
             let operation = Operation {
                 alloc,
-                args: &args,
+                seen: &[array.again()],
+                moved: &[Moved::of(delta)],
                 held,
             };
             operation.of_right(function, change, meter)
         }
         Input::Bad { fault, .. } => {
-            *change = beside_error(fault.fault(), right.stays());
+            beside_error(fault, right.stays(), change);
             Ok(0)
         }
     }
@@ -59,6 +53,7 @@ fn change_of_right(
 
 /// Replaces `change` with the change of a function of one argument; returns its cost. A total uses the kept or rebuilt sums of its argument's
 /// lines. Only totals join.
+#[inline(always)]
 pub(crate) fn change_of_monad(
     alloc: Global,
     function: Function1,
@@ -86,6 +81,7 @@ pub(crate) fn change_of_monad(
 
 /// Replaces `change` with the change of a total along an axis; returns its cost. For a replaced array it reads the new sums, if there are any.
 /// Otherwise it uses the kept sums, or folds the lines if there are none. An error of the argument is the result.
+#[inline(never)]
 fn change_of_total(
     alloc: Global,
     fold: Reduce,
@@ -122,7 +118,7 @@ fn change_of_total(
             }
         }
         Input::Bad { fault, .. } => {
-            *change = beside_error(fault.fault(), right.stays());
+            beside_error(fault, right.stays(), change);
             Ok(0)
         }
     }
@@ -130,6 +126,7 @@ fn change_of_total(
 
 /// Replaces `change` with the change of a function of two arguments; returns its cost. An error of an argument is the result, the right one's
 /// first.
+#[inline(always)]
 pub(crate) fn change_of_both(
     alloc: Global,
     function: Function2,
@@ -147,18 +144,18 @@ pub(crate) fn change_of_both(
     let stay = left.stays() && right.stays();
     match (left, right) {
         (_, Input::Bad { fault, .. }) => {
-            *change = beside_error(fault.fault(), stay);
+            beside_error(fault, stay, change);
             Ok(0)
         }
         (Input::Bad { fault, .. }, _) => {
-            *change = beside_error(fault.fault(), stay);
+            beside_error(fault, stay, change);
             Ok(0)
         }
         (Input::Good(left, of_left), Input::Good(right, of_right)) => {
-            let args = [(left.again(), *of_left), (right.again(), *of_right)];
             let operation = Operation {
                 alloc,
-                args: &args,
+                seen: &[left.again(), right.again()],
+                moved: &[Moved::of(of_left), Moved::of(of_right)],
                 held,
             };
             operation.of_both(function, change, meter)
@@ -166,77 +163,15 @@ pub(crate) fn change_of_both(
     }
 }
 
-/// Returns the one changed place of a scalar function of one argument, if it is known without the shape of the result.
-/// Otherwise returns `None` and leaves the meter.
-#[inline(always)]
-pub(crate) fn place_of_each(
-    alloc: Global,
-    function: Scalar1,
-    right: &Input,
-    held: &Result<Array, Fault>,
-    meter: &mut Meter,
-) -> Option<OnePlace>
-    requires { HasFit right.now }
-    ensures one { IfSome result (λ p. box_size p.region ≡ 1) }
-    ensures change { IfSome result (λ p. IsOperationChange (each_monadic_rule function) (right.now ∷ []) held.now meter.old.ticks meter.new.ticks (Ok (delta_of_place p, 1))) }
-    ensures ticks { IfSome result (λ p. meter.new.ticks ≡ ticked meter.old.ticks 1) }
-    ensures joins { meter.new.joins ≡ meter.old.joins }
-    ensures none { IsNone result → meter.new ≡ meter.old }
+/// Replaces `change` with the change of an operation with an error among its inputs: that error, or nothing if no input changed. Costs 0. Not
+/// inlined: an error is large.
+#[inline(never)]
+pub(crate) fn beside_error(fault: &LentFault, stay: bool, change: &mut Delta)
+    ensures { change.new ≡ (if stay then Same else WholeDelta (Err fault.now)) }
 {
-    match right {
-        Input::Good(array, delta) => {
-            let args = [(array.again(), *delta)];
-            let operation = Operation {
-                alloc,
-                args: &args,
-                held,
-            };
-            operation.place_by(&EachMonadic { function }, meter)
-        }
-        Input::Bad { .. } => None,
-    }
-}
-
-/// Returns the one changed place of a scalar function of two arguments, if it is known without the shape of the result.
-/// Otherwise returns `None` and leaves the meter.
-#[inline(always)]
-pub(crate) fn place_of_pairs(
-    alloc: Global,
-    function: Scalar2,
-    left: &Input,
-    right: &Input,
-    held: &Result<Array, Fault>,
-    meter: &mut Meter,
-) -> Option<OnePlace>
-    requires left { HasFit left.now }
-    requires right { HasFit right.now }
-    ensures one { IfSome result (λ p. box_size p.region ≡ 1) }
-    ensures change { IfSome result (λ p. IsOperationChange (each_dyadic_rule function) (left.now ∷ right.now ∷ []) held.now meter.old.ticks meter.new.ticks (Ok (delta_of_place p, 1))) }
-    ensures ticks { IfSome result (λ p. meter.new.ticks ≡ ticked meter.old.ticks 1) }
-    ensures joins { meter.new.joins ≡ meter.old.joins }
-    ensures none { IsNone result → meter.new ≡ meter.old }
-{
-    match (left, right) {
-        (Input::Good(left, of_left), Input::Good(right, of_right)) => {
-            let args = [(left.again(), *of_left), (right.again(), *of_right)];
-            let operation = Operation {
-                alloc,
-                args: &args,
-                held,
-            };
-            operation.place_by(&EachDyadic { function }, meter)
-        }
-        _ => None,
-    }
-}
-
-/// Returns the change of an operation with an error among its inputs: that error, or nothing if no input changed.
-pub(crate) fn beside_error(fault: Fault, stay: bool) -> Delta
-    ensures { result ≡ (if stay then Same else WholeDelta (Err fault)) }
-{
-    if stay {
+    *change = if stay {
         Delta::Same
     } else {
-        Delta::Whole(Err(fault))
-    }
+        Delta::Whole(Err(fault.fault()))
+    };
 }

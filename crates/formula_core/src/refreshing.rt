@@ -1,19 +1,17 @@
 //! The change of an operation, from the changes of its array arguments.
 
-ghost use Rattle.std.specs.Prelude.{◌≡◌, suc, length, Ok, IfSome, IsNone};
-ghost use Rattle.index_region.specs.Boxes.{box_size};
-ghost use Rattle.change_core.specs.Meters.{ticked};
+ghost use Rattle.std.specs.Prelude.{◌≡◌, suc, length, map};
+ghost use Rattle.index_region.specs.Moves.{changed_box};
 ghost use Rattle.change_core.specs.Reaches.{AllFit};
-ghost use Rattle.change_rules.specs.Nodes.{views, moved, delta_of_place};
-ghost use Rattle.change_rules.specs.Currency.{HasAxis};
 ghost use Rattle.selection_fns.specs.Index.{count_written, index_rule};
-ghost use Rattle.formula_core.specs.Rules.{monadic_rule, dyadic_rule, right_rule, both_rule, with_change, IsRefreshed};
+ghost use Rattle.formula_core.specs.Rules.{monadic_rule, dyadic_rule, right_rule, both_rule, with_change, IsRefreshedBy};
 
+use crate::evaluation::{scalar_before, scalar_between};
 use apl_expr::{Dyadic, Function1, Function2, Monadic};
 use arrays_core::{Array, Fault};
 use change_core::{Meter, Rule};
-use change_rules::{OnePlace, refresh_with_cost, refreshed_place};
-use index_region::{Delta, Seen};
+use change_rules::change_of;
+use index_region::{Delta, Moved, Seen};
 use operator_fns::{Inner, Outer, Reduce, Scan};
 use scalar_fns::{EachDyadic, EachMonadic};
 use search_fns::{Decode, Encode, IndexOf, Member};
@@ -23,13 +21,15 @@ use structural_fns::{
     Catenate, DropPlaces, DyadicTranspose, Ravel, Reshape, Reverse, Rotate, Take, Transpose,
 };
 
-/// The arguments of an operation, each with its change, and the last result.
+/// The arguments of an operation, the changed places of each, and the last result.
 #[derive(Drop)]
 pub(crate) struct Operation<'a> {
     /// The allocator of new items.
     pub(crate) alloc: Global,
     /// The arguments.
-    pub(crate) args: &'a [(Seen<'a>, &'a Delta)],
+    pub(crate) seen: &'a [Seen<'a>],
+    /// The changed places of each argument.
+    pub(crate) moved: &'a [Moved<'a>],
     /// The last result.
     pub(crate) held: &'a Result<Array, Fault>,
 }
@@ -43,40 +43,49 @@ impl<'a> Operation<'a> {
         change: &mut Delta,
         meter: &mut Meter,
     ) -> Result<u32, AllocError>
-        requires count { length self.now.args.now ≡ length (R.model rule.now).selectors }
-        requires fit { AllFit (views self.now.args.now) (moved self.now.args.now) }
-        requires axes { HasAxis self.now.args.now }
-        ensures refreshed { IsRefreshed (R.model rule.now) self.now.args.now self.now.held.now meter.old.ticks meter.new.ticks (with_change change.new result) }
+        requires count { length self.now.seen.now ≡ length (R.model rule.now).selectors }
+        requires moves { length self.now.moved.now ≡ length self.now.seen.now }
+        requires fit { AllFit self.now.seen.now (map changed_box self.now.moved.now) }
+        ensures refreshed { IsRefreshedBy (R.model rule.now) self.now.seen.now self.now.moved.now self.now.held.now meter.old.ticks meter.new.ticks (with_change change.new result) }
         ensures joins { meter.new.joins ≡ meter.old.joins }
     {
-        refresh_with_cost(self.alloc, rule, self.args, self.held, change, meter)
+        change_of(
+            self.alloc, rule, self.seen, self.moved, self.held, change, meter,
+        )
     }
 
-    /// Returns the one changed place by this rule, if it is known without the shape of the result. Otherwise returns `None` and leaves the meter.
+    /// Replaces `change` with the change of a function of one argument; returns its cost. Only scalar functions are inlined.
     #[inline(always)]
-    pub(crate) fn place_by<R: Rule>(&self, rule: &R, meter: &mut Meter) -> Option<OnePlace>
-        requires count { length self.now.args.now ≡ length (R.model rule.now).selectors }
-        requires fit { AllFit (views self.now.args.now) (moved self.now.args.now) }
-        ensures one { IfSome result (λ p. box_size p.region ≡ 1) }
-        ensures refreshed { IfSome result (λ p. IsRefreshed (R.model rule.now) self.now.args.now self.now.held.now meter.old.ticks meter.new.ticks (Ok (delta_of_place p, 1))) }
-        ensures ticks { IfSome result (λ p. meter.new.ticks ≡ ticked meter.old.ticks 1) }
-        ensures joins { meter.new.joins ≡ meter.old.joins }
-        ensures none { IsNone result → meter.new ≡ meter.old }
-    {
-        refreshed_place(rule, self.args, self.held, meter)
-    }
-
-    /// Replaces `change` with the change of a function of one argument; returns its cost.
     pub(crate) fn of_right(
         &self,
         function: Function1,
         change: &mut Delta,
         meter: &mut Meter,
     ) -> Result<u32, AllocError>
-        requires count { length self.now.args.now ≡ 1 }
-        requires fit { AllFit (views self.now.args.now) (moved self.now.args.now) }
-        requires axes { HasAxis self.now.args.now }
-        ensures refreshed { IsRefreshed (right_rule function) self.now.args.now self.now.held.now meter.old.ticks meter.new.ticks (with_change change.new result) }
+        requires count { length self.now.seen.now ≡ 1 }
+        requires moves { length self.now.moved.now ≡ length self.now.seen.now }
+        requires fit { AllFit self.now.seen.now (map changed_box self.now.moved.now) }
+        ensures refreshed { IsRefreshedBy (right_rule function) self.now.seen.now self.now.moved.now self.now.held.now meter.old.ticks meter.new.ticks (with_change change.new result) }
+        ensures joins { meter.new.joins ≡ meter.old.joins }
+    {
+        if let Some(function) = scalar_before(function) {
+            return self.by(&EachMonadic { function }, change, meter);
+        }
+        self.of_any_right(function, change, meter)
+    }
+
+    /// Does the same for every function. Not inlined: the many rules are large.
+    #[inline(never)]
+    fn of_any_right(
+        &self,
+        function: Function1,
+        change: &mut Delta,
+        meter: &mut Meter,
+    ) -> Result<u32, AllocError>
+        requires count { length self.now.seen.now ≡ 1 }
+        requires moves { length self.now.moved.now ≡ length self.now.seen.now }
+        requires fit { AllFit self.now.seen.now (map changed_box self.now.moved.now) }
+        ensures refreshed { IsRefreshedBy (right_rule function) self.now.seen.now self.now.moved.now self.now.held.now meter.old.ticks meter.new.ticks (with_change change.new result) }
         ensures joins { meter.new.joins ≡ meter.old.joins }
     {
         match function {
@@ -96,10 +105,10 @@ impl<'a> Operation<'a> {
         change: &mut Delta,
         meter: &mut Meter,
     ) -> Result<u32, AllocError>
-        requires count { length self.now.args.now ≡ 1 }
-        requires fit { AllFit (views self.now.args.now) (moved self.now.args.now) }
-        requires axes { HasAxis self.now.args.now }
-        ensures refreshed { IsRefreshed (monadic_rule function) self.now.args.now self.now.held.now meter.old.ticks meter.new.ticks (with_change change.new result) }
+        requires count { length self.now.seen.now ≡ 1 }
+        requires moves { length self.now.moved.now ≡ length self.now.seen.now }
+        requires fit { AllFit self.now.seen.now (map changed_box self.now.moved.now) }
+        ensures refreshed { IsRefreshedBy (monadic_rule function) self.now.seen.now self.now.moved.now self.now.held.now meter.old.ticks meter.new.ticks (with_change change.new result) }
         ensures joins { meter.new.joins ≡ meter.old.joins }
     {
         match function {
@@ -112,17 +121,38 @@ impl<'a> Operation<'a> {
         }
     }
 
-    /// Replaces `change` with the change of a function of two arguments, the left one first; returns its cost.
+    /// Replaces `change` with the change of a function of two arguments, the left one first; returns its cost. Only scalar functions are inlined.
+    #[inline(always)]
     pub(crate) fn of_both(
         &self,
         function: Function2,
         change: &mut Delta,
         meter: &mut Meter,
     ) -> Result<u32, AllocError>
-        requires count { length self.now.args.now ≡ 2 }
-        requires fit { AllFit (views self.now.args.now) (moved self.now.args.now) }
-        requires axes { HasAxis self.now.args.now }
-        ensures refreshed { IsRefreshed (both_rule function) self.now.args.now self.now.held.now meter.old.ticks meter.new.ticks (with_change change.new result) }
+        requires count { length self.now.seen.now ≡ 2 }
+        requires moves { length self.now.moved.now ≡ length self.now.seen.now }
+        requires fit { AllFit self.now.seen.now (map changed_box self.now.moved.now) }
+        ensures refreshed { IsRefreshedBy (both_rule function) self.now.seen.now self.now.moved.now self.now.held.now meter.old.ticks meter.new.ticks (with_change change.new result) }
+        ensures joins { meter.new.joins ≡ meter.old.joins }
+    {
+        if let Some(function) = scalar_between(function) {
+            return self.by(&EachDyadic { function }, change, meter);
+        }
+        self.of_any_both(function, change, meter)
+    }
+
+    /// Does the same for every function. Not inlined: the many rules are large.
+    #[inline(never)]
+    fn of_any_both(
+        &self,
+        function: Function2,
+        change: &mut Delta,
+        meter: &mut Meter,
+    ) -> Result<u32, AllocError>
+        requires count { length self.now.seen.now ≡ 2 }
+        requires moves { length self.now.moved.now ≡ length self.now.seen.now }
+        requires fit { AllFit self.now.seen.now (map changed_box self.now.moved.now) }
+        ensures refreshed { IsRefreshedBy (both_rule function) self.now.seen.now self.now.moved.now self.now.held.now meter.old.ticks meter.new.ticks (with_change change.new result) }
         ensures joins { meter.new.joins ≡ meter.old.joins }
     {
         match function {
@@ -140,10 +170,10 @@ impl<'a> Operation<'a> {
         change: &mut Delta,
         meter: &mut Meter,
     ) -> Result<u32, AllocError>
-        requires count { length self.now.args.now ≡ 2 }
-        requires fit { AllFit (views self.now.args.now) (moved self.now.args.now) }
-        requires axes { HasAxis self.now.args.now }
-        ensures refreshed { IsRefreshed (dyadic_rule function) self.now.args.now self.now.held.now meter.old.ticks meter.new.ticks (with_change change.new result) }
+        requires count { length self.now.seen.now ≡ 2 }
+        requires moves { length self.now.moved.now ≡ length self.now.seen.now }
+        requires fit { AllFit self.now.seen.now (map changed_box self.now.moved.now) }
+        ensures refreshed { IsRefreshedBy (dyadic_rule function) self.now.seen.now self.now.moved.now self.now.held.now meter.old.ticks meter.new.ticks (with_change change.new result) }
         ensures joins { meter.new.joins ≡ meter.old.joins }
     {
         match function {
@@ -169,10 +199,10 @@ impl<'a> Operation<'a> {
         change: &mut Delta,
         meter: &mut Meter,
     ) -> Result<u32, AllocError>
-        requires count { length self.now.args.now ≡ suc (count_written written.now) }
-        requires fit { AllFit (views self.now.args.now) (moved self.now.args.now) }
-        requires axes { HasAxis self.now.args.now }
-        ensures refreshed { IsRefreshed (index_rule written.now) self.now.args.now self.now.held.now meter.old.ticks meter.new.ticks (with_change change.new result) }
+        requires count { length self.now.seen.now ≡ suc (count_written written.now) }
+        requires moves { length self.now.moved.now ≡ length self.now.seen.now }
+        requires fit { AllFit self.now.seen.now (map changed_box self.now.moved.now) }
+        ensures refreshed { IsRefreshedBy (index_rule written.now) self.now.seen.now self.now.moved.now self.now.held.now meter.old.ticks meter.new.ticks (with_change change.new result) }
         ensures joins { meter.new.joins ≡ meter.old.joins }
     {
         self.by(&Index { written }, change, meter)

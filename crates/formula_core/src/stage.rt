@@ -1,37 +1,32 @@
 //! The data from which the next change of a formula is computed.
 
-ghost use Rattle.std.specs.Prelude.{◌≡◌, ◌≤◌, ◌<◌, ℕ, List, false, length, map, get_or, None, Ok, IfOk, OnOk, IfSome, IsNone};
+ghost use Rattle.std.specs.Prelude.{◌≡◌, ◌≤◌, ◌<◌, ℕ, List, false, length, map, get_or, IfOk, OnOk};
 ghost use Rattle.std.specs.Option.{option_map};
 ghost use Rattle.apl_expr.specs.Trees.{Tree, Const, Name};
-ghost use Rattle.change_core.specs.Meters.{ticked};
-ghost use Rattle.index_region.specs.Boxes.{box_size};
-ghost use Rattle.change_rules.specs.Nodes.{delta_of_place};
 ghost use Rattle.formula_core.specs.Meaning.{eval};
 ghost use Rattle.formula_core.specs.Changes.{NamesChange, IsNameChanged};
 ghost use Rattle.arrays_core.specs.declared.item.Kind.TheVariants.{Value};
 ghost use Rattle.arrays_core.specs.Outcomes.{fault};
 ghost use Rattle.formula_core.specs.declared.input.Input.TheVariants.{Bad};
 ghost use Rattle.formula_core.specs.Inputs.{HasFit, AllHaveFit, IsInput};
-ghost use Rattle.formula_core.specs.Holdings.{holdings_of, not_worked_out, place_change, AllChangesFit};
-ghost use Rattle.formula_core.specs.Joins.{least_joins};
+ghost use Rattle.formula_core.specs.Holdings.{holdings_of, no_change, not_worked_out, AllChangesFit};
 ghost use Rattle.formula_core.specs.Plans.{node_change};
 ghost use Rattle.formula_core.specs.Rules.{with_change};
 ghost use Rattle.formula_core.specs.Stages.{IsStaged, StagedBy, IsKeptBy, IsMadeBy, IsTaken, GivesItsTree, GiveTheirTrees, IsStep, IsJoined, IsNodeStep, IsSumsStep, IsLiteralChange};
-ghost use Rattle.formula_core.specs.Sums.{summed_at, totalled, IsJoinedFrom};
+ghost use Rattle.formula_core.specs.declared.sums.SumsDelta.TheVariants.{Same as Stays};
+ghost use Rattle.formula_core.specs.Sums.{summed_at, IsJoinedFrom};
 ghost use Rattle.formula_core.specs.Tables.{IsOperand, AreOperands, IsNode, tree_at, tree_of_index, tree_of_operand, tree_of_node};
 
 use crate::constant::Constant;
-use crate::evaluation::{scalar_before, scalar_between};
 use crate::index_change::change_of_index;
 use crate::input::{Input, outcome_is_array, outcomes_are_arrays};
 use crate::kept::{Kept, NodeChange};
-use crate::operation_change::{change_of_both, change_of_monad, place_of_each, place_of_pairs};
+use crate::operation_change::{change_of_both, change_of_monad};
 use crate::positions::Positions;
 use crate::sums::{SumsDelta, sums_delta};
 use crate::table::{Node, Operand};
 use arrays_core::{Array, Fault};
 use change_core::Meter;
-use change_rules::OnePlace;
 use index_region::Delta;
 use smallvec::SmallVec;
 use std::alloc::{AllocError, Global};
@@ -104,69 +99,10 @@ impl<'a> Stage<'a> {
         Ok(positions)
     }
 
-    /// Returns the one place that changes in a node with the result `held`. The node applies a scalar function, and the place is known without the
-    /// shape of the new result. Otherwise returns `None` and leaves the meter.
+    /// Replaces `change`, which is none, with the change of the next node; returns its cost. Of the functions only the scalar ones are inlined.
     #[inline(always)]
-    fn place_of(
-        &self,
-        node: &'a Node,
-        held: &Result<Array, Fault>,
-        meter: &mut Meter,
-    ) -> Option<OnePlace>
-        requires node { IsNode (length self.now.inputs.now) (length self.now.changes.now) node.now }
-        requires staged { StagedBy self.now }
-        requires old { self.now.is_new ≡ false }
-        requires literals { IsLiteralChange self.now.is_new self.now.of_literals.now }
-        ensures one { IfSome result (λ p. box_size p.region ≡ 1) }
-        ensures step { IfSome result (λ p. (c : NamesChange) → (names : List (List ℕ)) → (trees : List Tree) → IsStaged c names trees self.now → held.now ≡ eval (tree_of_node names trees node.now) c.old
-            → IsStep self.now.is_new c (tree_of_node names trees node.now) meter.old.ticks meter.new.ticks (Ok (delta_of_place p, 1))) }
-        ensures unsummed { IfSome result (λ p. totalled node.now ≡ None) }
-        ensures unjoined { IfSome result (λ p. (c : NamesChange) → (names : List (List ℕ)) → (trees : List Tree) → least_joins self.now.is_new c (tree_of_node names trees node.now) ≡ 0) }
-        ensures ticks { IfSome result (λ p. meter.new.ticks ≡ ticked meter.old.ticks 1) }
-        ensures joins { meter.new.joins ≡ meter.old.joins }
-        ensures none { IsNone result → meter.new ≡ meter.old }
-    {
-        match node {
-            Node::Monad(applied, right) => {
-                let Some(function) = scalar_before(*applied) else {
-                    return None;
-                };
-                let right = self.argument(right);
-                place_of_each(self.alloc, function, &right, held, meter)
-            }
-            Node::Dyad(applied, left, right) => {
-                let Some(function) = scalar_between(*applied) else {
-                    return None;
-                };
-                let left = self.argument(left);
-                let right = self.argument(right);
-                place_of_pairs(self.alloc, function, &left, &right, held, meter)
-            }
-            _ => None,
-        }
-    }
-
-    /// Returns the one place that changes in the next node, as `place_of` does. The formula is not new.
-    #[inline(always)]
-    pub(crate) fn next_place(&self, meter: &mut Meter) -> Option<OnePlace>
-        requires old { self.now.is_new ≡ false }
-        requires below { length self.now.changes.now < length self.now.nodes.now }
-        requires staged { StagedBy self.now }
-        requires literals { IsLiteralChange self.now.is_new self.now.of_literals.now }
-        ensures one { IfSome result (λ p. box_size p.region ≡ 1) }
-        ensures step { IfSome result (λ p. (c : NamesChange) → (names : List (List ℕ)) → (trees : List Tree) → IsStaged c names trees self.now
-            → IsNodeStep self.now.is_new c (tree_at trees (length self.now.changes.now)) (get_or (holdings_of self.now.nodes.now) (length self.now.changes.now) not_worked_out)
-            (place_change p) 1 meter.old meter.new) }
-        ensures none { IsNone result → meter.new ≡ meter.old }
-    {
-        let next = &self.nodes[self.changes.len()];
-        outcome_is_array(&next.result);
-        self.place_of(&next.node, &next.result, meter)
-    }
-
-    /// Replaces `change` with the change of the next node; returns its cost.
-    #[inline(never)]
     pub(crate) fn next(&self, change: &mut NodeChange, meter: &mut Meter) -> Result<u32, AllocError>
+        requires none { change.old ≡ no_change }
         requires below { length self.now.changes.now < length self.now.nodes.now }
         requires staged { StagedBy self.now }
         requires literals { IsLiteralChange self.now.is_new self.now.of_literals.now }
@@ -177,15 +113,16 @@ impl<'a> Stage<'a> {
         let kept = &self.nodes[self.changes.len()];
         outcome_is_array(&kept.result);
         let sums = self.sums_of(&kept.node, &kept.sums)?;
-        let delta = &mut change.delta;
-        let items = self.change_of(&kept.node, &kept.result, &kept.sums, &sums, delta, meter)?;
-        change.sums = sums;
+        put_sums(&mut change.sums, sums);
+        let NodeChange { delta, sums } = change;
+        let items = self.change_of(&kept.node, &kept.result, &kept.sums, sums, delta, meter)?;
         outcomes_are_arrays(&kept.result, &change.delta);
         Ok(items)
     }
 
     /// Replaces `change` with the change of the node's result; returns its cost. `held` and `kept` are its result and sums. `made` is the change of
     /// the sums, computed first: so a replaced argument is read once.
+    #[inline(always)]
     fn change_of(
         &self,
         node: &'a Node,
@@ -253,6 +190,7 @@ impl<'a> Stage<'a> {
     }
 
     /// Returns the change of the sums of a node; only a total has any.
+    #[inline(always)]
     fn sums_of(&self, node: &'a Node, kept: &Option<LineSums>) -> Result<SumsDelta, AllocError>
         requires node { IsNode (length self.now.inputs.now) (length self.now.changes.now) node.now }
         requires staged { StagedBy self.now }
@@ -310,6 +248,18 @@ impl<'a> Stage<'a> {
             Input::Bad { changed: false, .. } => Ok(Delta::Same),
             _ => Ok(Delta::Whole(input.copy()?)),
         }
+    }
+}
+
+/// Replaces `sums`, which is none, with a change. Most nodes have no sums: then nothing is written or dropped.
+#[inline(always)]
+fn put_sums(sums: &mut SumsDelta, change: SumsDelta)
+    requires { sums.old ≡ Stays }
+    ensures { sums.new ≡ change }
+{
+    match change {
+        SumsDelta::Same => {}
+        change => *sums = change,
     }
 }
 

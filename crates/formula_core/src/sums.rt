@@ -33,6 +33,7 @@ pub(crate) enum SumsDelta {
 }
 
 /// Returns the fold of a function whose lines keep trees, such as `+/` or `⌈⌿`.
+#[inline(always)]
 pub(crate) fn total_of(function: Function1) -> Option<Reduce>
     ensures { result ≡ fold_of_total function }
 {
@@ -46,6 +47,7 @@ pub(crate) fn total_of(function: Function1) -> Option<Reduce>
 
 /// Returns the change of the sums of an argument's lines. A small patch updates the kept sums, a tail appends to them. Anything else that changes
 /// the array rebuilds them; an error drops them.
+#[inline(never)]
 pub(crate) fn sums_delta(
     alloc: Global,
     fold: Reduce,

@@ -1,5 +1,5 @@
-use Rattle.{std.proofs.Common.{◌≡◌, map, take}, change_rules.specs.Nodes.{is_grown}}
+use Rattle.{std.proofs.Common.{◌≡◌, map, take}, change_rules.specs.Together.{is_longer}}
 use Rattle.change_rules.proofs.arguments.marks_of.Given as goal
 
-abbrev pub invariant-loop-delta : goal.invariant-loop-delta
-invariant-loop-delta l = l.marks.items ≡ map (λ p. is_grown p.1.now) (take l.delta-index l.args)
+abbrev pub invariant-loop-places : goal.invariant-loop-places
+invariant-loop-places l = l.marks.items ≡ map is_longer (take l.places-index l.moved)

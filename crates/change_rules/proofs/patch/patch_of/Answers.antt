@@ -1,7 +1,5 @@
-use Rattle.{std.proofs.Common.{◌∙◌, sym, ap, arith, IsTrue, Result}, arrays_core.specs.declared.item.Kind.{Kind}}
-use Rattle.index_region.{specs.Boxes.{fits}, specs.Checks.{Form, form_of}}
-use Rattle.change_core.{specs.declared.reach.Reach.TheVariants.{Inside}, proofs.Filling.{few_places}}
-use Rattle.change_rules.{specs.Nodes.{delta_in}, proofs.Items.{as_many, given_items}, proofs.OneBox.{fits_shape}, proofs.patch.patch_of.Given.{Over}, proofs.patch.patch_of.Goals.{In-Ok}}
+use Rattle.{std.proofs.Common.{arith, IsTrue}, index_region.specs.Boxes.{fits}, change_core.proofs.Filling.{few_places}}
+use Rattle.change_rules.{proofs.Items.{as_many, given_items}, proofs.OneBox.{fits_shape}, proofs.patch.patch_of.Given.{Over}, proofs.patch.patch_of.Goals.{In-Ok}}
 use Rattle.change_rules.proofs.patch.patch_of.Goals as goal
 
 -- the box lies in the result
@@ -14,12 +12,7 @@ size-cost-requires g c = omega (arith, few_places c.args.region _ (fit g (goal.a
 pub overflow_cast-cost : goal.overflow_cast-cost
 overflow_cast-cost g c = omega (arith, c.size-cost.ensures, few_places c.args.region _ (fit g (goal.at.overflow_cast-cost g c).In-Ok) c.in-Ok.ensures.2)
 
-pub returns-then-goes_item_by_item-clause-delta : goal.returns-then-goes_item_by_item-clause-delta
-returns-then-goes_item_by_item-clause-delta g c =
-    let item = (g.R.Rule.model c.args.rule.now).item c.args.args.now in
-    c.delta.ensures ∙ c.of.ensures.delta (form_of c.in-Ok.form.0.items c.in-Ok.form.1) c.in-Ok.ensures.0 ∙ sym (ap (λ (r : Result Form Kind). delta_in r item (Inside c.args.region)) c.in-Ok.ensures.0)
-
-pub of-requires-in-Ok-2 : goal.of-requires-in-Ok-2
-of-requires-in-Ok-2 g c =
+pub of-requires : goal.of-requires
+of-requires g c =
     let item = (g.R.Rule.model c.args.rule.now).item c.args.args.now in
     as_many item c.args.region c.in-Ok-2.values.items (given_items _ _ c.items_of.result c.in_ok-values.field-0 c.in-Ok-2.values c.items_of.ensures.items c.in_ok-values.ensures c.in-Ok-2.is)

@@ -18,12 +18,13 @@ root_is c =
     let below : 0 < length nodes = omega (arith, some_node f.tree, all_known c, counted f names nodes c.self.invariant root held) in
     ap is_operation (tree_there f names nodes c.self.invariant root held 0 below c.index.result.now (sym c.index.ensures)) ∙ applied_there names (subtrees f.tree) c.index.result.now.node
 
-pub push_by_rule-requires : goal.push_by_rule-requires
-push_by_rule-requires c =
+pub push_apart-requires : goal.push_apart-requires
+push_apart-requires c =
     let f = c.args.self.now in
     let none = c.in_ok-room_for_changes.ensures in
-    let all = all_known (goal.at.push_by_rule-requires c).After-index in
+    let all = all_known (goal.at.push_apart-requires c).After-index in
     record {
+      new = ap (λ (v : FormulaValue). v.is_new) c.self.view_is;
       below = omega (arith, ap (λ (ds : List NodeChange). length ds) none, some_node f.tree, all);
       begun = (c.requires.0, (c.requires.1, (0, subst (λ (ds : List NodeChange). IsBegun f c.requires.0 ds 0) (sym none) (begun_none f c.requires.0 all))));
     }
@@ -43,7 +44,7 @@ returns-clause-none c =
     let f = c.args.self.now in
     let here = (goal.at.returns-clause-none c).After-index in
     let more = more_of f c.requires.0 c.args.inputs.now [] _ _ 0 _ _ _ c.in_ok-room_for_changes.ensures c.in_ok-_items.ensures.more c.requires.1 (begun_none f c.requires.0 (all_known here)) in
-    among_plain f [] c.push_by_rule.new.changes.items more.change more.pushed (some_node f.tree) (root_is here ∙ (sym c.applies.ensures ∙ c.if-applies.false))
+    among_plain f [] c.push_apart.new.changes.items more.change more.pushed (some_node f.tree) (root_is here ∙ (sym c.applies.ensures ∙ c.if-applies.false))
 
 pub returns-clause-planned : goal.returns-clause-planned
 returns-clause-planned c = λ change told.
@@ -54,6 +55,6 @@ returns-clause-planned c = λ change told.
     let nothing = begun_none f change all in
     let more = more_of f change c.args.inputs.now [] _ _ 0 _ _ _ c.in_ok-room_for_changes.ensures c.in_ok-_items.ensures.more told nothing in
     record {
-      begun = begun_more f change [] c.push_by_rule.new.changes.items more.change 0 0 _ nothing (omega (arith, some_node f.tree, all)) more.pushed c.new.ensures (free f.is_new change (tree_at (subtrees f.tree) 0) plain) more.step.done;
+      begun = begun_more f change [] c.push_apart.new.changes.items more.change 0 0 _ nothing (omega (arith, some_node f.tree, all)) more.pushed c.new.ensures (free f.is_new change (tree_at (subtrees f.tree) 0) plain) more.step.done;
       next = λ under. absurd (omega (arith, under, ap (λ (ds : List NodeChange). length ds) more.pushed, leaf_alone f.tree plain, all));
     }

@@ -1,7 +1,0 @@
-use Rattle.{std.proofs.Common.{arith, ◌∙◌}, change_core.proofs.Filling.{place_of}}
-use Rattle.change_rules.proofs.one_place.OnePlace.of.Goals as goal
-
-pub item-given-requires-clause-place : goal.item-given-requires-clause-place
-item-given-requires-clause-place g c =
-    let f = c.requires.checked.0 in
-    place_of ((g.R.Rule.model c.args.rule.now).form c.args.args.now) f.shape f.item_type c.args.region 0 c.as_slice.result.now c.requires.checked.1 c.requires.checked.2 (omega (arith, c.requires.one)) (c.as_slice.ensures.is ∙ c.index_at-index.ensures)
