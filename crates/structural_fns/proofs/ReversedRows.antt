@@ -1,7 +1,7 @@
 -- The rows of a result of reverse.
 use Rattle.std.{proofs.Common.{◌≡◌, ℕ, suc, ◌+◌, ◌-◌, ◌<◌, ◌≤◌, true, List, [], ◌∷◌, ◌++◌, length, get_or, set, Ok, ap, sym, ◌∙◌, arith}, proofs.lemmas.List.{get_or_default}}
 use Rattle.arrays_core.{specs.declared.item.ItemType.{ItemType}, specs.Items.{fill}, specs.Arrays.{ArrayValue, IsArray}, specs.Shapes.{is_index_of, places_before}, specs.Building.{IsRowOf}, proofs.Rows.{places_in_row}}
-use Rattle.index_region.{specs.Answers.{IsRowIn}, specs.Axes.{places_along}, proofs.Passing.{row_passed, row_inside}, proofs.Placed.{left_placed}, proofs.RowIndices.{set_before, get_before, set_last, get_last, axis_below}}
+use Rattle.index_region.{specs.Answers.{IsRowIn}, specs.Axes.{places_along}, proofs.Passing.{row_passed, row_inside}, proofs.Placed.{left_placed}, proofs.OnAxes.{OnAxis, on_axis}, proofs.RowIndices.{set_before, get_before, set_last, get_last, axis_below}}
 use Rattle.function_names.{specs.Axes.{is_axis, axis_at}, specs.declared.along.Along.{Along}}
 use Rattle.structural_fns.{specs.Reverse.{reverse_form, reverse_item}, proofs.SourcePlaces.{reversed_inside}, proofs.SteppedRows.{place_beside, row_fits}}
 
@@ -19,10 +19,10 @@ module _ (along : Along) (b : ArrayValue) (row : List ℕ) (count : ℕ) (item_t
   abbrev first : ℕ
   first = places_before b.shape (at_index 1)
 
-  row_of : IsRowOf b.shape row count
+  pub row_of : IsRowOf b.shape row count
   row_of = (row_inside b.shape b.item_type row count item_type (row_passed (is_axis (length b.shape) along) _ _ row count item_type is.row_in).row_in).row_of
 
-  inside_at : (j : ℕ) → j < count → is_index_of b.shape (at_index (0 + j + 1)) ≡ true
+  pub inside_at : (j : ℕ) → j < count → is_index_of b.shape (at_index (0 + j + 1)) ≡ true
   inside_at j h = reversed_inside b.shape (row ++ (0 + j + 1) ∷ []) axis (row_of.places (0 + j + 1) (omega arith) (omega arith))
 
   item_at : (j k : ℕ) → j < count → places_before b.shape (at_index (0 + j + 1)) ≡ k → reverse_item along b (row ++ (0 + j + 1) ∷ []) ≡ Ok (get_or b.items k (fill b.item_type))
@@ -37,6 +37,19 @@ module _ (along : Along) (b : ArrayValue) (row : List ℕ) (count : ℕ) (item_t
 
   -- along another axis a row is a row of the array
   module _ (other : axis < length row) where
+    -- the index of the row on the axis, and the index that it is turned to
+    pub other_on : OnAxis (get_or b.shape axis 0) (get_or row axis 0)
+    other_on =
+        let on = on_axis b.shape (row ++ 1 ∷ []) axis (row_of.places 1 (omega arith) row_of.some) (omega (arith, row_of.long)) in
+        let is = get_before row 1 axis 0 other in
+        record { low = omega (arith, on.low); high = omega (arith, on.high) }
+
+    pub other_list : set (row ++ 1 ∷ []) axis (get_or b.shape axis 0 - (get_or row axis 0 - 1)) ≡ at_index 1
+    other_list =
+        let axis_long : places_along b.shape axis ≡ get_or b.shape axis 0 = get_or_default b.shape axis 1 0 (omega (arith, row_of.long)) in
+        let index : get_or (row ++ 1 ∷ []) axis 1 ≡ get_or row axis 0 = get_before row 1 axis 1 other ∙ get_or_default row axis 1 0 other in
+        ap (λ i. set (row ++ 1 ∷ []) axis i) (omega (arith, axis_long, index, other_on.low))
+
     abbrev others : List ℕ
     others = set row axis (suc (places_along b.shape axis) - get_or row axis 1)
 
@@ -59,6 +72,11 @@ module _ (along : Along) (b : ArrayValue) (row : List ℕ) (count : ℕ) (item_t
         ∙ set_last row i (suc (places_along b.shape (length row)) - get_or (row ++ i ∷ []) (length row) 1)
         ∙ ap (λ m. row ++ (suc m - get_or (row ++ i ∷ []) (length row) 1) ∷ []) (get_or_default b.shape (length row) 1 0 (omega (arith, row_of.long)) ∙ row_of.whole)
         ∙ ap (λ m. row ++ (suc count - m) ∷ []) (get_last row i 1)
+
+    pub last_list : set (row ++ 1 ∷ []) axis count ≡ at_index 1
+    last_list =
+        let same : suc count - 1 ≡ count = omega arith in
+        ap (λ k. set (row ++ 1 ∷ []) k count) last_axis ∙ set_last row 1 count ∙ ap (λ n. row ++ n ∷ []) (sym same) ∙ sym (at_last 1)
 
     place_last : (j : ℕ) → j < count → places_before b.shape (at_index (0 + j + 1)) + j ≡ first
     place_last j h =

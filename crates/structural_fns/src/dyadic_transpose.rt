@@ -17,10 +17,9 @@ ghost use Rattle.structural_fns.specs.LeastLength.{least_with};
 ghost use Rattle.structural_fns.specs.Laws.DyadicTranspose.{transpose_by_tight};
 
 use crate::even_steps::extend_evenly;
+use crate::index_source::{IndexSource, place_of};
 use crate::limits::MOST_AXES;
-use arrays_core::{
-    ApplyFault, Array, ArrayBuilder, Item, ItemType, Kind, Shape, index_in_row, places_before,
-};
+use arrays_core::{ApplyFault, Array, ArrayBuilder, Item, ItemType, Kind, Shape};
 use change_core::Announced;
 use index_region::{
     IndexBox, Intervals, Primitive, RowPrimitive, Seen, Source, apply_rows, item_from, limited,
@@ -147,6 +146,28 @@ fn gathered(alloc: Global, axes: &Seen, index: &[u32]) -> Shape
     at
 }
 
+/// The index list in the array of a place of a row of the result.
+#[derive(Clone, Copy)]
+struct GatheredRow<'a, 'b> {
+    axes: &'a Seen<'b>,
+    row: &'a [u32],
+    index: u32,
+}
+
+impl<'a, 'b> IndexSource for GatheredRow<'a, 'b> {
+    ghost list = { λ s. gathered (axes_to s.axes.now) (s.row.now ++ s.index ∷ []) };
+
+    #[inline]
+    fn index(&self, axis: usize) -> u32 {
+        let _sound = self.axes.shape();
+        let to = entry(self.axes, axis as u32).saturating_sub(1);
+        if to == self.row.len() as u64 {
+            return self.index;
+        }
+        self.row.get(to as usize).copied().unwrap_or(0)
+    }
+}
+
 /// Dyadic transpose, `A⍉B` (ISO/IEC 13751, "Dyadic transpose"): axis i of B becomes axis A[i]. If several become one axis, it has their
 /// least length and all take its index. RANK if A is neither a scalar nor a vector, LENGTH unless it has an entry for each axis. DOMAIN
 /// unless it has numbers from 1 on, and names each axis up to the greatest.
@@ -181,10 +202,8 @@ impl DyadicTranspose {
         ensures is { result ≡ places_before array.now.shape (gathered (axes_to axes.now) (row.now ++ index ∷ [])) }
         ensures sound { IsArray array.now }
     {
-        let shape = array.shape();
-        let index = index_in_row(*shape.allocator(), row, index);
-        let at = gathered(*shape.allocator(), axes, index.as_slice());
-        places_before(shape, at.as_slice())
+        let lengths = array.shape().as_slice();
+        place_of(lengths, &GatheredRow { axes, row, index })
     }
 
     /// Computes the whole result by rows.

@@ -23,7 +23,7 @@ pub fn extend_evenly(
     ensures items { OnOk result (items.new.items ≡ items.old.items ++ listed count (λ k. get_or array.now.items (first + k * step) (fill array.now.item_type))) }
     ensures typed { items.new.item_type ≡ items.old.item_type }
 {
-    let _sound = array.places();
+    let _sound = array.shape();
     if step == 0 {
         return items.extend_with(array.item(first + 1), count);
     }

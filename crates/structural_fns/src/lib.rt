@@ -6,6 +6,7 @@ mod catenate;
 mod drop_places;
 mod dyadic_transpose;
 mod even_steps;
+mod index_source;
 mod limits;
 mod magnitudes;
 mod places;

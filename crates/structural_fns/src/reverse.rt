@@ -14,10 +14,8 @@ ghost use Rattle.change_core.proofs.Growing.{never_grows};
 ghost use Rattle.structural_fns.specs.Reverse.{reverse_form, reverse_source, reverse_item, reverse_whole, reversed, reverse_rule};
 ghost use Rattle.structural_fns.specs.Laws.Reverse.{reverse_tight};
 
-use arrays_core::{
-    ApplyFault, Array, ArrayBuilder, Item, ItemType, Kind, Shape, index_in_row, places_before,
-    shape_of,
-};
+use crate::index_source::{RowWith, place_of};
+use arrays_core::{ApplyFault, Array, ArrayBuilder, Item, ItemType, Kind, Shape, shape_of};
 use change_core::Announced;
 use index_region::{
     Along, IndexBox, Intervals, Primitive, RowPrimitive, Seen, Source, apply_rows, item_from,
@@ -127,15 +125,22 @@ impl RowPrimitive for Reverse {
         items: &mut ArrayBuilder,
     ) -> Result<(), AllocError> {
         let array = &args[0];
-        let shape = array.shape();
-        let first = index_in_row(*shape.allocator(), row, 1);
-        let at = self.place_of(array, first.as_slice());
-        let place = places_before(shape, at.as_slice());
-        if self.along.axis_at(shape.len() as u32) == row.len() {
-            array.extend_back(items, place, count)
-        } else {
-            array.extend_run(items, place, count)
+        let axes = array.shape().as_slice();
+        let axis = self.along.axis_at(axes.len() as u32);
+        if axis == row.len() {
+            let last = place_of(
+                axes,
+                &RowWith {
+                    row,
+                    axis,
+                    index: count,
+                },
+            );
+            return array.extend_back(items, last, count);
         }
+        let index = axes[axis] - (row[axis] - 1);
+        let first = place_of(axes, &RowWith { row, axis, index });
+        array.extend_run(items, first, count)
     }
 }
 

@@ -11,9 +11,8 @@ ghost use Rattle.structural_fns.specs.Transpose.{transpose_form, transpose_sourc
 ghost use Rattle.structural_fns.specs.Laws.Transpose.{transpose_tight};
 
 use crate::even_steps::extend_evenly;
-use arrays_core::{
-    ApplyFault, Array, ArrayBuilder, Item, ItemType, Kind, Shape, index_in_row, places_before, size,
-};
+use crate::index_source::{IndexSource, place_of};
+use arrays_core::{ApplyFault, Array, ArrayBuilder, Item, ItemType, Kind, Shape, size};
 use change_core::Announced;
 use index_region::{
     IndexBox, Intervals, Primitive, RowPrimitive, Seen, Source, apply_rows, item_from, limited,
@@ -92,6 +91,25 @@ impl Primitive for Transpose {
     }
 }
 
+/// The index list in the array of the first place of a row of the result.
+#[derive(Clone, Copy)]
+struct TransposedRow<'a> {
+    row: &'a [u32],
+}
+
+impl<'a> IndexSource for TransposedRow<'a> {
+    ghost list = { λ s. 1 ∷ reverse s.row.now };
+
+    #[inline]
+    fn index(&self, axis: usize) -> u32 {
+        if axis == 0 {
+            1
+        } else {
+            self.row[self.row.len() - axis]
+        }
+    }
+}
+
 impl RowPrimitive for Transpose {
     fn extend_row(
         &self,
@@ -101,12 +119,9 @@ impl RowPrimitive for Transpose {
         items: &mut ArrayBuilder,
     ) -> Result<(), AllocError> {
         let array = &args[0];
-        let shape = array.shape();
-        let index = index_in_row(*shape.allocator(), row, 1);
-        let at = from_last(*shape.allocator(), index.as_slice());
-        let first = places_before(shape, at.as_slice());
-        let step = size(&shape.as_slice()[1..]);
-        extend_evenly(array, first, step, count, items)
+        let axes = array.shape().as_slice();
+        let first = place_of(axes, &TransposedRow { row });
+        extend_evenly(array, first, size(&axes[1..]), count, items)
     }
 }
 
