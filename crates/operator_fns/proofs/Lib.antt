@@ -6,6 +6,7 @@ pub mod OuterRows
 pub mod Joined
 pub mod Outers
 pub mod Meetings
+pub mod MetRows
 pub mod Inners
 pub mod Grids
 pub mod OuterCases

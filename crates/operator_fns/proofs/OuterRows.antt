@@ -2,8 +2,8 @@
 use Rattle.std.{proofs.Common.{◌≡◌, Vec, ℕ, zero, suc, ◌+◌, ◌*◌, ◌/◌, ◌%◌, ◌<◌, List, [], ◌∷◌, ◌++◌, append-nil, length, get_or, map, take, drop, ℤ, pos, Result, Ok, Err, ap, sym, ◌∙◌, arith}, specs.List.{range_with_len}}
 use Rattle.std.{proofs.lemmas.List.{length-map, length-append, get_or_append_left, get_or-append-add, get_or-map, take_more, take-append-drop}, proofs.lemmas.List.FromFn.{fill_by_all}, proofs.lemmas.Grind.{flat_map-append}, proofs.lemmas.Nat.{div-add-mod'}, proofs.Math.Nat.{mod-lt, div-lt_iff_lt-mul}}
 use Rattle.std.specs.Result.{IsErr, IsErrAnd}
-use Rattle.arrays_core.{specs.declared.item.Kind.{Kind}, specs.declared.fault.ApplyFault.{ApplyFault}, specs.declared.fault.ApplyFault.TheVariants.{Kind as KindFault, NoMemory}, specs.Items.{all_or_first_error}}
-use Rattle.{item_fns.specs.NumberLists.{IsListAnswerTo}, operator_fns.specs.OuterResults.{outer_results, LeavesOrFails}}
+use Rattle.arrays_core.{specs.declared.item.Kind.{Kind}, specs.declared.fault.ApplyFault.{ApplyFault}, specs.declared.fault.ApplyFault.TheVariants.{Kind as KindFault, NoMemory}, specs.Items.{all_or_first_error, and_then}}
+use Rattle.{item_fns.specs.NumberLists.{IsListAnswerTo}, operator_fns.specs.OuterResults.{outer_results, with_results, LeavesOrFails}}
 
 -- some numbers, followed by the first k results of a list
 pub record RowTo (old : List ℤ) (rs : List (Result ℤ Kind)) (k : ℕ) (items : List ℤ) : Type 0 where
@@ -72,3 +72,10 @@ pub row_failed : {G : Type 0} (U : Type 0) (wanted other : Result (List ℤ) Kin
 row_failed U wanted other left fault (Ok v) same is h = absurd h.1
 row_failed U wanted other left (KindFault k) (Err e) same is h = rw h.1 (same k is)
 row_failed U wanted other left NoMemory (Err e) same is h = rw h.1 tt
+
+-- an error of a list of results is an error of the row
+pub list_failed : (G U : Type 0) (rs : List (Result ℤ Kind)) (before left : List ℤ) (fault : ApplyFault) (r : Result U ApplyFault)
+    → IsListAnswerTo {G = G} (all_or_first_error rs) (Err fault) → IsErr r × IsErrAnd r (λ e. e ≡ fault) → LeavesOrFails (with_results before rs) left r
+list_failed G U rs before left fault (Ok u) is h = absurd h.1
+list_failed G U rs before left (KindFault k) (Err e) is h = rw h.1 (ap (λ all. and_then all (λ more. Ok (before ++ more))) is)
+list_failed G U rs before left NoMemory (Err e) is h = rw h.1 tt

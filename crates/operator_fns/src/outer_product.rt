@@ -25,11 +25,14 @@ use arrays_core::{
 use change_core::Announced;
 use index_region::{IndexBox, Intervals, Primitive, Seen, apply, limited};
 use item_fns::kernels::TwoNumbers;
-use item_fns::{Scalar2, WithFunction, two, with_function};
+use item_fns::{Scalar2, WithFunction, two, with_function, with_left};
 use std::alloc::Global;
 
-/// Appends the results of a function for `left` with each number of `right`. Stops at the first error.
-fn push_row<S: TwoNumbers>(
+/// The least length of a row that one call makes. A shorter one takes less time number by number.
+pub(crate) const LONG: usize = 128;
+
+/// Appends the results of a function for `left` with each number of `right`, number by number. Stops at the first error.
+fn push_each<S: TwoNumbers>(
     row: &mut Vec<i64>,
     step: &S,
     left: i64,
@@ -45,8 +48,27 @@ fn push_row<S: TwoNumbers>(
     Ok(())
 }
 
+/// Appends the results of a function for `left` with each number of `right`, or returns the first error. A long row is one call, unless the function
+/// has no step that is quicker than a check at each number.
+fn push_row<S: TwoNumbers + Copy>(
+    alloc: Global,
+    row: &mut Vec<i64>,
+    step: &S,
+    left: i64,
+    right: &[i64],
+) -> Result<(), ApplyFault>
+    ensures { LeavesOrFails (with_results row.old.items (map (S.gives step.now left) right.now)) row.new.items result }
+{
+    if right.len() < LONG || !step.has_step() {
+        return push_each(row, step, left, right);
+    }
+    let results = with_left(alloc, *step, left, right)?;
+    row.extend_from_slice(results.as_slice())?;
+    Ok(())
+}
+
 /// Applies a function to each number of one list with each number of another.
-fn outer_numbers<S: TwoNumbers>(
+fn outer_numbers<S: TwoNumbers + Copy>(
     alloc: Global,
     step: &S,
     left: &[i64],
@@ -58,7 +80,7 @@ fn outer_numbers<S: TwoNumbers>(
 {
     let mut numbers = Vec::with_capacity(alloc, room_of(left.len() * right.len()))?;
     for number in left {
-        push_row(&mut numbers, step, *number, right)?;
+        push_row(alloc, &mut numbers, step, *number, right)?;
     }
     Ok(numbers)
 }

@@ -7,12 +7,13 @@ ghost use Rattle.operator_fns.specs.RowByColumn.{cell, IsGridOf, IsPlain};
 ghost use Rattle.operator_fns.specs.RowFolds.{AreMet, AreFolds, EndsInFolds, column_fold};
 
 use crate::grid::Grid;
+use crate::outer_product::LONG;
 use crate::small_products::{is_small_sum, push_sums};
 use crate::unions::rows_to_join;
 use arrays_core::{ApplyFault, Kind, room_of};
 use item_fns::folds::fold_list;
 use item_fns::kernels::TwoNumbers;
-use item_fns::{Scalar2, WithFunction, with_function};
+use item_fns::{Scalar2, WithFunction, on_number_lists, with_function};
 use reduce_fns::put_row_over;
 use std::alloc::Global;
 
@@ -25,10 +26,27 @@ struct Buffers {
     met: Vec<i64>,
 }
 
+/// Applies a function to a number and each number of a row in one call.
+fn met_at_once(
+    alloc: Global,
+    each: Scalar2,
+    number: i64,
+    row: &[i64],
+) -> Result<Vec<i64>, ApplyFault>
+    ensures { IfOk result (λ v. AreMet (dyadic_on_numbers each) number row.now v.items) }
+{
+    let met = on_number_lists(alloc, each, &[number], row)?;
+    Ok(met)
+}
+
 /// Applies a function to a number and each number of a row, into `met`.
 fn meet(each: Scalar2, number: i64, row: &[i64], buffers: &mut Buffers) -> Result<(), ApplyFault>
     ensures { OnOk result (AreMet (dyadic_on_numbers each) number row.now buffers.new.met.items) }
 {
+    if row.len() >= LONG {
+        buffers.met = met_at_once(*buffers.met.allocator(), each, number, row)?;
+        return Ok(());
+    }
     let numbers = &mut buffers.numbers;
     numbers.clear();
     numbers.resize(row.len(), number)?;

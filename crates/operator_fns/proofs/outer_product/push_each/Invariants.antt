@@ -1,5 +1,5 @@
 use Rattle.{std.proofs.Common.{◌+◌, ◌≤◌, length, map, vec_len, vec_capacity}, operator_fns.proofs.OuterRows.{RowTo}}
-use Rattle.operator_fns.proofs.outer_product.push_row.Given as goal
+use Rattle.operator_fns.proofs.outer_product.push_each.Given as goal
 
 abbrev pub invariant-loop-number : goal.invariant-loop-number
 invariant-loop-number g l = record {
