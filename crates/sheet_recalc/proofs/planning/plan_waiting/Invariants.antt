@@ -1,7 +1,7 @@
 use Rattle.std.{proofs.Common.{◌≡◌, ℕ, Some, [], get_or, IfSome}, specs.Map.{keys_of}}
 use Rattle.sheet_recalc.{specs.ProposedSheet.{outline_of, entry_of}, specs.Planning.{IsOnTheWay, IsPaid}}
 use Rattle.sheet_recalc.specs.declared.entry.Entry.TheVariants as entry
-use Rattle.sheet_recalc.proofs.planning.run.Given as goal
+use Rattle.sheet_recalc.proofs.planning.plan_waiting.Given as goal
 
 abbrev pub invariant-loop-name : goal.invariant-loop-name
 invariant-loop-name l = record {

@@ -1,6 +1,6 @@
 use Rattle.std.{proofs.Common.{◌≡◌, ◌-◌, ◌∙◌, [], get_or, ap, take, cond, inr, refl, subst}, specs.Str.{bytes_eq}, specs.Map.{keys_of}}
 use Rattle.sheet_recalc.{specs.Live.{plan_in}, specs.ProposedSheet.{outline_of, entry_of}, specs.Planning.{IsNext, IsStopped, waiting_names}, proofs.Working.{reads_done}, proofs.Forward.{skipped, kept_whole, stopped_left, stopped_spent, paid_more}}
-use Rattle.sheet_recalc.proofs.planning.run.Goals as goal
+use Rattle.sheet_recalc.proofs.planning.plan_waiting.Goals as goal
 
 pub next_name-requires : goal.next_name-requires
 next_name-requires c = (c.loop-name.invariant.way c.requires.way.0 c.requires.way.1 c.requires.way.2).1.made.few
@@ -17,7 +17,7 @@ loop-name-preserved-in_default-placed_formula c = record {
 pub work-requires-clause-ahead : goal.work-requires-clause-ahead
 work-requires-clause-ahead c =
     let k = c.loop-name.invariant.way c.requires.way.0 c.requires.way.1 c.requires.way.2 in
-    record { proposed = c.requires.proposed; plans = k.1.made.way.plans; unchanged = refl; newest = c.loop-name.invariant.last }
+    record { proposed = c.requires.proposed; plans = k.1.made.way.plans; unchanged = c.requires.unchanged; newest = c.loop-name.invariant.last }
 
 pub work-requires-clause-next : goal.work-requires-clause-next
 work-requires-clause-next c =
