@@ -99,13 +99,13 @@ fn a_total_follows_one_number_by_few_joins(rt: HostRuntime) {
     assert!(rt; matches!(joins, 1..=10));
 }
 
-/// The total of the last row leaves 64 bits.
+/// The total of the last row leaves 64 bits. That row is remembered, so a change of another row joins nothing.
 #[test]
-fn a_total_beside_an_error_follows_by_few_joins(rt: HostRuntime) {
+fn a_total_beside_an_error_follows_without_a_join(rt: HostRuntime) {
     let shape = shape_of(rt.alloc(), &[1000, 1000]);
     let mut rows = Array::filled(rt.alloc(), ItemType::Nums, &shape).expect(&rt, "rows");
     rows.write_at(999_001, Item::Num(i64::MAX));
     rows.write_at(1_000_000, Item::Num(1));
     let joins = joins_of_a_total(&rt, rt.alloc(), &rows);
-    assert!(rt; matches!(joins, 1..=10));
+    assert!(rt; joins == 0);
 }
