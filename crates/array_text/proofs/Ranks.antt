@@ -1,7 +1,7 @@
 -- The text of an array by its rank.
-use Rattle.std.{proofs.Common.{◌≡◌, ℕ, ◌-◌, ◌*◌, ◌<◌, List, [], ◌∷◌, length, get_or, map, refl, ap, ◌∙◌, arith, ℤ}, proofs.NetLemmas.Arrays.{four_items}, proofs.lemmas.Slice.Eq.{text_from_reads}}
+use Rattle.std.{proofs.Common.{◌≡◌, ℕ, ◌-◌, ◌*◌, ◌<◌, List, [], ◌∷◌, length, get_or, map, refl, ap, arith, ℤ}, proofs.NetLemmas.Arrays.{four_items}, proofs.lemmas.Slice.Eq.{text_from_reads}}
 use Rattle.arrays_core.{specs.Arrays.{ArrayValue}, specs.Shapes.{size}, specs.declared.item.Item.TheVariants.{Num, Char}, specs.declared.item.ItemType.TheVariants.{Nums, Chars}}
-use Rattle.array_text.specs.Text.{text_by_rank, planes, numbers_text, characters_text, items_text, array_text, item_number, item_character}
+use Rattle.array_text.specs.Text.{text_by_rank, planes, numbers_text, characters_text, array_text, item_number, item_character}
 
 module _ {X : Type 0} (line : List X → List ℕ) (plane : ℕ → ℕ → List X → List ℕ) (xs : List X) where
   pub of_rank_below_two : (shape : List ℕ) → length shape < 2 → text_by_rank line plane shape xs ≡ line xs
@@ -42,9 +42,7 @@ characters_again [] = refl
 characters_again (c ∷ cs) = ap (λ (t : List ℕ). c ∷ t) (characters_again cs)
 
 pub text_of_numbers : (a : ArrayValue) (zs : List ℤ) → a.item_type ≡ Nums → a.items ≡ map (λ z. Num z) zs → array_text a ≡ numbers_text a.shape zs
-text_of_numbers a zs is_type is_items =
-    ap (λ t. items_text t a.shape a.items) is_type ∙ ap (λ items. numbers_text a.shape (map item_number items)) is_items ∙ ap (numbers_text a.shape) (numbers_again zs)
+text_of_numbers a zs is_type is_items = rw (is_type, is_items, numbers_again zs) refl
 
 pub text_of_characters : (a : ArrayValue) (cs : List ℕ) → a.item_type ≡ Chars → a.items ≡ map (λ c. Char c) cs → array_text a ≡ characters_text a.shape cs
-text_of_characters a cs is_type is_items =
-    ap (λ t. items_text t a.shape a.items) is_type ∙ ap (λ items. characters_text a.shape (map item_character items)) is_items ∙ ap (characters_text a.shape) (characters_again cs)
+text_of_characters a cs is_type is_items = rw (is_type, is_items, characters_again cs) refl

@@ -1,5 +1,4 @@
-use Rattle.std.{proofs.Common.{◌∙◌, ap, refl, ℕ, map, arith}, specs.List.{range_with_len}, proofs.lemmas.List.FromFn.{map-range_with_len_more}}
-use Rattle.array_text.specs.Text.{column_width, column_widths}
+use Rattle.{std.{proofs.Common.{◌≡◌, refl, arith}, proofs.lemmas.List.FromFn.{map-range_with_len_more}}, array_text.specs.Text.{column_width, column_widths}}
 use Rattle.array_text.proofs.numbers.column_widths.Goals as goal
 
 pub loop-column-preserved : goal.loop-column-preserved
@@ -10,4 +9,4 @@ loop-column-preserved c =
 
 pub returns : goal.returns
 unfolding column_widths
-returns c = c.loop-column.invariant ∙ ap (λ (n : ℕ). map (column_width c.args.rows c.args.columns c.args.numbers.now) (range_with_len 0 n)) (omega arith)
+returns c = let all : c.loop-column.column ≡ c.args.columns = omega arith in rw all at c.loop-column.invariant

@@ -1,4 +1,4 @@
-use Rattle.std.{proofs.Common.{◌≡◌, ◌++◌, ◌∙◌, ap, sym, List, ℕ, append_assoc}, specs.Prelude.{string_bytes, encode_utf8}}
+use Rattle.std.{proofs.Common.{refl, ◌≡◌, ◌++◌, append_assoc}, specs.Prelude.{decimal, string_bytes, encode_utf8}}
 use Rattle.array_text.{specs.Text.{number_text}, proofs.Writing.{pushed}, proofs.Numerals.{number_text-minus, number_text-plus}, proofs.numbers.push_number.Goals.{then-number-lt0+in_ok-push, else-number-lt0}}
 use Rattle.array_text.proofs.numbers.push_number.Goals as goal
 
@@ -9,10 +9,9 @@ returns c =
     let whole : string_bytes c.if-number-lt0.out ++ digits ≡ before ++ number_text c.args.number = elim c.if-number-lt0.branch [
       | then-number-lt0+in_ok-push w ↦
           let text = number_text-minus c.args.number _ c.ranges.number c.unsigned_abs.ensures.value w.if-number-lt0.true in
-          ap (λ (t : List ℕ). t ++ digits) (ap string_bytes w.out-is ∙ w.in_ok-push.ensures.bytes) ∙ append_assoc before (encode_utf8 175) digits
-          ∙ ap (λ (t : List ℕ). before ++ t) (ap (λ (t : List ℕ). encode_utf8 175 ++ t) c.format.ensures.text ∙ sym text.0)
+          rw (w.out-is, w.in_ok-push.ensures.bytes, c.format.ensures.text, text.0) (append_assoc before (encode_utf8 175) (decimal c.unsigned_abs.result))
       | else-number-lt0 w ↦
           let text = number_text-plus c.args.number _ c.ranges.number c.unsigned_abs.ensures.value w.if-number-lt0.false in
-          ap (λ (t : List ℕ). t ++ digits) (ap string_bytes w.out-is) ∙ ap (λ (t : List ℕ). before ++ t) (c.format.ensures.text ∙ sym text.0)
+          rw (w.out-is, c.format.ensures.text, text.0) refl
     ] in
     pushed c.push_str.result (string_bytes c.push_str.new.self) (string_bytes c.if-number-lt0.out) digits (before ++ number_text c.args.number) c.push_str.ensures.bytes whole

@@ -1,9 +1,10 @@
-use Rattle.std.{proofs.Common.{◌≡◌, ◌+◌, ◌*◌, ◌∙◌, ap, sym, get_or, pos, rules, w64, arith}, proofs.lemmas.Int.{to_z-of_z}}
-use Rattle.array_text.{specs.Text.{number_width}, proofs.Numerals.{column_width-none, column_width-more}, proofs.numbers.width_of_column.Goals.{then-width-widest, else-width-widest}}
+use Rattle.std.{proofs.Common.{◌≡◌, ◌+◌, ◌*◌, ◌∙◌, ap, refl, get_or, pos, rules, w64, arith}, proofs.lemmas.Int.{to_z-of_z}}
+use Rattle.array_text.{specs.Text.{column_width, number_width}, proofs.Numerals.{column_width-more}, proofs.numbers.width_of_column.Goals.{then-width-widest, else-width-widest}}
 use Rattle.array_text.proofs.numbers.width_of_column.Goals as goal
 
 pub loop-row-init : goal.loop-row-init
-loop-row-init c = sym (column_width-none c.args.columns c.args.numbers.now c.args.column)
+unfolding column_width
+loop-row-init c = refl
 
 pub loop-row-preserved : goal.loop-row-preserved
 loop-row-preserved c =

@@ -12,9 +12,7 @@ pub returns-then-axes-eq3 : goal.returns-then-axes-eq3
 returns-then-axes-eq3 g c = rw (of_rank_three g.T.Printed.line g.T.Printed.plane c.args.items.now c.args.axes.now c.if-axes-eq3.true) c.push_planes.ensures
 
 pub push_planes-requires-2-clause-shape : goal.push_planes-requires-2-clause-shape
-push_planes-requires-2-clause-shape g c =
-    let rank : length c.args.axes.now ≡ 4 = let most = c.requires.within.rank in omega arith in
-    c.requires.long ∙ size_of_rank_four c.args.axes.now rank
+push_planes-requires-2-clause-shape g c = c.requires.long ∙ size_of_rank_four c.args.axes.now (let most = c.requires.within.rank in omega arith)
 
 pub returns : goal.returns
 returns g c =

@@ -1,5 +1,5 @@
-use Rattle.std.{proofs.Common.{◌≡◌, ◌∙◌, ◌++◌, ◌<◌, ap, refl, sym, List, ℕ, length, map, get_or, arith}, specs.Prelude.{string_bytes}, proofs.lemmas.Bool.{eqb-true}}
-use Rattle.array_text.{specs.Text.{item_number}, specs.Tables.{record_text, records_text}, proofs.Written.{table_none, numbers_in, one_record, many_records, no_items}, proofs.table_writer.write_table.Goals.{then-axes-lt2+in_ok-push_record, else-axes-lt2+in_ok-push_records}}
+use Rattle.std.{proofs.Common.{◌≡◌, ◌∙◌, ◌<◌, ap, refl, sym, length, map, arith}, proofs.lemmas.Bool.{eqb-true}}
+use Rattle.array_text.{specs.Text.{item_number}, proofs.Written.{table_none, numbers_in, one_record, many_records, no_items}, proofs.table_writer.write_table.Goals.{then-axes-lt2+in_ok-push_record, else-axes-lt2+in_ok-push_records}}
 use Rattle.array_text.proofs.table_writer.write_table.Goals as goal
 
 pub returns-in_default : goal.returns-in_default
@@ -23,12 +23,8 @@ returns c =
     elim c.if-axes-lt2.branch [
       | then-axes-lt2+in_ok-push_record w ↦
           let low : length a.shape < 2 = let l = w.if-axes-lt2.true in let e = ap length axes in omega arith in
-          ap string_bytes w.text-is ∙ w.in_ok-push_record.ensures ∙ ap (λ (t : List ℕ). t ++ record_text zs) c.new-text.ensures.bytes
-          ∙ sym (numbers ∙ one_record a.shape zs some low)
+          rw (w.text-is, w.in_ok-push_record.ensures, c.new-text.ensures.bytes) (sym (numbers ∙ one_record a.shape zs some low))
       | else-axes-lt2+in_ok-push_records w ↦
           let two : length a.shape ≡ 2 = let l = w.if-axes-lt2.false in let e = ap length axes in let most = c.requires.rank in omega arith in
-          ap string_bytes w.text-is ∙ w.in_ok-push_records.ensures
-          ∙ ap (λ (t : List ℕ). t ++ records_text (get_or c.as_slice-axes.result.now 0 0) (get_or c.as_slice-axes.result.now 1 0) zs) c.new-text.ensures.bytes
-          ∙ ap (λ (s : List ℕ). records_text (get_or s 0 0) (get_or s 1 0) zs) axes
-          ∙ sym (numbers ∙ many_records a.shape zs some two)
+          rw (w.text-is, w.in_ok-push_records.ensures, c.new-text.ensures.bytes, axes) (sym (numbers ∙ many_records a.shape zs some two))
     ]
