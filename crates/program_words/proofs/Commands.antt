@@ -18,7 +18,6 @@ words_added (a ∷ words) old new local added =
 pub command_added : (command added both : Result Command AllocError) (a b : App) → IfOk command (λ c. app_of c ≡ a) → IfOk added (λ c. app_of c ≡ b)
     → IfOk added (λ c. (out-Command c).has_globals ≡ false) → IfOk both (λ r. IsOkAnd command (λ c. IsOkAnd added (λ d. AddsSubcommand c d r)))
     → IfOk both (λ r. app_of r ≡ with_subcommand a b.top)
-command_added command added (Err e) a b is adds local h = tt
-command_added (Err e) added (Ok r) a b is adds local h = absurd h
-command_added (Ok c) (Err e) (Ok r) a b is adds local h = absurd h
 command_added (Ok c) (Ok d) (Ok r) a b is adds local h = h.shape local ∙ ap₂ with_subcommand is (ap (λ (app : App). app.top) adds)
+command_added command added (Err e) a b is adds local h = tt
+command_added _ _ (Ok r) a b is adds local h = absurd h

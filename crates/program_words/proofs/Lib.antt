@@ -3,5 +3,4 @@ pub mod Exact
 pub mod Rows
 pub mod Walks
 pub mod Required
-pub mod Matches
 pub mod Refusals

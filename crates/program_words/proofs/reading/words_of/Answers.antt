@@ -1,10 +1,19 @@
-use Rattle.std.{proofs.Common.{refl, sym, ◌∙◌}, proofs.lemmas.Bool.{both_ways, not-true, not-false}, proofs.lemmas.Result.{err_from_is_err_and}}
-use Rattle.program_words.{specs.Asked.{HasBadName, Means}, specs.Matched.{IsWholeTable}, proofs.Matches.{sub_none, sub_some}, proofs.Refusals.{for_name-weaker}}
+use Rattle.std.{proofs.Common.{◌≡◌, arith, refl, sym, ◌∙◌, List, Option, Some, None, option_map}, proofs.lemmas.Bool.{both_ways, not-true, not-false}, proofs.lemmas.Result.{err_from_is_err_and}, specs.Prelude.{Box}, specs.Box.{box_value}}
+use Rattle.clap.{specs.declared.parser.matches.SubCommand.{SubCommand}, specs.Words.{Row, Text, subcommand_rows, subcommand_rows_of}, specs.declared.parser.matches.ArgMatches.TheViews.{out-SubCommand}}
+use Rattle.program_words.{specs.Asked.{HasBadName, Means}, specs.Matched.{IsWholeTable}, proofs.Refusals.{for_name-weaker}}
 use Rattle.program_words.proofs.reading.words_of.Goals as goal
+
+-- the subcommand, from its name and its rows
+sub_some : {Z : Type 0} (x : Option (Box SubCommand Z)) (name : Text) (rows : List Row)
+    → option_map (λ b. (out-SubCommand (box_value b)).name.now) x ≡ Some name
+    → option_map (λ (p : Text × List Row). p.1) (subcommand_rows x) ≡ Some rows → subcommand_rows x ≡ Some (name, rows)
+sub_some x name rows h k = grind arith
 
 pub returns-in_default-clause-ok : goal.returns-in_default-clause-ok
 unfolding Means
-returns-in_default-clause-ok c = rw (sub_none _ (sym c.in_default.ensures.rows)) (refl, refl)
+returns-in_default-clause-ok c =
+    let none : subcommand_rows_of c.args.matches.now ≡ None = (let e = c.in_default.ensures.rows in grind arith) in
+    rw none (refl, refl)
 
 pub returns-then-ne-clause-ok : goal.returns-then-ne-clause-ok
 unfolding Means
