@@ -85,6 +85,16 @@ impl Patch {
         if let Some(item) = self.items.only() {
             return item;
         }
+        self.item_of_many(index)
+    }
+
+    /// Does the work of `item`. Not inlined: a single item needs no stack.
+    #[inline(never)]
+    fn item_of_many(&self, index: &[u32]) -> Item
+        requires { IsTrue (is_within self.now.region index.now) }
+        ensures is { result ≡ get_or self.now.items (box_offset self.now.region index.now) (fill self.now.item_type) }
+        ensures typed { type_of result ≡ self.now.item_type }
+    {
         // The contract of `count` implies that the offset fits into 32 bits.
         let _count = self.items.count();
         self.items.item(self.region.offset(index) as u32)
@@ -99,6 +109,15 @@ impl Patch {
             self.write_only(item, array);
             return;
         }
+        self.write_many(array);
+    }
+
+    /// Does the work of `write_into`. Not inlined: a single item needs less stack.
+    #[inline(never)]
+    fn write_many(&self, array: &mut Array)
+        requires { FitsPatch array.old self.now }
+        ensures { array.new ≡ patched array.old self.now }
+    {
         let items = self.items.count();
         // The contract of `shape` states that the array has one item for each place.
         let _one_item_a_place = array.shape();

@@ -61,7 +61,8 @@ fn at_patched(array: &Array, patch: &Patch, index: &[u32]) -> Option<Item>
     array.at(index)
 }
 
-/// Returns the item at a place of a patched array, counted from 1.
+/// Returns the item at a place of a patched array, counted from 1. Not inlined, like `item_grown`: an item of an unchanged array needs no stack.
+#[inline(never)]
 fn item_patched(array: &Array, patch: &Patch, position: u32) -> Item
     requires fits { FitsPatch array.now patch.now }
     requires low { 1 ≤ position }
@@ -77,6 +78,7 @@ fn item_patched(array: &Array, patch: &Patch, position: u32) -> Item
 }
 
 /// Returns the item at a place of a grown array, counted from 1.
+#[inline(never)]
 #[tactic(auto, using(crate::proofs::Grown::item_before, crate::proofs::Grown::item_behind))]
 fn item_grown(array: &Array, tail: &Tail, position: u32) -> Item
     requires fits { FitsTail array.now tail.now }

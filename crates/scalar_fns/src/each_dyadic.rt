@@ -29,10 +29,12 @@ pub struct EachDyadic {
 fn is_extended_to(array: &Seen, other: &Seen) -> bool
     ensures { result ≡ is_extended_to array.now other.now }
 {
-    other.places() == 1 && other.shape().len() <= array.shape().len()
+    let rank = other.shape().len();
+    rank == 0 || (rank <= array.shape().len() && other.places() == 1)
 }
 
-/// Tests whether the two arrays have one shape.
+/// Tests whether the two arrays have one shape. Not inlined: beside a scalar it is not needed, and neither is its stack.
+#[inline(never)]
 fn have_one_shape(left: &Seen, right: &Seen) -> bool
     ensures { result ≡ bytes_eq left.now.shape right.now.shape }
 {

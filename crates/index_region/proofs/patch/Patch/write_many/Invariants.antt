@@ -1,5 +1,5 @@
 use Rattle.{std.proofs.Common.{◌≡◌, ◌<◌}, index_region.{specs.Boxes.{box_size, walk_at}, proofs.Written.{IsWritten}}}
-use Rattle.index_region.proofs.patch.Patch.write_into.Given as goal
+use Rattle.index_region.proofs.patch.Patch.write_many.Given as goal
 
 abbrev pub invariant-loop-before : goal.invariant-loop-before
 invariant-loop-before l = record {

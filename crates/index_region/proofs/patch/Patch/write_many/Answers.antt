@@ -1,8 +1,8 @@
 use Rattle.std.proofs.Common.{◌≡◌, ◌∙◌, ◌<◌, ◌+◌, ◌-◌, ℕ, get_or, set, List, sym, ap, arith, subst}
 use Rattle.arrays_core.{specs.Arrays.{ArrayValue}, specs.Shapes.{is_index_of, places_before}, specs.Items.{fill}}
 use Rattle.index_region.{specs.Boxes.{Interval, box_size, walk_at}, specs.Patches.{PatchValue}, proofs.Walks.{walk_within, some_place}, proofs.Patched.{fits_within}, proofs.Written.{IsWritten, written_none, written_more, written_all}}
-use Rattle.index_region.proofs.patch.Patch.write_into.Goals.{then-before-items, else-before-items, After-as_slice}
-use Rattle.index_region.proofs.patch.Patch.write_into.Goals as goal
+use Rattle.index_region.proofs.patch.Patch.write_many.Goals.{then-before-items, else-before-items, After-as_slice}
+use Rattle.index_region.proofs.patch.Patch.write_many.Goals as goal
 
 pub loop-before-init : goal.loop-before-init
 loop-before-init c = record {
