@@ -8,4 +8,4 @@ mod patch;
 
 pub use change_core::{Meter, Reach, Rule, growth_extends, reach_covers};
 pub use index_region::{Delta, Patch, Seen, Tail};
-pub use node::{change_of, refresh, refresh_with_cost};
+pub use node::{change_of, refresh};

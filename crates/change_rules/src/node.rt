@@ -22,7 +22,7 @@ use crate::arguments::{
 use crate::evaluation::evaluate;
 use crate::patch::{is_one_place, patch_of, patch_of_one};
 use arrays_core::{Array, Fault, Shape, outcome, shape_of, size};
-use change_core::{Meter, Reach, Reached, Rule, last_place};
+use change_core::{Meter, Reach, Rule, last_place};
 use index_region::{Delta, IndexBox, Moved, Seen, Tail};
 use std::alloc::{AllocError, Global};
 
@@ -54,14 +54,13 @@ fn reached<R: Rule>(
             return Ok(0);
         }
     };
-    let Reached { reach, reads_few } = reached;
-    match reach {
+    match &reached.reach {
         Reach::Unmoved => {
             *change = Delta::Same;
             Ok(0)
         }
         Reach::Inside(region) => {
-            if reads_few && is_one_place(&region) {
+            if reached.reads_few && is_one_place(region) {
                 patch_of_one(rule, seen, region, change, meter);
                 return Ok(1);
             }
@@ -72,6 +71,7 @@ fn reached<R: Rule>(
 }
 
 /// Evaluates the node from scratch, writes the result as the change, and returns its cost.
+#[inline(never)]
 fn change_anew<R: Rule>(
     alloc: Global,
     rule: &R,
@@ -278,6 +278,7 @@ pub fn change_of<R: Rule>(
 
 /// Returns the change of a node from the changes of its arguments. If `old` was the evaluation of the old arguments, applying the change yields the
 /// evaluation of the new ones. Returns `Same` if no argument changed. Ticks once for each computed item. Fails only for lack of memory.
+#[tactic(auto, using(crate::proofs::Told::count_told, crate::proofs::Told::moves_told, crate::proofs::Told::fit_told))]
 pub fn refresh<R: Rule>(
     alloc: Global,
     rule: &R,
@@ -297,44 +298,13 @@ pub fn refresh<R: Rule>(
     ensures whole { IfOk result (λ d. BringsUpToDate (R.model rule.now) args.now old.now d) }
 {
     let mut change = Delta::Same;
-    refresh_with_cost(alloc, rule, args, old, &mut change, meter)?;
-    Ok(change)
-}
-
-/// Replaces `change` by the change that `refresh` returns. Returns the cost: the most items of the result that it computes.
-#[tactic(auto, using(crate::proofs::Told::count_told, crate::proofs::Told::moves_told, crate::proofs::Told::fit_told))]
-pub fn refresh_with_cost<R: Rule>(
-    alloc: Global,
-    rule: &R,
-    args: &[(Seen, &Delta)],
-    old: &Result<Array, Fault>,
-    change: &mut Delta,
-    meter: &mut Meter,
-) -> Result<u32, AllocError>
-    requires count { length args.now ≡ length (R.model rule.now).selectors }
-    requires fit { AllFit (views args.now) (moved args.now) }
-    requires axes { HasAxis args.now }
-    ensures delta { OnOk result (change.new ≡ node_delta (R.model rule.now) args.now old.now) }
-    ensures cost { IfOk result (λ n. n ≡ node_cost (R.model rule.now) args.now old.now) }
-    ensures ticks { meter.new.ticks ≤ meter.old.ticks + node_cost (R.model rule.now) args.now old.now }
-    ensures exact { IfOk result (λ n. is_error change.new ≡ false → meter.new.ticks ≡ ticked meter.old.ticks n) }
-    ensures rises { meter.old.ticks ≤ meter.new.ticks }
-    ensures joins { meter.new.joins ≡ meter.old.joins }
-    ensures right { OnOk result (IsRight (R.model rule.now) (views args.now) change.new) }
-    ensures whole { OnOk result (BringsUpToDate (R.model rule.now) args.now old.now change.new) }
-{
     // One argument needs no allocation.
     if let [(array, delta)] = args {
-        return change_of(
-            alloc,
-            rule,
-            &[array.again()],
-            &[Moved::of(delta)],
-            old,
-            change,
-            meter,
-        );
+        let (view, places) = ([array.again()], [Moved::of(delta)]);
+        change_of(alloc, rule, &view, &places, old, &mut change, meter)?;
+        return Ok(change);
     }
     let (seen, moved) = lists_of(alloc, args)?;
-    change_of(alloc, rule, &seen, &moved, old, change, meter)
+    change_of(alloc, rule, &seen, &moved, old, &mut change, meter)?;
+    Ok(change)
 }

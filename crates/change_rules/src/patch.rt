@@ -51,6 +51,7 @@ fn goes_item_by_item<R: Rule>(rule: &R, args: &[Seen]) -> bool {
 }
 
 /// Tells if the box has one place.
+#[inline(always)]
 pub(crate) fn is_one_place(region: &IndexBox) -> bool
     ensures { result ≡ list_all (λ s. s.0 == s.1) region.now }
 {
@@ -62,41 +63,42 @@ pub(crate) fn is_one_place(region: &IndexBox) -> bool
 pub(crate) fn patch_of_one<R: Rule>(
     rule: &R,
     args: &[Seen],
-    region: IndexBox,
+    region: &IndexBox,
     change: &mut Delta,
     meter: &mut Meter,
 )
     requires count { length args.now ≡ length (R.model rule.now).selectors }
-    requires one { box_size region ≡ 1 }
-    requires checked { (f : Form) × ((R.model rule.now).form args.now ≡ Ok f) × IsTrue (fits region f.shape) }
-    ensures delta { change.new ≡ delta_in ((R.model rule.now).form args.now) ((R.model rule.now).item args.now) (Inside region) }
+    requires one { box_size region.now ≡ 1 }
+    requires checked { (f : Form) × ((R.model rule.now).form args.now ≡ Ok f) × IsTrue (fits region.now f.shape) }
+    ensures delta { change.new ≡ delta_in ((R.model rule.now).form args.now) ((R.model rule.now).item args.now) (Inside region.now) }
     ensures ticks { meter.new.ticks ≡ ticked meter.old.ticks 1 }
     ensures rises { meter.old.ticks ≤ meter.new.ticks }
     ensures joins { meter.new.joins ≡ meter.old.joins }
 {
     let index = region.index_at(0);
     match rule.item(args, index.as_slice(), meter) {
-        Ok(item) => *change = Delta::Patch(Patch::one(region, item)),
+        Ok(item) => *change = Delta::Patch(Patch::one(region.copy(), item)),
         Err(kind) => *change = Delta::Whole(Err(kind.into())),
     }
 }
 
 /// Replaces `change` by the patch of a box of the result, or by the first error in it. Returns the cost. A single place does not allocate, unless it
 /// is the whole result and reads many items of a large argument.
+#[inline(never)]
 pub(crate) fn patch_of<R: Rule>(
     alloc: Global,
     rule: &R,
     args: &[Seen],
-    region: IndexBox,
+    region: &IndexBox,
     change: &mut Delta,
     meter: &mut Meter,
 ) -> Result<u32, AllocError>
     requires count { length args.now ≡ length (R.model rule.now).selectors }
-    requires checked { (f : Form) × ((R.model rule.now).form args.now ≡ Ok f) × IsTrue (fits region f.shape) }
-    ensures delta { OnOk result (change.new ≡ delta_in ((R.model rule.now).form args.now) ((R.model rule.now).item args.now) (Inside region)) }
-    ensures cost { IfOk result (λ n. n ≡ box_size region) }
-    ensures ticks { meter.new.ticks ≤ meter.old.ticks + box_size region }
-    ensures exact { OnOk result (is_error change.new ≡ false → meter.new.ticks ≡ ticked meter.old.ticks (box_size region)) }
+    requires checked { (f : Form) × ((R.model rule.now).form args.now ≡ Ok f) × IsTrue (fits region.now f.shape) }
+    ensures delta { OnOk result (change.new ≡ delta_in ((R.model rule.now).form args.now) ((R.model rule.now).item args.now) (Inside region.now)) }
+    ensures cost { IfOk result (λ n. n ≡ box_size region.now) }
+    ensures ticks { meter.new.ticks ≤ meter.old.ticks + box_size region.now }
+    ensures exact { OnOk result (is_error change.new ≡ false → meter.new.ticks ≡ ticked meter.old.ticks (box_size region.now)) }
     ensures rises { meter.old.ticks ≤ meter.new.ticks }
     ensures joins { meter.new.joins ≡ meter.old.joins }
 {
@@ -109,8 +111,8 @@ pub(crate) fn patch_of<R: Rule>(
         patch_of_one(rule, args, region, change, meter);
         return Ok(cost);
     }
-    match outcome(items_of(alloc, rule, args, &form, &region, meter))? {
-        Ok(values) => *change = Delta::Patch(Patch::of(region, values)),
+    match outcome(items_of(alloc, rule, args, &form, region, meter))? {
+        Ok(values) => *change = Delta::Patch(Patch::of(region.copy(), values)),
         Err(fault) => *change = Delta::Whole(Err(fault)),
     }
     Ok(cost)

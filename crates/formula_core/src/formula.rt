@@ -237,10 +237,10 @@ impl Formula {
         if self.is_new {
             return self.push_apart(true, changes, inputs, meter);
         }
-        self.push(false, changes, inputs, meter)
+        self.push(false, &Delta::Same, changes, inputs, meter)
     }
 
-    /// Does the work of `push`. Not inlined: an edit does not use it.
+    /// Does the work of `push` for a new formula, and for one that is a literal or a name. Not inlined: most edits do not use it.
     #[inline(never)]
     fn push_apart(
         &self,
@@ -256,19 +256,21 @@ impl Formula {
             → IsOneMore self.now c changes.old.items changes.new.items n meter.old meter.new) }
         ensures err { OnErr result (changes.new.items ≡ changes.old.items) }
     {
-        self.push(is_new, changes, inputs, meter)
+        self.push(is_new, &of_literals(is_new), changes, inputs, meter)
     }
 
     /// Appends the change of the next node. Returns its cost. The change is large, so it is written in its place in the list.
     #[inline(always)]
-    fn push(
-        &self,
+    fn push<'x>(
+        &'x self,
         is_new: bool,
+        of_literals: &'x Delta,
         changes: &mut Vec<NodeChange>,
-        inputs: &[Input],
+        inputs: &'x [Input],
         meter: &mut Meter,
     ) -> Result<u32, AllocError>
         requires new { is_new ≡ self.now.is_new }
+        requires literals { IsLiteralChange is_new of_literals.now }
         requires below { length changes.old.items < length self.now.nodes }
         requires begun { (c : NamesChange) × (IsTold self.now c inputs.now × ((cost : ℕ) × IsBegun self.now c changes.old.items cost)) }
         ensures more { IfOk result (λ n. (c : NamesChange) → IsTold self.now c inputs.now → (cost : ℕ) → IsBegun self.now c changes.old.items cost
@@ -276,18 +278,18 @@ impl Formula {
         ensures err { OnErr result (changes.new.items ≡ changes.old.items) }
     {
         let place = changes.len();
-        changes.push(NodeChange::none())?;
+        changes.reserve(1)?;
+        changes.push_reserved(NodeChange::none());
         let Some((change, done)) = changes.split_last_mut() else {
             unreachable!()
         };
-        let of_literals = of_literals(is_new);
         let stage = Stage {
             alloc: self.alloc,
             is_new,
-            inputs,
+            inputs: &*inputs,
             nodes: self.nodes.as_slice(),
             changes: done,
-            of_literals: &of_literals,
+            of_literals: &*of_literals,
         };
         let items = match stage.next(change, meter) {
             Ok(items) => items,

@@ -1,6 +1,6 @@
 //! A node with its stored results, and the changes of these.
 
-ghost use Rattle.std.specs.Prelude.{◌≡◌, true, length, None, Err};
+ghost use Rattle.std.specs.Prelude.{◌≡◌, ◌-◌, true, length, take, None, Err};
 ghost use Rattle.arrays_core.specs.declared.item.Kind.TheVariants.{Value};
 ghost use Rattle.change_rules.specs.Currency.{applied};
 ghost use Rattle.formula_core.specs.Changes.{FitsIn, each_with};
@@ -123,9 +123,17 @@ pub(crate) fn adopt_all(nodes: &mut Vec<Kept>, changes: &mut Vec<NodeChange>)
         let place = changes.len() - 1;
         if changes[place].can_be_lent() {
             nodes[place].adopt_lent(&changes[place]);
-            changes.truncate(place);
+            remove_last(changes);
         } else if let Some(change) = changes.pop() {
             nodes[place].adopt(change);
         }
     }
+}
+
+/// Removes the last change. `truncate` would read all of it, and `pop` reads only the variant that is there.
+#[inline(always)]
+fn remove_last(changes: &mut Vec<NodeChange>)
+    ensures { changes.new.items ≡ take (length changes.old.items - 1) changes.old.items }
+{
+    let _removed = changes.pop();
 }

@@ -84,10 +84,10 @@ impl<'a, 'b> Ahead<'a, 'b> {
     /// Does the work of a formula with any number of references. Inputs of up to four names take no memory. Not inlined: the path of one reference
     /// must not clear four inputs on its stack.
     #[inline(never)]
-    fn work_on_many(
-        &self,
+    fn work_on_many<'c>(
+        &'c self,
         alloc: Global,
-        formula: &Formula,
+        formula: &'c Formula,
         current: &mut Option<Plan>,
         budget: &mut Budget,
         meter: &mut Meter,
@@ -99,7 +99,11 @@ impl<'a, 'b> Ahead<'a, 'b> {
             → (rest : ℕ) × IsNext (outline_of self.now.proposed.now) base rest w formula.now current.new meter.new.ticks × IsPaid (outline_of self.now.proposed.now) budget.old budget.new left rest meter.old.ticks meter.new.ticks }
         ensures whole { IfOk result (λ is_whole. IsStopped formula.now current.new is_whole budget.new) }
     {
-        let inputs = self.inputs_of(alloc, formula.references())?;
+        let references = formula.references();
+        let mut inputs: Inputs = SmallVec::new(alloc);
+        for reference in references {
+            inputs.push(self.input_of(reference))?;
+        }
         self.apply(formula, inputs.as_slice(), current, budget, meter)
     }
 
@@ -152,23 +156,6 @@ impl<'a, 'b> Ahead<'a, 'b> {
             *current = Some(formula.start(inputs)?);
         }
         Ok(())
-    }
-
-    /// Returns an input for each of these names.
-    fn inputs_of<'c>(
-        &'c self,
-        alloc: Global,
-        references: &'c [Name],
-    ) -> Result<Inputs<'c>, AllocError>
-        requires ahead { IsAhead self.now }
-        requires done { (x : List ℕ) → Contains references.now x → HasItsPlan (outline_of self.now.proposed.now) (plan_in self.now.found.now.entries) x }
-        ensures { IfOk result (λ inputs. AreInputsOf (outline_of self.now.proposed.now) references.now inputs.items) }
-    {
-        let mut inputs = SmallVec::new(alloc);
-        for reference in references {
-            inputs.push(self.input_of(reference))?;
-        }
-        Ok(inputs)
     }
 
     /// Returns the input of a name: its value and its change. Compares the name with that of the newest plan before a lookup.

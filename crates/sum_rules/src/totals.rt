@@ -31,7 +31,7 @@ use arrays_core::{
     ApplyFault, Array, Fault, Item, ItemType, Kind, Shape, outcome, places_before, shape_of,
 };
 use change_core::{Announced, Meter, Reach, Rule};
-use change_rules::refresh_with_cost;
+use change_rules::change_of;
 use fold_trees::SumTree;
 use index_region::{Along, Delta, IndexBox, Moved, Patch, Seen, Tail};
 use item_fns::Scalar2;
@@ -270,7 +270,7 @@ fn change_by_growth<S: LineTotals>(
     Ok(cost)
 }
 
-/// Replaces `change` by the change of the totals of B, as `refresh_with_cost` does. Returns the cost: the most totals that it computes. Folds each of
+/// Replaces `change` by the change of the totals of B, as `refresh` does. Returns the cost: the most totals that it computes. Folds each of
 /// these lines, and counts one join less than the line has numbers.
 pub fn fold_totals_with_cost(
     alloc: Global,
@@ -295,14 +295,21 @@ pub fn fold_totals_with_cost(
     let (array, delta) = arg;
     let long = length_along(fold.along, array.shape().as_slice());
     let mut own = Meter::new();
-    let args = [(array, delta)];
-    let cost = refresh_with_cost(alloc, &fold, &args, old, change, &mut own)?;
+    let cost = change_of(
+        alloc,
+        &fold,
+        &[array],
+        &[Moved::of(delta)],
+        old,
+        change,
+        &mut own,
+    )?;
     own.count_joins(own.ticks() * u64::from(long.saturating_sub(1)));
     meter.include(&own);
     Ok(cost)
 }
 
-/// Replaces `change` by the change of the totals of B, as `refresh_with_cost` does. Returns the cost: the most totals that it computes. If the
+/// Replaces `change` by the change of the totals of B, as `refresh` does. Returns the cost: the most totals that it computes. If the
 /// changed box of B has one place on the axis of the lines, each new total comes from the tree of its line. This takes at most as many joins as the
 /// length of the line, less one, has binary digits. After an error the other totals are read from their trees, without joins. If B grew along the
 /// axis of the lines, each total takes one join. In all other cases the lines are folded.

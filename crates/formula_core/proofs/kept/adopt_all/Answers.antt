@@ -10,11 +10,11 @@ loop-changes-preserved-then-can_be_lent c =
     let d = c.index-then-can_be_lent.result.now in
     let below : n < length all = search rules in
     let high : length all ≤ n + 1 = omega (arith, c.len-place.ensures, c.loop-changes.changes.ok.0) in
-    let front : c.truncate.new.self.items ≡ take n all = c.truncate.ensures.items in
-    let last : all ≡ c.truncate.new.self.items ++ d ∷ [] =
+    let front : c.remove_last.new.changes.items ≡ take n all = c.remove_last.ensures ∙ ap (λ k. take (k - 1) all) (omega (arith, c.len-place.ensures, c.loop-changes.changes.ok.0)) in
+    let last : all ≡ c.remove_last.new.changes.items ++ d ∷ [] =
     sym (take_all (n + 1) all high) ∙ take_more all n d below ∙ ap (λ e. take n all ++ e ∷ []) (sym c.index-then-can_be_lent.ensures) ∙ ap (λ (ds : List NodeChange). ds ++ d ∷ []) (sym front) in
-    let place : n ≡ length c.truncate.new.self.items = omega (arith, below, high, ap (λ (ds : List NodeChange). length ds) last, length-append c.truncate.new.self.items (d ∷ [])) in
-    left_after NodeChange Kept node_taking (λ d k. IsFit d (holding k)) no_change no_node all c.truncate.new.self.items d c.loop-changes.nodes.items n c.index_mut.result.now c.adopt_lent.new.self
+    let place : n ≡ length c.remove_last.new.changes.items = omega (arith, below, high, ap (λ (ds : List NodeChange). length ds) last, length-append c.remove_last.new.changes.items (d ∷ [])) in
+    left_after NodeChange Kept node_taking (λ d k. IsFit d (holding k)) no_change no_node all c.remove_last.new.changes.items d c.loop-changes.nodes.items n c.index_mut.result.now c.adopt_lent.new.self
     (each_with node_taking c.args.changes.now.items c.args.nodes.now.items) c.loop-changes.invariant last place c.index_mut.ensures.value c.adopt_lent.ensures
 
 pub loop-changes-preserved-in-Some : goal.loop-changes-preserved-in-Some

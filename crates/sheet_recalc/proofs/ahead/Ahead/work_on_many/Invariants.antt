@@ -1,6 +1,6 @@
 use Rattle.std.proofs.Common.{take}
 use Rattle.sheet_recalc.{specs.ProposedSheet.{outline_of}, specs.Planning.{AreInputsOf}}
-use Rattle.sheet_recalc.proofs.ahead.Ahead.inputs_of.Given as goal
+use Rattle.sheet_recalc.proofs.ahead.Ahead.work_on_many.Given as goal
 
 abbrev pub invariant-loop-reference : goal.invariant-loop-reference
 invariant-loop-reference l = record {
