@@ -1,5 +1,5 @@
 -- Quotients by the machine's remainder, and quotients by -1.
-use Rattle.std.{proofs.Common.{◌≡◌, ℕ, zero, ◌+◌, ◌*◌, ◌/◌, ◌%◌, ◌^◌, ◌<◌, ◌≤◌, suc, SFits, unsigned_abs, refl, ap, sym, ◌∙◌, inl, arith, ℤ, pos, negsuc, neg_ℤ, ◌+ℤ◌, ◌-ℤ◌, ◌*ℤ◌, true, false, int_lt, Ok, of_z, w64, int_rem, int_div}, proofs.Math.IntN.{*ℤ_comm}, proofs.lemmas.Int.{ints, quot-rem, rem_below, fits_signed_from_abs}, proofs.lemmas.Bool.{le-ltb, true≢false, false≢true}, proofs.lemmas.Nat.{div-mul-add, mod-mul-add, mul-le}, specs.Ordering.{int_eq}}
+use Rattle.std.{proofs.Common.{◌≡◌, ℕ, zero, ◌+◌, ◌*◌, ◌/◌, ◌%◌, ◌^◌, ◌<◌, ◌≤◌, ◌≤ℤ◌, suc, SFits, unsigned_abs, refl, ap, sym, ◌∙◌, inl, arith, ℤ, pos, negsuc, neg_ℤ, ◌+ℤ◌, ◌-ℤ◌, ◌*ℤ◌, true, false, int_lt, Ok, of_z, w64, int_rem, int_div}, proofs.Math.IntN.{*ℤ_comm}, proofs.lemmas.Int.{ints, quot-rem, rem_below, fits_signed_from_abs}, proofs.lemmas.Bool.{le-ltb, true≢false, false≢true}, proofs.lemmas.Nat.{div-mul-add, mod-mul-add, mul-le}, specs.Ordering.{int_eq}}
 use Rattle.item_fns.{specs.Numbers.{residue, quotient, number_or_limit}, proofs.Residues.{as_it_is, whole_quotient, quotient_whole}, proofs.Signs.{zero_of_bits, is_not_zero}, proofs.Within.{held}}
 
 nothing_left : (a p r : ℤ) → a -ℤ p ≡ pos 0 → p +ℤ r ≡ a → r ≡ pos 0
@@ -36,8 +36,7 @@ pub negated : (a : ℤ) → quotient a (negsuc 0) ≡ number_or_limit (neg_ℤ a
 negated a = quotient_whole a (negsuc 0) refl (no_residue a (negsuc 0) (λ e. omega arith) (none_by_minus_one a)) ∙ ap number_or_limit (by_minus_one a)
 
 -- a multiple, divided by its divisor
-
-pub multiple : (a : ℤ) (d q : ℕ) → 2 ≤ d → SFits w64 a → int_lt a (pos 0) ≡ false → q * d ≡ unsigned_abs a → quotient a (pos d) ≡ Ok (pos q)
+multiple : (a : ℤ) (d q : ℕ) → 2 ≤ d → SFits w64 a → int_lt a (pos 0) ≡ false → q * d ≡ unsigned_abs a → quotient a (pos d) ≡ Ok (pos q)
 multiple (negsuc n) d q two fits sign h = absurd (true≢false sign)
 multiple (pos n) zero q two fits sign h = absurd (omega arith)
 multiple (pos n) (suc k) q two fits sign h =
@@ -48,11 +47,11 @@ multiple (pos n) (suc k) q two fits sign h =
     let few : SFits w64 (pos q) = record { sfits = let f = fits.sfits in let m = mul-le q 1 q (suc k) (omega arith) (omega arith) in omega arith } in
     quotient_whole (pos n) (pos (suc k)) (is_not_zero (pos (suc k)) some) (no_residue (pos n) (pos (suc k)) some (ap pos rest)) ∙ ap (λ z. number_or_limit (pos z)) times ∙ held (pos q) few
 
-pub negative_fits : (q : ℕ) → q ≤ 2 ^ 63 → SFits w64 (neg_ℤ (pos q))
+negative_fits : (q : ℕ) → q ≤ 2 ^ 63 → SFits w64 (neg_ℤ (pos q))
 negative_fits zero h = record { sfits = omega arith }
 negative_fits (suc q) h = record { sfits = omega arith }
 
-pub negative_multiple : (a : ℤ) (d q : ℕ) → 2 ≤ d → SFits w64 a → int_lt a (pos 0) ≡ true → q * d ≡ unsigned_abs a → quotient a (pos d) ≡ Ok (neg_ℤ (pos q))
+negative_multiple : (a : ℤ) (d q : ℕ) → 2 ≤ d → SFits w64 a → int_lt a (pos 0) ≡ true → q * d ≡ unsigned_abs a → quotient a (pos d) ≡ Ok (neg_ℤ (pos q))
 negative_multiple (pos n) d q two fits sign h = absurd (false≢true (sym (le-ltb n 0 (omega arith)) ∙ sign))
 negative_multiple (negsuc n) zero q two fits sign h = absurd (omega arith)
 negative_multiple (negsuc n) (suc k) q two fits sign h =
@@ -63,3 +62,16 @@ negative_multiple (negsuc n) (suc k) q two fits sign h =
     let few : q ≤ 2 ^ 63 = let f = fits.sfits in let m = mul-le q 1 q (suc k) (omega arith) (omega arith) in omega arith in
     quotient_whole (negsuc n) (pos (suc k)) (is_not_zero (pos (suc k)) some) (no_residue (negsuc n) (pos (suc k)) some (ap (λ m. neg_ℤ (pos m)) rest))
     ∙ ap (λ z. number_or_limit (neg_ℤ (pos z))) times ∙ held (neg_ℤ (pos q)) (negative_fits q few)
+
+below_zero : (m : ℕ) → 0 < m → (int_lt (neg_ℤ (pos m)) (pos 0) ≡ true) × (unsigned_abs (neg_ℤ (pos m)) ≡ m)
+below_zero zero some = absurd (omega arith)
+below_zero (suc m) some = (refl, refl)
+
+-- a product, divided by a factor
+pub exact : (a d q : ℤ) → pos 2 ≤ℤ d → SFits w64 a → q *ℤ d ≡ a → quotient a d ≡ Ok q
+exact a (negsuc m) q two fits h = absurd (omega (arith, ints, two))
+exact a (pos d) (pos n) two fits h =
+    multiple a d n (omega (arith, ints, two)) fits (ap (λ z. int_lt z (pos 0)) (sym h) ∙ le-ltb (n * d) 0 (omega arith)) (ap unsigned_abs h)
+exact a (pos d) (negsuc n) two fits h =
+    let below = below_zero (suc n * d) (let m = mul-le 1 2 (suc n) d (omega arith) (omega (arith, ints, two)) in omega arith) in
+    negative_multiple a d (suc n) (omega (arith, ints, two)) fits (ap (λ z. int_lt z (pos 0)) (sym h) ∙ below.0) (sym below.1 ∙ ap unsigned_abs h)

@@ -1,6 +1,7 @@
 //! Right folds of lists in one pass, from the first number on and without a check at each step.
 
-ghost use Rattle.std.specs.Prelude.{◌≡◌, ◌<◌, ◌≤◌, ◌*◌, ◌/◌, ◌+ℤ◌, ◌-ℤ◌, ℕ, ℤ, Result, Ok, IfSome, length, drop};
+ghost use Rattle.std.specs.Prelude.{◌≡◌, ◌<◌, ◌≤◌, ◌*◌, ◌/◌, ◌+ℤ◌, ◌-ℤ◌, ℕ, ℤ, Result, Ok, IfSome, length, drop, get_or, pos};
+ghost use Rattle.std.specs.List.{fold};
 ghost use Rattle.std.specs.Int.{int_bit_and, int_bit_or, int_bit_xor, int_max, int_min, int_wrapping_add, w64};
 ghost use Rattle.arrays_core.specs.Limits.{most_places};
 ghost use Rattle.arrays_core.specs.declared.item.Kind.{Kind};
@@ -230,22 +231,48 @@ impl AtOnce for Minimum {
     ghost law = { λ s. least };
 }
 
-/// Folds a list from the first number on. None if a number is not near.
+/// Folds two lists side by side, so that the steps of one need not wait for those of the other; the second list as far as the first goes.
+/// Returns both folds, and a word below the limit only if all these numbers are near.
+#[inline]
+fn fold_beside<S: AtOnce>(step: &S, first: &[i64], second: &[i64]) -> (i64, i64, u64)
+    requires some { 0 < length first.now }
+    requires long { length first.now ≤ length second.now }
+    ensures first { result.0 ≡ fold (S.plain step.now) (get_or first.now 0 (pos 0)) (drop 1 first.now) }
+    ensures second { fold (S.plain step.now) result.1 (drop (length first.now) second.now) ≡ fold (S.plain step.now) (get_or second.now 0 (pos 0)) (drop 1 second.now) }
+    ensures near { result.2 < S.LIMIT → (k : ℕ) → k < length first.now → S.near step.now 1 (get_or first.now k (pos 0)) × S.near step.now 1 (get_or second.now k (pos 0)) }
+{
+    let mut left = first[0];
+    let mut right = second[0];
+    let mut doubt = step.word(left) | step.word(right);
+    for place in 1..first.len() {
+        left = step.plain(left, first[place]);
+        right = step.plain(right, second[place]);
+        doubt |= step.word(first[place]) | step.word(second[place]);
+    }
+    (left, right, doubt)
+}
+
+/// Folds a list from the first number on, both halves side by side. None if a number is not near, or there is one number only.
 pub(crate) fn fold_forwards<S: AtOnce>(step: &S, numbers: &[i64]) -> Option<i64>
     requires { 0 < length numbers.now }
     ensures { IfSome result (λ z. folded (S.gives step.now) numbers.now ≡ Ok z) }
 {
-    if numbers.len() > MOST_PLACES as usize {
+    let (first, second) = numbers.split_at(numbers.len() / 2);
+    if first.is_empty() || numbers.len() > MOST_PLACES as usize {
         return None;
     }
-    let mut fold = numbers[0];
-    let mut doubt = step.word(fold);
-    for place in 1..numbers.len() {
-        fold = step.plain(fold, numbers[place]);
-        doubt |= step.word(numbers[place]);
+    let (left, mut right, mut doubt) = fold_beside(step, first, second);
+    if first.len() < second.len() {
+        let last = second[first.len()];
+        right = step.plain(right, last);
+        doubt |= step.word(last);
     }
     let limit = S::LIMIT;
-    if doubt < limit { Some(fold) } else { None }
+    if doubt < limit {
+        Some(step.plain(left, right))
+    } else {
+        None
+    }
 }
 
 /// Adds a - b to a total without a check.

@@ -1,6 +1,6 @@
-//! Quotients of a list by one number, by products with its reciprocal.
+//! Quotients of a list by one number, by products.
 
-ghost use Rattle.std.specs.Prelude.{◌≡◌, ◌≢◌, ◌<◌, ◌≤◌, ◌+◌, ◌*◌, ◌/◌, ◌^◌, pos, length, IfOk, IfSome, vec_len};
+ghost use Rattle.std.specs.Prelude.{◌≡◌, ◌≢◌, ◌<◌, ◌≤◌, ◌≤ℤ◌, ◌+◌, ◌*◌, ◌/◌, ◌^◌, pos, length, IfOk, IfSome, vec_len};
 ghost use Rattle.arrays_core.specs.Items.{all_or_first_error};
 ghost use Rattle.function_names.specs.declared.scalar.Scalar2.TheVariants as two;
 ghost use Rattle.item_fns.specs.Numbers.{dyadic_on_numbers};
@@ -51,17 +51,55 @@ impl Reciprocal {
     }
 }
 
-impl OneNumber for Reciprocal {
-    ghost gives = { λ s a. dyadic_on_numbers two.Divide a (pos s.divisor) };
+/// A divisor from 2 on, whose exact quotients are products: with the inverse of its odd part modulo 2 to the power 64, shifted by its factors of 2.
+#[derive(Clone, Copy)]
+struct ExactDivisor {
+    divisor: i64,
+    inverse: i64,
+    twos: u32,
+    ghost two: { pos 2 ≤ℤ divisor },
+}
+
+impl ExactDivisor {
+    /// Makes the inverse of the odd part. Each step doubles the number of its correct bits, which are three at the start. None below 2.
+    fn of(divisor: i64) -> Option<ExactDivisor>
+        ensures { IfSome result (λ d. d.divisor ≡ divisor) }
+    {
+        if divisor < 2 {
+            return None;
+        }
+        let twos = divisor.trailing_zeros();
+        let odd = divisor.wrapping_shr(twos);
+        let mut inverse = odd;
+        for _ in 0..5 {
+            let step = 2_i64.wrapping_sub(odd.wrapping_mul(inverse));
+            inverse = inverse.wrapping_mul(step);
+        }
+        Some(ExactDivisor {
+            divisor,
+            inverse,
+            twos,
+        })
+    }
+}
+
+impl OneNumber for ExactDivisor {
+    ghost gives = { λ s a. dyadic_on_numbers two.Divide a s.divisor };
 
     fn at(&self, a: i64) -> Result<i64, Kind> {
-        let magnitude = a.unsigned_abs();
-        match self.divide(magnitude) {
-            Some(times) if times * self.divisor == magnitude => {
-                let times = times as i64;
-                Ok(if a < 0 { -times } else { times })
-            }
-            _ => quotient(a, self.divisor as i64),
+        quotient(a, self.divisor)
+    }
+
+    fn has_step(&self) -> bool {
+        true
+    }
+
+    // Only the quotient of a multiple, multiplied by the divisor, is the number again.
+    fn step(&self, a: i64) -> (i64, u64) {
+        let guess = a.wrapping_mul(self.inverse).wrapping_shr(self.twos);
+        match guess.checked_mul(self.divisor) {
+            Some(product) if product == a => (guess, 0),
+            _ => (guess, 1),
         }
     }
 }
@@ -77,8 +115,8 @@ pub(crate) fn on_quotients(
     ensures long { IfOk result (λ v. vec_len v ≡ paired_length left.now right.now) }
 {
     if left.len() != 1 && right.len() == 1 {
-        if let Some(reciprocal) = Reciprocal::of(right[0]) {
-            return on_each(alloc, &reciprocal, left);
+        if let Some(divisor) = ExactDivisor::of(right[0]) {
+            return on_each(alloc, &divisor, left);
         }
     }
     on_lists(alloc, Divide, left, right)
