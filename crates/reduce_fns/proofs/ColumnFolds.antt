@@ -1,7 +1,8 @@
 -- Folds of lines from the column folds of blocks.
-use Rattle.std.{proofs.Common.{◌≡◌, refl, inl, inr, ℕ, ◌+◌, ◌-◌, ◌*◌, ◌/◌, ◌%◌, ◌<◌, ◌≤◌, List, length, get_or, drop, take, ℤ, pos, Result, Ok, ap, sym, ◌∙◌, arith}, proofs.lemmas.Bool.{cases_lt}, proofs.lemmas.List.{ext_get_or, get_or-take, get_or-drop, get_or_append_left, get_or-append_right}}
-use Rattle.{std.{proofs.lemmas.Nat.{div-mul-add, mod-mul-add, div-add-mod'}, proofs.Math.Nat.{mul-le-mul_right}}, arrays_core.specs.declared.item.Kind.{Kind}}
-use Rattle.item_fns.{specs.Folds.{strided, folded, line_start}, proofs.RightFolds.{length-strided, get_or-strided}}
+use Rattle.std.proofs.Common.{◌≡◌, refl, inl, inr, ℕ, [], ◌∷◌, ◌++◌, ◌+◌, ◌-◌, ◌*◌, ◌/◌, ◌%◌, ◌<◌, ◌≤◌, List, length, get_or, drop, take, ℤ, pos, Result, Ok, ap, sym, ◌∙◌, arith}
+use Rattle.std.{proofs.lemmas.Bool.{cases_lt}, proofs.lemmas.List.{length-append, length-take, length-drop, take-append-drop, drop-drop, ext_get_or, get_or-take, get_or-drop, get_or_append_left, get_or-append_right}}
+use Rattle.{std.{proofs.lemmas.Nat.{div-mul-add, mod-mul-add, div-add-mod'}, proofs.Math.Nat.{mul-le-mul_right}}, arrays_core.{specs.declared.item.Kind.{Kind}, specs.Items.{and_then}}}
+use Rattle.item_fns.{specs.Folds.{strided, folded, line_start}, proofs.RightFolds.{fold_more, length-strided, get_or-strided}}
 use Rattle.reduce_fns.{specs.Columns.{EndsInFolds}, proofs.Folds.{place_high}}
 
 -- a line within a part of a list
@@ -27,6 +28,37 @@ strided_part xs first size column stride count below whole =
         omega arith
 
 module _ (f : ℤ → ℤ → Result ℤ Kind) (xs : List ℤ) (stride count : ℕ) where
+  -- an end of a list in place of which its fold may stand
+  end_folded : (front rest : List ℤ) (y : ℤ) → 0 < length rest → folded f rest ≡ Ok y → folded f (front ++ rest) ≡ folded f (front ++ y ∷ [])
+  end_folded [] rest y some h = h
+  end_folded (x ∷ front) rest y some h =
+      let long = length-append front rest in
+      let more = length-append front (y ∷ []) in
+      fold_more f x (front ++ rest) (omega arith)
+      ∙ ap (λ r. and_then r (f x)) (end_folded front rest y some h)
+      ∙ sym (fold_more f x (front ++ y ∷ []) (omega arith))
+
+  -- more rows above a fold of a column
+  pub rows_more : (column k m size : ℕ) (y : ℤ) → column < stride → size ≡ m * stride → k + m < count
+      → folded f (drop (k + m) (strided (pos 0) xs column stride count)) ≡ Ok y
+      → folded f (drop k (strided (pos 0) xs column stride count)) ≡ folded f (strided (pos 0) (take size (drop (k * stride) xs)) column stride m ++ y ∷ [])
+  rows_more column k m size y inside whole high h =
+      let line = strided (pos 0) xs column stride count in
+      let rest = drop (k + m) line in
+      let long = length-strided (pos 0) xs column stride count in
+      let part = length-strided (pos 0) xs (k * stride + column) stride m in
+      let front : take m (drop k line) ≡ strided (pos 0) xs (k * stride + column) stride m =
+      ext_get_or (pos 0) (take m (drop k line)) (strided (pos 0) xs (k * stride + column) stride m) (omega (arith, length-take m (drop k line), length-drop k line)) (λ j below.
+      let few : j < m = omega (arith, length-take m (drop k line)) in
+      get_or-take m (drop k line) j (pos 0) few
+      ∙ get_or-drop k line j (pos 0)
+      ∙ get_or-strided (pos 0) xs column stride count (k + j) (pos 0) (omega arith)
+      ∙ ap (λ p. get_or xs p (pos 0)) (omega arith)
+      ∙ sym (get_or-strided (pos 0) xs (k * stride + column) stride m j (pos 0) few)) in
+      ap (folded f) (sym (take-append-drop m (drop k line)) ∙ ap (λ r. take m (drop k line) ++ r) (drop-drop m k line))
+      ∙ ap (λ r. folded f (r ++ rest)) (front ∙ sym (strided_part xs (k * stride) size column stride m inside whole))
+      ∙ end_folded (strided (pos 0) (take size (drop (k * stride) xs)) column stride m) rest y (omega (arith, length-drop (k + m) line)) h
+
   -- the fold of the line of a place of the result
   abbrev pub at_place : ℕ → Result ℤ Kind
   at_place place = folded f (strided (pos 0) xs (line_start stride count place) stride count)

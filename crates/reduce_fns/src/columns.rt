@@ -1,10 +1,10 @@
-//! Folds of columns, made a row at a time.
+//! Folds of columns, made by rows.
 
 ghost use Rattle.std.specs.Prelude.{◌≡◌, ◌≤◌, ◌-◌, ◌*◌, length, drop, map, Ok, IfOk, IfSome, true, vec_len};
 ghost use Rattle.std.specs.List.{range_with_len};
 ghost use Rattle.arrays_core.specs.Items.{all_or_first_error};
 ghost use Rattle.reduce_fns.specs.AxisLines.{fold_at};
-ghost use Rattle.reduce_fns.specs.Columns.{ArePutOver, AreColumnFolds, EndsInFolds};
+ghost use Rattle.reduce_fns.specs.Columns.{ArePutOver, AreFourPutOver, AreColumnFolds, EndsInFolds};
 
 use crate::axis_lines::AxisLines;
 use arrays_core::room_of;
@@ -53,6 +53,26 @@ pub fn put_over<S: TwoNumbers>(step: &S, row: &[i64], folds: &mut [i64]) -> u64
     }
 }
 
+/// Combines four rows with the folds of the numbers below them in one pass, in place, not inlined. Returns 0 only if no step fails.
+#[inline(never)]
+fn put_four<S: TwoNumbers>(step: &S, rows: &[i64], folds: &mut [i64]) -> u64
+    requires { length rows.now ≡ 4 * length folds.old }
+    ensures long { length folds.new ≡ length folds.old }
+    ensures is { result ≡ 0 → AreFourPutOver (S.gives step.now) rows.now folds.old folds.new }
+{
+    let columns = folds.len();
+    let mut doubt = 0;
+    for column in 0..columns {
+        let (fold, fourth) = step.step(rows[3 * columns + column], folds[column]);
+        let (fold, third) = step.step(rows[2 * columns + column], fold);
+        let (fold, second) = step.step(rows[columns + column], fold);
+        let (fold, first) = step.step(rows[column], fold);
+        folds[column] = fold;
+        doubt |= first | second | third | fourth;
+    }
+    doubt
+}
+
 /// Folds the columns of `count` rows in place; `folds` holds the last row at the start. Returns 0 only if no step fails.
 fn fold_rows<S: TwoNumbers>(step: &S, rows: &[i64], count: usize, folds: &mut [i64]) -> u64
     requires some { 1 ≤ count }
@@ -62,8 +82,13 @@ fn fold_rows<S: TwoNumbers>(step: &S, rows: &[i64], count: usize, folds: &mut [i
     ensures is { result ≡ 0 → AreColumnFolds (S.gives step.now) rows.now count folds.new }
 {
     let columns = folds.len();
+    let left = (count - 1) % 4;
     let mut doubt = 0;
-    for before in (0..count - 1).rev() {
+    for block in (0..(count - 1) / 4).rev() {
+        let first = (left + 4 * block) * columns;
+        doubt |= put_four(step, &rows[first..first + 4 * columns], folds);
+    }
+    for before in (0..left).rev() {
         let first = before * columns;
         doubt |= put_over(step, &rows[first..first + columns], folds);
     }
@@ -88,7 +113,7 @@ fn push_folds<S: TwoNumbers>(
     Ok(doubt == 0)
 }
 
-/// Folds all lines along an axis, a row at a time. None if a step fails or may fail.
+/// Folds all lines along an axis, by rows. None if a step fails or may fail.
 pub(crate) fn column_folds<S: TwoNumbers>(
     alloc: Global,
     step: &S,
