@@ -1,5 +1,5 @@
 -- Words of doubt that are 0.
-use Rattle.std.{proofs.Common.{◌≡◌, ℕ, zero, suc, ◌+◌, ◌*◌, ◌/◌, ◌<◌, ◌≤◌, refl, arith, ap, sym, ◌∙◌, ℤ, pos, negsuc, ◌+ℤ◌, ◌-ℤ◌, ◌*ℤ◌, unsigned_abs, of_z, Bool, true, false, Ok, w64, SFits}, specs.Int.{int_wrapping_add, int_wrapping_sub, int_wrapping_mul, int_bit_xor, int_max, int_shl, int_shr}, specs.Int.Bits.{bit_or}, proofs.lemmas.Int.{ints, clamps, wrapping_sub_is, wrapping_mul_is, int_wrap_fits, fits_signed_mul}, proofs.lemmas.Nat.{le_or_l, le_or_r}}
+use Rattle.std.{proofs.Common.{◌≡◌, ℕ, zero, suc, ◌+◌, ◌*◌, ◌/◌, ◌<◌, ◌≤◌, refl, arith, ap, sym, ◌∙◌, ℤ, pos, negsuc, ◌+ℤ◌, ◌-ℤ◌, ◌*ℤ◌, unsigned_abs, of_z, Bool, true, false, Ok, w64, SFits}, specs.Int.{int_wrapping_add, int_wrapping_sub, int_wrapping_mul, int_bit_xor, int_max, int_shl, int_shr}, specs.Int.Bits.{bit_or, bit_xor, xor_add_and}, proofs.lemmas.Int.{ints, clamps, wrapping_sub_is, wrapping_mul_is, int_wrap_fits, fits_signed_mul}, proofs.lemmas.Nat.{le_or_l, le_or_r, and_le_l, and_le_r}}
 use Rattle.item_fns.{specs.Numbers.{number_or_limit, truth, as_truth, opposite}, specs.AtOnce.{IsNear, IsTruth}, specs.Laws.AtOnce.{near_fits, near_sum}, proofs.Within.{held, held_ok}}
 
 pub none_left : (m n : ℕ) → bit_or m n ≡ 0 → m ≡ 0
@@ -7,6 +7,10 @@ none_left m n h = omega (arith, le_or_l m n, h)
 
 pub none_right : (m n : ℕ) → bit_or m n ≡ 0 → n ≡ 0
 none_right m n h = omega (arith, le_or_r m n, h)
+
+-- numbers whose exclusive or is 0 are equal
+pub same_bits : (m n : ℕ) → bit_xor m n ≡ 0 → m ≡ n
+same_bits m n h = omega (arith, xor_add_and m n, and_le_l m n, and_le_r m n, h)
 
 pub below_left : (m n s : ℕ) → bit_or m n < s → m < s
 below_left m n s h = omega (arith, le_or_l m n, h)
@@ -34,7 +38,7 @@ half_difference a b h k f g =
     let fits = near_fits (a -ℤ b) (record { low = omega (arith, ints, h.low, k.high); high = omega (arith, ints, h.high, k.low) }) in
     held (a -ℤ b) fits ∙ ap Ok (sym (near_difference a b f g fits))
 
-within_bound : (z : ℤ) (n : ℕ) → IsNear n z → unsigned_abs z ≤ n
+pub within_bound : (z : ℤ) (n : ℕ) → IsNear n z → unsigned_abs z ≤ n
 within_bound (pos m) n h = omega (arith, ints, h.high)
 within_bound (negsuc m) n h = omega (arith, ints, h.low)
 

@@ -6,6 +6,7 @@ ghost use Rattle.function_names.specs.declared.scalar.Scalar2.TheVariants as two
 ghost use Rattle.item_fns.specs.Numbers.{dyadic_on_numbers};
 ghost use Rattle.item_fns.specs.NumberLists.{dyadic_results, paired_length, IsListAnswerTo};
 
+use crate::at_once::{NEAR, beyond};
 use crate::kernels::{Divide, OneNumber};
 use crate::loops::{on_each, on_lists};
 use crate::numbers::quotient;
@@ -51,21 +52,26 @@ impl Reciprocal {
     }
 }
 
-/// A divisor from 2 on, whose exact quotients are products: with the inverse of its odd part modulo 2 to the power 64, shifted by its factors of 2.
+/// The greatest divisor whose product with each number from `-NEAR` to `NEAR` has 63 bits.
+const GREATEST_DIVISOR: i64 = 2_097_151;
+
+/// A divisor whose exact quotients are products: with the inverse of its odd part modulo 2 to the power 64, shifted by its factors of 2.
 #[derive(Clone, Copy)]
 struct ExactDivisor {
     divisor: i64,
     inverse: i64,
     twos: u32,
     ghost two: { pos 2 ≤ℤ divisor },
+    ghost greatest: { divisor ≤ℤ pos 2097151 },
 }
 
 impl ExactDivisor {
-    /// Makes the inverse of the odd part. Each step doubles the number of its correct bits, which are three at the start. None below 2.
+    /// Makes the inverse of the odd part. Each step doubles the number of its correct bits, which are three at the start. None below 2, and above the
+    /// greatest divisor.
     fn of(divisor: i64) -> Option<ExactDivisor>
         ensures { IfSome result (λ d. d.divisor ≡ divisor) }
     {
-        if divisor < 2 {
+        if divisor < 2 || divisor > GREATEST_DIVISOR {
             return None;
         }
         let twos = divisor.trailing_zeros();
@@ -97,10 +103,9 @@ impl OneNumber for ExactDivisor {
     // Only the quotient of a multiple, multiplied by the divisor, is the number again.
     fn step(&self, a: i64) -> (i64, u64) {
         let guess = a.wrapping_mul(self.inverse).wrapping_shr(self.twos);
-        match guess.checked_mul(self.divisor) {
-            Some(product) if product == a => (guess, 0),
-            _ => (guess, 1),
-        }
+        let product = guess.wrapping_mul(self.divisor);
+        let differs = product.cast_unsigned() ^ a.cast_unsigned();
+        (guess, differs | beyond(guess, NEAR))
     }
 }
 
