@@ -48,8 +48,10 @@ fn extend_back<T: Copy + Drop>(
 {
     items.reserve(count)?;
     let mut list = mem::replace(items, Vec::new(*items.allocator()));
+    let end = last.saturating_add(1).min(from.len());
+    let part = &from[end - count..end];
     for k in 0..count {
-        list.push_reserved(from[last - k]);
+        list.push_reserved(part[count - 1 - k]);
     }
     *items = list;
     Ok(())
