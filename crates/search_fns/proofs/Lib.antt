@@ -12,6 +12,8 @@ pub mod NearNumbers
 pub mod SearchCases
 pub mod DigitCases
 pub mod Leftovers
+pub mod Bits
+pub mod PlacedRows
 -- Changes of results.
 pub mod BoxCases
 pub mod BoxDigits
