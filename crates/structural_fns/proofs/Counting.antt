@@ -64,7 +64,7 @@ dropped_at (n ∷ shape) [] k s c = absurd (omega arith)
 dropped_at (n ∷ shape) (count ∷ counts) zero s c = refl
 dropped_at (n ∷ shape) (count ∷ counts) (suc k) s c = dropped_at shape counts k (omega arith) (omega arith)
 
-by_rank : (scalar : Bool) (n : ℕ) (shape : List ℕ) → All (λ n. n ≤ 1048576) shape → All (λ n. n ≤ 1048576) (if scalar then replicate n 1 else shape)
+pub by_rank : (scalar : Bool) (n : ℕ) (shape : List ℕ) → All (λ n. n ≤ 1048576) shape → All (λ n. n ≤ 1048576) (if scalar then replicate n 1 else shape)
 by_rank true n shape h = λ k d i. subst (λ m. m ≤ 1048576) (sym (get_or-replicate n k 1 d (rw length-replicate at i))) (omega arith)
 by_rank false n shape h = h
 

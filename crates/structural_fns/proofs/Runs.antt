@@ -1,6 +1,6 @@
 -- Results whose items are a run of the argument.
-use Rattle.std.{proofs.Common.{◌≡◌, ℕ, ◌+◌, ◌-◌, ◌%◌, ◌<◌, ◌≤◌, List, [], ◌∷◌, ◌++◌, take, drop, length, get_or, Some, Result, Ok, Bool, true, false, cond, refl, sym, ap, subst, ◌∙◌, arith}, specs.Prelude.{unwrap_or, not, nat_eq, ◌&&◌}, proofs.lemmas.Bool.{eqb-true, eqb-false}, proofs.lemmas.Bool.Decides.{nat_tests}}
-use Rattle.std.{proofs.lemmas.Nat.{mod_below}, proofs.lemmas.List.FromFn.{fill_by_all, length-map-range_with_len, get_or-map-range_with_len}, proofs.Math.ListN.{get_or-eq_default}, proofs.Math.Nat.{mod-eq_of_lt}, proofs.lemmas.List.{length-take-le, length-drop, get_or-take, get_or-drop}}
+use Rattle.std.{proofs.Common.{◌≡◌, ℕ, ◌+◌, ◌%◌, ◌<◌, ◌≤◌, List, [], ◌∷◌, ◌++◌, take, drop, length, get_or, Some, Result, Ok, Bool, true, false, cond, refl, sym, ap, subst, ◌∙◌, arith}, specs.Prelude.{unwrap_or, not, nat_eq, ◌&&◌}, proofs.lemmas.Bool.{eqb-true, eqb-false}, proofs.lemmas.Bool.Decides.{nat_tests}}
+use Rattle.std.{proofs.lemmas.Nat.{mod_below}, proofs.lemmas.List.FromFn.{fill_by_all, length-map-range_with_len, get_or-map-range_with_len}, proofs.Math.ListN.{get_or-eq_default}, proofs.Math.Nat.{mod-eq_of_lt, mod-one}, proofs.lemmas.List.{length-take-le, length-drop, get_or-take, get_or-drop}}
 use Rattle.arrays_core.{specs.declared.item.Item.{Item}, specs.declared.item.ItemType.{ItemType}, specs.declared.item.Kind.{Kind}, specs.declared.item.Kind.TheVariants.{Rank, Domain}, specs.Items.{fill, and_then}, specs.Building.{listed}, specs.Shapes.{size, index_after, places_before}}
 use Rattle.arrays_core.{specs.Arrays.{ArrayValue, item_if_there, collect, with_items}, proofs.Order.{given_in_order, index_after-within, places_before-index_after}}
 use Rattle.index_region.{specs.Checks.{form_of, Form, limited}, specs.Arguments.{is_list, counts_as_numbers, none_negative, numbers}, specs.ArgumentLists.{of_one_argument, of_two_arguments}, specs.Sources.{Place, Fill, item_from}, proofs.Passing.{gives, limited_gives}}
@@ -158,3 +158,16 @@ built_long now before n f e none = ap length (e ∙ ap (λ xs. xs ++ listed n f)
 
 pub all_built : (now before xs : List Item) (d : Item) (n : ℕ) → now ≡ before ++ listed n (λ k. get_or xs (0 + k) d) → before ≡ [] → n ≡ length xs → now ≡ xs
 all_built now before xs d n e none long = e ∙ ap (λ ys. ys ++ listed n (λ k. get_or xs (0 + k) d)) none ∙ all_listed xs d n long
+
+-- at most one item, repeated
+one_item : (items : List Item) (d : Item) (k : ℕ) → length items ≤ 1 → get_or items 0 d ≡ get_or items (k % length items) d
+one_item [] d k few = refl
+one_item (x ∷ []) d k few = ap (λ j. get_or (x ∷ []) j d) (sym (mod-one k))
+one_item (x ∷ y ∷ items) d k few = absurd (omega arith)
+
+pub all_alike : (now before items : List Item) (x d : Item) (n : ℕ) → now ≡ before ++ listed n (λ k. x) → before ≡ [] → x ≡ get_or items 0 d → length items ≤ 1
+    → now ≡ listed n (λ k. get_or items (k % length items) d)
+all_alike now before items x d n e none is few =
+    e ∙ ap (λ xs. xs ++ listed n (λ k. x)) none
+    ∙ fill_by_all (λ k. get_or items (k % length items) d) (listed n (λ k. x)) n d (length-map-range_with_len (λ k. x) 0 n)
+    (λ k h. get_or-map-range_with_len (λ k. x) 0 n k k d h (omega arith) ∙ is ∙ one_item items d k few)

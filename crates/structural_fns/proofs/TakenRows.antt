@@ -1,10 +1,10 @@
 -- The rows of a result of take.
 use Rattle.std.{proofs.Common.{◌≡◌, ℕ, zero, suc, ◌+◌, ◌-◌, ◌<◌, ◌≤◌, min, ℤ, pos, negsuc, unsigned_abs, nat_eq, Bool, true, false, cond, if◌then◌else◌, List, [], ◌∷◌, ◌++◌, length, get_or, replicate, Some, None, Result, Ok, refl, ap, sym, subst, ◌∙◌, arith}, specs.Prelude.{unwrap_or, int_le}}
 use Rattle.std.proofs.lemmas.Bool.{eqb-true, false≢true, false_from_ne_true, le-leb}
-use Rattle.arrays_core.{specs.declared.item.Item.{Item}, specs.declared.item.ItemType.{ItemType}, specs.declared.item.Kind.{Kind}, specs.Items.{fill}, specs.Arrays.{ArrayValue, IsArray}, specs.Building.{listed, with_row}, specs.Shapes.{size, is_index_of, places_before}, proofs.Shapes.{places_below}}
+use Rattle.arrays_core.{specs.declared.item.Item.{Item}, specs.declared.item.ItemType.{ItemType}, specs.declared.item.Kind.{Kind}, specs.Items.{fill}, specs.Arrays.{ArrayValue, IsArray}, specs.Building.{listed, with_row}, specs.Shapes.{size, IsWithinLimits, is_index_of, places_before}, proofs.Shapes.{places_below}}
 use Rattle.arrays_core.proofs.Rows.{row_end, same_row, places_in_row, with_row_none, with_row_more, with_row_then}
 use Rattle.index_region.{specs.Answers.{IsRowIn, IsPlaceOf}, specs.Arguments.{numbers, is_scalar, is_list, counts_as_numbers}, specs.Sources.{Place, Fill, item_from}, proofs.Passing.{passed, place_inside, row_passed, row_inside}}
-use Rattle.structural_fns.{specs.AxisCounts.{counted_shape, uncounted}, specs.Reshape.{magnitudes}, specs.Take.{take_form, take_item, take_source, taken_place, taken_places, AreOnLastAxis}, proofs.Counting.{numbers_long, magnitudes_long, magnitude_at}, proofs.SourcePlaces.{uncounted_inside}}
+use Rattle.structural_fns.{specs.AxisCounts.{counted_shape, uncounted}, specs.Reshape.{magnitudes}, specs.Take.{take_form, take_item, taken_place, taken_places, AreOnLastAxis}, proofs.Counting.{by_rank, numbers_long, magnitudes_long, magnitude_at}, proofs.Offsets.{offset_of}, proofs.SourcePlaces.{uncounted_inside}}
 
 -- the facts about such a row
 pub record TakenRow (a b : ArrayValue) (row : List ℕ) (count : ℕ) (item_type : ItemType) : Type 0 where
@@ -57,11 +57,37 @@ places_of_row (n ∷ shape) (count ∷ counts) (j ∷ row) s c =
     let rest = places_of_row shape counts row (omega arith) (omega arith) in
     record { long = ap suc rest.long; is = λ i. ap (λ xs. taken_place n count j ∷ xs) (rest.is i) }
 
--- ---- the item at a place, or fill if there is none
+-- the places of an index list, axis by axis
+pub places_long : (shape : List ℕ) (counts : List ℤ) (index : List ℕ) → length counts ≡ length shape → length index ≡ length shape
+    → length (taken_places shape counts index) ≡ length shape
+places_long [] counts index c i = refl
+places_long (n ∷ shape) [] index c i = absurd (omega arith)
+places_long (n ∷ shape) (count ∷ counts) [] c i = absurd (omega arith)
+places_long (n ∷ shape) (count ∷ counts) (j ∷ index) c i = ap suc (places_long shape counts index (omega arith) (omega arith))
+
+pub places_at : (shape : List ℕ) (counts : List ℤ) (index : List ℕ) (k : ℕ) → k < length shape → length counts ≡ length shape → length index ≡ length shape
+    → get_or (taken_places shape counts index) k 0 ≡ taken_place (get_or shape k 0) (get_or counts k (pos 0)) (get_or index k 0)
+places_at [] counts index k h c i = absurd (omega arith)
+places_at (n ∷ shape) [] index k h c i = absurd (omega arith)
+places_at (n ∷ shape) (count ∷ counts) [] k h c i = absurd (omega arith)
+places_at (n ∷ shape) (count ∷ counts) (j ∷ index) zero h c i = refl
+places_at (n ∷ shape) (count ∷ counts) (j ∷ index) (suc k) h c i = places_at shape counts index k (omega arith) (omega arith) (omega arith)
 
 size_of_ones : (n : ℕ) → size (replicate n 1) ≡ 1
 size_of_ones zero = refl
 size_of_ones (suc n) = let rest = size_of_ones n in rw rest refl
+
+-- the shape that the counts apply to is within the limits
+pub counted_limits : (a b : ArrayValue) → IsArray b → length (counted_shape a b) ≤ 4 → IsWithinLimits (counted_shape a b)
+counted_limits a b sound few = by_test (is_scalar b) few
+  where
+    by_test : (scalar : Bool) → length (if scalar then replicate (length a.items) 1 else b.shape) ≤ 4 → IsWithinLimits (if scalar then replicate (length a.items) 1 else b.shape)
+    by_test true h =
+        let one = size_of_ones (length a.items) in
+        record { rank = h; axes = by_rank true (length a.items) b.shape sound.within.axes; size_within = omega arith }
+    by_test false h = sound.within
+
+-- ---- the item at a place, or fill if there is none
 
 pub uncounted_place : (a b : ArrayValue) (at : List ℕ) → is_index_of (counted_shape a b) at ≡ true → places_before b.shape (uncounted b at) ≡ places_before (counted_shape a b) at
 uncounted_place a b at inside = by_test (is_scalar b) inside
@@ -90,18 +116,18 @@ pub fill_taken : (a b : ArrayValue) (index : List ℕ) → is_index_of (counted_
     → take_item a b index ≡ Ok (fill b.item_type)
 fill_taken a b index h = ap (λ w. item_from a b b.item_type (cond w (Place 1 (uncounted b (taken_places (counted_shape a b) (numbers a) index))) Fill)) h
 
--- the place of a source lies in the array
-record SourceThere (inside : Bool) (at wanted : List ℕ) : Type 0 where
+-- an offset is that of an index list of the shape
+record OffsetThere (inside : Bool) (place wanted : ℕ) : Type 0 where
   there : inside ≡ true
-  is : at ≡ wanted
+  is : place ≡ wanted
 
-source_there : (inside : Bool) (arg : ℕ) (at wanted : List ℕ) → Place arg at ≡ (if inside then Place 1 wanted else Fill) → SourceThere inside at wanted
-source_there true arg at wanted e = record { there = refl; is = cc }
-source_there false arg at wanted e = let no : ⊥ = cc in absurd no
+offset_there : (inside : Bool) (place wanted : ℕ) → Some place ≡ (if inside then Some wanted else None) → OffsetThere inside place wanted
+offset_there true place wanted e = record { there = refl; is = cc }
+offset_there false place wanted e = let no : ⊥ = cc in absurd no
 
-no_source_there : (inside : Bool) (wanted : List ℕ) → Fill ≡ (if inside then Place 1 wanted else Fill) → inside ≡ false
-no_source_there true wanted e = let no : ⊥ = cc in absurd no
-no_source_there false wanted e = refl
+no_offset_there : (inside : Bool) (wanted : ℕ) → None ≡ (if inside then Some wanted else None) → inside ≡ false
+no_offset_there true wanted e = let no : ⊥ = cc in absurd no
+no_offset_there false wanted e = refl
 
 -- ---- the parts of a row
 
@@ -172,10 +198,10 @@ module _ (a b : ArrayValue) (row : List ℕ) (axes : length (counted_shape a b) 
         let beside = side_by_side (before + 1) (before + (0 + j + 1)) there on_axis.low in
         item_taken a b (row ++ (before + (0 + j + 1)) ∷ []) inside ∙ ap (λ k. Ok (get_or b.items k (fill b.item_type))) (omega (arith, on_axis.is))
 
-    pub kept_fill : Fill ≡ take_source a b (row ++ (before + 1) ∷ []) → (j : ℕ) → j < kept → take_item a b (row ++ (before + (0 + j + 1)) ∷ []) ≡ Ok (fill b.item_type)
+    pub kept_fill : None ≡ offset_of (counted_shape a b) (at_index (before + 1)) → (j : ℕ) → j < kept → take_item a b (row ++ (before + (0 + j + 1)) ∷ []) ≡ Ok (fill b.item_type)
     kept_fill from j h = fill_taken a b (row ++ (before + (0 + j + 1)) ∷ []) (false_from_ne_true _ (λ e.
         let there = both_inside (before + (0 + j + 1)) (before + 1) e on.0 (let n = next j h in omega (arith, n.is, n.high)) in
-        false≢true (sym (no_source_there _ (uncounted b (at_index (before + 1))) from) ∙ there)))
+        false≢true (sym (no_offset_there _ _ from) ∙ there)))
 
     kept_inside : 0 < kept → IsArray b → is_index_of (counted_shape a b) (at_index (before + 1)) ≡ true
         → places_before (counted_shape a b) (at_index (before + 1)) + kept ≤ length b.items
@@ -188,11 +214,10 @@ module _ (a b : ArrayValue) (row : List ℕ) (axes : length (counted_shape a b) 
         let same = uncounted_place a b at inside in
         omega (arith, on_axis.is, sound.one_item_a_place)
 
-    pub kept_row : (arg : ℕ) (at : List ℕ) → Place arg at ≡ take_source a b (row ++ (before + 1) ∷ []) → KeptRow a b row before kept (places_before b.shape at)
-    kept_row arg at from =
-        let source = source_there _ arg at (uncounted b (at_index (before + 1))) from in
-        rw (source.is, uncounted_place a b (at_index (before + 1)) source.there)
-        (record { inside = λ some sound. kept_inside some sound source.there; item = λ j h. kept_item j h source.there })
+    pub kept_row : (place : ℕ) → Some place ≡ offset_of (counted_shape a b) (at_index (before + 1)) → KeptRow a b row before kept place
+    kept_row place from =
+        let offset = offset_there _ place _ from in
+        rw offset.is (record { inside = λ some sound. kept_inside some sound offset.there; item = λ j h. kept_item j h offset.there })
 
 -- ---- a whole row
 

@@ -1,7 +1,8 @@
 //! Reshape: the items of an array in another shape, repeated as needed.
 
-ghost use Rattle.std.specs.Prelude.{◌≡◌, ◌≤◌, IsTrue, IfOk, length, ◌∷◌, [], ◌-◌};
+ghost use Rattle.std.specs.Prelude.{◌≡◌, ◌≤◌, IsTrue, IfOk, length, get_or, ◌∷◌, [], ◌-◌};
 ghost use Rattle.std.proofs.Common.{rules};
+ghost use Rattle.arrays_core.specs.Items.{fill, type_of};
 ghost use Rattle.arrays_core.specs.Arrays.{ArrayValue, IsAnswerTo};
 ghost use Rattle.arrays_core.specs.Shapes.{IsWithinLimits, is_index_of, size};
 ghost use Rattle.index_region.specs.ArgumentLists.{of_two_arguments};
@@ -37,6 +38,18 @@ fn source_in(shape: &Shape, array: &Seen, index: &[u32]) -> Source
     Source::Place { arg: 1, at }
 }
 
+/// Returns the item of an array with one place. Returns fill if there are no items.
+fn only_item(array: &Seen) -> Item
+    requires { length array.now.items ≤ 1 }
+    ensures is { result ≡ get_or array.now.items 0 (fill array.now.item_type) }
+    ensures typed { type_of result ≡ array.now.item_type }
+{
+    if array.places() == 0 {
+        return array.item_type().fill();
+    }
+    array.item(1)
+}
+
 /// Repeats the items of an array over a shape with at least as many places. Uses fill if there are no items.
 fn recycled(alloc: Global, array: &Seen, shape: &Shape) -> Result<Array, AllocError>
     requires within { IsWithinLimits shape.now.items }
@@ -44,10 +57,9 @@ fn recycled(alloc: Global, array: &Seen, shape: &Shape) -> Result<Array, AllocEr
     ensures { IfOk result (λ a. a ≡ again_under array.now shape.now.items) }
 {
     let (places, round) = (size(shape.as_slice()), array.places());
-    let item_type = array.item_type();
-    let mut items = ArrayBuilder::with_capacity(alloc, item_type, places as usize)?;
-    if round == 0 {
-        items.extend_with(item_type.fill(), places)?;
+    let mut items = ArrayBuilder::with_capacity(alloc, array.item_type(), places as usize)?;
+    if round <= 1 {
+        items.extend_with(only_item(array), places)?;
         return items.into_array(shape);
     }
     array.extend_run(&mut items, 0, round)?;

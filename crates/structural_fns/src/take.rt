@@ -1,11 +1,11 @@
 //! Take: the first or last places of each axis, with fill beyond them.
 
-ghost use Rattle.std.specs.Prelude.{◌≡◌, ◌≤◌, ◌<◌, ◌+◌, ◌^◌, ◌++◌, ◌∷◌, [], pos, unsigned_abs, IsTrue, IfOk, OnOk, Ok, All, length, get_or, nat_eq, nat_le, ◌&&◌};
+ghost use Rattle.std.specs.Prelude.{◌≡◌, ◌≤◌, ◌<◌, ◌+◌, ◌^◌, ◌++◌, ◌∷◌, [], pos, unsigned_abs, IsTrue, IfOk, OnOk, Ok, Some, None, if◌then◌else◌, All, length, get_or, nat_eq, nat_le, ◌&&◌};
 ghost use Rattle.std.proofs.Common.{rules};
 ghost use Rattle.arrays_core.specs.Limits.{most_axes, longest_axis};
 ghost use Rattle.arrays_core.specs.Building.{with_row};
 ghost use Rattle.arrays_core.specs.Arrays.{ArrayValue, IsAnswerTo};
-ghost use Rattle.arrays_core.specs.Shapes.{IsWithinLimits, is_index_of, size};
+ghost use Rattle.arrays_core.specs.Shapes.{IsWithinLimits, is_index_of, places_before, size};
 ghost use Rattle.index_region.specs.ArgumentLists.{of_two_arguments};
 ghost use Rattle.index_region.specs.Arguments.{numbers};
 ghost use Rattle.index_region.specs.Answers.{IsPlaceOf, IsSourceIn, source_value};
@@ -13,16 +13,14 @@ ghost use Rattle.index_region.specs.Checks.{form_of};
 ghost use Rattle.index_region.specs.Boxes.{fits};
 ghost use Rattle.change_core.specs.Ways.{images};
 ghost use Rattle.change_core.proofs.Growing.{never_grows};
+ghost use Rattle.structural_fns.specs.AxisCounts.{counted_shape};
 ghost use Rattle.structural_fns.specs.Reshape.{magnitudes};
 ghost use Rattle.structural_fns.specs.Take.{take_form, take_source, take_item, take_whole, taken_place, taken_places, AreOnLastAxis, taken, taken_axes, take_rule};
 ghost use Rattle.structural_fns.specs.Laws.Take.{take_tight};
 
 use crate::axis_counts::{check_axis_counts, counted_box, counted_shape, uncounted};
 use crate::magnitudes::magnitudes;
-use arrays_core::{
-    ApplyFault, Array, ArrayBuilder, Item, ItemType, Kind, Shape, index_in_row, is_index_of,
-    places_before,
-};
+use arrays_core::{ApplyFault, Array, ArrayBuilder, Item, ItemType, Kind, Shape, is_index_of};
 use change_core::Announced;
 use index_region::{
     IndexBox, Intervals, Primitive, RowPrimitive, Seen, Source, apply_rows, item_from, limited,
@@ -59,6 +57,36 @@ fn taken_places(counts: &Seen, axes: &[u32], index: &[u32]) -> Shape
         places.push_reserved(taken_place(axes[k], count, index[k]));
     }
     places
+}
+
+/// Returns the index on an axis, counted from 0, of the index list with the indices of a row and `last` on the last axis.
+fn index_on_axis(row: &[u32], last: u32, axis: usize) -> u32
+    requires { axis ≤ length row.now }
+    ensures { result ≡ get_or (row.now ++ last ∷ []) axis 0 }
+{
+    if axis < row.len() { row[axis] } else { last }
+}
+
+/// Returns the offset in an array with these axes of the item at an index of a row of the result. Returns None if that item is fill.
+fn place_in_row(counts: &Seen, axes: &[u32], row: &[u32], index: u32) -> Option<u32>
+    requires long { length counts.now.items ≡ length axes.now }
+    requires axes_within { IsWithinLimits axes.now }
+    requires within { IsWithinLimits (magnitudes counts.now) }
+    requires inside { IsTrue (is_index_of (magnitudes counts.now) (row.now ++ index ∷ [])) }
+    ensures { let at = taken_places axes.now (numbers counts.now) (row.now ++ index ∷ []) in
+        result ≡ (if is_index_of axes.now at then Some (places_before axes.now at) else None) }
+{
+    let mut before: u32 = 0;
+    for k in 0..axes.len() {
+        let count = counts.number(k as u32 + 1);
+        let place = taken_place(axes[k], count, index_on_axis(row, index, k));
+        if place == 0 || place > axes[k] {
+            return None;
+        }
+        // Wraps only if a later axis has no places. The array then has no item.
+        before = before.wrapping_mul(axes[k]).wrapping_add(place - 1);
+    }
+    Some(before)
 }
 
 /// Tests whether there is one count, and the vector has as many places.
@@ -117,6 +145,7 @@ impl Take {
         self,
         counts: &Seen,
         array: &Seen,
+        axes: &[u32],
         row: &[u32],
         before: u32,
         kept: u32,
@@ -128,15 +157,15 @@ impl Take {
         requires place { IsPlaceOf (take_form counts.now array.now) (row.now ++ (before + 1) ∷ []) }
         requires typed { array.now.item_type ≡ items.old.item_type }
         requires axis { AreOnLastAxis counts.now array.now row.now before kept }
+        requires counted { axes.now ≡ counted_shape counts.now array.now }
         ensures items { OnOk result (with_row items.old.items (λ i. take_item counts.now array.now (row.now ++ (before + i) ∷ [])) kept ≡ Ok items.new.items) }
         ensures typed { items.new.item_type ≡ items.old.item_type }
     {
-        let first = index_in_row(*array.shape().allocator(), row, before + 1);
-        match self.source(counts, array, first.as_slice()) {
-            Source::Place { at, .. } => {
-                array.extend_run(items, places_before(array.shape(), at.as_slice()), kept)
-            }
-            Source::Fill => items.extend_with(array.item_type().fill(), kept),
+        // The contract of `shape` states that this is an array.
+        let _sound = array.shape();
+        match place_in_row(counts, axes, row, before + 1) {
+            Some(place) => array.extend_run(items, place, kept),
+            None => items.extend_with(array.item_type().fill(), kept),
         }
     }
 
@@ -194,11 +223,11 @@ impl RowPrimitive for Take {
         }
         let missing = count - kept;
         if counts.number(row.len() as u32 + 1) >= 0 {
-            self.extend_kept(counts, array, row, 0, kept, items)?;
+            self.extend_kept(counts, array, axes.as_slice(), row, 0, kept, items)?;
             items.extend_with(fill, missing)
         } else {
             items.extend_with(fill, missing)?;
-            self.extend_kept(counts, array, row, missing, kept, items)
+            self.extend_kept(counts, array, axes.as_slice(), row, missing, kept, items)
         }
     }
 }

@@ -1,4 +1,4 @@
-use Rattle.std.{proofs.Common.{◌≡◌, ◌+◌, ◌-◌, ◌≤◌, ap, get_or, pos, subst, sym, ◌∙◌, append_assoc, unsigned_abs, arith, rules}, proofs.lemmas.List.{length_push}}
+use Rattle.std.{proofs.Common.{◌≡◌, ◌+◌, ◌≤◌, ap, get_or, pos, subst, sym, ◌∙◌, append_assoc, unsigned_abs, arith, rules}, proofs.lemmas.List.{length_push}}
 use Rattle.index_region.specs.Arguments.{numbers}
 use Rattle.structural_fns.{specs.Drop.{kept_place}, proofs.Counting.{LeftAt, numbers_long, count_read, left_at, kept_more}, proofs.drop_places.kept_places.Goals.{In-loop-k}}
 use Rattle.structural_fns.proofs.drop_places.kept_places.Goals as goal

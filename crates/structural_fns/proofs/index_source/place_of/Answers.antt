@@ -1,4 +1,4 @@
-use Rattle.std.proofs.Common.{◌*◌, ◌+◌, ◌-◌, ◌≤◌, get_or, arith}
+use Rattle.std.proofs.Common.{arith}
 use Rattle.arrays_core.{specs.Shapes.{places_before}, proofs.Shapes.{as_long, turn_at, turn_ended, places_below}}
 use Rattle.structural_fns.proofs.index_source.place_of.Goals as goal
 

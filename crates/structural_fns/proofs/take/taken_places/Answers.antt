@@ -1,4 +1,4 @@
-use Rattle.std.{proofs.Common.{◌≡◌, ◌-◌, ◌≤◌, ap, get_or, pos, subst, sym, ◌∙◌, append_assoc, unsigned_abs, arith, rules}, proofs.lemmas.List.{length_push}}
+use Rattle.std.{proofs.Common.{◌≡◌, ◌≤◌, ap, get_or, pos, subst, sym, ◌∙◌, append_assoc, unsigned_abs, arith, rules}, proofs.lemmas.List.{length_push}}
 use Rattle.index_region.specs.Arguments.{numbers}
 use Rattle.structural_fns.{specs.Take.{taken_place}, proofs.Counting.{CountAt, numbers_long, count_read, count_at, taken_more}, proofs.take.taken_places.Goals.{In-loop-k}}
 use Rattle.structural_fns.proofs.take.taken_places.Goals as goal

@@ -1,4 +1,4 @@
-use Rattle.std.proofs.Common.{◌≡◌, ◌+◌, ◌-◌, ap, ◌∙◌, get_or, arith, Ok, ◌++◌, ◌∷◌, []}
+use Rattle.std.proofs.Common.{◌≡◌, ◌+◌, ap, ◌∙◌, get_or, arith, Ok, ◌++◌, ◌∷◌, []}
 use Rattle.arrays_core.{specs.Items.{fill}, specs.Shapes.{places_before}, proofs.Rows.{row_put}}
 use Rattle.index_region.{specs.Arguments.{numbers}, proofs.Passing.{two_arguments}}
 use Rattle.structural_fns.{specs.AxisCounts.{uncounted}, specs.Drop.{drop_item, kept_places}, proofs.DroppedRows.{left_item, left_fits}}

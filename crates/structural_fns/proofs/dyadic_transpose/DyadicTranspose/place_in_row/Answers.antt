@@ -1,5 +1,5 @@
-use Rattle.std.proofs.Common.{◌≡◌, ◌+◌, ◌++◌, ◌∷◌, []}
-use Rattle.structural_fns.{specs.DyadicTranspose.{axes_to, gathered}, proofs.SourcePlaces.{gathered_inside}}
+use Rattle.std.proofs.Common.{◌++◌, ◌∷◌, []}
+use Rattle.structural_fns.{proofs.SourcePlaces.{gathered_inside}}
 use Rattle.structural_fns.proofs.dyadic_transpose.DyadicTranspose.place_in_row.Goals as goal
 
 pub place_of-requires-clause-in_range : goal.place_of-requires-clause-in_range

@@ -1,4 +1,4 @@
-use Rattle.std.{proofs.Common.{◌≡◌, ℕ, ◌+◌, ◌-◌, ◌<◌, ◌++◌, ◌∷◌, [], ◌∙◌, ap, sym, length, map, get_or, arith}, proofs.lemmas.List.{length-map, get_or-map, get_or_push}}
+use Rattle.std.{proofs.Common.{◌-◌, ◌++◌, ◌∷◌, [], get_or, arith}, proofs.lemmas.List.{length-map}}
 use Rattle.structural_fns.{specs.DyadicTranspose.{axes_to}, proofs.Counting.{numbers_long, magnitudes_long}}
 use Rattle.structural_fns.proofs.dyadic_transpose.GatheredRowIndexSource.index.Goals as goal
 

@@ -1,7 +1,7 @@
-use Rattle.std.proofs.Common.{◌≡◌, ◌+◌, ◌-◌, ◌<◌, ap, sym, ◌∙◌, get_or, length, arith, Ok, ◌++◌, ◌∷◌, [], set, true}
-use Rattle.{arrays_core.{specs.Items.{fill}, specs.Shapes.{places_before, is_index_of}, proofs.Rows.{row_put}, proofs.Shapes.{places_below}}, index_region.proofs.Passing.{one_argument}}
+use Rattle.std.proofs.Common.{◌≡◌, ◌+◌, ◌-◌, ap, sym, ◌∙◌, get_or, length, arith, Ok, ◌++◌, ◌∷◌, []}
+use Rattle.{arrays_core.{specs.Items.{fill}, proofs.Rows.{row_put}, proofs.Shapes.{places_below}}, index_region.proofs.Passing.{one_argument}}
 use Rattle.function_names.specs.Axes.{axis_at}
-use Rattle.structural_fns.{specs.Reverse.{reverse_item}, proofs.ReversedRows.{ReversedRow, at_index, axis as turned_axis, below_last, inside_at, last_item, last_list, last_low, other_item, other_fits, other_list, other_on, row_of}, proofs.reverse.ReverseRowPrimitive.extend_row.Goals.{After-axis_at-axis}}
+use Rattle.structural_fns.{specs.Reverse.{reverse_item}, proofs.ReversedRows.{ReversedRow, at_index, below_last, inside_at, last_item, last_list, last_low, other_item, other_fits, other_list, other_on, row_of}, proofs.reverse.ReverseRowPrimitive.extend_row.Goals.{After-axis_at-axis}}
 use Rattle.structural_fns.proofs.reverse.ReverseRowPrimitive.extend_row.Goals as goal
 
 -- there is one argument

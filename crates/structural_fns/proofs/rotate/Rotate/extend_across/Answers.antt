@@ -1,4 +1,4 @@
-use Rattle.std.proofs.Common.{◌≡◌, ◌+◌, ◌-◌, ap, ◌∙◌, get_or, arith, Ok, ◌++◌, ◌∷◌, []}
+use Rattle.std.proofs.Common.{◌≡◌, ◌+◌, ap, ◌∙◌, get_or, arith, Ok, ◌++◌, ◌∷◌, []}
 use Rattle.arrays_core.{specs.Items.{fill}, specs.Shapes.{places_before}, proofs.Rows.{row_put}}
 use Rattle.structural_fns.{specs.Rotate.{rotate_item}, proofs.RotatedRows.{passed_row, at_index, other_item, other_fits}, proofs.rotate.Rotate.extend_across.Goals.{After-places_before}}
 use Rattle.structural_fns.proofs.rotate.Rotate.extend_across.Goals as goal

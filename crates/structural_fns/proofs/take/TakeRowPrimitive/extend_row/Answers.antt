@@ -1,4 +1,4 @@
-use Rattle.std.{proofs.Common.{◌≡◌, ◌+◌, ◌-◌, ◌<◌, ap, sym, ◌∙◌, length, get_or, pos, arith, Ok, ◌++◌, ◌∷◌, [], min, w64, to_z, of_z, rules}, proofs.lemmas.Result.{on_ok_weaker}}
+use Rattle.std.{proofs.Common.{◌≡◌, ◌-◌, ◌<◌, ap, sym, ◌∙◌, length, get_or, pos, arith, Ok, ◌++◌, ◌∷◌, [], min, w64, to_z, of_z, rules}, proofs.lemmas.Result.{on_ok_weaker}}
 use Rattle.{arrays_core.{specs.Building.{listed}, specs.Items.{fill}}, index_region.{specs.Arguments.{numbers}, proofs.Passing.{two_arguments}}}
 use Rattle.structural_fns.{specs.AxisCounts.{counted_shape}, proofs.Counting.{count_read}, proofs.TakenRows.{TakenRow, taken_row, fill_row, row_of_first, row_of_last, last_on_axis}, proofs.take.TakeRowPrimitive.extend_row.Goals.{After-min-kept, After-number}}
 use Rattle.structural_fns.proofs.take.TakeRowPrimitive.extend_row.Goals as goal
