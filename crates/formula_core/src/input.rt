@@ -110,19 +110,7 @@ impl<'a> Input<'a> {
         if let Ok(array) = &held {
             let _sound = array.shape();
         }
-        let input = Input::with_change(held, change);
-        if let Input::Good(array, _) = &input {
-            let _sound = array.shape();
-        }
-        input
-    }
-
-    /// Does the work of `of`. Its contract does not state that a patched or grown value is an array.
-    fn with_change(held: Result<&'a Array, LentFault<'a>>, change: &'a Delta) -> Input<'a>
-        requires { FitsIn change.now (read held) }
-        ensures { IsInput (applied change.now (read held.entry)) change.now result }
-    {
-        match (held, change) {
+        let input = match (held, change) {
             (_, Delta::Whole(Ok(array))) => Input::Good(Seen::plain(array), change),
             (_, Delta::Whole(Err(fault))) => Input::Bad {
                 fault: LentFault::of(fault),
@@ -135,7 +123,11 @@ impl<'a> Input<'a> {
                 fault,
                 changed: !matches!(change, Delta::Same),
             },
+        };
+        if let Input::Good(array, _) = &input {
+            let _sound = array.shape();
         }
+        input
     }
 }
 

@@ -89,35 +89,18 @@ impl<'a> Operation<'a> {
         ensures joins { meter.new.joins ≡ meter.old.joins }
     {
         match function {
-            Function1::Monad(function) => self.of_monadic(function, change, meter),
+            Function1::Monad(function) => match function {
+                Monadic::Scalar(function) => self.by(&EachMonadic { function }, change, meter),
+                Monadic::Ravel => self.by(&Ravel, change, meter),
+                Monadic::Reverse(along) => self.by(&Reverse { along }, change, meter),
+                Monadic::Transpose => self.by(&Transpose, change, meter),
+                Monadic::Shape => self.by(&ShapeOf, change, meter),
+                Monadic::Iota => self.by(&IndexGenerator, change, meter),
+            },
             Function1::Reduce(function, along) => {
                 self.by(&Reduce { function, along }, change, meter)
             }
             Function1::Scan(function, along) => self.by(&Scan { function, along }, change, meter),
-        }
-    }
-
-    /// Replaces `change` with the change of a primitive function of one argument; returns its cost.
-    #[inline(always)]
-    fn of_monadic(
-        &self,
-        function: Monadic,
-        change: &mut Delta,
-        meter: &mut Meter,
-    ) -> Result<u32, AllocError>
-        requires count { length self.now.seen.now ≡ 1 }
-        requires moves { length self.now.moved.now ≡ length self.now.seen.now }
-        requires fit { AllFit self.now.seen.now (map changed_box self.now.moved.now) }
-        ensures refreshed { IsRefreshedBy (monadic_rule function) self.now.seen.now self.now.moved.now self.now.held.now meter.old.ticks meter.new.ticks (with_change change.new result) }
-        ensures joins { meter.new.joins ≡ meter.old.joins }
-    {
-        match function {
-            Monadic::Scalar(function) => self.by(&EachMonadic { function }, change, meter),
-            Monadic::Ravel => self.by(&Ravel, change, meter),
-            Monadic::Reverse(along) => self.by(&Reverse { along }, change, meter),
-            Monadic::Transpose => self.by(&Transpose, change, meter),
-            Monadic::Shape => self.by(&ShapeOf, change, meter),
-            Monadic::Iota => self.by(&IndexGenerator, change, meter),
         }
     }
 
@@ -156,39 +139,22 @@ impl<'a> Operation<'a> {
         ensures joins { meter.new.joins ≡ meter.old.joins }
     {
         match function {
-            Function2::Dyad(function) => self.of_dyadic(function, change, meter),
+            Function2::Dyad(function) => match function {
+                Dyadic::Scalar(function) => self.by(&EachDyadic { function }, change, meter),
+                Dyadic::Reshape => self.by(&Reshape, change, meter),
+                Dyadic::Catenate(along) => self.by(&Catenate { along }, change, meter),
+                Dyadic::Take => self.by(&Take, change, meter),
+                Dyadic::Drop => self.by(&DropPlaces, change, meter),
+                Dyadic::Rotate(along) => self.by(&Rotate { along }, change, meter),
+                Dyadic::Transpose => self.by(&DyadicTranspose, change, meter),
+                Dyadic::Replicate(along) => self.by(&Replicate { along }, change, meter),
+                Dyadic::IndexOf => self.by(&IndexOf, change, meter),
+                Dyadic::Member => self.by(&Member, change, meter),
+                Dyadic::Encode => self.by(&Encode, change, meter),
+                Dyadic::Decode => self.by(&Decode, change, meter),
+            },
             Function2::Outer(function) => self.by(&Outer { function }, change, meter),
             Function2::Inner(fold, each) => self.by(&Inner { fold, each }, change, meter),
-        }
-    }
-
-    /// Replaces `change` with the change of a primitive function of two arguments; returns its cost.
-    #[inline(always)]
-    fn of_dyadic(
-        &self,
-        function: Dyadic,
-        change: &mut Delta,
-        meter: &mut Meter,
-    ) -> Result<u32, AllocError>
-        requires count { length self.now.seen.now ≡ 2 }
-        requires moves { length self.now.moved.now ≡ length self.now.seen.now }
-        requires fit { AllFit self.now.seen.now (map changed_box self.now.moved.now) }
-        ensures refreshed { IsRefreshedBy (dyadic_rule function) self.now.seen.now self.now.moved.now self.now.held.now meter.old.ticks meter.new.ticks (with_change change.new result) }
-        ensures joins { meter.new.joins ≡ meter.old.joins }
-    {
-        match function {
-            Dyadic::Scalar(function) => self.by(&EachDyadic { function }, change, meter),
-            Dyadic::Reshape => self.by(&Reshape, change, meter),
-            Dyadic::Catenate(along) => self.by(&Catenate { along }, change, meter),
-            Dyadic::Take => self.by(&Take, change, meter),
-            Dyadic::Drop => self.by(&DropPlaces, change, meter),
-            Dyadic::Rotate(along) => self.by(&Rotate { along }, change, meter),
-            Dyadic::Transpose => self.by(&DyadicTranspose, change, meter),
-            Dyadic::Replicate(along) => self.by(&Replicate { along }, change, meter),
-            Dyadic::IndexOf => self.by(&IndexOf, change, meter),
-            Dyadic::Member => self.by(&Member, change, meter),
-            Dyadic::Encode => self.by(&Encode, change, meter),
-            Dyadic::Decode => self.by(&Decode, change, meter),
         }
     }
 

@@ -150,27 +150,8 @@ pub(crate) fn run(
     ensures end { OnOk result ((plans.new.waiting ≡ 0) ⊎ ((budget.new ≡ Spent) × HasFunctionLeft (outline_of proposed.now) plans.new meter.new.ticks)) }
     ensures keys { keys_of plans.new.found.entries ≡ keys_of plans.old.found.entries }
 {
-    plan_waiting(alloc, proposed, &Delta::Same, plans, budget, meter)
-}
-
-/// Does the work of `run`. `unchanged` is the change of a name that shows the same as before: one for all formulas.
-#[inline(always)]
-fn plan_waiting(
-    alloc: Global,
-    proposed: &ProposedSheet<'_>,
-    unchanged: &Delta,
-    plans: &mut Plans,
-    budget: &mut Budget,
-    meter: &mut Meter,
-) -> Result<(), AllocError>
-    requires unchanged { unchanged.now ≡ Same }
-    requires proposed { IsProposed (outline_of proposed.now) }
-    requires way { (base left : ℕ) × IsOnTheWay (outline_of proposed.now) base left plans.old meter.old.ticks }
-    ensures way { (base left : ℕ) → IsOnTheWay (outline_of proposed.now) base left plans.old meter.old.ticks
-        → (rest : ℕ) × IsOnTheWay (outline_of proposed.now) base rest plans.new meter.new.ticks × IsPaid (outline_of proposed.now) budget.old budget.new left rest meter.old.ticks meter.new.ticks }
-    ensures end { OnOk result ((plans.new.waiting ≡ 0) ⊎ ((budget.new ≡ Spent) × HasFunctionLeft (outline_of proposed.now) plans.new meter.new.ticks)) }
-    ensures keys { keys_of plans.new.found.entries ≡ keys_of plans.old.found.entries }
-{
+    // The change of each name that shows the same as before.
+    let unchanged = Delta::Same;
     let mut last = None;
     while let Some(name) = plans.next_name() {
         let Some((formula, place)) = proposed.placed_formula(name, plans.hint()) else {
@@ -181,7 +162,7 @@ fn plan_waiting(
         let ahead = Ahead {
             proposed,
             found: &plans.found,
-            unchanged,
+            unchanged: &unchanged,
             last,
             place: plans.waiting,
         };

@@ -1,6 +1,6 @@
 use Rattle.std.{proofs.Common.{◌≡◌, ◌-◌, ◌∙◌, [], get_or, ap, take, cond, inr, refl, subst}, specs.Str.{bytes_eq}, specs.Map.{keys_of}}
 use Rattle.sheet_recalc.{specs.Live.{plan_in}, specs.ProposedSheet.{outline_of, entry_of}, specs.Planning.{IsNext, IsStopped, waiting_names}, proofs.Working.{reads_done}, proofs.Forward.{skipped, kept_whole, stopped_left, stopped_spent, paid_more}}
-use Rattle.sheet_recalc.proofs.planning.plan_waiting.Goals as goal
+use Rattle.sheet_recalc.proofs.planning.run.Goals as goal
 
 pub next_name-requires : goal.next_name-requires
 next_name-requires c = (c.loop-name.invariant.way c.requires.way.0 c.requires.way.1 c.requires.way.2).1.made.few
@@ -10,6 +10,7 @@ loop-name-preserved-in_default-placed_formula c = record {
   way = λ base left way.
       let k = c.loop-name.invariant.way base left way in
       (k.0, skipped (outline_of c.args.proposed.now) c.requires.proposed base k.0 c.loop-name.meter.ticks c.loop-name.plans c.in-Some.name.now k.1 c.in-Some.ensures.0 c.in-Some.ensures.1 c.in_default-placed_formula.ensures, k.2);
+  same = c.loop-name.invariant.same;
   keys = c.loop-name.invariant.keys;
   last = tt;
 }
@@ -17,7 +18,7 @@ loop-name-preserved-in_default-placed_formula c = record {
 pub work-requires-clause-ahead : goal.work-requires-clause-ahead
 work-requires-clause-ahead c =
     let k = c.loop-name.invariant.way c.requires.way.0 c.requires.way.1 c.requires.way.2 in
-    record { proposed = c.requires.proposed; plans = k.1.made.way.plans; unchanged = c.requires.unchanged; newest = c.loop-name.invariant.last }
+    record { proposed = c.requires.proposed; plans = k.1.made.way.plans; unchanged = c.loop-name.invariant.same; newest = c.loop-name.invariant.last }
 
 pub work-requires-clause-next : goal.work-requires-clause-next
 work-requires-clause-next c =
@@ -52,6 +53,7 @@ loop-name-preserved c =
                 (λ q. c.keep.ensures.plans q ∙ ap (λ k. cond (bytes_eq k q) c.work.new.current (plan_in w.found.entries q)) c.in-Some.ensures.2) c.keep.ensures.cost c.keep.ensures.current,
             paid_more o c.args.budget.now c.loop-name.budget c.work.new.budget left k.0 m.0 c.args.meter.now.ticks c.loop-name.meter.ticks c.work.new.meter.ticks k.2 m.2,
           );
+      same = c.loop-name.invariant.same;
       keys = c.keep.ensures.keys ∙ c.loop-name.invariant.keys;
       last =
           let here : get_or (keys_of c.keep.new.self.found.entries) c.keep.new.self.waiting [] ≡ name = (λ i. get_or (c.keep.ensures.keys i) (c.keep.ensures.waiting i) []) ∙ c.in-Some.ensures.2 in
