@@ -1,11 +1,11 @@
 -- Sums of products of small numbers: the fold is the sum.
-use Rattle.std.{proofs.Common.{◌≡◌, ℕ, suc, ◌+◌, ◌-◌, ◌*◌, ◌^◌, ◌<◌, ◌≤◌, List, [], ◌∷◌, ◌++◌, length, get_or, take, drop, map, ap, subst, sym, ◌∙◌, arith, ℤ, pos, negsuc, ◌+ℤ◌, ◌*ℤ◌, unsigned_abs, FitsSigned, Ok}, specs.Int.{w64}, specs.List.{All, range_with_len}}
+use Rattle.std.{proofs.Common.{◌≡◌, ℕ, suc, ◌+◌, ◌-◌, ◌*◌, ◌^◌, ◌<◌, ◌≤◌, List, [], ◌∷◌, ◌++◌, length, get_or, take, drop, map, ap, subst, sym, ◌∙◌, arith, ℤ, pos, negsuc, ◌+ℤ◌, ◌*ℤ◌, unsigned_abs, FitsSigned, Ok, Bool}, specs.Int.{w64}, specs.List.{All, range_with_len}}
 use Rattle.std.{proofs.lemmas.Int.{ints, unsigned_abs-mul, fits_signed_from_abs}, proofs.lemmas.List.FromFn.{length-map-range_with_len, get_or-map-range_with_len, map-range_with_len_more}, proofs.Math.Nat.{mul-le-mul, mul-le-mul_left, mul-le-mul_right}}
-use Rattle.std.{proofs.lemmas.List.{get_or-take, get_or-drop}, proofs.lemmas.List.Elements.{All-take, All-drop}}
+use Rattle.std.{proofs.lemmas.List.{get_or-take, get_or-drop}}
 use Rattle.{arrays_core.specs.Items.{and_then}, function_names.{specs.declared.scalar.Scalar2.{Scalar2}, specs.declared.scalar.Scalar2.TheVariants.{Plus, Times}}}
 use Rattle.item_fns.{specs.Numbers.{dyadic_on_numbers, number_or_limit}, specs.Folds.{folded}, proofs.Within.{held_within, within_of}}
 use Rattle.reduce_fns.{specs.Sum.{IsWithinBound, sum_of}, proofs.Firsts.{same_rules}}
-use Rattle.operator_fns.{proofs.Meetings.{all_fine}, specs.RowByColumn.{all_met, folded_all}, specs.SmallProducts.{sum_of_products, IsNoFurther, AddUp, EndsInSums}, specs.RowFolds.{EndsInFolds}}
+use Rattle.operator_fns.{proofs.Meetings.{all_fine}, specs.RowByColumn.{all_met, folded_all}, specs.SmallProducts.{sum_of_products, IsNoFurther, AddUp, BoundsFactors, EndsInSums}, specs.RowFolds.{EndsInFolds}}
 
 abs_add : (a b : ℤ) → unsigned_abs (a +ℤ b) ≤ unsigned_abs a + unsigned_abs b
 abs_add a b = omega (arith, ints)
@@ -129,18 +129,6 @@ row_entry rows d columns row column below =
     ∙ get_or-drop (row * columns) rows column d
     ∙ ap (λ p. get_or rows p d) (omega arith)
 
--- parts of two lists
-pub parts_add_up : (xs ys : List ℤ) (first long count most : ℕ) → AddUp count xs ys → length (take long (drop first xs)) ≡ count
-    → AddUp (length (take long (drop first xs))) (take long (drop first xs)) (take most ys)
-parts_add_up xs ys first long count most small same =
-    record {
-      most_x = small.most_x;
-      most_y = small.most_y;
-      near_x = All-take (IsNoFurther small.most_x) long (drop first xs) (All-drop (IsNoFurther small.most_x) first xs small.near_x);
-      near_y = All-take (IsNoFurther small.most_y) most ys small.near_y;
-      few = subst (λ n. small.most_x * small.most_y * n < 2 ^ 63) (sym same) small.few;
-    }
-
 -- sums of small products are their folds
 pub sums_are_folds : (f g : Scalar2) (row rows : List ℤ) (columns : ℕ) (before all : List ℤ) → f ≡ Plus → g ≡ Times → 1 ≤ length row → length rows ≡ length row * columns
     → AddUp (length row) row rows → EndsInSums row rows columns before all → EndsInFolds (dyadic_on_numbers f) (dyadic_on_numbers g) row rows columns before all
@@ -156,8 +144,14 @@ sums_are_folds f g row rows columns before all plus times some whole small ends 
       };
     })
 
--- ---- numbers within a bound
+-- ---- factors within a bound
 
-pub no_further : (bound : ℕ) (z : ℤ) → IsWithinBound bound z → IsNoFurther bound z
-no_further bound (pos n) within = let high = within.high in record { near = omega (arith, ints) }
-no_further bound (negsuc n) within = let low = within.low in record { near = omega (arith, ints) }
+within_further : (bound most : ℕ) (z : ℤ) → bound ≤ most → IsWithinBound bound z → IsNoFurther most z
+within_further bound most (pos n) less within = let high = within.high in record { near = omega (arith, ints) }
+within_further bound most (negsuc n) less within = let low = within.low in record { near = omega (arith, ints) }
+
+pub no_further : (bound most : ℕ) (xs : List ℤ) → bound ≤ most → All (IsWithinBound bound) xs → All (IsNoFurther most) xs
+no_further bound most xs less within = λ k d below. within_further bound most _ less (within k d below)
+
+pub factors_add_up : (xs ys : List ℤ) (most : ℕ) (are_short : Bool) → BoundsFactors (length xs) ys most are_short → All (IsNoFurther most) xs → AddUp (length xs) xs ys
+factors_add_up xs ys most are_short bounds near = record { most_x = most; most_y = bounds.most; near_x = near; near_y = bounds.near; few = bounds.few }

@@ -1,6 +1,5 @@
 -- Sums of products of small numbers.
-use Rattle.std.{specs.Prelude.{◌≡◌, ℕ, ◌+◌, ◌*◌, ◌^◌, ◌<◌, ◌≤◌, ◌++◌, ℤ, pos, length, get_or, ◌+ℤ◌, ◌*ℤ◌, unsigned_abs, FitsSigned, List, map, All}, specs.Int.{w64}, specs.List.{range_with_len}}
-use Rattle.function_names.{specs.declared.scalar.Scalar2.{Scalar2}, specs.declared.scalar.Scalar2.TheVariants.{Plus, Times}}
+use Rattle.std.{specs.Prelude.{◌≡◌, ℕ, ◌+◌, ◌*◌, ◌^◌, ◌<◌, ◌≤◌, ◌++◌, ℤ, pos, length, get_or, ◌+ℤ◌, ◌*ℤ◌, unsigned_abs, FitsSigned, List, map, All, Bool, true}, specs.Int.{w64}, specs.List.{range_with_len}}
 use Rattle.reduce_fns.specs.Sum.{sum_of}
 
 -- the sum of the products of the first entries of a row and a column
@@ -19,11 +18,12 @@ pub record AddUp (count : ℕ) (xs ys : List ℤ) : Type 0 where
   pub near_y : All (IsNoFurther most_y) ys
   pub few : most_x * most_y * count < 2 ^ 63
 
--- f.g is a sum of such products
-pub record IsSmallSum (f g : Scalar2) (count : ℕ) (xs ys : List ℤ) : Type 0 where
-  pub fold : f ≡ Plus
-  pub each : g ≡ Times
-  pub small : AddUp count xs ys
+-- a bound on factors: `count` products of such factors and numbers of a list have a sum within 64 bits, in any order
+pub record BoundsFactors (count : ℕ) (ys : List ℤ) (bound : ℕ) (are_short : Bool) : Type 0 where
+  pub most : ℕ
+  pub near : All (IsNoFurther most) ys
+  pub few : bound * most * count < 2 ^ 63
+  pub short : are_short ≡ true → All (IsNoFurther 1073741824) ys
 
 -- a product fits 64 bits, and so does a sum with it
 pub record RowFits (factor number sum : ℤ) : Type 0 where

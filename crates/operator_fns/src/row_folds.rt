@@ -1,14 +1,16 @@
 //! Inner products of two matrices of numbers, a row of the result at a time.
 
-ghost use Rattle.std.specs.Prelude.{◌≡◌, ◌<◌, ◌≤◌, ℕ, ◌+◌, ◌*◌, ◌/◌, ◌^◌, Ok, pos, length, get_or, OnOk, IfOk, vec_len};
+ghost use Rattle.std.specs.Prelude.{◌≡◌, ◌<◌, ◌≤◌, ℕ, ◌+◌, ◌*◌, ◌/◌, ◌^◌, Ok, pos, length, get_or, OnOk, IfOk, IfSome, vec_len};
 ghost use Rattle.item_fns.specs.Numbers.{dyadic_on_numbers};
 ghost use Rattle.item_fns.specs.Folds.{folded};
 ghost use Rattle.operator_fns.specs.RowByColumn.{cell, IsGridOf, IsPlain};
+ghost use Rattle.function_names.specs.declared.scalar.Scalar2.TheVariants.{Plus, Times};
+ghost use Rattle.operator_fns.specs.SmallProducts.{BoundsFactors};
 ghost use Rattle.operator_fns.specs.RowFolds.{AreMet, AreFolds, EndsInFolds, column_fold};
 
 use crate::grid::Grid;
 use crate::outer_product::LONG;
-use crate::small_products::{is_small_sum, push_sums};
+use crate::small_products::FactorBound;
 use crate::unions::rows_to_join;
 use arrays_core::{ApplyFault, Kind, room_of};
 use item_fns::folds::fold_list;
@@ -122,7 +124,7 @@ fn fold_column(
     Ok(with_function(fold, line)?)
 }
 
-/// Appends the folds of a row with all columns of consecutive rows.
+/// Appends the folds of a row with all columns of consecutive rows. A bound is for sums of products.
 fn push_folds(
     made: &mut Vec<i64>,
     fold: Scalar2,
@@ -130,13 +132,22 @@ fn push_folds(
     row: &[i64],
     rows: &[i64],
     columns: usize,
+    bound: Option<FactorBound>,
     buffers: &mut Buffers,
 ) -> Result<(), ApplyFault>
     requires room { vec_len made.old + columns < 2 ^ 64 }
     requires some { 1 ≤ length row.now }
     requires whole { length rows.now ≡ length row.now * columns }
+    requires fold { IfSome bound (λ b. fold ≡ Plus) }
+    requires each { IfSome bound (λ b. each ≡ Times) }
+    requires bound { IfSome bound (λ b. BoundsFactors (length row.now) rows.now b.most b.are_short) }
     ensures { OnOk result (EndsInFolds (dyadic_on_numbers fold) (dyadic_on_numbers each) row.now rows.now columns made.old.items made.new.items) }
 {
+    if let Some(bound) = bound {
+        if bound.push_sums(made, row, rows, columns)? {
+            return Ok(());
+        }
+    }
     if columns == 1 {
         let number = fold_column(fold, each, row, rows, &mut buffers.met)?;
         made.push(number)?;
@@ -170,7 +181,7 @@ pub(crate) fn fold_matrices(
     if let Some(bits) = rows_to_join(alloc, fold, each, left, rows, grid.count, grid.columns)? {
         return Ok(bits.join_matrices(alloc, left, grid, places)?);
     }
-    let is_small = is_small_sum(fold, each, left, right, grid.count);
+    let bound = FactorBound::of(fold, each, rows, grid.count);
     let mut made = Vec::with_capacity(alloc, room_of(places))?;
     let mut buffers = Buffers {
         numbers: Vec::new(alloc),
@@ -179,11 +190,16 @@ pub(crate) fn fold_matrices(
     for place in 0..places / grid.columns {
         let first = place * grid.count;
         let row = &left[first..first + grid.count];
-        if is_small {
-            push_sums(&mut made, row, rows, grid.columns)?;
-        } else {
-            push_folds(&mut made, fold, each, row, rows, grid.columns, &mut buffers)?;
-        }
+        push_folds(
+            &mut made,
+            fold,
+            each,
+            row,
+            rows,
+            grid.columns,
+            bound,
+            &mut buffers,
+        )?;
     }
     Ok(made)
 }

@@ -1,39 +1,41 @@
-use Rattle.std.{proofs.Common.{◌≡◌, ℕ, ℤ, sym, get_or, length, pos, arith, to_z, of_z, ◌+ℤ◌, ◌*ℤ◌, w64, rules}, proofs.lemmas.Int.{to_z-of_z}}
-use Rattle.operator_fns.{specs.SmallProducts.{sum_of_products}, proofs.ProductSums.{AreSmall, next_sum, small_entries, product_fits, next_fits}, proofs.small_products.sum_of_pairs.Goals.{In-loop-place}}
+use Rattle.std.{proofs.Common.{◌≡◌, ◌∙◌, ℕ, ℤ, List, sym, get_or, length, pos, arith, w64, rules}, proofs.lemmas.Int.{to_z-of_z}}
+use Rattle.operator_fns.{specs.SmallProducts.{AddUp}, proofs.ProductSums.{AreSmall, next_sum, small_entries, product_fits, next_fits}, proofs.small_products.sum_of_pairs.Goals.{After-of-sum}}
 use Rattle.operator_fns.proofs.small_products.sum_of_pairs.Goals as goal
 
-module _ (c : In-loop-place) where
-  abbrev row : ℕ → ℤ
-  row k = get_or c.args.left.now k (pos 0)
+-- two lists of one length, entry by entry
+pairs : (xs ys : List ℤ) → length xs ≡ length ys → AddUp (length xs) xs ys → AreSmall (λ k. get_or xs k (pos 0)) (λ k. get_or ys k (pos 0)) (length xs)
+pairs xs ys same small = small_entries xs ys (length xs) (λ k. k) (λ k. k) small (λ k below. below) (λ k below. omega arith)
 
-  abbrev column : ℕ → ℤ
-  column k = get_or c.args.right.now k (pos 0)
+pub of-sum-requires-clause-left : goal.of-sum-requires-clause-left
+of-sum-requires-clause-left g c =
+    let read = to_z-of_z w64 (get_or c.args.left.now c.loop-place.place (pos 0)) (search rules) in
+    rw read (c.requires.left c.loop-place.place (pos 0) c.loop-place-test.true)
 
-  abbrev product : ℤ
-  product = row c.loop-place.place *ℤ column c.loop-place.place
+pub of-sum-requires-clause-right : goal.of-sum-requires-clause-right
+of-sum-requires-clause-right g c =
+    let read = to_z-of_z w64 (get_or c.args.right.now c.loop-place.place (pos 0)) (search rules) in
+    rw read (c.requires.right c.loop-place.place (pos 0) (omega (arith, c.loop-place-test.true, c.requires.long)))
 
-  small : AreSmall row column (length c.args.left.now)
-  small = let same = c.requires.long in small_entries _ _ _ (λ k. k) (λ k. k) c.requires.small (λ k below. below) (λ k below. omega arith)
-
-  product_is : to_z w64 (of_z w64 product) ≡ product
-  product_is = to_z-of_z w64 _ (product_fits row column _ small c.loop-place.place c.loop-place-test.true)
-
-pub overflow_mul-sum : goal.overflow_mul-sum
-overflow_mul-sum c =
-    let at = (goal.at.overflow_mul-sum c).In-loop-place in
-    let k = c.loop-place.place in
-    rw (to_z-of_z w64 (row at k) (search rules), to_z-of_z w64 (column at k) (search rules)) (product_fits (row at) (column at) _ (small at) k c.loop-place-test.true)
+pub of-sum-requires-clause-within : goal.of-sum-requires-clause-within
+of-sum-requires-clause-within g c =
+    let x = to_z-of_z w64 (get_or c.args.left.now c.loop-place.place (pos 0)) (search rules) in
+    let y = to_z-of_z w64 (get_or c.args.right.now c.loop-place.place (pos 0)) (search rules) in
+    rw (x, y) (product_fits _ _ _ (pairs c.args.left.now c.args.right.now c.requires.long c.requires.small) c.loop-place.place c.loop-place-test.true)
 
 pub overflow_add-sum : goal.overflow_add-sum
-overflow_add-sum c =
-    let at = (goal.at.overflow_add-sum c).In-loop-place in
-    let k = c.loop-place.place in
-    rw (to_z-of_z w64 (row at k) (search rules), to_z-of_z w64 (column at k) (search rules), product_is at, c.loop-place.invariant)
-    (next_fits (row at) (column at) _ (small at) k c.loop-place-test.true)
+overflow_add-sum g c =
+    let x = to_z-of_z w64 (get_or c.args.left.now c.loop-place.place (pos 0)) (search rules) in
+    let y = to_z-of_z w64 (get_or c.args.right.now c.loop-place.place (pos 0)) (search rules) in
+    let product = to_z-of_z w64 c.of-sum.result (search rules) ∙ rw (x, y) at c.of-sum.ensures in
+    rw (product, c.loop-place.invariant) (next_fits _ _ _ (pairs c.args.left.now c.args.right.now c.requires.long c.requires.small) c.loop-place.place c.loop-place-test.true)
 
 pub loop-place-preserved : goal.loop-place-preserved
-loop-place-preserved c =
-    let at = (goal.at.loop-place-preserved c).In-loop-place in
+loop-place-preserved g c =
     let k = c.loop-place.place in
-    let sum_is = to_z-of_z w64 (sum_of_products (row at) (column at) k +ℤ product at) (next_fits (row at) (column at) _ (small at) k c.loop-place-test.true) in
-    rw (to_z-of_z w64 (row at k) (search rules), to_z-of_z w64 (column at k) (search rules), product_is at, c.loop-place.invariant, sum_is) (sym (next_sum (row at) (column at) k))
+    let row = λ (j : ℕ). get_or c.args.left.now j (pos 0) in
+    let column = λ (j : ℕ). get_or c.args.right.now j (pos 0) in
+    let x = to_z-of_z w64 (row k) (search rules) in
+    let y = to_z-of_z w64 (column k) (search rules) in
+    let product = to_z-of_z w64 c.of-sum.result (search rules) ∙ rw (x, y) at c.of-sum.ensures in
+    let fits = next_fits row column _ (pairs c.args.left.now c.args.right.now c.requires.long c.requires.small) k c.loop-place-test.true in
+    rw (product, c.loop-place.invariant, to_z-of_z w64 _ fits) (sym (next_sum row column k))

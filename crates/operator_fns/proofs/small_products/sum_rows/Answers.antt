@@ -3,7 +3,7 @@ use Rattle.operator_fns.proofs.ProductSums.{small_entries, product_fits, next_fi
 use Rattle.operator_fns.proofs.small_products.sum_rows.Goals as goal
 
 pub add_row-requires-clause-fits : goal.add_row-requires-clause-fits
-add_row-requires-clause-fits c = λ j inside.
+add_row-requires-clause-fits g c = λ j inside.
     let xs = c.args.factors.now in
     let rows = c.args.rows.now in
     let s = length c.args.sums.now in
@@ -19,7 +19,7 @@ add_row-requires-clause-fits c = λ j inside.
     (record { product = product_fits row column n small p c.loop-place-test.true; total = next_fits row column n small p c.loop-place-test.true })
 
 pub loop-place-preserved : goal.loop-place-preserved
-loop-place-preserved c =
+loop-place-preserved g c =
     let s = length c.args.sums.now in
     let p = c.loop-place.place in
     let x_is : to_z w64 (of_z w64 (get_or c.args.factors.now p (pos 0))) ≡ get_or c.args.factors.now p (pos 0) = to_z-of_z w64 _ (search rules) in

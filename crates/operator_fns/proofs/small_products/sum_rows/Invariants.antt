@@ -2,7 +2,7 @@ use Rattle.{std.proofs.Common.{◌≡◌, ℕ, ◌+◌, ◌*◌, ◌<◌, length
 use Rattle.operator_fns.proofs.small_products.sum_rows.Given as goal
 
 abbrev pub invariant-loop-place : goal.invariant-loop-place
-invariant-loop-place l = record {
+invariant-loop-place g l = record {
   long : length l.sums ≡ l.columns;
   made : (column : ℕ) → column < l.columns
       → get_or l.sums column (pos 0) ≡ sum_of_products (λ k. get_or l.factors k (pos 0)) (λ k. get_or l.rows (column + k * l.columns) (pos 0)) l.place;
