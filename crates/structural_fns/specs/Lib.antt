@@ -11,5 +11,6 @@ pub mod Transpose
 pub mod DyadicTranspose
 -- The definitions that proofs and bodies use.
 pub mod LeastLength
+pub mod Part
 -- The laws that impls supply with their functions: change and growth.
 pub mod Laws

@@ -1,6 +1,6 @@
 //! Drop: leaves out the first or last places of each axis.
 
-ghost use Rattle.std.specs.Prelude.{◌≡◌, ◌≤◌, ◌+◌, unsigned_abs, IsTrue, IfOk, Ok, length, ◌∷◌, [], ℕ};
+ghost use Rattle.std.specs.Prelude.{◌≡◌, ◌≤◌, ◌+◌, min, unsigned_abs, IsTrue, IfOk, Ok, length, ◌∷◌, [], ℕ};
 ghost use Rattle.std.proofs.Common.{rules};
 ghost use Rattle.arrays_core.specs.Limits.{most_axes, longest_axis};
 ghost use Rattle.arrays_core.specs.Arrays.{ArrayValue, IsAnswerTo, IsArray};
@@ -13,19 +13,17 @@ ghost use Rattle.change_core.specs.Ways.{images};
 ghost use Rattle.change_core.proofs.Growing.{never_grows};
 ghost use Rattle.structural_fns.specs.AxisCounts.{counted_shape, uncounted};
 ghost use Rattle.structural_fns.specs.Drop.{drop_form, drop_source, drop_item, drop_whole, dropped_shape, kept_place, kept_places, kept, kept_axes, drop_rule};
+ghost use Rattle.structural_fns.specs.Part.{AreBeforeKept};
 ghost use Rattle.structural_fns.specs.Laws.Drop.{drop_tight};
 
 use crate::axis_counts::{check_axis_counts, counted_box, counted_shape, uncounted};
 use crate::limits::MOST_AXES;
-use arrays_core::{
-    ApplyFault, Array, ArrayBuilder, Item, ItemType, Kind, Shape, index_in_row, places_before, size,
-};
+use crate::part::part_of;
+use arrays_core::{ApplyFault, Array, Item, ItemType, Kind, Shape};
 use change_core::Announced;
-use index_region::{
-    IndexBox, Intervals, Primitive, RowPrimitive, Seen, Source, apply_rows, item_from, limited,
-};
+use index_region::{IndexBox, Intervals, Primitive, Seen, Source, apply, item_from, limited};
 use smallvec::SmallVec;
-use std::alloc::{AllocError, Global};
+use std::alloc::Global;
 
 /// Returns the lengths of the axes of the result.
 fn dropped_shape(counts: &Seen, axes: &[u32]) -> Shape
@@ -71,19 +69,28 @@ fn kept_places(counts: &Seen, array: &Seen, index: &[u32]) -> Shape
     places
 }
 
-/// Drops places of a vector in one run.
-fn kept_run(counts: &Seen, vector: &Seen, shape: &Shape) -> Result<Array, AllocError>
-    requires form { drop_form counts.now vector.now ≡ Ok (form_of shape.now.items vector.now.item_type) }
-    requires one_axis { length vector.now.shape ≡ 1 }
-    requires sound { IsArray vector.now }
-    ensures { IfOk result (λ a. drop_whole counts.now vector.now ≡ Ok a) }
+/// Returns the number of places before the kept ones on an axis. A result without a place may begin anywhere.
+fn skipped(axis: u32, count: i64) -> u32
+    ensures { result ≡ min (kept_place count 0) axis }
 {
-    let kept = size(shape.as_slice());
-    if kept == 0 {
-        return vector.part(0, shape);
+    if count < 0 {
+        return 0;
     }
-    let first = kept_place(counts.number(1), 1);
-    vector.part(first - 1, shape)
+    count.unsigned_abs().min(u64::from(axis)) as u32
+}
+
+/// Returns the number of places before the kept ones on each axis of the array.
+fn places_before_kept(counts: &Seen, axes: &[u32]) -> Shape
+    requires long { length counts.now.items ≡ length axes.now }
+    requires rank { length axes.now ≤ most_axes }
+    ensures { AreBeforeKept axes.now (numbers counts.now) result.items }
+{
+    let mut before = SmallVec::new(*counts.shape().allocator());
+    for k in 0..axes.len() {
+        let count = counts.number(k as u32 + 1);
+        before.push_reserved(skipped(axes[k], count));
+    }
+    before
 }
 
 /// Drop, `A↓B` (ISO/IEC 13751, "Drop"): a positive count leaves out the first places of its axis, a negative one the last. No length is
@@ -123,18 +130,19 @@ impl DropPlaces {
         Source::Place { arg: 1, at }
     }
 
-    /// Computes the whole result. Copies a vector in one run.
+    /// Computes the whole result, a part of the array.
     pub fn apply(&self, alloc: Global, args: &[Seen]) -> Result<Array, ApplyFault>
         requires { length args.now ≡ 2 }
         ensures { IsAnswerTo (of_two_arguments drop_whole args.now) result }
     {
-        let array = &args[1];
-        if array.shape().len() == 1 {
-            let (shape, _) = self.shape_of(args)?;
-            let run = kept_run(&args[0], array, &shape)?;
-            return Ok(run);
+        let (counts, array) = (&args[0], &args[1]);
+        let (shape, _) = self.shape_of(args)?;
+        let axes = array.shape();
+        if axes.is_empty() {
+            return apply(alloc, self, args);
         }
-        apply_rows(alloc, self, args)
+        let before = places_before_kept(counts, axes.as_slice());
+        part_of(alloc, array, before.as_slice(), &shape)
     }
 }
 
@@ -161,22 +169,6 @@ impl Primitive for DropPlaces {
         let array = &args[1];
         let source = self.source(counts, array, index);
         Ok(item_from(array, array, array.item_type(), source))
-    }
-}
-
-impl RowPrimitive for DropPlaces {
-    fn extend_row(
-        &self,
-        args: &[Seen],
-        row: &[u32],
-        count: u32,
-        items: &mut ArrayBuilder,
-    ) -> Result<(), AllocError> {
-        let (counts, array) = (&args[0], &args[1]);
-        let shape = array.shape();
-        let first = index_in_row(*shape.allocator(), row, 1);
-        let at = self.place_of(counts, array, first.as_slice());
-        array.extend_run(items, places_before(shape, at.as_slice()), count)
     }
 }
 

@@ -1,6 +1,6 @@
 //! Places of index lists that are computed and not stored.
 
-ghost use Rattle.std.specs.Prelude.{◌≡◌, ◌<◌, ◌++◌, ◌∷◌, [], ℕ, List, IsTrue, length, get_or, set};
+ghost use Rattle.std.specs.Prelude.{◌≡◌, ◌≤◌, ◌<◌, ◌++◌, ◌∷◌, [], ℕ, List, IsTrue, length, get_or, set};
 ghost use Rattle.arrays_core.specs.Shapes.{IsWithinLimits, is_index_of, places_before};
 
 /// An index list that is computed one index at a time.
@@ -50,4 +50,12 @@ impl<'a> IndexSource for RowWith<'a> {
             1
         }
     }
+}
+
+/// Returns the index on an axis, counted from 0, of the index list with the indices of a row and `last` on the last axis.
+pub(crate) fn index_on_axis(row: &[u32], last: u32, axis: usize) -> u32
+    requires { axis ≤ length row.now }
+    ensures { result ≡ get_or (row.now ++ last ∷ []) axis 0 }
+{
+    if axis < row.len() { row[axis] } else { last }
 }

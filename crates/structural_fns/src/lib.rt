@@ -9,6 +9,7 @@ mod even_steps;
 mod index_source;
 mod limits;
 mod magnitudes;
+mod part;
 mod places;
 mod ravel;
 mod reshape;

@@ -1,6 +1,6 @@
 //! Take: the first or last places of each axis, with fill beyond them.
 
-ghost use Rattle.std.specs.Prelude.{◌≡◌, ◌≤◌, ◌<◌, ◌+◌, ◌^◌, ◌++◌, ◌∷◌, [], pos, unsigned_abs, IsTrue, IfOk, OnOk, Ok, Some, None, if◌then◌else◌, All, length, get_or, nat_eq, nat_le, ◌&&◌};
+ghost use Rattle.std.specs.Prelude.{◌≡◌, ◌≤◌, ◌<◌, ◌+◌, ◌^◌, ◌++◌, ◌∷◌, [], pos, unsigned_abs, IsTrue, IfOk, IfSome, OnOk, Ok, Some, None, if◌then◌else◌, All, length, get_or, nat_eq, nat_le, ◌&&◌};
 ghost use Rattle.std.proofs.Common.{rules};
 ghost use Rattle.arrays_core.specs.Limits.{most_axes, longest_axis};
 ghost use Rattle.arrays_core.specs.Building.{with_row};
@@ -16,10 +16,13 @@ ghost use Rattle.change_core.proofs.Growing.{never_grows};
 ghost use Rattle.structural_fns.specs.AxisCounts.{counted_shape};
 ghost use Rattle.structural_fns.specs.Reshape.{magnitudes};
 ghost use Rattle.structural_fns.specs.Take.{take_form, take_source, take_item, take_whole, taken_place, taken_places, AreOnLastAxis, taken, taken_axes, take_rule};
+ghost use Rattle.structural_fns.specs.Part.{AreBeforeTaken};
 ghost use Rattle.structural_fns.specs.Laws.Take.{take_tight};
 
 use crate::axis_counts::{check_axis_counts, counted_box, counted_shape, uncounted};
+use crate::index_source::index_on_axis;
 use crate::magnitudes::magnitudes;
+use crate::part::part_of;
 use arrays_core::{ApplyFault, Array, ArrayBuilder, Item, ItemType, Kind, Shape, is_index_of};
 use change_core::Announced;
 use index_region::{
@@ -59,14 +62,6 @@ fn taken_places(counts: &Seen, axes: &[u32], index: &[u32]) -> Shape
     places
 }
 
-/// Returns the index on an axis, counted from 0, of the index list with the indices of a row and `last` on the last axis.
-fn index_on_axis(row: &[u32], last: u32, axis: usize) -> u32
-    requires { axis ≤ length row.now }
-    ensures { result ≡ get_or (row.now ++ last ∷ []) axis 0 }
-{
-    if axis < row.len() { row[axis] } else { last }
-}
-
 /// Returns the offset in an array with these axes of the item at an index of a row of the result. Returns None if that item is fill.
 fn place_in_row(counts: &Seen, axes: &[u32], row: &[u32], index: u32) -> Option<u32>
     requires long { length counts.now.items ≡ length axes.now }
@@ -89,22 +84,25 @@ fn place_in_row(counts: &Seen, axes: &[u32], row: &[u32], index: u32) -> Option<
     Some(before)
 }
 
-/// Tests whether there is one count, and the vector has as many places.
-fn has_places(counts: &Seen, vector: &Seen) -> bool
-    ensures { result ≡ nat_eq (length counts.now.items) 1 && nat_le (unsigned_abs (get_or (numbers counts.now) 0 (pos 0))) (length vector.now.items) }
+/// Returns the number of places before the taken ones on each axis of the array. None if places are missing, or the array is a scalar.
+fn places_before_taken(counts: &Seen, array: &Seen) -> Option<Shape>
+    requires { length counts.now.items ≡ length (counted_shape counts.now array.now) }
+    ensures { IfSome result (λ before. AreBeforeTaken array.now.shape (numbers counts.now) before.items) }
 {
-    counts.places() == 1 && counts.number(1).unsigned_abs() <= u64::from(vector.places())
-}
-
-/// Takes places of a vector in one run, if it has as many.
-fn taken_run(counts: &Seen, vector: &Seen, shape: &Shape) -> Result<Array, AllocError>
-    requires form { take_form counts.now vector.now ≡ Ok (form_of shape.now.items vector.now.item_type) }
-    requires one_axis { length vector.now.shape ≡ 1 }
-    requires there { size shape.now.items ≤ length vector.now.items }
-    ensures { IfOk result (λ a. take_whole counts.now vector.now ≡ Ok a) }
-{
-    let first = taken_place(vector.places(), counts.number(1), 1);
-    vector.part(first - 1, shape)
+    let shape = array.shape();
+    if shape.is_empty() {
+        return None;
+    }
+    let axes = shape.as_slice();
+    let mut before = SmallVec::new(*shape.allocator());
+    for k in 0..axes.len() {
+        let count = counts.number(k as u32 + 1);
+        if count.unsigned_abs() > u64::from(axes[k]) {
+            return None;
+        }
+        before.push_reserved(taken_place(axes[k], count, 1) - 1);
+    }
+    Some(before)
 }
 
 /// Take, `A↑B` (ISO/IEC 13751, "Take"): axis k has the magnitude of A[k] as its length. A positive count takes the first places, a negative
@@ -169,18 +167,17 @@ impl Take {
         }
     }
 
-    /// Computes the whole result. Copies a vector in one run if it has as many places.
+    /// Computes the whole result. If no place is missing, it is a part of the array.
     pub fn apply(&self, alloc: Global, args: &[Seen]) -> Result<Array, ApplyFault>
         requires { length args.now ≡ 2 }
         ensures { IsAnswerTo (of_two_arguments take_whole args.now) result }
     {
         let (counts, array) = (&args[0], &args[1]);
-        if array.shape().len() == 1 && has_places(counts, array) {
-            let (shape, _) = self.shape_of(args)?;
-            let run = taken_run(counts, array, &shape)?;
-            return Ok(run);
+        let (shape, _) = self.shape_of(args)?;
+        match places_before_taken(counts, array) {
+            Some(before) => part_of(alloc, array, before.as_slice(), &shape),
+            None => apply_rows(alloc, self, args),
         }
-        apply_rows(alloc, self, args)
     }
 }
 
