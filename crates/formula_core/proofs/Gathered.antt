@@ -1,10 +1,8 @@
 -- The inputs of an operation, collected for its rule if none is an error.
-use Rattle.std.{proofs.Common.{◌≡◌, ℕ, suc, ◌+◌, ◌≤◌, List, [], ◌∷◌, length, map, Bool, ◌&&◌, Option, Some, None, is_some, Result, Ok, Err, refl, sym, ap, ◌∙◌, subst, IfOk, if◌then◌else◌, arith}, specs.Borrow.{Bor}, specs.List.{list_all}, specs.Result.{result_err}}
-use Rattle.std.specs.declared.alloc.AllocError.{AllocError}
+use Rattle.std.{proofs.Common.{◌≡◌, ℕ, suc, ◌+◌, ◌≤◌, List, [], ◌∷◌, length, map, Bool, ◌&&◌, Option, Some, None, is_some, Result, Ok, Err, refl, sym, ap, ◌∙◌, subst, IfOk, if◌then◌else◌, arith}, specs.Borrow.{Bor}, specs.List.{list_all}, specs.Result.{result_err}, specs.declared.alloc.AllocError.{AllocError}}
 use Rattle.arrays_core.{specs.Arrays.{ArrayValue}, specs.declared.fault.Fault.{Fault}, specs.Outcomes.{Outcome}}
 use Rattle.index_region.{specs.declared.delta.Delta.{Delta}, specs.declared.delta.Delta.TheVariants.{Same, Patch, Grown, Whole}}
-use Rattle.change_core.{specs.Reaches.{Fits, AllFit}, specs.RuleModels.{RuleModel}}
-use Rattle.change_rules.specs.Nodes.{Argument, views, moved, moved_by, is_same}
+use Rattle.{change_core.{specs.Reaches.{Fits, AllFit}, specs.RuleModels.{RuleModel}}, change_rules.specs.Nodes.{Argument, views, moved, moved_by, is_same}}
 use Rattle.selection_fns.specs.Index.{count_written}
 use Rattle.formula_core.{specs.declared.input.Input.{Input}, specs.declared.input.Input.TheVariants.{Good, Bad}, specs.Rules.{with_change, IsRefreshed}, specs.Changes.{FitsNow, argument_in_front, arguments, operation_delta, operation_cost}}
 use Rattle.formula_core.{specs.Inputs.{shown, stays, delta_of, HasFit, AllHaveFit, IsOperationChange, written_inputs, arrays_among, last_error}, proofs.Stepping.{stays_same}, proofs.Values.{HaveValues, no_values, values_more, delta_by_values, cost_by_values}}

@@ -1,11 +1,13 @@
 -- The change of an operation whose checks fail.
-use Rattle.std.{proofs.Common.{◌≡◌, ℕ, suc, ◌+◌, ◌<◌, ◌≤◌, List, [], ◌∷◌, length, map, Bool, true, false, ◌&&◌, ◌||◌, not, Option, Some, None, is_some, is_ok, Result, Ok, Err, refl, sym, ap, ◌∙◌, subst, if◌then◌else◌, nat_eq, inl, inr, arith}, specs.Borrow.{Bor}, specs.List.{list_all, list_any}, specs.Result.{result_err}, proofs.lemmas.List.{length-map}, proofs.lemmas.Bool.{cases_Bool, cond-false, eqb-true}}
+use Rattle.std.{proofs.Common.{◌≡◌, ℕ, suc, ◌+◌, ◌<◌, ◌≤◌, List, [], ◌∷◌, length, map, Bool, true, false, ◌&&◌, ◌||◌, not, Option, Some, None, is_some, is_ok, Result, Ok, Err, refl, sym, ap, ◌∙◌, subst, if◌then◌else◌, nat_eq, inl, inr, arith}, specs.Borrow.{Bor}, specs.List.{list_all, list_any}}
+use Rattle.std.{specs.Result.{result_err}, proofs.lemmas.List.{length-map}, proofs.lemmas.Bool.{cases_Bool, cond-false, eqb-true}}
 use Rattle.arrays_core.{specs.Arrays.{ArrayValue, IsArray}, specs.Outcomes.{Outcome, fault, given}, specs.declared.item.Item.{Item}, specs.declared.item.Kind.{Kind}, specs.declared.item.Kind.TheVariants.{Rank}}
 use Rattle.index_region.{specs.declared.delta.Delta.{Delta}, specs.declared.delta.Delta.TheVariants.{Same, Whole}, specs.Arguments.{is_scalar}, specs.Checks.{Form, check, whole}}
 use Rattle.change_core.{specs.declared.reach.Reach.{Reach}, specs.Reaches.{reach_of}, specs.RuleModels.{RuleModel, form_size}}
 use Rattle.change_rules.specs.Nodes.{Argument, is_same, is_whole, is_grown, moved_by, views, delta_in, size_in, grown_in, grown_size}
 use Rattle.selection_fns.specs.Index.{Position, count_written, written_positions, index_form, index_rule}
-use Rattle.formula_core.{specs.declared.input.Input.{Input}, specs.declared.input.Input.TheVariants.{Good}, specs.Changes.{arguments, result_delta, result_cost, result_grows, operation_delta, operation_cost}, specs.Inputs.{shown, stays, delta_of, IsOperationChange, written_inputs, arrays_among, last_error}, proofs.Gathered.{gathered, list_stays, arrays_count}}
+use Rattle.formula_core.{specs.declared.input.Input.{Input}, specs.declared.input.Input.TheVariants.{Good}, specs.Changes.{arguments, result_delta, result_cost, result_grows, operation_delta, operation_cost}, specs.Inputs.{shown, stays, delta_of, IsOperationChange, written_inputs, arrays_among, last_error}}
+use Rattle.formula_core.proofs.Gathered.{gathered, list_stays, arrays_count}
 
 -- nothing, or the error of the checks
 abbrev delta_by : (same anew grown grows : Bool) → Result Form Kind → (List ℕ → Result Item Kind) → Reach → Delta

@@ -2,10 +2,9 @@
 use Rattle.std.{specs.Prelude.{◌≡◌, ◌+◌, ◌≤◌, ℕ, false, List, Result, Ok, Err, IfOk}, specs.declared.alloc.AllocError.{AllocError}}
 use Rattle.apl_expr.{specs.declared.expr.Monadic.{Monadic}, specs.declared.expr.Dyadic.{Dyadic}, specs.declared.functions.Function1.{Function1}, specs.declared.functions.Function2.{Function2}}
 use Rattle.change_core.{specs.Meters.{ticked}, specs.RuleModels.{RuleModel}}
-use Rattle.arrays_core.specs.Arrays.{ArrayValue}
+use Rattle.arrays_core.{specs.Arrays.{ArrayValue}, specs.Outcomes.{Outcome}}
 use Rattle.index_region.{specs.declared.delta.Delta.{Delta}, specs.declared.moved.Moved.{Moved}}
 use Rattle.change_rules.specs.Nodes.{Argument, AreArguments, is_error, node_delta, node_cost}
-use Rattle.arrays_core.specs.Outcomes.{Outcome}
 use Rattle.scalar_fns.{specs.EachMonadic.{each_monadic_rule}, specs.EachDyadic.{each_dyadic_rule}}
 use Rattle.structural_fns.{specs.Reshape.{reshape_rule}, specs.Ravel.{ravel_rule}, specs.Catenate.{catenate_rule}, specs.Take.{take_rule}, specs.Drop.{drop_rule}, specs.Reverse.{reverse_rule}, specs.Rotate.{rotate_rule}, specs.Transpose.{transpose_rule}, specs.DyadicTranspose.{transpose_by_rule}}
 use Rattle.selection_fns.{specs.Shape.{shape_rule}, specs.IndexGenerator.{generator_rule}, specs.Replicate.{replicate_rule}}

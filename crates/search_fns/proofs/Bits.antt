@@ -1,7 +1,7 @@
 -- Digits by a power of two: the low bits of a number, and the bits above them.
-use Rattle.std.{proofs.Common.{◌≡◌, ℕ, suc, ◌+◌, ◌-◌, ◌*◌, ◌/◌, ◌%◌, ◌^◌, ◌<◌, ◌≤◌, refl, ap, sym, ◌∙◌, inl, inr, arith, ℤ, pos, negsuc, ◌-ℤ◌, false, SFits, of_z, to_z, w64, Ok}, specs.Int.{int_shr}, specs.Int.Bits.{bit_and}, specs.Int.Signed.{mag_shr}, specs.Ordering.{int_eq}, proofs.Math.IntN.{pos-*ℤ-negsuc}, proofs.Math.Pow.{low, pow_mono}, proofs.Math.Nat.{mod-lt, mul-le-mul_right, mod-eq_of_lt}, proofs.lemmas.Nat.{and_mask, pow-add, pow_pos, div-add-mod'}, proofs.lemmas.Int.{to_z_pos, ints}, proofs.lemmas.Bool.{cases_lt}}
-use Rattle.item_fns.{specs.Numbers.{residue, floor_div, number_or_limit}, proofs.Floors.{not_zero}, proofs.Within.{held}}
-use Rattle.search_fns.specs.Encode.{carried}
+use Rattle.std.{proofs.Common.{◌≡◌, ℕ, suc, ◌+◌, ◌-◌, ◌*◌, ◌/◌, ◌%◌, ◌^◌, ◌<◌, ◌≤◌, refl, ap, sym, ◌∙◌, inl, inr, arith, ℤ, pos, negsuc, ◌-ℤ◌, false, SFits, of_z, to_z, w64, Ok}, specs.Int.{int_shr}, specs.Int.Bits.{bit_and}, specs.Int.Signed.{mag_shr}, specs.Ordering.{int_eq}, proofs.Math.IntN.{pos-*ℤ-negsuc}}
+use Rattle.std.{proofs.Math.Pow.{low, pow_mono}, proofs.Math.Nat.{mod-lt, mul-le-mul_right, mod-eq_of_lt}, proofs.lemmas.Nat.{and_mask, pow-add, pow_pos, div-add-mod'}, proofs.lemmas.Int.{to_z_pos, ints}, proofs.lemmas.Bool.{cases_lt}}
+use Rattle.{item_fns.{specs.Numbers.{residue, floor_div, number_or_limit}, proofs.Floors.{not_zero}, proofs.Within.{held}}, search_fns.specs.Encode.{carried}}
 
 is_some : (b : ℕ) → int_eq (pos (2 ^ b)) (pos 0) ≡ false
 is_some b = not_zero (pos (2 ^ b)) (λ e. let some = pow_pos b in omega (arith, ints))

@@ -1,6 +1,7 @@
 -- Items looked up in a list by their first places.
-use Rattle.std.{proofs.Common.{◌≡◌, ◌≢◌, ℕ, ◌+◌, ◌<◌, ◌≤◌, Bool, true, false, ◌||◌, cond, List, [], ◌∷◌, ◌++◌, length, get_or, set, take, drop, map, Option, Some, None, ℤ, ◌+ℤ◌, ◌-ℤ◌, ◌≤ℤ◌, ◌<ℤ◌, negsuc, unsigned_abs, SFits, w64, to_z, of_z, pos, inl, inr, refl, ap, sym, ◌∙◌, arith, below_more, get_or-set_other, get_or-set_same, length-take, length-drop}, specs.Int.Signed.{lt_z}, specs.Ordering.{int_eq}, specs.Cmp.{IsEquivalence}, specs.List.{list_any, position_from, position_or_len}}
-use Rattle.{std.{proofs.lemmas.List.{drop_more, drop-drop, take-append-drop, take_more, map-append, length-map, get_or-map, get_or_default}, proofs.lemmas.List.Folds.{list_any_more}, proofs.lemmas.List.Sums.{position_or_len_is}, proofs.lemmas.Bool.Decides.{Decides-int_eq}, proofs.lemmas.Bool.{cases_eq}, proofs.lemmas.Int.{to_z-of_z, by_lt_z, ints}}}
+use Rattle.std.proofs.Common.{◌≡◌, ◌≢◌, ℕ, ◌+◌, ◌<◌, ◌≤◌, Bool, true, false, ◌||◌, cond, List, [], ◌∷◌, ◌++◌, length, get_or, set, take, drop, map, Option, Some, None, ℤ, ◌+ℤ◌, ◌-ℤ◌, ◌≤ℤ◌, ◌<ℤ◌, negsuc, unsigned_abs, SFits, w64, to_z, of_z, pos, inl, inr, refl, ap, sym, ◌∙◌, arith, below_more, get_or-set_other, get_or-set_same, length-take, length-drop}
+use Rattle.std.{specs.Int.Signed.{lt_z}, specs.Ordering.{int_eq}, specs.Cmp.{IsEquivalence}, specs.List.{list_any, position_from, position_or_len}, proofs.lemmas.List.{drop_more, drop-drop, take-append-drop, take_more, map-append, length-map, get_or-map, get_or_default}, proofs.lemmas.List.Folds.{list_any_more}}
+use Rattle.std.{proofs.lemmas.List.Sums.{position_or_len_is}, proofs.lemmas.Bool.Decides.{Decides-int_eq}, proofs.lemmas.Bool.{cases_eq}, proofs.lemmas.Int.{to_z-of_z, by_lt_z, ints}}
 use Rattle.search_fns.specs.Lookup.{IsWithinSpan, HasFirsts}
 
 -- the key of an item of a list

@@ -1,6 +1,6 @@
 -- Numbers so near 0 that one more digit keeps them within 64 bits.
 use Rattle.std.{proofs.Common.{◌≡◌, ◌+◌, ◌*◌, ◌%◌, ◌^◌, ◌<◌, ◌≤◌, ℕ, ℤ, pos, negsuc, ◌+ℤ◌, of_z, to_z, SFits, w64, Ok, ap, sym, ◌∙◌, arith}, proofs.lemmas.Int.{to_z-of_z}, proofs.lemmas.Nat.{mul-le}}
-use Rattle.{arrays_core.specs.Items.{and_then}, item_fns.specs.Numbers.{number_or_limit}, item_fns.proofs.Within.{held}, search_fns.specs.DecodedRows.{with_one_more}}
+use Rattle.{arrays_core.specs.Items.{and_then}, item_fns.{specs.Numbers.{number_or_limit}, proofs.Within.{held}}, search_fns.specs.DecodedRows.{with_one_more}}
 
 fits_below : (n : ℕ) → n < 2 ^ 63 → SFits w64 (pos n)
 fits_below n h = record { sfits = h }

@@ -1,7 +1,6 @@
 -- A row of digits, written into a part of a list.
 use Rattle.std.{proofs.Common.{rules, ◌≡◌, ℕ, ◌+◌, ◌-◌, ◌<◌, ◌≤◌, List, length, get_or, take, drop, ℤ, pos, ◌∙◌, arith}, proofs.lemmas.List.{places, length-take, length-drop}}
-use Rattle.item_fns.specs.Numbers.{residue}
-use Rattle.search_fns.specs.EncodedRows.{HasRow}
+use Rattle.{item_fns.specs.Numbers.{residue}, search_fns.specs.EncodedRows.{HasRow}}
 use borrow.Rule.Slice.PartMut.{put_mid}
 
 -- the length of the part

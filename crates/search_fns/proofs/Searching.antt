@@ -1,6 +1,7 @@
 -- Items sought in the items of an array.
-use Rattle.std.{proofs.Common.{◌≡◌, ◌≢◌, ℕ, ◌+◌, ◌<◌, Bool, true, false, List, [], ◌∷◌, length, get_or, map, replicate, suc, pos, ℤ, refl, ap, sym, ◌∙◌, arith}, specs.Prelude.{nat_eq, nat_le, nat_lt}, specs.Ordering.{int_eq}, specs.List.{All, list_any, position_or_len}, proofs.lemmas.Bool.Decides.{nat_tests, same_from_decides, Decides-eqb, Decides-int_eq}}
-use Rattle.{std.proofs.lemmas.List.{length-map}, std.proofs.lemmas.List.Sums.{position_or_len_is}, item_fns.specs.Numbers.{truth}}
+use Rattle.std.{proofs.Common.{◌≡◌, ◌≢◌, ℕ, ◌+◌, ◌<◌, Bool, true, false, List, [], ◌∷◌, length, get_or, map, replicate, suc, pos, ℤ, refl, ap, sym, ◌∙◌, arith}, specs.Prelude.{nat_eq, nat_le, nat_lt}, specs.Ordering.{int_eq}, specs.List.{All, list_any, position_or_len}}
+use Rattle.std.{proofs.lemmas.Bool.Decides.{nat_tests, same_from_decides, Decides-eqb, Decides-int_eq}, proofs.lemmas.List.{length-map}, proofs.lemmas.List.Sums.{position_or_len_is}}
+use Rattle.item_fns.specs.Numbers.{truth}
 use Rattle.arrays_core.{specs.declared.item.Item.{Item}, specs.declared.item.Item.TheVariants.{Num, Char}, specs.Items.{type_of}, specs.Arrays.{ArrayValue}}
 use Rattle.search_fns.specs.SameItem.{same_item}
 

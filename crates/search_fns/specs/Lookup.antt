@@ -1,7 +1,6 @@
 -- Lists that are prepared for lookups by the keys of their items.
-use Rattle.std.specs.{Prelude.{◌≡◌, ◌<◌, ℕ, ℤ, pos, ◌+ℤ◌, ◌≤ℤ◌, ◌<ℤ◌, List, length, slice_index, vec_len}, Ordering.{int_eq}, List.{All, position_from, position_or_len}, HashMap.{get}}
-use Rattle.search_fns.specs.declared.lookup.Lookup.{Lookup}
-use Rattle.search_fns.specs.declared.lookup.Lookup.TheVariants.{Plain, Table, Map}
+use Rattle.std.{specs.Prelude.{◌≡◌, ◌<◌, ℕ, ℤ, pos, ◌+ℤ◌, ◌≤ℤ◌, ◌<ℤ◌, List, length, slice_index, vec_len}, specs.Ordering.{int_eq}, specs.List.{All, position_from, position_or_len}, specs.HashMap.{get}}
+use Rattle.search_fns.{specs.declared.lookup.Lookup.{Lookup}, specs.declared.lookup.Lookup.TheVariants.{Plain, Table, Map}}
 
 -- no key lies outside the span from the least key
 abbrev pub IsWithinSpan : ℤ → ℕ → List ℤ → Type 0

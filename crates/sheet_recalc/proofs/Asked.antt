@@ -1,12 +1,13 @@
 -- The proposal of each change is the one it asks for.
 use Rattle.std.{proofs.Common.{◌≡◌, ◌∙◌, ℕ, ℤ, List, Option, Some, None, IsSome, Result, Ok, Err, IfOk, OnOk, IfErr, true, refl, sym, ap, subst, arith}, specs.Option.{option_map}}
-use Rattle.{apl_expr.specs.Trees.{Tree, Literal}, arrays_core.{specs.Arrays.{ArrayValue}, specs.Growth.{grown_by}}, change_core.specs.Meters.{ticked, MeterValue}}
-use Rattle.change_rules.specs.Currency.{applied}
+use Rattle.{apl_expr.specs.Trees.{Tree, Literal}, arrays_core.{specs.Arrays.{ArrayValue}, specs.Growth.{grown_by}}}
+use Rattle.{change_core.specs.Meters.{ticked, MeterValue}, change_rules.specs.Currency.{applied}}
 use Rattle.index_region.{specs.Patches.{PatchValue, FitsPatch, patched}, specs.Tails.{TailValue, FitsTail}, specs.declared.delta.Delta.{Delta}, specs.declared.delta.Delta.TheVariants.{Patch, Grown, Whole}}
 use Rattle.formula_core.{specs.Formulas.{FormulaValue}, specs.Meaning.{eval}, specs.Plans.{tree_cost}}
 use Rattle.sheet_recalc.{specs.Names.{SheetValue, Data, Formula, binding, put, rebound}, specs.Meaning.{val}, specs.Cells.{cell_put, index_of_numbers, literal_items}, specs.Costs.{names_at_rest, cell_delta, row_delta, changed_name, asked_change, expression_cost, sheet_change}, specs.Rows.{row_put}}
-use Rattle.sheet_recalc.{specs.Changes.{SheetChange, Accepts, Define, Put, Store, SetCell, AddRow, Erase, CannotPut}, specs.Entries.{names_of, binding_of, HasData}, specs.ProposedSheet.{data_entry, proposed_entry, proposed_delta, proposed_change}, specs.Pending.{IsPendingOn, IsProposedOn, IsProposalOf, names_after, outline_for}}
-use Rattle.sheet_recalc.{specs.declared.entry.Entry.{Entry}, specs.declared.pending.Pending.{Pending}, specs.declared.proposal.Proposal.{Proposal}, proofs.Accounted.{shows_put, whole_put}, proofs.Live.{val_data, binding_of_name}, proofs.Refused.{refused_define, refused_put, refused_erase, refused_data, refused_patch, refused_tail}}
+use Rattle.sheet_recalc.{specs.Changes.{SheetChange, Accepts, Define, Put, Store, SetCell, AddRow, Erase, CannotPut}, specs.Entries.{names_of, binding_of, HasData}, specs.ProposedSheet.{data_entry, proposed_entry, proposed_delta, proposed_change}}
+use Rattle.sheet_recalc.{specs.Pending.{IsPendingOn, IsProposedOn, IsProposalOf, names_after, outline_for}, specs.declared.entry.Entry.{Entry}, specs.declared.pending.Pending.{Pending}, specs.declared.proposal.Proposal.{Proposal}, proofs.Accounted.{shows_put, whole_put}, proofs.Live.{val_data, binding_of_name}}
+use Rattle.sheet_recalc.proofs.Refused.{refused_define, refused_put, refused_erase, refused_data, refused_patch, refused_tail}
 use Rattle.sheet_recalc.specs.declared.entry.Entry.TheVariants as entry
 use Rattle.sheet_recalc.specs.declared.proposal.Proposal.TheVariants as proposed
 

@@ -2,11 +2,12 @@
 use Rattle.std.{proofs.Common.{◌≡◌, ◌+◌, ◌-◌, ◌≤◌, ◌<◌, ℕ, true, false, min, List, [], ◌∷◌, ◌++◌, length, take, get_or, cond, Option, Some, None, refl, sym, ap, ◌∙◌, subst, arith}, specs.Str.{bytes_eq}, specs.Map.{lookup, keys_of}, specs.Option.{option_map_or, unwrap_or}, specs.List.{IsDistinct, sum_by}}
 use Rattle.std.{proofs.lemmas.List.{length-append, take_all}, proofs.lemmas.List.Sums.{sum_by_push}, proofs.Math.Seq.{get_or-append_seam}}
 use Rattle.{change_core.specs.Meters.{ticked}, dep_order.specs.Users.{HasNothing}}
-use Rattle.formula_core.{specs.Changes.{NamesChange}, specs.Formulas.{FormulaValue, operations}, specs.Plans.{PlanValue, node_cost_at, tree_cost, IsComputed, AllComputed}, specs.Progress.{operations_among, IsPlannedTo}, specs.Tables.{subtrees, tree_at}}
-use Rattle.formula_core.{proofs.Planned.{planned_at_end, plan_of}, proofs.Progressed.{all_among, left_at, part_left, longer, cost_more, cost_within}}
+use Rattle.formula_core.{specs.Changes.{NamesChange}, specs.Formulas.{FormulaValue, operations}, specs.Plans.{PlanValue, node_cost_at, tree_cost, IsComputed, AllComputed}, specs.Progress.{operations_among, IsPlannedTo}, specs.Tables.{subtrees, tree_at}, proofs.Planned.{planned_at_end, plan_of}}
+use Rattle.formula_core.proofs.Progressed.{all_among, left_at, part_left, longer, cost_more, cost_within}
 use Rattle.sheet_recalc.{specs.Names.{Names, Binding}, specs.Costs.{functions_of}, specs.Live.{AreRightOnceTaken, plan_in}, specs.ProposedSheet.{Outline, own_entry, proposed_names, proposed_change, proposed_cost, entry_of}}
-use Rattle.sheet_recalc.{specs.Planning.{IsProposed, IsPlanAt, IsUnderWay, NoneFails, AreMade, coming_cost, IsComingTo, IsComing, IsOnTheWay, IsNext, IsPaid, IsOneApplied, IsStopped, paid, waiting_names, functions_at, name_cost, names_cost}, specs.declared.budget.Budget.{Budget}, specs.declared.budget.Budget.TheVariants.{All, One, Spent}, specs.declared.plans.Plans.{Plans}, proofs.Accounted.{few_ticks}}
-use Rattle.sheet_recalc.{proofs.PlannedNames.{bound_to, formula_cost, is_new_own}, proofs.Working.{under_way_first, plain_next, plain_costs_nothing, plain_applies_none, cost_split, formula_next, planned_in_the_end, IsAffected}}
+use Rattle.sheet_recalc.{specs.Planning.{IsProposed, IsPlanAt, IsUnderWay, NoneFails, AreMade, coming_cost, IsComingTo, IsComing, IsOnTheWay, IsNext, IsPaid, IsOneApplied, IsStopped, paid, waiting_names, functions_at, name_cost, names_cost}, specs.declared.budget.Budget.{Budget}}
+use Rattle.sheet_recalc.{specs.declared.budget.Budget.TheVariants.{All, One, Spent}, specs.declared.plans.Plans.{Plans}, proofs.Accounted.{few_ticks}, proofs.PlannedNames.{bound_to, formula_cost, is_new_own}}
+use Rattle.sheet_recalc.proofs.Working.{under_way_first, plain_next, plain_costs_nothing, plain_applies_none, cost_split, formula_next, planned_in_the_end, IsAffected}
 use Rattle.sheet_recalc.specs.declared.entry.Entry.TheVariants as entry
 
 -- the last of names is one name

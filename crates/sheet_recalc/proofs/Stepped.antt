@@ -1,9 +1,8 @@
 -- A change in progress, after a step, and in the end.
-use Rattle.std.{proofs.Common.{◌≡◌, ◌+◌, ◌-◌, ◌<◌, ◌≤◌, ◌∙◌, ◌⊎◌, ℕ, List, refl, sym, subst, arith, ⊎_elim}}
-use Rattle.change_core.specs.Meters.{ticked, MeterValue}
-use Rattle.sheet_recalc.{specs.Names.{SheetValue}, specs.Tables.{Tables}, specs.Changes.{SheetChange}, specs.Costs.{HasCost, HasTicks, NoItemFails, expression_cost, formulas_cost, changed_name, own_delta, IsNodeCost, IsStepCost}, specs.ProposedSheet.{proposed_change}, specs.Planning.{IsProposed, IsOnTheWay, IsPaid, IsOneApplied, HasFunctionLeft, NoneFails, CanBe}}
-use Rattle.sheet_recalc.{specs.Pending.{outline_for, names_after, steps_left, HasPlace, IsBegunOn, IsBetweenSteps, IsPendingOn, IsReadyToMake}, specs.declared.pending.Pending.{Pending}, specs.declared.plans.Plans.{Plans}, proofs.Accounted.{expression_more}, proofs.Dependents.{cost_of_dependents}}
-use Rattle.sheet_recalc.{specs.declared.budget.Budget.{Budget}, specs.declared.budget.Budget.TheVariants.{All, One, Spent}, proofs.Forward.{none_left, all_planned, all_cost, all_few, all_whole, paid_more}}
+use Rattle.{std.proofs.Common.{◌≡◌, ◌+◌, ◌-◌, ◌<◌, ◌≤◌, ◌∙◌, ◌⊎◌, ℕ, List, refl, sym, subst, arith, ⊎_elim}, change_core.specs.Meters.{ticked, MeterValue}}
+use Rattle.sheet_recalc.{specs.Names.{SheetValue}, specs.Tables.{Tables}, specs.Changes.{SheetChange}, specs.Costs.{HasCost, HasTicks, NoItemFails, expression_cost, formulas_cost, changed_name, own_delta, IsNodeCost, IsStepCost}, specs.ProposedSheet.{proposed_change}}
+use Rattle.sheet_recalc.{specs.Planning.{IsProposed, IsOnTheWay, IsPaid, IsOneApplied, HasFunctionLeft, NoneFails, CanBe}, specs.Pending.{outline_for, names_after, steps_left, HasPlace, IsBegunOn, IsBetweenSteps, IsPendingOn, IsReadyToMake}, specs.declared.pending.Pending.{Pending}, specs.declared.plans.Plans.{Plans}}
+use Rattle.sheet_recalc.{proofs.Accounted.{expression_more}, proofs.Dependents.{cost_of_dependents}, specs.declared.budget.Budget.{Budget}, specs.declared.budget.Budget.TheVariants.{All, One, Spent}, proofs.Forward.{none_left, all_planned, all_cost, all_few, all_whole, paid_more}}
 use Rattle.formula_core.specs.Changes as formula
 
 -- the pending change is worked out, and its cost

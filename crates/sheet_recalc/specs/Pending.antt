@@ -6,8 +6,8 @@ use Rattle.change_core.specs.Meters.{ticked}
 use Rattle.index_region.specs.declared.delta.Delta.TheVariants.{Whole}
 use Rattle.formula_core.{specs.Meaning.{names_in}, specs.Plans.{PlanValue}}
 use Rattle.sheet_recalc.{specs.Names.{Names, SheetValue, Refers, IsSheet}, specs.NameOrder.{HasOrder}, specs.Changes.{SheetChange, Accepts, Refuses, CannotBecome, HasRoomForName}, specs.Costs.{changed_name, asked_change, expression_cost}, specs.Entries.{names_of}, specs.Live.{AreRightOnceTaken, plan_in}}
-use Rattle.sheet_recalc.{specs.Planning.{IsProposalAt, IsProposed, IsOnTheWay, IsPaid}, specs.ProposedSheet.{Outline, own_entry, names_with, proposed_names, proposed_change}, specs.Tables.{Tables}, specs.declared.budget.Budget.TheVariants.{One}, specs.declared.growth.Growth.{Growth}, specs.declared.pending.Pending.{Pending}, specs.declared.refusal.Refusal.{Refusal}}
-use Rattle.sheet_recalc.specs.declared.proposal.Proposal.{Proposal}
+use Rattle.sheet_recalc.{specs.Planning.{IsProposalAt, IsProposed, IsOnTheWay, IsPaid}, specs.ProposedSheet.{Outline, own_entry, names_with, proposed_names, proposed_change}, specs.Tables.{Tables}, specs.declared.budget.Budget.TheVariants.{One}, specs.declared.growth.Growth.{Growth}}
+use Rattle.sheet_recalc.{specs.declared.pending.Pending.{Pending}, specs.declared.refusal.Refusal.{Refusal}, specs.declared.proposal.Proposal.{Proposal}}
 use Rattle.sheet_recalc.specs.declared.proposal.Proposal.TheVariants as proposed
 
 -- the outline of a change of a sheet with these tables

@@ -7,7 +7,8 @@ use Rattle.change_core.specs.Meters.{ticked}
 use Rattle.formula_core.{specs.Meaning.{names_in}, specs.Formulas.{FormulaValue}, specs.Inputs.{IsInput}, specs.Changes.{IsNameChanged}, specs.Progress.{operations_among, IsPlannedTo}, specs.Tables.{subtrees}, specs.declared.input.Input.{Input}}
 use Rattle.dep_order.specs.Follows.{Follows}
 use Rattle.sheet_recalc.{specs.Names.{Names, Formula, binding, Refers, IsSheet}, specs.NameOrder.{HasOrder}, specs.Changes.{HasRoomForName}, specs.Meaning.{val, IsSettled}, specs.Costs.{delta_by, binding_cost, functions_in, NoItemFails, IsNodeCost}, specs.Entries.{names_of, HasData}, specs.Live.{IsCurrent, plan_in}}
-use Rattle.sheet_recalc.{specs.ProposedSheet.{Outline, outline_of, is_data, proposed_names, proposed_delta, proposed_change, proposed_cost, entry_of}, specs.declared.ahead.Ahead.{Ahead}, specs.declared.budget.Budget.{Budget}, specs.declared.budget.Budget.TheVariants.{All, One, Spent}, specs.declared.entry.Entry.{Entry}, specs.declared.plans.Plans.{Plans}, specs.declared.proposal.Proposal.{Proposal}}
+use Rattle.sheet_recalc.{specs.ProposedSheet.{Outline, outline_of, is_data, proposed_names, proposed_delta, proposed_change, proposed_cost, entry_of}, specs.declared.ahead.Ahead.{Ahead}, specs.declared.budget.Budget.{Budget}, specs.declared.budget.Budget.TheVariants.{All, One, Spent}}
+use Rattle.sheet_recalc.{specs.declared.entry.Entry.{Entry}, specs.declared.plans.Plans.{Plans}, specs.declared.proposal.Proposal.{Proposal}}
 use Rattle.formula_core.specs.Changes as formula
 use Rattle.formula_core.specs.Plans as formula_plan
 use Rattle.sheet_recalc.specs.declared.entry.Entry.TheVariants as entry

@@ -1,9 +1,8 @@
 -- The totals of lines with one new number each.
-use Rattle.std.{proofs.Common.{◌≡◌, ℕ, ◌-◌, ◌*◌, ◌≤◌, Bool, true, false, ◌&&◌, not, is_ok, List, [], ◌∷◌, length, map, remove, Option, Some, None, Result, Ok, Err, IfOk, OnOk, refl, ap, sym, subst, ◌∙◌, arith}, specs.Prelude.{◌==◌}, specs.List.{range_with_len}}
-use Rattle.std.{specs.declared.alloc.AllocError.{AllocError}, proofs.lemmas.Bool.{cond-false, false≢true}}
+use Rattle.std.{proofs.Common.{◌≡◌, ℕ, ◌-◌, ◌*◌, ◌≤◌, Bool, true, false, ◌&&◌, not, is_ok, List, [], ◌∷◌, length, map, remove, Option, Some, None, Result, Ok, Err, IfOk, OnOk, refl, ap, sym, subst, ◌∙◌, arith}, specs.Prelude.{◌==◌}, specs.List.{range_with_len}, specs.declared.alloc.AllocError.{AllocError}}
+use Rattle.std.proofs.lemmas.Bool.{cond-false, false≢true}
 use Rattle.arrays_core.{specs.Arrays.{ArrayValue}, specs.Items.{all_or_first_error}, specs.declared.item.Item.{Item}, specs.declared.item.Kind.{Kind}, specs.declared.item.ItemType.{ItemType}, specs.Outcomes.{Outcome}}
-use Rattle.index_region.{specs.Boxes.{Interval, box_size, walk_at, met, unless_empty, join_boxes}, specs.Checks.{Form, form_of}, specs.Patches.{PatchValue, patched}, specs.Tails.{TailValue}, specs.declared.delta.Delta.{Delta}}
-use Rattle.index_region.specs.declared.delta.Delta.TheVariants.{Same, Patch, Grown, Whole}
+use Rattle.index_region.{specs.Boxes.{Interval, box_size, walk_at, met, unless_empty, join_boxes}, specs.Checks.{Form, form_of}, specs.Patches.{PatchValue, patched}, specs.Tails.{TailValue}, specs.declared.delta.Delta.{Delta}, specs.declared.delta.Delta.TheVariants.{Same, Patch, Grown, Whole}}
 use Rattle.reduce_fns.{specs.declared.reduce.Reduce.{Reduce}, specs.Reduce.{reduce_form, reduce_item}, specs.Laws.ReducedShapes.{reduce_facts}, specs.Growth.{is_along_a_later_axis}}
 use Rattle.{function_names.{specs.Axes.{axis_at, is_axis}, specs.declared.along.Along.{Along}}, fold_trees.specs.ArrayLines.{TreesValue}}
 use Rattle.change_core.{specs.declared.reach.Reach.TheVariants.{Inside, Unmoved}, specs.Parts.{items_in}, specs.Reaches.{as_reach, reach_by, reach_of}, proofs.Filling.{few_places}, specs.RuleModels.{form_size}, specs.Meters.{ticked}, proofs.Regions.{fit_some, met_fit}}

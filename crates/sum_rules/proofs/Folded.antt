@@ -1,11 +1,9 @@
 -- Folds of the lines of trees, and results of their numbers.
-use Rattle.std.proofs.Common.{◌≡◌, ◌∙◌, ℕ, ◌<◌, ℤ, pos, Bool, true, false, List, [], ◌∷◌, ◌++◌, length, get_or, map, set, replicate, refl, ap, sym, arith, Result, Ok, Err, Some, None, if◌then◌else◌}
-use Rattle.std.{specs.Borrow.{Bor}, specs.List.{range_with_len}, proofs.lemmas.Bool.{cond-false}, proofs.lemmas.List.{length-append}}
+use Rattle.std.{proofs.Common.{◌≡◌, ◌∙◌, ℕ, ◌<◌, ℤ, pos, Bool, true, false, List, [], ◌∷◌, ◌++◌, length, get_or, map, set, replicate, refl, ap, sym, arith, Result, Ok, Err, Some, None, if◌then◌else◌}, specs.Borrow.{Bor}, specs.List.{range_with_len}, proofs.lemmas.Bool.{cond-false}, proofs.lemmas.List.{length-append}}
 use Rattle.arrays_core.{specs.declared.item.Item.TheVariants.{Num}, specs.declared.item.ItemType.TheVariants.{Nums}, specs.declared.item.Kind.{Kind}, specs.Arrays.{ArrayValue, collect, with_items}, specs.Items.{all_or_first_error}, specs.Shapes.{size, index_after, places_before}}
 use Rattle.function_names.specs.declared.scalar.Scalar2.{Scalar2}
 use Rattle.item_fns.{specs.Folds.{folded, line_start}, specs.Items.{number_item}, specs.NumberLists.{number_items}, specs.Numbers.{dyadic_on_numbers}, proofs.RightFolds.{length-strided}, proofs.ItemFolds.{number_items_folded}}
-use Rattle.index_region.{specs.Boxes.{is_within}, specs.Patches.{PatchValue}}
-use Rattle.reduce_fns.proofs.Placewise.{numbers_collected}
+use Rattle.{index_region.{specs.Boxes.{is_within}, specs.Patches.{PatchValue}}, reduce_fns.proofs.Placewise.{numbers_collected}}
 use Rattle.fold_trees.{specs.FoldTrees.{IsReductionBy}, specs.ArrayLines.{TreesValue, numbers_of_line}}
 use Rattle.sum_rules.{specs.Summed.{number_in, total_at}, specs.declared.summed.News.TheVariants.{Changed}}
 

@@ -1,6 +1,6 @@
 -- The lines that a patch with one place for each line leaves alone.
-use Rattle.std.{proofs.Common.{◌≡◌, ◌∙◌, ℕ, zero, suc, ◌+◌, ◌*◌, ◌/◌, ◌<◌, ℤ, pos, true, false, List, [], ◌∷◌, length, get_or, map, remove, insert, refl, ap, sym, arith, inl, inr}, proofs.lemmas.Bool.{and_from, and_parts, cases_Bool, cond-false, false≢true}}
-use Rattle.std.{proofs.lemmas.List.{length-map, ext_get_or, get_or_default}, proofs.lemmas.List.FromFn.{length-map-range_with_len, get_or-map-range_with_len}, proofs.Math.ListN.{get_or-map}, proofs.Math.Nat.{mul-div_cancel}}
+use Rattle.std.{proofs.Common.{◌≡◌, ◌∙◌, ℕ, zero, suc, ◌+◌, ◌*◌, ◌/◌, ◌<◌, ℤ, pos, true, false, List, [], ◌∷◌, length, get_or, map, remove, insert, refl, ap, sym, arith, inl, inr}, proofs.lemmas.Bool.{and_from, and_parts, cases_Bool, cond-false, false≢true}, proofs.lemmas.List.{length-map, ext_get_or, get_or_default}}
+use Rattle.std.{proofs.lemmas.List.FromFn.{length-map-range_with_len, get_or-map-range_with_len}, proofs.Math.ListN.{get_or-map}, proofs.Math.Nat.{mul-div_cancel}}
 use Rattle.arrays_core.{specs.Items.{fill}, specs.declared.item.Item.TheVariants.{Num}, specs.Arrays.{ArrayValue, item_of}, specs.Shapes.{is_index_of, places_before, size}, proofs.Shapes.{places_below}}
 use Rattle.function_names.specs.declared.scalar.Scalar2.{Scalar2}
 use Rattle.item_fns.{specs.Folds.{strided, line_start}, proofs.RightFolds.{length-strided, get_or-strided}, specs.RightFold.{fold_right}}

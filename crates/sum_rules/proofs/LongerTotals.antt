@@ -1,15 +1,15 @@
 -- The totals of lines with one more number each.
 use Rattle.std.{proofs.Common.{◌≡◌, ◌∙◌, ℕ, zero, suc, ◌+◌, ◌-◌, ◌*◌, ◌/◌, ◌<◌, ◌≤◌, ℤ, pos, List, [], ◌∷◌, ◌++◌, length, drop, get_or, map, remove, refl, ap, sym, subst, arith, inl, inr, Ok}, specs.Borrow.{Bor}, proofs.lemmas.Bool.{cases_lt}}
-use Rattle.std.{proofs.lemmas.List.{ext_get_or, length-append, length-map, map-append, get_or_append_left, get_or-append_right}}
-use Rattle.std.{proofs.Math.Nat.{div-eq_of_lt, mod-eq_of_lt, mul-div_cancel, mul-le-mul_left}, proofs.lemmas.Nat.{mul-add-lt}}
-use Rattle.arrays_core.{specs.declared.item.Item.{Item}, specs.declared.item.Item.TheVariants.{Num}, specs.declared.item.ItemType.{ItemType}, specs.declared.item.ItemType.TheVariants.{Nums}, specs.Arrays.{ArrayValue, collect}, specs.Growth.{one_longer}}
-use Rattle.arrays_core.{specs.Shapes.{size, places_before}, proofs.Growing.{rank_longer, size_longer}, proofs.Shapes.{places_below}}
+use Rattle.std.{proofs.lemmas.List.{ext_get_or, length-append, length-map, map-append, get_or_append_left, get_or-append_right}, proofs.Math.Nat.{div-eq_of_lt, mod-eq_of_lt, mul-div_cancel, mul-le-mul_left}, proofs.lemmas.Nat.{mul-add-lt}}
+use Rattle.arrays_core.{specs.declared.item.Item.{Item}, specs.declared.item.Item.TheVariants.{Num}, specs.declared.item.ItemType.{ItemType}, specs.declared.item.ItemType.TheVariants.{Nums}, specs.Arrays.{ArrayValue, collect}, specs.Growth.{one_longer}, specs.Shapes.{size, places_before}}
+use Rattle.arrays_core.{proofs.Growing.{rank_longer, size_longer}, proofs.Shapes.{places_below}}
 use Rattle.function_names.{specs.declared.scalar.Scalar2.{Scalar2}, specs.Axes.{axis_at, is_axis}}
 use Rattle.item_fns.{specs.Folds.{strided, folded, line_start}, specs.Items.{number_item}, specs.Numbers.{dyadic_on_numbers}, proofs.RightFolds.{length-strided, get_or-strided}}
 use Rattle.index_region.{specs.Checks.{form_of}, specs.Tails.{TailValue}}
 use Rattle.reduce_fns.{specs.Reduce.{reduce_form}, specs.declared.reduce.Reduce.{Reduce}, proofs.Placewise.{collected_same}, specs.Laws.ReducedShapes.{reduce_facts}, proofs.Reduced.{reduced_whole}}
 use Rattle.fold_trees.specs.ArrayLines.{TreesValue, line_count, numbers_of_line}
-use Rattle.sum_rules.{specs.LineSums.{StandFor, length_along, line_length, line_step}, specs.Totals.{StoodBefore, AreJoinsWithin}, specs.Summed.{AreTotals, total_at}, specs.declared.summed.News.TheVariants.{Behind}, proofs.KeptSums.{along_axis}, proofs.Lines.{some_in_line, some_step}, proofs.MorePlaces.{between, longer, same_step}}
+use Rattle.sum_rules.{specs.LineSums.{StandFor, length_along, line_length, line_step}, specs.Totals.{StoodBefore, AreJoinsWithin}, specs.Summed.{AreTotals, total_at}, specs.declared.summed.News.TheVariants.{Behind}, proofs.KeptSums.{along_axis}, proofs.Lines.{some_in_line, some_step}}
+use Rattle.sum_rules.proofs.MorePlaces.{between, longer, same_step}
 
 -- if the lines are interleaved, line n begins at place n
 first_of_line : (step count line : ℕ) → line < step → line_start step count line ≡ line

@@ -4,14 +4,14 @@ use Rattle.arrays_core.{specs.declared.item.Item.{Item}, specs.declared.item.Ite
 use Rattle.arrays_core.{specs.Outcomes.{fault, given}, specs.Shapes.{size, index_after, is_index_of, places_before}, proofs.Order.{index_after-places_before, index_after-within, places_before-index_after}, proofs.Shapes.{places_below}}
 use Rattle.function_names.{specs.declared.scalar.Scalar2.{Scalar2}, specs.Axes.{axis_at}}
 use Rattle.item_fns.{specs.Folds.{folded, line_start}, specs.Items.{number_item}, specs.Numbers.{dyadic_on_numbers}, proofs.RightFolds.{length-strided}, proofs.ItemFolds.{number_items_folded}}
-use Rattle.index_region.{specs.Boxes.{Interval, box_offset, box_size, fits, is_within, walk_at}, specs.Axes.{places_along}, specs.Checks.{Form, form_of}, specs.Patches.{PatchValue, IsPatch}, specs.declared.delta.Delta.{Delta}, specs.declared.delta.Delta.TheVariants.{Patch, Whole}}
-use Rattle.index_region.{proofs.Patched.{fits_within}, proofs.Walks.{offset_below, walk_of_offset, walk_within}}
+use Rattle.index_region.{specs.Boxes.{Interval, box_offset, box_size, fits, is_within, walk_at}, specs.Axes.{places_along}, specs.Checks.{Form, form_of}, specs.Patches.{PatchValue, IsPatch}, specs.declared.delta.Delta.{Delta}, specs.declared.delta.Delta.TheVariants.{Patch, Whole}, proofs.Patched.{fits_within}}
+use Rattle.index_region.proofs.Walks.{offset_below, walk_of_offset, walk_within}
 use Rattle.reduce_fns.{specs.Reduce.{reduce_form, reduce_item, reduce_whole}, specs.declared.reduce.Reduce.{Reduce}, proofs.Placewise.{collected_same}, specs.Laws.ReducedShapes.{reduce_facts}, proofs.Reduced.{lines_whole, reduced_whole}}
 use Rattle.change_core.{specs.Parts.{items_in}, proofs.Collected.{items_are}}
 use Rattle.change_rules.{specs.Evaluation.{evaluation}, specs.Nodes.{patch_delta}, proofs.PatchRight.{collected_in, first_error}}
 use Rattle.fold_trees.{specs.FoldTrees.{IsReductionBy, has_trees}, specs.ArrayLines.{TreesValue, line_count, numbers_of_line}}
-use Rattle.sum_rules.{specs.LineSums.{StandFor, SummedValue, summed}, specs.Totals.{StoodFor, is_one_a_line, box_of_lines, total_rule}, specs.Summed.{AreTotals, number_in, total_at}, specs.declared.summed.News.TheVariants.{Nothing, Changed}}
-use Rattle.sum_rules.{proofs.ChangedLines.{fits_axes, number_item_is}, proofs.Failures.{one_decides}, proofs.Folded.{folded_line}, proofs.KeptLines.{kept_total, lines_counted}, proofs.KeptSums.{summed_is}}
+use Rattle.sum_rules.{specs.LineSums.{StandFor, SummedValue, summed}, specs.Totals.{StoodFor, is_one_a_line, box_of_lines, total_rule}, specs.Summed.{AreTotals, number_in, total_at}, specs.declared.summed.News.TheVariants.{Nothing, Changed}, proofs.ChangedLines.{fits_axes, number_item_is}}
+use Rattle.sum_rules.{proofs.Failures.{one_decides}, proofs.Folded.{folded_line}, proofs.KeptLines.{kept_total, lines_counted}, proofs.KeptSums.{summed_is}}
 
 -- ---- the trees hold the lines of the array
 module _ (fold : Reduce) (a : ArrayValue) (s : SummedValue) (t : TreesValue) (is : Some s ≡ summed fold a) (stands : StandFor t s.axis s.array)

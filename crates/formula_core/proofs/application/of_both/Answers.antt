@@ -1,4 +1,5 @@
-use Rattle.{std.proofs.Common.{◌≡◌, ◌∙◌, [], ◌∷◌, refl, ap, sym}, change_rules.specs.{Evaluation.{evaluation}, Nodes.{is_whole}}, index_region.specs.declared.delta.Delta.TheVariants.{Whole}}
+use Rattle.{std.proofs.Common.{◌≡◌, ◌∙◌, [], ◌∷◌, refl, ap, sym}, change_rules.{specs.Evaluation.{evaluation}, specs.Nodes.{is_whole}}}
+use Rattle.index_region.specs.declared.delta.Delta.TheVariants.{Whole}
 use Rattle.formula_core.{specs.Rules.{both_rule}, proofs.Meant.{both_meant}, proofs.Told.{replaced}}
 use Rattle.formula_core.proofs.application.of_both.Goals as goal
 

@@ -1,5 +1,6 @@
-use Rattle.{std.proofs.Common.{◌≡◌, ◌∙◌, [], ◌∷◌, refl, ap, sym}, arrays_core.specs.Arrays.{ArrayValue}, change_rules.specs.{Evaluation.{evaluation}, Nodes.{is_whole}}}
-use Rattle.{index_region.specs.declared.delta.Delta.TheVariants.{Whole}, formula_core.{specs.Rules.{right_rule}, proofs.Meant.{right_meant}, proofs.Told.{replaced}}}
+use Rattle.{std.proofs.Common.{◌≡◌, ◌∙◌, [], ◌∷◌, refl, ap, sym}, arrays_core.specs.Arrays.{ArrayValue}}
+use Rattle.{change_rules.{specs.Evaluation.{evaluation}, specs.Nodes.{is_whole}}, index_region.specs.declared.delta.Delta.TheVariants.{Whole}}
+use Rattle.formula_core.{specs.Rules.{right_rule}, proofs.Meant.{right_meant}, proofs.Told.{replaced}}
 use Rattle.formula_core.proofs.application.of_right.Goals as goal
 
 pub brought-requires : goal.brought-requires

@@ -1,9 +1,8 @@
 use Rattle.std.{proofs.Common.{◌≡◌, Bool, ◌∙◌, ◌+◌, ◌<◌, refl, suc, length, map, take, [], ◌∷◌, ◌++◌, List, Option, Some, None, is_some, get_or, sym, ap, subst, arith}, proofs.lemmas.List.{get_or_default, length-set, take_more_set, take_all}}
-use Rattle.{arrays_core.specs.Arrays.{ArrayValue}, index_region.specs.declared.moved.Moved.{Moved}}
-use Rattle.change_rules.specs.Nodes.{Argument, AreArguments}
+use Rattle.{arrays_core.specs.Arrays.{ArrayValue}, index_region.specs.declared.moved.Moved.{Moved}, change_rules.specs.Nodes.{Argument, AreArguments}}
 use Rattle.selection_fns.specs.Index.{count_written, index_rule}
-use Rattle.formula_core.{specs.declared.input.Input.{Input}, specs.declared.input.Input.TheVariants.{Good, Bad}, specs.Rules.{with_change, IsRefreshed, IsRefreshedBy}, specs.Inputs.{arrays_among, written_inputs}}
-use Rattle.formula_core.{proofs.Told.{told_array, told_none, told_long, told_fit}, proofs.index_change.change_of_arrays.Goals.{in-Some-Good, in-Some-Bad, in-None}}
+use Rattle.formula_core.{specs.declared.input.Input.{Input}, specs.declared.input.Input.TheVariants.{Good, Bad}, specs.Rules.{with_change, IsRefreshed, IsRefreshedBy}, specs.Inputs.{arrays_among, written_inputs}, proofs.Told.{told_array, told_none, told_long, told_fit}}
+use Rattle.formula_core.proofs.index_change.change_of_arrays.Goals.{in-Some-Good, in-Some-Bad, in-None}
 use Rattle.formula_core.proofs.index_change.change_of_arrays.Goals as goal
 
 pub loop-position-preserved : goal.loop-position-preserved

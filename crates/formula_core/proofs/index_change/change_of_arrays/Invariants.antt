@@ -1,4 +1,5 @@
-use Rattle.{std.proofs.Common.{◌≡◌, ◌≤◌, ◌+◌, ◌∷◌, take, length}, change_rules.specs.Nodes.{AreArguments}, formula_core.specs.Inputs.{arrays_among, written_inputs}}
+use Rattle.{std.proofs.Common.{◌≡◌, ◌≤◌, ◌+◌, ◌∷◌, take, length}, change_rules.specs.Nodes.{AreArguments}}
+use Rattle.formula_core.specs.Inputs.{arrays_among, written_inputs}
 use Rattle.formula_core.proofs.index_change.change_of_arrays.Given as goal
 
 abbrev pub invariant-loop-position : goal.invariant-loop-position

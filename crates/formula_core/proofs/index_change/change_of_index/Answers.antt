@@ -1,8 +1,8 @@
-use Rattle.{std.{proofs.Common.{◌≡◌, ◌∷◌, sym, ap, ◌∙◌, subst, map, is_some, None, Some, Ok, Err, if◌then◌else◌, arith}, specs.List.{list_all}}, arrays_core.{specs.declared.item.Kind.TheVariants.{Rank}, specs.Outcomes.{fault}}, arrays_core.specs.Arrays.{ArrayValue}, change_core.specs.Reaches.{AllFit}}
+use Rattle.std.{proofs.Common.{◌≡◌, ◌∷◌, sym, ap, ◌∙◌, subst, map, is_some, None, Some, Ok, Err, if◌then◌else◌, arith}, specs.List.{list_all}}
+use Rattle.{arrays_core.{specs.declared.item.Kind.TheVariants.{Rank}, specs.Outcomes.{fault}, specs.Arrays.{ArrayValue}}, change_core.specs.Reaches.{AllFit}}
 use Rattle.{index_region.specs.declared.delta.Delta.TheVariants.{Same, Whole}, change_rules.specs.Nodes.{views, moved}, selection_fns.specs.Index.{index_rule}}
 use Rattle.formula_core.{specs.declared.input.Input.{Input}, specs.declared.input.Input.TheVariants.{Good}, specs.Rules.{with_change, IsRefreshed}, specs.Inputs.{stays, HasFit, IsOperationChange, arrays_among, last_error, written_inputs}}
-use Rattle.formula_core.proofs.Gathered.{none_with_array, refreshed_change, error_behind, error_in_front, error_change, written_fit, arrays_fit, arrays_count}
-use Rattle.formula_core.proofs.Refused.{many_change}
+use Rattle.formula_core.{proofs.Gathered.{none_with_array, refreshed_change, error_behind, error_in_front, error_change, written_fit, arrays_fit, arrays_count}, proofs.Refused.{many_change}}
 use Rattle.formula_core.proofs.index_change.change_of_index.Goals as goal
 
 pub change_of_arrays-requires-clause-count : goal.change_of_arrays-requires-clause-count

@@ -1,5 +1,5 @@
-use Rattle.std.{proofs.Common.{◌≡◌, ◌≢◌, ◌∙◌, ◌-◌, ◌<◌, ◌^◌, sym, subst, get_or, length, pos, arith, rules, to_z, of_z, w64, SFits, bit_and, below_more, get_or-set_same, get_or-set_other}}
-use Rattle.search_fns.proofs.{Bits.{mask_is, mask_fits, low_bits}, PlacedRows.{part_long, placed}}
+use Rattle.std.proofs.Common.{◌≡◌, ◌≢◌, ◌∙◌, ◌-◌, ◌<◌, ◌^◌, sym, subst, get_or, length, pos, arith, rules, to_z, of_z, w64, SFits, bit_and, below_more, get_or-set_same, get_or-set_other}
+use Rattle.search_fns.{proofs.Bits.{mask_is, mask_fits, low_bits}, proofs.PlacedRows.{part_long, placed}}
 use Rattle.search_fns.proofs.encoded_rows.put_bits.Goals as goal
 
 pub overflow_sub-mask : goal.overflow_sub-mask

@@ -1,5 +1,6 @@
 use Rattle.std.{proofs.Common.{◌≡◌, ◌≢◌, ◌∙◌, ◌-◌, ◌^◌, ◌<◌, ap, sym, subst, get_or, length, pos, arith, Ok, rules, to_z, of_z, w64, SFits, bit_and, below_more, get_or-set_same, get_or-set_other}, specs.Int.{int_shr}, proofs.lemmas.Int.{to_z-of_z}}
-use Rattle.{item_fns.specs.Numbers.{residue}, search_fns.specs.Encode.{carried}, search_fns.proofs.Bits.{mask_is, mask_fits, shift_fits, left_by_shift, low_bits}, search_fns.proofs.PlacedRows.{part_long, placed}}
+use Rattle.item_fns.specs.Numbers.{residue}
+use Rattle.search_fns.{specs.Encode.{carried}, proofs.Bits.{mask_is, mask_fits, shift_fits, left_by_shift, low_bits}, proofs.PlacedRows.{part_long, placed}}
 use Rattle.search_fns.proofs.encoded_rows.put_bits_and_carry.Goals as goal
 
 pub overflow_sub-mask : goal.overflow_sub-mask

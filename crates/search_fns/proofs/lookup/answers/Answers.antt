@@ -1,5 +1,4 @@
-use Rattle.std.{proofs.Common.{◌∙◌, ap, map, length, rules}, specs.Ordering.{int_eq}, specs.List.{position_or_len}}
-use Rattle.search_fns.proofs.Lookups.{mapped_more}
+use Rattle.{std.{proofs.Common.{◌∙◌, ap, map, length, rules}, specs.Ordering.{int_eq}, specs.List.{position_or_len}}, search_fns.proofs.Lookups.{mapped_more}}
 use Rattle.search_fns.proofs.lookup.answers.Goals as goal
 
 pub before-before-requires : goal.before-before-requires

@@ -1,5 +1,4 @@
-use Rattle.std.{proofs.Common.{◌≡◌, length, map, take}, specs.Ordering.{int_eq}, specs.List.{position_or_len}}
-use Rattle.search_fns.specs.Lookup.{Finds}
+use Rattle.{std.{proofs.Common.{◌≡◌, length, map, take}, specs.Ordering.{int_eq}, specs.List.{position_or_len}}, search_fns.specs.Lookup.{Finds}}
 use Rattle.search_fns.proofs.lookup.answers.Given as goal
 
 abbrev pub invariant-loop-item : goal.invariant-loop-item

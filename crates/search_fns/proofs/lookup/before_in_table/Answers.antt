@@ -1,7 +1,6 @@
 use Rattle.std.{proofs.Common.{◌∙◌, refl, map, sym, rules}, proofs.lemmas.List.{length-map}}
-use Rattle.search_fns.proofs.Lookups.{first_in_table, below_table, above_table}
+use Rattle.search_fns.{proofs.Lookups.{first_in_table, below_table, above_table}, proofs.lookup.before_in_table.Goals.{then-key-least-via-then-key-least, then-key-least-via-else-key-least+then-firsts-offset}}
 use Rattle.search_fns.proofs.lookup.before_in_table.Goals as goal
-use Rattle.search_fns.proofs.lookup.before_in_table.Goals.{then-key-least-via-then-key-least, then-key-least-via-else-key-least+then-firsts-offset}
 
 pub returns-then-key-least : goal.returns-then-key-least
 returns-then-key-least g c =

@@ -1,4 +1,4 @@
-use Rattle.std.{proofs.Common.{ℕ, pos, ◌<◌, ◌≤ℤ◌, get_or, map}}
+use Rattle.std.proofs.Common.{ℕ, pos, ◌<◌, ◌≤ℤ◌, get_or, map}
 use Rattle.search_fns.proofs.lookup.span_of.Given as goal
 
 abbrev pub invariant-loop-item : goal.invariant-loop-item

@@ -1,5 +1,5 @@
 use Rattle.std.{proofs.Common.{◌≡◌, ◌≢◌, ◌∙◌, ◌+◌, ◌*◌, ◌%◌, ◌<◌, ◌^◌, ap, sym, get_or, length, pos, arith, Ok, rules, to_z, of_z, w64, SFits, bit_or, below_more, get_or-set_same, get_or-set_other}, proofs.Math.ListN.{length-set}, proofs.lemmas.Int.{to_z-of_z}, proofs.lemmas.Nat.{le_or_l, le_or_r}}
-use Rattle.search_fns.{proofs.NearNumbers.{near_more}}
+use Rattle.search_fns.proofs.NearNumbers.{near_more}
 use Rattle.search_fns.proofs.more_digits.put_unchecked.Goals as goal
 
 pub loop-place-preserved : goal.loop-place-preserved

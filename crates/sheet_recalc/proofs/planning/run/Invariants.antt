@@ -1,5 +1,4 @@
-use Rattle.std.{proofs.Common.{◌≡◌, ℕ, Some, [], get_or, IfSome}, specs.Map.{keys_of}}
-use Rattle.index_region.specs.declared.delta.Delta.TheVariants.{Same}
+use Rattle.{std.{proofs.Common.{◌≡◌, ℕ, Some, [], get_or, IfSome}, specs.Map.{keys_of}}, index_region.specs.declared.delta.Delta.TheVariants.{Same}}
 use Rattle.sheet_recalc.{specs.ProposedSheet.{outline_of, entry_of}, specs.Planning.{IsOnTheWay, IsPaid}}
 use Rattle.sheet_recalc.specs.declared.entry.Entry.TheVariants as entry
 use Rattle.sheet_recalc.proofs.planning.run.Given as goal

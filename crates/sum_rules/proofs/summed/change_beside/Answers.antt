@@ -1,6 +1,4 @@
-use Rattle.std.proofs.Common.{◌∙◌, sym, ap}
-use Rattle.index_region.specs.declared.delta.Delta.TheVariants.{Whole}
-use Rattle.fold_trees.specs.FoldTrees.{has_trees}
+use Rattle.{std.proofs.Common.{◌∙◌, sym, ap}, index_region.specs.declared.delta.Delta.TheVariants.{Whole}, fold_trees.specs.FoldTrees.{has_trees}}
 use Rattle.sum_rules.proofs.ToldTotals.{error_parts, told_changed, told_error}
 use Rattle.sum_rules.proofs.summed.change_beside.Goals as goal
 

@@ -1,7 +1,5 @@
-use Rattle.std.proofs.Common.{◌≡◌, ◌∙◌, sym, ap, subst, Ok}
-use Rattle.arrays_core.{specs.Arrays.{ArrayValue}, specs.Outcomes.{given}}
-use Rattle.index_region.{specs.declared.delta.Delta.TheVariants.{Whole}, specs.Checks.{form_of}}
-use Rattle.reduce_fns.specs.Reduce.{reduce_form}
+use Rattle.{std.proofs.Common.{◌≡◌, ◌∙◌, sym, ap, subst, Ok}, arrays_core.{specs.Arrays.{ArrayValue}, specs.Outcomes.{given}}}
+use Rattle.{index_region.{specs.declared.delta.Delta.TheVariants.{Whole}, specs.Checks.{form_of}}, reduce_fns.specs.Reduce.{reduce_form}}
 use Rattle.sum_rules.{specs.Summed.{AreTotals}, proofs.Outcomes.{outcome_given}, proofs.summed.change_whole.Given.{Over}, proofs.summed.change_whole.Goals.{In-Ok}}
 use Rattle.sum_rules.proofs.summed.change_whole.Goals as goal
 

@@ -1,7 +1,5 @@
-use Rattle.std.proofs.Common.{◌∙◌, ◌<◌, ap, sym, arith}
-use Rattle.arrays_core.specs.Shapes.{index_after, size}
-use Rattle.{fold_trees.specs.FoldTrees.{has_trees}, index_region.specs.Boxes.{is_within}}
-use Rattle.sum_rules.proofs.ToldTotals.{places_are, told_failure}
+use Rattle.{std.proofs.Common.{◌∙◌, ◌<◌, ap, sym, arith}, arrays_core.specs.Shapes.{index_after, size}, fold_trees.specs.FoldTrees.{has_trees}}
+use Rattle.{index_region.specs.Boxes.{is_within}, sum_rules.proofs.ToldTotals.{places_are, told_failure}}
 use Rattle.sum_rules.proofs.summed.failure_elsewhere.Goals as goal
 
 pub total-requires : goal.total-requires

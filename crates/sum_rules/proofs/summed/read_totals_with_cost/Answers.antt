@@ -1,5 +1,4 @@
-use Rattle.std.proofs.Common.{sym, subst, ap, ◌∙◌}
-use Rattle.fold_trees.specs.FoldTrees.{FoldsValue}
+use Rattle.{std.proofs.Common.{sym, subst, ap, ◌∙◌}, fold_trees.specs.FoldTrees.{FoldsValue}}
 use Rattle.sum_rules.{specs.LineSums.{StandFor}, proofs.ToldTotals.{told_anew}}
 use Rattle.sum_rules.proofs.summed.read_totals_with_cost.Goals as goal
 

@@ -1,6 +1,4 @@
-use Rattle.std.proofs.Common.{ap, arith}
-use Rattle.change_core.specs.Meters.{MeterValue}
-use Rattle.sum_rules.{proofs.LongerTotals.{as_many_numbers, joins_within, told_longer}}
+use Rattle.{std.proofs.Common.{ap, arith}, change_core.specs.Meters.{MeterValue}, sum_rules.proofs.LongerTotals.{as_many_numbers, joins_within, told_longer}}
 use Rattle.sum_rules.proofs.totals.change_by_growth.Goals as goal
 
 pub change_whole-requires : goal.change_whole-requires

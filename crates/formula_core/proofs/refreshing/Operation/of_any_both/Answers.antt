@@ -1,4 +1,5 @@
-use Rattle.{std.proofs.Common.{◌∙◌, ap, sym, subst}, apl_expr.specs.declared.functions.Function2.{Function2}, apl_expr.specs.declared.functions.Function2.TheVariants.{Dyad}}
+use Rattle.std.proofs.Common.{◌∙◌, ap, sym, subst}
+use Rattle.apl_expr.{specs.declared.functions.Function2.{Function2}, specs.declared.functions.Function2.TheVariants.{Dyad}}
 use Rattle.formula_core.specs.Rules.{with_change, both_rule, IsRefreshedBy}
 use Rattle.formula_core.proofs.refreshing.Operation.of_any_both.Goals as goal
 

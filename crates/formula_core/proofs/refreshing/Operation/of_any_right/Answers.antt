@@ -1,4 +1,5 @@
-use Rattle.{std.proofs.Common.{◌∙◌, ap, sym, subst}, apl_expr.specs.declared.functions.Function1.{Function1}, apl_expr.specs.declared.functions.Function1.TheVariants.{Monad}}
+use Rattle.std.proofs.Common.{◌∙◌, ap, sym, subst}
+use Rattle.apl_expr.{specs.declared.functions.Function1.{Function1}, specs.declared.functions.Function1.TheVariants.{Monad}}
 use Rattle.formula_core.specs.Rules.{with_change, right_rule, IsRefreshedBy}
 use Rattle.formula_core.proofs.refreshing.Operation.of_any_right.Goals as goal
 

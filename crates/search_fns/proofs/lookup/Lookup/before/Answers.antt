@@ -1,5 +1,4 @@
-use Rattle.std.{proofs.Common.{arith}, specs.Ordering.{int_eq}}
-use Rattle.search_fns.proofs.Lookups.{keys_within}
+use Rattle.{std.{proofs.Common.{arith}, specs.Ordering.{int_eq}}, search_fns.proofs.Lookups.{keys_within}}
 use Rattle.search_fns.proofs.lookup.Lookup.before.Goals as goal
 
 pub returns-in-Plain-clause-within : goal.returns-in-Plain-clause-within

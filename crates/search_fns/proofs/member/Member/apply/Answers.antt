@@ -1,6 +1,5 @@
 use Rattle.{std.{proofs.Common.{◌∙◌, sym, ap, length, Ok}, proofs.lemmas.List.{length-map}}, arrays_core.{specs.Arrays.{ArrayValue}, specs.Shapes.{size}}}
-use Rattle.search_fns.proofs.Searching.{members_as}
-use Rattle.search_fns.proofs.Searched.{member_shape, member_answer}
+use Rattle.search_fns.{proofs.Searching.{members_as}, proofs.Searched.{member_shape, member_answer}}
 use Rattle.search_fns.proofs.member.Member.apply.Goals as goal
 
 pub from_numbers-requires-clause-one_item_a_place : goal.from_numbers-requires-clause-one_item_a_place

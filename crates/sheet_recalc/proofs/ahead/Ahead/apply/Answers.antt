@@ -1,5 +1,4 @@
-use Rattle.std.proofs.Common.{◌≡◌, ◌-◌, Some, ap, sym, subst, arith}
-use Rattle.{change_core.specs.Meters.{MeterValue}, formula_core.specs.Plans.{PlanValue}}
+use Rattle.{std.proofs.Common.{◌≡◌, ◌-◌, Some, ap, sym, subst, arith}, change_core.specs.Meters.{MeterValue}, formula_core.specs.Plans.{PlanValue}}
 use Rattle.sheet_recalc.{specs.ProposedSheet.{outline_of, proposed_change}, specs.Planning.{IsNext, IsPaid}, proofs.Forward.{next_planned, next_left, applied_way, one_applied, paid_none, paid_one, paid_more}}
 use Rattle.sheet_recalc.proofs.ahead.Ahead.apply.Goals as goal
 

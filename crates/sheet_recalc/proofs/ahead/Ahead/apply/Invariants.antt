@@ -1,5 +1,4 @@
-use Rattle.std.proofs.Common.{◌-◌, ℕ, Some}
-use Rattle.formula_core.{specs.Formulas.{operations}, specs.Progress.{operations_among}}
+use Rattle.{std.proofs.Common.{◌-◌, ℕ, Some}, formula_core.{specs.Formulas.{operations}, specs.Progress.{operations_among}}}
 use Rattle.sheet_recalc.{specs.ProposedSheet.{outline_of}, specs.Planning.{IsNext, IsPaid}, specs.declared.plans.Plans.{Plans}}
 use Rattle.sheet_recalc.proofs.ahead.Ahead.apply.Given as goal
 

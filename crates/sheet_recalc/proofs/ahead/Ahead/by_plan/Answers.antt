@@ -1,5 +1,4 @@
-use Rattle.std.{proofs.Common.{◌∙◌, sym, ap, subst, IfOk}}
-use Rattle.{index_region.specs.declared.delta.Delta.{Delta}, change_rules.specs.Currency.{applied}}
+use Rattle.{std.proofs.Common.{◌∙◌, sym, ap, subst, IfOk}, index_region.specs.declared.delta.Delta.{Delta}, change_rules.specs.Currency.{applied}}
 use Rattle.arrays_core.{specs.Arrays.{IsArray}, specs.Outcomes.{Outcome}}
 use Rattle.formula_core.{specs.Outcomes.{read}, specs.Formulas.{root_result}, specs.Plans.{root_change}, specs.Changes.{FitsIn}, specs.Inputs.{IsInput}}
 use Rattle.sheet_recalc.{specs.ProposedSheet.{outline_of}, specs.Costs.{origin_delta}, specs.Meaning.{with_origin}, proofs.PlannedNames.{root_fits, planned_input, planned_changed, planned_sound, plan_now}}

@@ -1,6 +1,8 @@
 use Rattle.std.{proofs.Common.{◌≡◌, ◌∙◌, List, ℕ, Some, sym, subst, IfOk}, proofs.lemmas.Bool.{false≢true}}
-use Rattle.{formula_core.{specs.Changes.{FitsIn}, specs.Formulas.{FormulaValue}, specs.Outcomes.{read}}, index_region.specs.declared.delta.Delta.{Delta}, arrays_core.{specs.Arrays.{IsArray}, specs.Outcomes.{Outcome}}}
-use Rattle.sheet_recalc.{specs.Entries.{names_of}, specs.Live.{plan_in}, specs.Meaning.{val}, specs.ProposedSheet.{outline_of, entry_of}, specs.Planning.{HasItsPlan, IsInputOf, IsUntouched}, proofs.NameEquality.{equal-true, equal-same}, proofs.PlannedNames.{stays_untouched, rest_input, untouched_input, untouched_changed, untouched_sound}}
+use Rattle.{formula_core.{specs.Changes.{FitsIn}, specs.Formulas.{FormulaValue}, specs.Outcomes.{read}}, index_region.specs.declared.delta.Delta.{Delta}}
+use Rattle.arrays_core.{specs.Arrays.{IsArray}, specs.Outcomes.{Outcome}}
+use Rattle.sheet_recalc.{specs.Entries.{names_of}, specs.Live.{plan_in}, specs.Meaning.{val}, specs.ProposedSheet.{outline_of, entry_of}, specs.Planning.{HasItsPlan, IsInputOf, IsUntouched}, proofs.NameEquality.{equal-true, equal-same}}
+use Rattle.sheet_recalc.proofs.PlannedNames.{stays_untouched, rest_input, untouched_input, untouched_changed, untouched_sound}
 use Rattle.sheet_recalc.specs.declared.entry.Entry.TheVariants as entry
 use Rattle.sheet_recalc.proofs.ahead.Ahead.looked_up.Goals as goal
 

@@ -1,4 +1,5 @@
-use Rattle.{std.{proofs.Common.{◌≡◌, None, is_some, true, sym, subst, IfOk, ⊎_elim}, proofs.lemmas.Bool.{false≢true}}, arrays_core.{specs.Arrays.{IsArray}, specs.Outcomes.{Outcome}}, change_rules.specs.Currency.{applied}}
+use Rattle.std.{proofs.Common.{◌≡◌, None, is_some, true, sym, subst, IfOk, ⊎_elim}, proofs.lemmas.Bool.{false≢true}}
+use Rattle.{arrays_core.{specs.Arrays.{IsArray}, specs.Outcomes.{Outcome}}, change_rules.specs.Currency.{applied}}
 use Rattle.formula_core.{specs.Changes.{FitsIn}, specs.Inputs.{IsInput}}
 use Rattle.sheet_recalc.{specs.Live.{plan_in}, specs.ProposedSheet.{outline_of}, proofs.PlannedNames.{own_held, own_formula, data_fits, data_input, data_changed, data_sound, none_input, none_changed, none_sound}}
 use Rattle.sheet_recalc.proofs.ahead.Ahead.own.Goals as goal

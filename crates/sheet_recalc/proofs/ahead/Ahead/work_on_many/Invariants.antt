@@ -1,5 +1,4 @@
-use Rattle.std.proofs.Common.{take}
-use Rattle.sheet_recalc.{specs.ProposedSheet.{outline_of}, specs.Planning.{AreInputsOf}}
+use Rattle.{std.proofs.Common.{take}, sheet_recalc.{specs.ProposedSheet.{outline_of}, specs.Planning.{AreInputsOf}}}
 use Rattle.sheet_recalc.proofs.ahead.Ahead.work_on_many.Given as goal
 
 abbrev pub invariant-loop-reference : goal.invariant-loop-reference

@@ -1,5 +1,4 @@
-use Rattle.std.proofs.Common.{arith}
-use Rattle.sheet_recalc.{specs.History.{change_of}, proofs.Asked.{if_ok_map, if_err_map, of_name}}
+use Rattle.{std.proofs.Common.{arith}, sheet_recalc.{specs.History.{change_of}, proofs.Asked.{if_ok_map, if_err_map, of_name}}}
 use Rattle.sheet_recalc.proofs.sheet.Sheet.begin_lent.Goals as goal
 
 pub propose-requires : goal.propose-requires

@@ -1,5 +1,4 @@
-use Rattle.std.proofs.Common.{refl, subst}
-use Rattle.{apl_expr.specs.Trees.{literal_of}, index_region.specs.declared.delta.Delta.TheVariants.{Patch}}
+use Rattle.{std.proofs.Common.{refl, subst}, apl_expr.specs.Trees.{literal_of}, index_region.specs.declared.delta.Delta.TheVariants.{Patch}}
 use Rattle.sheet_recalc.{specs.Names.{SheetValue}, specs.Changes.{SetCell}, specs.Pending.{IsProposalOf}, specs.declared.proposal.Proposal.TheVariants.{Data}, proofs.Asked.{cell_asked}}
 use Rattle.sheet_recalc.proofs.sheet.Sheet.cell_proposal.Goals as goal
 

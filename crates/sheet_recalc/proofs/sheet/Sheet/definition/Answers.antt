@@ -1,5 +1,4 @@
-use Rattle.std.proofs.Common.{ap}
-use Rattle.{apl_expr.specs.Trees.{tree_of}, formula_core.specs.Formulas.{FormulaValue}, sheet_recalc.proofs.Asked.{define_asked}}
+use Rattle.{std.proofs.Common.{ap}, apl_expr.specs.Trees.{tree_of}, formula_core.specs.Formulas.{FormulaValue}, sheet_recalc.proofs.Asked.{define_asked}}
 use Rattle.sheet_recalc.proofs.sheet.Sheet.definition.Goals as goal
 
 pub returns-clause-is : goal.returns-clause-is

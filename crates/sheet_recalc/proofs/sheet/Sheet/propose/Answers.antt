@@ -1,6 +1,7 @@
 use Rattle.std.{proofs.Common.{◌∙◌, refl, sym, ap, subst, arith, ⊎_elim}, specs.Map.{keys_of}, proofs.lemmas.Result.{err_from_is_err_and}}
 use Rattle.dep_order.specs.Reachability.{IsAcyclic}
-use Rattle.sheet_recalc.{specs.Names.{SheetValue, Refers}, specs.Tables.{Tables}, specs.Changes.{CannotBecome}, specs.Costs.{IsStepCount}, specs.Planning.{IsProposalAt}, specs.ProposedSheet.{names_with}, specs.Pending.{IsBegunOn, IsProposedOn, names_after}, specs.declared.pending.Pending.{Pending}, specs.declared.budget.Budget.TheVariants.{One}}
+use Rattle.sheet_recalc.{specs.Names.{SheetValue, Refers}, specs.Tables.{Tables}, specs.Changes.{CannotBecome}, specs.Costs.{IsStepCount}, specs.Planning.{IsProposalAt}, specs.ProposedSheet.{names_with}, specs.Pending.{IsBegunOn, IsProposedOn, names_after}, specs.declared.pending.Pending.{Pending}}
+use Rattle.sheet_recalc.specs.declared.budget.Budget.TheVariants.{One}
 use Rattle.sheet_recalc.proofs.sheet.Sheet.propose.Goals as goal
 
 pub begun-requires-clause-proposal : goal.begun-requires-clause-proposal

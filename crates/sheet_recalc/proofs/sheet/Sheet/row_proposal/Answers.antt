@@ -1,5 +1,4 @@
-use Rattle.std.proofs.Common.{refl, subst}
-use Rattle.{apl_expr.specs.Trees.{literal_of}, index_region.specs.declared.delta.Delta.TheVariants.{Grown}}
+use Rattle.{std.proofs.Common.{refl, subst}, apl_expr.specs.Trees.{literal_of}, index_region.specs.declared.delta.Delta.TheVariants.{Grown}}
 use Rattle.sheet_recalc.{specs.Names.{SheetValue}, specs.Changes.{AddRow}, specs.Pending.{IsProposalOf}, specs.declared.proposal.Proposal.TheVariants.{Data}, proofs.Asked.{row_asked}}
 use Rattle.sheet_recalc.proofs.sheet.Sheet.row_proposal.Goals as goal
 

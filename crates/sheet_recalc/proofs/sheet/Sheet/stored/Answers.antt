@@ -1,6 +1,5 @@
-use Rattle.std.proofs.Common.{◌∙◌, IsOk, refl, sym, ap, subst, true}
-use Rattle.{apl_expr.specs.Trees.{tree_of}, change_core.specs.Meters.{ticked}, formula_core.specs.Plans.{tree_cost}}
-use Rattle.sheet_recalc.{specs.Costs.{names_at_rest}, proofs.Asked.{store_asked}}
+use Rattle.{std.proofs.Common.{◌∙◌, IsOk, refl, sym, ap, subst, true}, apl_expr.specs.Trees.{tree_of}, change_core.specs.Meters.{ticked}}
+use Rattle.{formula_core.specs.Plans.{tree_cost}, sheet_recalc.{specs.Costs.{names_at_rest}, proofs.Asked.{store_asked}}}
 use Rattle.sheet_recalc.proofs.sheet.Sheet.stored.Goals as goal
 
 pub returns-in-Ok-clause-is : goal.returns-in-Ok-clause-is
