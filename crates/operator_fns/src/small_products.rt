@@ -149,7 +149,7 @@ fn bound_beside(most: u64, count: usize) -> u64
 pub(crate) struct FactorBound {
     /// The greatest magnitude of a factor.
     pub(crate) most: u64,
-    /// Whether the numbers of the rows are short.
+    /// True if the rows have short numbers alone.
     pub(crate) are_short: bool,
 }
 

@@ -27,7 +27,7 @@ behind_at (n ∷ before) [] k h = absurd (omega arith)
 behind_at (n ∷ before) (i ∷ index) zero h = refl
 behind_at (n ∷ before) (i ∷ index) (suc k) h = behind_at before index k (omega arith)
 
--- what follows an index list with an index for each axis does not count
+-- further indices are left out
 behind_whole : (before index rest : List ℕ) → length index ≡ length before → behind before (index ++ rest) ≡ behind before index
 behind_whole [] index rest h = refl
 behind_whole (n ∷ before) [] rest h = absurd (omega arith)
