@@ -1,4 +1,4 @@
-use Rattle.std.{proofs.Common.{◌≡◌, ◌∙◌, ◌+◌, ◌-◌, ◌++◌, ap, get_or, take, drop, arith}, proofs.lemmas.List.{get_or_default, get_or-take, get_or-drop}}
+use Rattle.std.{proofs.Common.{◌≡◌, ◌∙◌, ◌-◌, ◌++◌, ap, get_or, take, drop, arith}, proofs.lemmas.List.{get_or_default, get_or-take, get_or-drop}}
 use Rattle.arrays_core.{specs.Building.{listed}, proofs.Building.{listed_more}}
 use Rattle.arrays_core.proofs.builder.extend_back.Goals as goal
 

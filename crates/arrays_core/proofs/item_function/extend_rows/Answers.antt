@@ -1,5 +1,5 @@
-use Rattle.std.proofs.Common.{◌≡◌, ◌∙◌, ◌+◌, ◌*◌, sym, refl, ap, true, arith}
-use Rattle.arrays_core.{specs.Shapes.{is_index_of, size as size_of}, proofs.Order.{none_collected, all_collected, index_after-within, places_before-index_after}, proofs.Rows.{row_of, row_collected, size_row}}
+use Rattle.std.proofs.Common.{◌≡◌, ◌∙◌, ◌+◌, ◌*◌, sym, refl, ap, arith}
+use Rattle.arrays_core.{specs.Shapes.{size as size_of}, proofs.Order.{none_collected, all_collected, index_after-within, places_before-index_after}, proofs.Rows.{row_of, row_collected, size_row}}
 use Rattle.arrays_core.proofs.item_function.extend_rows.Goals as goal
 
 pub loop-before-init : goal.loop-before-init

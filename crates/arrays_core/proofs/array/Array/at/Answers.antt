@@ -1,4 +1,4 @@
-use Rattle.{std.proofs.Common.{rules, ◌≡◌, ◌-◌, ◌∙◌, ap, true, Some, get_or}, arrays_core.{specs.Items.{fill}, specs.Shapes.{is_index_of}}}
+use Rattle.{std.proofs.Common.{rules, ◌≡◌, ◌∙◌, ap, true, Some, get_or}, arrays_core.{specs.Items.{fill}, specs.Shapes.{is_index_of}}}
 use Rattle.arrays_core.proofs.array.Array.at.Goals as goal
 
 pub returns-then-is_index_of-clause-is : goal.returns-then-is_index_of-clause-is

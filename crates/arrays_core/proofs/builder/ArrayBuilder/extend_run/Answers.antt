@@ -1,4 +1,4 @@
-use Rattle.std.proofs.Common.{ap, sym, ◌∙◌, pos, ◌+◌}
+use Rattle.std.proofs.Common.{ap, sym, ◌∙◌, pos}
 use Rattle.arrays_core.{specs.declared.item.Item.TheVariants.{Num, Char}, specs.Items.{fill}, specs.Ravels.{list_items}, proofs.Building.{put_picked}, proofs.builder.ArrayBuilder.extend_run.Goals.{in-Nums+in-Some, in-Chars+in-Some-characters}}
 use Rattle.arrays_core.proofs.builder.ArrayBuilder.extend_run.Goals as goal
 
