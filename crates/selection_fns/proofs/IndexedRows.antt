@@ -1,6 +1,6 @@
 -- Rows of an index whose last position has an axis: the items of a row come from one row of the array.
 use Rattle.std.{proofs.Common.{◌≡◌, ℕ, suc, ◌+◌, ◌-◌, ◌*◌, ◌<◌, ◌≤◌, ℤ, pos, unsigned_abs, Bool, true, false, cond, List, [], ◌∷◌, ◌++◌, length, take, drop, get_or, Some, None, Result, Ok, Err, refl, ap, sym, subst, ◌∙◌, append-nil, arith}, specs.Prelude.{unwrap_or, not, nat_eq, map, ◌&&◌}, specs.List.{list_all}}
-use Rattle.std.{proofs.lemmas.Bool.{and_parts, false≢true}, proofs.lemmas.List.{length-append, length-drop, length_push, take_all, take-append-le, drop-append-le, drop-drop, length-map, get_or-map}, proofs.Math.Seq.{drop-length, get_or-append_seam}}
+use Rattle.std.{proofs.lemmas.Bool.{and_parts, false≢true}, proofs.lemmas.List.{length-append, length-drop, length_push, take_all, take-append-le, drop-append-le, drop-drop, length-map, get_or-map}, proofs.Math.Seq.{get_or-append_seam}}
 use Rattle.arrays_core.{specs.declared.item.Item.TheVariants.{Num}, specs.declared.item.ItemType.{ItemType}, specs.declared.item.Kind.{Kind}, specs.Items.{fill}, specs.Arrays.{ArrayValue, IsArray, item_of}, specs.Shapes.{size, is_index_of, places_before}, proofs.Shapes.{as_long, head_of, places_below}}
 use Rattle.arrays_core.proofs.Rows.{same_row, places_in_row, row_end}
 use Rattle.index_region.{specs.Checks.{Form}, specs.Arguments.{is_scalar, number_of}, specs.Sources.{Place, item_from}, specs.Answers.{IsRowIn}, proofs.OnAxes.{OnAxis}, proofs.Passing.{row_passed, row_inside, place_of_row}}
@@ -150,19 +150,6 @@ own_on n None [] i inside on sound = let end = row_end (n ∷ []) [] i inside in
 own_on n None (j ∷ own) i inside on sound = let end = row_end (n ∷ []) (j ∷ own) i inside in absurd (omega (arith, end.long))
 
 -- ---- the last of the written positions
-
-pub last_empty : (written : List Bool) (args : List ArrayValue) → length args ≡ count_written written → 0 < length written → get_or written (length written - 1) false ≡ false
-    → last_position (written_positions written args) ≡ None
-last_empty [] args long some h = absurd (omega arith)
-last_empty (false ∷ []) args long some h = refl
-last_empty (true ∷ []) args long some h = let no : ⊥ = cc in absurd no
-last_empty (false ∷ false ∷ written) args long some h = last_empty (false ∷ written) args long (omega arith) (sym (last_later false false written false) ∙ h)
-last_empty (false ∷ true ∷ written) [] long some h = absurd (omega arith)
-last_empty (false ∷ true ∷ written) (p ∷ args) long some h = last_empty (true ∷ written) (p ∷ args) long (omega arith) (sym (last_later false true written false) ∙ h)
-last_empty (true ∷ w ∷ written) [] long some h = absurd (omega arith)
-last_empty (true ∷ false ∷ written) (p ∷ args) long some h = last_empty (false ∷ written) args (omega arith) (omega arith) (sym (last_later true false written false) ∙ h)
-last_empty (true ∷ true ∷ written) (p ∷ []) long some h = absurd (omega arith)
-last_empty (true ∷ true ∷ written) (p ∷ r ∷ args) long some h = last_empty (true ∷ written) (r ∷ args) (omega arith) (omega arith) (sym (last_later true true written false) ∙ h)
 
 pub record IsLast (positions : List Position) (args : List ArrayValue) : Type 0 where
   pub some : 0 < length args
@@ -350,21 +337,6 @@ module _ (written : List Bool) (args : List ArrayValue) (a : ArrayValue) (row : 
       subst (λ r. IsItemOfRow a all_positions row before (own_index r (own_part r row ++ i ∷ [])) i) last
       (item_of_row a all_positions row before count known.one_an_axis known.some known.on (subst (λ r. 0 < own_rank r) (sym last) own) (λ p e. sound p (sym last ∙ e)) known.places there begins i low high)
 
-  -- it takes the whole last axis
-  of_whole : last_position all_positions ≡ None → (i : ℕ) → 1 ≤ i → i ≤ count → IsItemOfRow a all_positions row before i i
-  of_whole last i low high =
-      subst (λ x. IsItemOfRow a all_positions row before x i) (ap (λ xs. get_or (xs ++ i ∷ []) 0 0) nothing) (of_last None last (omega arith) (λ p e. let no : ⊥ = cc in absurd no) i low high)
-    where
-      nothing : drop (length row + 1 - 1) row ≡ []
-      nothing = let all : length row + 1 - 1 ≡ length row = omega arith in ap (λ k. drop k row) all ∙ drop-length row
-
-  pub run_item : last_position all_positions ≡ None → (j : ℕ) → j < count → index_item a all_positions (row ++ (0 + j + 1) ∷ []) ≡ Ok (get_or a.items (before + j) (fill a.item_type))
-  run_item last j h = (of_whole last (0 + j + 1) (omega arith) (omega arith)).is ∙ ap (λ k. Ok (get_or a.items k (fill a.item_type))) (omega arith)
-
-  pub run_inside : last_position all_positions ≡ None → before + count ≤ size a.shape
-  run_inside last = let some = known.positive in (of_whole last count (omega arith) (omega arith)).high
-
-  -- it has these indices
   module _ (p : ArrayValue) (last : last_position all_positions ≡ Some p) (own : 0 < length p.shape) (sound : IsArray p) (indices : List ℤ)
       (taken : (i : ℕ) → i < count → get_or indices i (pos 0) ≡ number_of (item_of p (drop (length row + 1 - length p.shape) row ++ (i + 1) ∷ []))) where
     pub of_indices : (j : ℕ) → j < count → IsItemOfRow a all_positions row before (unsigned_abs (get_or indices j (pos 0))) (0 + j + 1)

@@ -314,22 +314,25 @@ impl<'w> Index<'w> {
         Ok(())
     }
 
-    /// Returns whether the result has a long last axis, given by the last position.
-    fn has_long_rows(&self, array: &Seen, positions: &[Seen]) -> bool {
-        let axes = match (self.written.last(), positions.last()) {
-            (Some(true), Some(position)) => position.shape(),
-            _ => array.shape(),
-        };
-        axes.last().is_some_and(|axis| *axis >= LONG_ROW)
+    /// Returns whether the last position is written and gives long rows.
+    fn has_long_rows(&self, positions: &[Seen]) -> bool {
+        match (self.written.last(), positions.last()) {
+            (Some(true), Some(position)) => {
+                let axes = position.shape();
+                axes.last().is_some_and(|axis| *axis >= LONG_ROW)
+            }
+            _ => false,
+        }
     }
 
-    /// Returns the items at the indices. Appends long rows one by one; for short rows it computes the places of all items first.
+    /// Returns the items at the indices. Reads long rows by the indices of the last position; for other results it computes the places of all items
+    /// first.
     pub fn apply(&self, alloc: Global, args: &[Seen]) -> Result<Array, ApplyFault>
         requires { length args.now ≡ suc (count_written self.now.written.now) }
         ensures { IsAnswerTo (of_array_and_positions self.now.written.now index_whole args.now) result }
     {
         let (array, positions) = (&args[0], &args[1..]);
-        if self.has_long_rows(array, positions) {
+        if self.has_long_rows(positions) {
             return apply_rows(alloc, self, args);
         }
         self.at_places(alloc, array, positions)
@@ -395,8 +398,7 @@ impl<'w> RowPrimitive for Index<'w> {
     ) -> Result<(), AllocError> {
         let (array, positions) = (&args[0], &args[1..]);
         if !self.written[self.written.len() - 1] {
-            let before = self.places_before_row(array, positions, row);
-            return array.extend_run(items, before, count);
+            return self.push_row(array, positions, row, count, items);
         }
         match indices_in_row(&positions[positions.len() - 1], row, count) {
             Some(indices) => {
