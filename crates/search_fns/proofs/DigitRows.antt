@@ -4,7 +4,7 @@ use Rattle.{arrays_core.specs.Items.{and_then}, item_fns.specs.Numbers.{residue}
 use Rattle.search_fns.{specs.Encode.{carried_through, digit}, specs.EncodedRows.{AreCarried, HasRow}, proofs.Radices.{one_more_radix}}
 
 -- the digit by the radix before those that were applied
-digit_here : (radices : List ℤ) (k : ℕ) (z rest : ℤ) → carried_through (drop (k + 1) radices) z ≡ Ok rest
+pub digit_here : (radices : List ℤ) (k : ℕ) (z rest : ℤ) → carried_through (drop (k + 1) radices) z ≡ Ok rest
     → digit radices (k + 1) z ≡ Ok (residue (get_or radices k (pos 0)) rest)
 digit_here radices k z rest h =
     ap (λ r. and_then r (λ x. Ok (residue (get_or radices (k + 1 - 1) (pos 0)) x))) h ∙ ap (λ n. Ok (residue (get_or radices n (pos 0)) rest)) (omega arith)

@@ -13,7 +13,7 @@ pub mod SearchCases
 pub mod DigitCases
 pub mod Leftovers
 pub mod Bits
-pub mod PlacedRows
+pub mod PowerRadices
 -- Changes of results.
 pub mod BoxCases
 pub mod BoxDigits

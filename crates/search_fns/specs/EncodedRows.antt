@@ -1,5 +1,5 @@
 -- The digits of numbers, a row for each radix.
-use Rattle.std.specs.Prelude.{◌≡◌, ◌≤◌, ◌<◌, ℕ, ◌+◌, ◌*◌, ℤ, pos, List, length, get_or, Ok}
+use Rattle.std.specs.Prelude.{◌≡◌, ◌≤◌, ◌<◌, ℕ, ◌+◌, ◌-◌, ◌*◌, ◌^◌, ℤ, pos, List, [], ◌∷◌, length, get_or, Ok}
 use Rattle.item_fns.specs.Numbers.{residue}
 use Rattle.search_fns.specs.Encode.{carried, digit}
 
@@ -19,3 +19,13 @@ pub record AreCarried (radix : ℤ) (old new : List ℤ) : Type 0 where
 pub record AreDigits (radices zs digits : List ℤ) : Type 0 where
   pub long : length digits ≡ length radices * length zs
   pub each : (k j : ℕ) → k < length radices → j < length zs → digit radices (k + 1) (get_or zs j (pos 0)) ≡ Ok (get_or digits (k * length zs + j) (pos 0))
+
+-- the first rows of those digits
+pub record AreRows (radices zs : List ℤ) (rows : ℕ) (digits : List ℤ) : Type 0 where
+  pub long : length digits ≡ rows * length zs
+  pub each : (k j : ℕ) → k < rows → j < length zs → digit radices (k + 1) (get_or zs j (pos 0)) ≡ Ok (get_or digits (k * length zs + j) (pos 0))
+
+-- the radices are powers of two from 2 on, whose digits have so many bits together
+abbrev pub ArePowers : List ℤ → ℕ → Type 0
+ArePowers [] bits = bits ≡ 0
+ArePowers (radix ∷ radices) bits = (own : ℕ) × (radix ≡ pos (2 ^ own)) × (1 ≤ own) × (own ≤ bits) × ArePowers radices (bits - own)

@@ -1,58 +1,25 @@
 //! The digits of numbers, a row at a time: a row has the digits of all numbers by one radix.
 
-ghost use Rattle.std.specs.Prelude.{◌≡◌, ◌≤◌, ◌<◌, ◌+◌, ◌*◌, ◌^◌, pos, OnOk, IfOk, length};
+ghost use Rattle.std.specs.Prelude.{◌≡◌, ◌≤◌, ◌+◌, ◌*◌, OnOk, IfOk, length};
 ghost use Rattle.arrays_core.specs.Arrays.{IsArray};
 ghost use Rattle.index_region.specs.Arguments.{numbers};
 ghost use Rattle.search_fns.specs.EncodedRows.{AreCarried, AreDigits, HasRow};
 
-use crate::radix::{Radix, bits_of, digit_beside};
+use crate::bit_rows::rows_by_bits;
+use crate::radix::{Radix, digit_beside};
 use arrays_core::{ApplyFault, Kind, repeated};
 use index_region::Seen;
 use selection_fns::numbers_of;
 use std::alloc::Global;
-
-/// Writes the digits of numbers by 2 to the power `bits` into the row that begins at `before`.
-fn put_bits(digits: &mut [i64], before: usize, bits: u32, rests: &[i64])
-    requires inside { before + length rests.now ≤ length digits.old }
-    requires few { bits < 63 }
-    ensures { HasRow (pos (2 ^ bits)) rests.now before digits.old digits.new }
-{
-    let row = &mut digits[before..before + rests.len()];
-    let mask = (1_i64 << bits) - 1;
-    for place in 0..rests.len() {
-        row[place] = rests[place] & mask;
-    }
-}
 
 /// Writes the digits of numbers by a radix into the row that begins at `before`.
 fn put_row(digits: &mut [i64], before: usize, radix: i64, rests: &[i64])
     requires { before + length rests.now ≤ length digits.old }
     ensures { HasRow radix rests.now before digits.old digits.new }
 {
-    if let Some(bits) = bits_of(radix) {
-        put_bits(digits, before, bits, rests);
-        return;
-    }
     let by = Radix::new(radix);
     for place in 0..rests.len() {
         digits[before + place] = by.digit(rests[place]);
-    }
-}
-
-/// Writes the digits of numbers by 2 to the power `bits` into the row that begins at `before`. Replaces each number
-/// with the rest that the digit leaves.
-fn put_bits_and_carry(digits: &mut [i64], before: usize, bits: u32, rests: &mut [i64])
-    requires inside { before + length rests.old ≤ length digits.old }
-    requires few { bits < 63 }
-    ensures row { HasRow (pos (2 ^ bits)) rests.old before digits.old digits.new }
-    ensures carried { AreCarried (pos (2 ^ bits)) rests.old rests.new }
-{
-    let row = &mut digits[before..before + rests.len()];
-    let mask = (1_i64 << bits) - 1;
-    for place in 0..rests.len() {
-        let rest = rests[place];
-        row[place] = rest & mask;
-        rests[place] = rest >> bits;
     }
 }
 
@@ -68,10 +35,6 @@ fn put_row_and_carry(
     ensures row { OnOk result (HasRow radix rests.old before digits.old digits.new) }
     ensures carried { OnOk result (AreCarried radix rests.old rests.new) }
 {
-    if let Some(bits) = bits_of(radix) {
-        put_bits_and_carry(digits, before, bits, rests);
-        return Ok(());
-    }
     let by = Radix::new(radix);
     for place in 0..rests.len() {
         let rest = rests[place];
@@ -112,6 +75,9 @@ pub(crate) fn encoded_rows(
 {
     let radices = numbers_of(alloc, radices)?;
     let mut rests = numbers_of(alloc, array)?;
+    if let Some(digits) = rows_by_bits(alloc, &radices, &rests)? {
+        return Ok(digits);
+    }
     let mut digits = repeated(alloc, 0, radices.len() * rests.len())?;
     put_rows(&radices, &mut rests, &mut digits)?;
     Ok(digits)

@@ -1,6 +1,7 @@
 //! Functions that look up items, and functions that split numbers into digits and join them.
 #![tactic(auto)]
 
+mod bit_rows;
 mod decode;
 mod digits;
 mod encode;

@@ -1,6 +1,6 @@
 //! A radix, prepared for many numbers.
 
-ghost use Rattle.std.specs.Prelude.{◌≡◌, ◌<◌, ◌^◌, pos, Ok, IfSome};
+ghost use Rattle.std.specs.Prelude.{◌≡◌, ◌≢◌, ◌≤◌, ◌<◌, ◌^◌, ℕ, pos, Ok, IfSome, IfNone};
 ghost use Rattle.std.specs.Option.{ForSome};
 ghost use Rattle.item_fns.specs.Numbers.{residue};
 ghost use Rattle.search_fns.specs.Encode.{carried};
@@ -26,14 +26,17 @@ pub(crate) fn digit_beside(radix: i64, number: i64, left: i64) -> i64
     number.wrapping_sub(radix.wrapping_mul(left))
 }
 
-/// Returns the exponent of a radix that is a power of two: the number of bits of its digits. None for another radix.
+/// Returns the exponent of a radix that is a power of two from 2 on: the number of bits of its digits. None for another
+/// radix.
 pub(crate) fn bits_of(radix: i64) -> Option<u32>
     ensures is { IfSome result (λ bits. radix ≡ pos (2 ^ bits)) }
+    ensures some { IfSome result (λ bits. 1 ≤ bits) }
     ensures few { IfSome result (λ bits. bits < 63) }
+    ensures none { IfNone result ((bits : ℕ) → 1 ≤ bits → bits < 63 → radix ≢ pos (2 ^ bits)) }
 {
     let power = u64::try_from(radix).ok()?;
     let bits = power.trailing_zeros();
-    if bits < 63 && 1 << bits == power {
+    if 0 < bits && bits < 63 && 1 << bits == power {
         Some(bits)
     } else {
         None
