@@ -76,15 +76,16 @@ def decoded(radices: list[int], digits: list[int]) -> int:
 
 
 def some_radices(chance: Random, count: int) -> list[int]:
-    return chance.choice([some_numbers(chance, count), chance.choices([2, 3, 7, 10, 16, 60, 1000, 50000, 2**21, 1, 0, -1, -7], k=count)])
+    """Draws radices, at times one radix for all digits, or powers of two."""
+    some, powers = [2, 3, 7, 10, 16, 60, 1000, 50000, 2**21, 1, 0, -1, -7], [2, 2, 2, 4, 8, 256, 1, 2**21]
+    radices = chance.choice([some_numbers(chance, count), chance.choices(some, k=count), chance.choices(powers, k=count)])
+    return radices[:1] * count if chance.random() < 0.3 else radices
 
 
 def some_decoding(chance: Random) -> tuple[str, str]:
     """Returns a line that shows numbers from digits that stand in columns, and its answer."""
     count, columns = chance.choice([1, 2, 3, 8, 32]), chance.choice([1, 2, 9])
     radices, digits = some_radices(chance, count), some_numbers(chance, count * columns)
-    if chance.random() < 0.3:
-        radices = radices[:1] * count
     line = f"({as_literal(radices)})⊥{array([count, columns], digits)}"
     return line, text_of(lambda it=it: decoded(radices, digits[it::columns]) for it in range(columns))
 
