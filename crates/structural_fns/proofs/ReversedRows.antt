@@ -1,15 +1,12 @@
 -- The rows of a result of reverse.
 use Rattle.std.{proofs.Common.{◌≡◌, ℕ, suc, ◌+◌, ◌-◌, ◌<◌, ◌≤◌, true, List, [], ◌∷◌, ◌++◌, length, get_or, set, Ok, ap, sym, ◌∙◌, arith}, proofs.lemmas.List.{get_or_default}}
-use Rattle.arrays_core.{specs.declared.item.ItemType.{ItemType}, specs.Items.{fill}, specs.Arrays.{ArrayValue, IsArray}, specs.Shapes.{is_index_of, places_before}, specs.Building.{IsRowOf}, proofs.Rows.{places_in_row}}
-use Rattle.index_region.{specs.Answers.{IsRowIn}, specs.Axes.{places_along}, proofs.Passing.{row_passed, row_inside}, proofs.Placed.{left_placed}, proofs.OnAxes.{OnAxis, on_axis}, proofs.RowIndices.{set_before, get_before, set_last, get_last, axis_below}}
+use Rattle.arrays_core.{specs.declared.item.ItemType.{ItemType}, specs.Items.{fill}, specs.Arrays.{ArrayValue, IsArray}, specs.Shapes.{is_index_of, places_before}, specs.Building.{IsRowOf}, proofs.Rows.{places_in_row}, proofs.Shapes.{places_below}}
+use Rattle.index_region.{specs.Checks.{form_of}, specs.Axes.{places_along}, proofs.Passing.{gives}, proofs.Placed.{left_placed}, proofs.OnAxes.{OnAxis, on_axis}, proofs.RowIndices.{set_before, get_before, set_last, get_last, axis_below}}
 use Rattle.function_names.{specs.Axes.{is_axis, axis_at}, specs.declared.along.Along.{Along}}
 use Rattle.structural_fns.{specs.Reverse.{reverse_form, reverse_item}, proofs.SourcePlaces.{reversed_inside}, proofs.SteppedRows.{place_beside, row_fits}}
 
--- a row of a reversed array
-pub record ReversedRow (along : Along) (b : ArrayValue) (row : List ℕ) (count : ℕ) (item_type : ItemType) : Type 0 where
-  pub row_in : IsRowIn (reverse_form along b) row count item_type
-
-module _ (along : Along) (b : ArrayValue) (row : List ℕ) (count : ℕ) (item_type : ItemType) (is : ReversedRow along b row count item_type) where
+-- a row of the array that is reversed along this axis
+module _ (along : Along) (b : ArrayValue) (row : List ℕ) (count : ℕ) (passed : reverse_form along b ≡ Ok (form_of b.shape b.item_type)) (row_of : IsRowOf b.shape row count) where
   abbrev pub axis : ℕ
   axis = axis_at (length b.shape) along
 
@@ -18,9 +15,6 @@ module _ (along : Along) (b : ArrayValue) (row : List ℕ) (count : ℕ) (item_t
 
   abbrev first : ℕ
   first = places_before b.shape (at_index 1)
-
-  pub row_of : IsRowOf b.shape row count
-  row_of = (row_inside b.shape b.item_type row count item_type (row_passed (is_axis (length b.shape) along) _ _ row count item_type is.row_in).row_in).row_of
 
   pub inside_at : (j : ℕ) → j < count → is_index_of b.shape (at_index (0 + j + 1)) ≡ true
   inside_at j h = reversed_inside b.shape (row ++ (0 + j + 1) ∷ []) axis (row_of.places (0 + j + 1) (omega arith) (omega arith))
@@ -31,8 +25,7 @@ module _ (along : Along) (b : ArrayValue) (row : List ℕ) (count : ℕ) (item_t
   -- an axis that is not the last is before it
   pub below_last : (k : ℕ) → k ≡ axis → (k ≡ length row → ⊥) → axis < length row
   below_last k e not_last =
-      let checked = row_passed (is_axis (length b.shape) along) _ _ row count item_type is.row_in in
-      let below = axis_below (length b.shape) along checked.test (omega (arith, row_of.long)) in
+      let below = axis_below (length b.shape) along (gives (is_axis (length b.shape) along) _ _ _ passed).test (omega (arith, row_of.long)) in
       omega (arith, row_of.long)
 
   -- along another axis a row is a row of the array
@@ -73,11 +66,6 @@ module _ (along : Along) (b : ArrayValue) (row : List ℕ) (count : ℕ) (item_t
         ∙ ap (λ m. row ++ (suc m - get_or (row ++ i ∷ []) (length row) 1) ∷ []) (get_or_default b.shape (length row) 1 0 (omega (arith, row_of.long)) ∙ row_of.whole)
         ∙ ap (λ m. row ++ (suc count - m) ∷ []) (get_last row i 1)
 
-    pub last_list : set (row ++ 1 ∷ []) axis count ≡ at_index 1
-    last_list =
-        let same : suc count - 1 ≡ count = omega arith in
-        ap (λ k. set (row ++ 1 ∷ []) k count) last_axis ∙ set_last row 1 count ∙ ap (λ n. row ++ n ∷ []) (sym same) ∙ sym (at_last 1)
-
     place_last : (j : ℕ) → j < count → places_before b.shape (at_index (0 + j + 1)) + j ≡ first
     place_last j h =
         let same : suc count - 1 ≡ count = omega arith in
@@ -90,5 +78,13 @@ module _ (along : Along) (b : ArrayValue) (row : List ℕ) (count : ℕ) (item_t
     pub last_item : (j : ℕ) → j < count → reverse_item along b (row ++ (0 + j + 1) ∷ []) ≡ Ok (get_or b.items (first - j) (fill b.item_type))
     last_item j h = item_at j (first - j) h (let e = place_last j h in omega arith)
 
-    pub last_low : count ≤ first + 1
-    last_low = let some = row_of.some in let e = place_last (count - 1) (omega arith) in omega arith
+    -- the last place of the row in the array
+    pub last_place : places_before b.shape (row ++ 1 ∷ []) + (count - 1) ≡ first
+    last_place =
+        let beside = places_in_row b.shape row 1 count (row_of.places 1 (omega arith) row_of.some) row_of.some in
+        let same : suc count - 1 ≡ count = omega arith in
+        let here : first ≡ places_before b.shape (row ++ count ∷ []) = ap (places_before b.shape) (at_last 1) ∙ ap (λ n. places_before b.shape (row ++ n ∷ [])) same in
+        omega (arith, row_of.some)
+
+    pub last_fits : IsArray b → places_before b.shape (row ++ 1 ∷ []) + (count - 1) < length b.items
+    last_fits sound = let below = places_below b.shape (at_index 1) (inside_at 0 row_of.some) in omega (arith, last_place, sound.one_item_a_place)

@@ -26,6 +26,19 @@ pub(crate) fn place_of<S: IndexSource>(axes: &[u32], source: &S) -> u32
     before
 }
 
+/// Returns the number of items of an array before a row, which lies along the last axis.
+pub(crate) fn row_place(axes: &[u32], row: &[u32]) -> u32
+    requires within { IsWithinLimits axes.now }
+    requires in_range { IsTrue (is_index_of axes.now (row.now ++ 1 ∷ [])) }
+    ensures { result ≡ places_before axes.now (row.now ++ 1 ∷ []) }
+{
+    let mut before = 0;
+    for k in 0..row.len() {
+        before = before * axes[k] + (row[k] - 1);
+    }
+    before * axes[row.len()]
+}
+
 /// The index list of the first place of a row, with another index on one axis.
 #[derive(Clone, Copy)]
 pub(crate) struct RowWith<'a> {

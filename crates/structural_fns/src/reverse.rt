@@ -1,12 +1,13 @@
 //! Reverse: the places of an axis in reverse order.
 
-ghost use Rattle.std.specs.Prelude.{◌≡◌, ◌≤◌, ◌-◌, suc, IsTrue, length, All, set, get_or, ◌∷◌, []};
+ghost use Rattle.std.specs.Prelude.{◌≡◌, ◌≤◌, ◌-◌, suc, IsTrue, length, All, set, get_or, ◌∷◌, [], Ok};
 ghost use Rattle.std.proofs.Common.{rules};
 ghost use Rattle.arrays_core.specs.Limits.{most_axes, longest_axis};
-ghost use Rattle.arrays_core.specs.Arrays.{ArrayValue, IsAnswerTo};
+ghost use Rattle.arrays_core.specs.Arrays.{ArrayValue, IsAnswerTo, IsArray};
 ghost use Rattle.arrays_core.specs.Shapes.{is_index_of};
 ghost use Rattle.function_names.specs.Axes.{is_axis, axis_at};
 ghost use Rattle.index_region.specs.Axes.{places_along};
+ghost use Rattle.index_region.specs.Checks.{form_of};
 ghost use Rattle.index_region.specs.ArgumentLists.{of_one_argument};
 ghost use Rattle.index_region.specs.Answers.{IsPlaceOf, IsSourceIn, source_value};
 ghost use Rattle.index_region.specs.Boxes.{fits};
@@ -14,13 +15,13 @@ ghost use Rattle.change_core.proofs.Growing.{never_grows};
 ghost use Rattle.structural_fns.specs.Reverse.{reverse_form, reverse_source, reverse_item, reverse_whole, reversed, reverse_rule};
 ghost use Rattle.structural_fns.specs.Laws.Reverse.{reverse_tight};
 
-use crate::index_source::{RowWith, place_of};
-use arrays_core::{ApplyFault, Array, ArrayBuilder, Item, ItemType, Kind, Shape, shape_of};
-use change_core::Announced;
-use index_region::{
-    Along, IndexBox, Intervals, Primitive, RowPrimitive, Seen, Source, apply_rows, item_from,
-    limited,
+use crate::index_source::{RowWith, place_of, row_place};
+use arrays_core::{
+    ApplyFault, Array, ArrayBuilder, Item, ItemFunction, ItemType, Kind, RowFunction, Shape,
+    collect_rows, shape_of,
 };
+use change_core::Announced;
+use index_region::{Along, IndexBox, Intervals, Primitive, Seen, Source, item_from, limited};
 use std::alloc::{AllocError, Global};
 
 /// Reverses an index list along an axis.
@@ -88,7 +89,16 @@ impl Reverse {
         requires { length args.now ≡ 1 }
         ensures { IsAnswerTo (of_one_argument (reverse_whole self.now.along) args.now) result }
     {
-        apply_rows(alloc, self, args)
+        let array = &args[0];
+        let (shape, item_type) = self.shape_of(args)?;
+        let axes = array.shape().as_slice();
+        let reversed = ReversedArray {
+            reverse: *self,
+            array,
+            axes,
+            axis: self.along.axis_at(axes.len() as u32),
+        };
+        collect_rows(alloc, &reversed, item_type, &shape)
     }
 }
 
@@ -116,31 +126,50 @@ impl Primitive for Reverse {
     }
 }
 
-impl RowPrimitive for Reverse {
+/// The reverse of an array along an axis that it has.
+#[derive(Drop)]
+struct ReversedArray<'a, 'b> {
+    reverse: Reverse,
+    array: &'a Seen<'b>,
+    axes: &'a [u32],
+    /// The axis to reverse, counted from 0.
+    axis: usize,
+    ghost sound: { IsArray array.now },
+    ghost axes_are: { axes.now ≡ array.now.shape },
+    ghost axis_is: { axis ≡ axis_at (length array.now.shape) reverse.along },
+    ghost passed: { reverse_form reverse.along array.now ≡ Ok (form_of array.now.shape array.now.item_type) },
+}
+
+impl<'a, 'b> ItemFunction for ReversedArray<'a, 'b> {
+    ghost result_shape = { λ r. r.array.now.shape };
+
+    ghost result_type = { λ r. r.array.now.item_type };
+
+    ghost item = { λ r. reverse_item r.reverse.along r.array.now };
+
+    fn item_at(&self, index: &[u32]) -> Result<Item, Kind> {
+        let array = self.array;
+        let source = self.reverse.source(array, index);
+        Ok(item_from(array, array, array.item_type(), source))
+    }
+}
+
+impl<'a, 'b> RowFunction for ReversedArray<'a, 'b> {
+    #[inline]
     fn extend_row(
         &self,
-        args: &[Seen],
         row: &[u32],
         count: u32,
         items: &mut ArrayBuilder,
     ) -> Result<(), AllocError> {
-        let array = &args[0];
-        let axes = array.shape().as_slice();
-        let axis = self.along.axis_at(axes.len() as u32);
+        let (axes, axis) = (self.axes, self.axis);
         if axis == row.len() {
-            let last = place_of(
-                axes,
-                &RowWith {
-                    row,
-                    axis,
-                    index: count,
-                },
-            );
-            return array.extend_back(items, last, count);
+            let first = row_place(axes, row);
+            return self.array.extend_back(items, first + (count - 1), count);
         }
         let index = axes[axis] - (row[axis] - 1);
         let first = place_of(axes, &RowWith { row, axis, index });
-        array.extend_run(items, first, count)
+        self.array.extend_run(items, first, count)
     }
 }
 
