@@ -1,9 +1,10 @@
 -- Rows of a result whose items are evenly spaced in an argument.
-use Rattle.std.{proofs.Common.{◌≡◌, ℕ, zero, suc, ◌+◌, ◌-◌, ◌*◌, ◌<◌, ◌≤◌, true, cond, List, [], ◌∷◌, ◌++◌, length, get_or, drop, reverse, Result, Ok, refl, ap, sym, ◌∙◌, arith, min, nat_eq, Bool, false, map, Err}, specs.List.{range_with_len}, proofs.lemmas.Bool.{false≢true, eqb-true, eqb-false}}
+use Rattle.std.{proofs.Common.{◌≡◌, ℕ, zero, suc, ◌+◌, ◌-◌, ◌*◌, ◌<◌, ◌≤◌, true, cond, List, [], ◌∷◌, ◌++◌, length, get_or, drop, reverse, Result, Ok, refl, ap, sym, ◌∙◌, arith, min, nat_eq, Bool, false, map, Err, subst, max, ◌/◌}, specs.List.{range_with_len}, proofs.lemmas.Bool.{false≢true, eqb-true, eqb-false}}
 use Rattle.std.proofs.lemmas.List.{length-reverse, reverse-append, get_or_push}
-use Rattle.arrays_core.{specs.declared.item.Item.{Item}, specs.declared.item.ItemType.{ItemType}, specs.declared.item.Kind.{Kind}, specs.Items.{fill}, specs.Arrays.{ArrayValue, IsArray}, specs.Building.{listed, with_row}, specs.Shapes.{size, is_index_of, places_before, IsWithinLimits}}
+use Rattle.std.proofs.Math.Nat.{mul-div_cancel_left}
+use Rattle.arrays_core.{specs.declared.item.Item.{Item}, specs.declared.item.ItemType.{ItemType}, specs.declared.item.Kind.{Kind}, specs.Items.{fill}, specs.Arrays.{ArrayValue, IsArray}, specs.Building.{listed, with_row, IsRowOf}, specs.Shapes.{size, is_index_of, places_before, IsWithinLimits}}
 use Rattle.arrays_core.{proofs.Shapes.{places_below, head_of}, proofs.Rows.{row_end, places_in_row, with_row_none, with_row_more}}
-use Rattle.index_region.{specs.Checks.{Form}, specs.Answers.{IsRowIn}, proofs.Passing.{row_inside, place_of_row}, proofs.Placed.{left_placed, right_placed}}
+use Rattle.index_region.{specs.Checks.{Form, form_of}, specs.Answers.{IsRowIn}, proofs.Passing.{row_inside, place_of_row}, proofs.Placed.{left_placed, right_placed}}
 use Rattle.structural_fns.{specs.Transpose.{transpose_form, transpose_item}, specs.DyadicTranspose.{axes_to, gathered, transpose_by_form, transpose_by_item}, proofs.SourcePlaces.{transpose_inside, gathered_inside}}
 
 -- functions that agree on a range have the same values
@@ -19,6 +20,11 @@ listed_same n f g h = range_same f g 0 n (λ i low high. h i (omega arith))
 pub row_some : (form : Result Form Kind) (row : List ℕ) (count : ℕ) (item_type : ItemType) → IsRowIn form row count item_type → 0 < count
 row_some (Ok form) row count item_type h = h.0.some
 row_some (Err kind) row count item_type h = absurd h
+
+-- a row of the result of passed checks
+pub row_in : (form : Result Form Kind) (shape row : List ℕ) (count : ℕ) (asked item_type : ItemType) → form ≡ Ok (form_of shape asked) → IsRowOf shape row count → item_type ≡ asked
+    → IsRowIn form row count item_type
+row_in form shape row count asked item_type passed h typed = subst (λ (f : Result Form Kind). IsRowIn f row count item_type) (sym passed) (h, sym typed)
 
 -- ---- a row of consecutive items of an array
 
@@ -87,27 +93,20 @@ pub place_stepped : (shape row : List ℕ) (i : ℕ) → length shape ≡ length
 place_stepped [] row i e low = absurd (omega arith)
 place_stepped (n ∷ shape) row i e low = rw (last_first row i, last_first row 1) (omega arith)
 
--- one axis less
-pub fewer_axes : (shape index : List ℕ) → is_index_of shape index ≡ true → 0 < length shape → IsWithinLimits shape → IsWithinLimits (drop 1 shape)
-fewer_axes [] index h some w = absurd (omega arith)
-fewer_axes (n ∷ shape) [] h some w = absurd (false≢true h)
-fewer_axes (n ∷ shape) (i ∷ index) h some w =
-    let head = head_of n i shape index h in
-    record {
-      rank = omega (arith, w.rank);
-      axes = λ k d there. w.axes (suc k) d (omega arith);
-      size_within = fewer n (omega (arith, head.low, head.high)) w.size_within;
-    }
-  where
-    fewer : (m : ℕ) → 0 < m → m * size shape ≤ 1048576 → size shape ≤ 1048576
-    fewer zero some within = absurd (omega arith)
-    fewer (suc m) some within = omega arith
+-- the first axis of an array that has items
+pub first_axis : (shape : List ℕ) → 0 < length shape → 0 < size shape → size shape / max (get_or shape 0 0) 1 ≡ size (drop 1 shape)
+first_axis [] h some = absurd (omega arith)
+first_axis (zero ∷ shape) h some = absurd (omega arith)
+first_axis (suc n ∷ shape) h some = let longest : max (suc n) 1 ≡ suc n = omega arith in rw longest (mul-div_cancel_left (size shape) (omega arith))
 
 -- a row of a transposed array
 module _ (b : ArrayValue) (row : List ℕ) (count : ℕ) (item_type : ItemType) (h : IsRowIn (transpose_form b) row count item_type) (first : ℕ)
     (begins : first ≡ places_before b.shape (reverse (row ++ 1 ∷ []))) where
   abbrev of_row : TransposedRow b row count
   of_row = transposed_row b row count item_type h
+
+  pub has_items : 0 < size b.shape
+  has_items = let below = places_below b.shape (reverse (row ++ 1 ∷ [])) (of_row.inside 1 (omega arith) (omega (arith, of_row.some))) in omega arith
 
   pub transposed_steps : IsArray b → (k : ℕ) → k < count → first + k * size (drop 1 b.shape) < length b.items
   transposed_steps sound =

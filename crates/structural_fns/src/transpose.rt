@@ -1,9 +1,11 @@
 //! Transpose: the axes in reverse order.
 
-ghost use Rattle.std.specs.Prelude.{◌≡◌, ◌≤◌, length, reverse, ◌∷◌, []};
+ghost use Rattle.std.specs.Prelude.{◌≡◌, ◌≤◌, ◌<◌, length, reverse, drop, ◌∷◌, [], Ok};
 ghost use Rattle.std.proofs.Common.{rules};
 ghost use Rattle.arrays_core.specs.Limits.{most_axes};
-ghost use Rattle.arrays_core.specs.Arrays.{ArrayValue, IsAnswerTo};
+ghost use Rattle.arrays_core.specs.Arrays.{ArrayValue, IsAnswerTo, IsArray};
+ghost use Rattle.arrays_core.specs.Shapes.{size};
+ghost use Rattle.index_region.specs.Checks.{form_of};
 ghost use Rattle.index_region.specs.ArgumentLists.{of_one_argument};
 ghost use Rattle.index_region.specs.Answers.{IsPlaceOf, IsSourceIn, source_value};
 ghost use Rattle.change_core.proofs.Growing.{never_grows};
@@ -12,11 +14,12 @@ ghost use Rattle.structural_fns.specs.Laws.Transpose.{transpose_tight};
 
 use crate::even_steps::extend_evenly;
 use crate::index_source::{IndexSource, place_of};
-use arrays_core::{ApplyFault, Array, ArrayBuilder, Item, ItemType, Kind, Shape, size};
-use change_core::Announced;
-use index_region::{
-    IndexBox, Intervals, Primitive, RowPrimitive, Seen, Source, apply_rows, item_from, limited,
+use arrays_core::{
+    ApplyFault, Array, ArrayBuilder, Item, ItemFunction, ItemType, Kind, RowFunction, Shape,
+    collect_rows,
 };
+use change_core::Announced;
+use index_region::{IndexBox, Intervals, Primitive, Seen, Source, item_from, limited};
 use smallvec::SmallVec;
 use std::alloc::{AllocError, Global};
 
@@ -64,7 +67,14 @@ impl Transpose {
         requires { length args.now ≡ 1 }
         ensures { IsAnswerTo (of_one_argument transpose_whole args.now) result }
     {
-        apply_rows(alloc, self, args)
+        let array = &args[0];
+        let (shape, item_type) = self.shape_of(args)?;
+        let transposed = TransposedArray {
+            array,
+            axes: array.shape().as_slice(),
+            step: items_an_index(array),
+        };
+        collect_rows(alloc, &transposed, item_type, &shape)
     }
 }
 
@@ -110,18 +120,54 @@ impl<'a> IndexSource for TransposedRow<'a> {
     }
 }
 
-impl RowPrimitive for Transpose {
+/// Returns the number of items of an array for each index on its first axis.
+fn items_an_index(array: &Seen) -> u32
+    ensures { 0 < size array.now.shape → result ≡ size (drop 1 array.now.shape) }
+{
+    let axes = array.shape().as_slice();
+    if axes.is_empty() {
+        return 1;
+    }
+    array.places() / axes[0].max(1)
+}
+
+/// The transpose of an array.
+#[derive(Drop)]
+struct TransposedArray<'a, 'b> {
+    array: &'a Seen<'b>,
+    axes: &'a [u32],
+    /// The distance in the array of the items of a row.
+    step: u32,
+    ghost sound: { IsArray array.now },
+    ghost axes_are: { axes.now ≡ array.now.shape },
+    ghost step_is: { 0 < size array.now.shape → step ≡ size (drop 1 array.now.shape) },
+    ghost passed: { transpose_form array.now ≡ Ok (form_of (reverse array.now.shape) array.now.item_type) },
+}
+
+impl<'a, 'b> ItemFunction for TransposedArray<'a, 'b> {
+    ghost result_shape = { λ r. reverse r.array.now.shape };
+
+    ghost result_type = { λ r. r.array.now.item_type };
+
+    ghost item = { λ r. transpose_item r.array.now };
+
+    fn item_at(&self, index: &[u32]) -> Result<Item, Kind> {
+        let array = self.array;
+        let source = Transpose.source(array, index);
+        Ok(item_from(array, array, array.item_type(), source))
+    }
+}
+
+impl<'a, 'b> RowFunction for TransposedArray<'a, 'b> {
+    #[inline]
     fn extend_row(
         &self,
-        args: &[Seen],
         row: &[u32],
         count: u32,
         items: &mut ArrayBuilder,
     ) -> Result<(), AllocError> {
-        let array = &args[0];
-        let axes = array.shape().as_slice();
-        let first = place_of(axes, &TransposedRow { row });
-        extend_evenly(array, first, size(&axes[1..]), count, items)
+        let first = place_of(self.axes, &TransposedRow { row });
+        extend_evenly(self.array, first, self.step, count, items)
     }
 }
 
