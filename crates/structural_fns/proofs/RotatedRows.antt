@@ -1,9 +1,9 @@
 -- The rows of a result of rotate.
 use Rattle.std.{proofs.Common.{◌≡◌, ℕ, zero, suc, pos, negsuc, ◌+◌, ◌-◌, ◌*◌, ◌/◌, ◌%◌, ◌<◌, ◌≤◌, ◌⊎◌, inl, inr, ℤ, ◌+ℤ◌, ◌-ℤ◌, unsigned_abs, nat_eq, ◌||◌, bytes_eq, if◌then◌else◌, true, List, [], ◌∷◌, ◌++◌, length, get_or, set, remove, Ok, ap, sym, subst, ◌∙◌, arith}, specs.Int.{int_rem_euclid}}
-use Rattle.std.{proofs.lemmas.Bool.{cases_lt, eq-eqb}, proofs.lemmas.Int.{ints}, proofs.lemmas.List.{get_or_default}, proofs.lemmas.Nat.{mod-mul-add}}
+use Rattle.std.{proofs.lemmas.Bool.{cases_lt, eq-eqb}, proofs.lemmas.Int.{ints}, proofs.lemmas.List.{get_or_default, get_or-map}, proofs.lemmas.Nat.{mod-mul-add}}
 use Rattle.arrays_core.{specs.declared.item.ItemType.{ItemType}, specs.Items.{fill}, specs.Arrays.{ArrayValue, IsArray}, specs.Shapes.{size, is_index_of, places_before}, proofs.Shapes.{places_below}, proofs.Rows.{places_in_row}}
 use Rattle.{scalar_fns.specs.ScalarExtension.{extended}, function_names.{specs.declared.along.Along.{Along}, specs.Axes.{is_axis, axis_at}}}
-use Rattle.index_region.{specs.Answers.{IsRowIn}, specs.Arguments.{has_one_item, counts_as_numbers, number_of}, specs.Axes.{places_along}, proofs.Passing.{RowInside, row_passed, row_inside}, proofs.Placed.{right_placed}, proofs.RowIndices.{set_before, get_before, set_last, get_last, remove_last, axis_below}}
+use Rattle.index_region.{specs.Answers.{IsRowIn}, specs.Arguments.{has_one_item, counts_as_numbers, number_of, numbers}, specs.Axes.{places_along}, proofs.Passing.{RowInside, row_passed, row_inside}, proofs.Placed.{right_placed}, proofs.OnAxes.{OnAxis, on_axis}, proofs.RowIndices.{set_before, get_before, set_last, get_last, remove_last, axis_below}}
 use Rattle.structural_fns.{specs.Rotate.{rotate_form, rotate_item, rotated_place, rotation}, proofs.SourcePlaces.{rotated_inside}, proofs.SteppedRows.{place_beside, row_fits}, proofs.Turning.{residue_euclid}}
 
 -- ---- the place after a place, counted round the end of an axis
@@ -105,6 +105,22 @@ pub record TurnedLine (along : Along) (a b : ArrayValue) (row : List ℕ) (count
 one_amount : (axis : ℕ) (a : ArrayValue) (index : List ℕ) → size a.shape ≡ 1 → rotation axis a index ≡ number_of (get_or a.items 0 (fill a.item_type))
 one_amount axis a index e = ap (λ w. number_of (get_or a.items (if w then 0 else places_before a.shape (remove index axis)) (fill a.item_type))) (eq-eqb (size a.shape) 1 e)
 
+-- the index that moves to an index, by the places that the amount moves the first one
+pub turned_from : (n turn : ℕ) (amount : ℤ) (i : ℕ) → 1 ≤ i → i ≤ n → suc turn ≡ rotated_place n amount 1 → Turned n (suc turn) (rotated_place n amount i) (i - 1)
+turned_from n turn amount i low high e =
+    let same : 0 + (i - 1) + 1 ≡ i = omega arith in
+    rw e (subst (λ j. Turned n (rotated_place n amount 1) (rotated_place n amount j) (i - 1)) same (turned n amount (i - 1) (omega arith) (omega arith)))
+
+pub turn_below : (n turn : ℕ) (amount : ℤ) → 0 < n → suc turn ≡ rotated_place n amount 1 → turn < n
+turn_below n turn amount some e = omega (arith, (next_place n amount 1 some).high)
+
+one_number : (a : ArrayValue) → IsArray a → size a.shape ≡ 1 → get_or (numbers a) 0 (pos 0) ≡ number_of (get_or a.items 0 (fill a.item_type))
+one_number a sound one = get_or-map number_of a.items 0 (fill a.item_type) (pos 0) (omega (arith, sound.one_item_a_place))
+
+-- a row of lines that have one amount
+pub amount_of : (axis : ℕ) (a : ArrayValue) (index : List ℕ) → IsArray a → size a.shape ≡ 1 → rotation axis a index ≡ get_or (numbers a) 0 (pos 0)
+amount_of axis a index sound one = one_amount axis a index one ∙ sym (one_number a sound one)
+
 module _ (along : Along) (a b : ArrayValue) (row : List ℕ) (count : ℕ) (item_type : ItemType) (is : IsRowIn (rotate_form along a b) row count item_type) where
   abbrev pub axis : ℕ
   axis = axis_at (length b.shape) along
@@ -122,14 +138,14 @@ module _ (along : Along) (a b : ArrayValue) (row : List ℕ) (count : ℕ) (item
       let shapes = row_passed (has_one_item a || bytes_eq a.shape (remove b.shape axis)) _ _ row count item_type ranks.row_in in
       row_inside b.shape b.item_type row count item_type (row_passed (counts_as_numbers a) _ _ row count item_type shapes.row_in).row_in
 
-  inside_at : (j : ℕ) → j < count → is_index_of b.shape (at_index (0 + j + 1)) ≡ true
+  pub inside_at : (j : ℕ) → j < count → is_index_of b.shape (at_index (0 + j + 1)) ≡ true
   inside_at j h =
       rotated_inside b.shape (row ++ (0 + j + 1) ∷ []) axis (rotation axis a (row ++ (0 + j + 1) ∷ [])) (passed_row.row_of.places (0 + j + 1) (omega arith) (omega arith))
 
   pub item_at : (j k : ℕ) → j < count → places_before b.shape (at_index (0 + j + 1)) ≡ k → rotate_item along a b (row ++ (0 + j + 1) ∷ []) ≡ Ok (get_or b.items k (fill b.item_type))
   item_at j k h e = right_placed a b (at_index (0 + j + 1)) (inside_at j h) ∙ ap (λ n. Ok (get_or b.items n (fill b.item_type))) e
 
-  below_last : (axis ≡ length row → ⊥) → axis < length row
+  pub below_last : (axis ≡ length row → ⊥) → axis < length row
   below_last not_last =
       let checked = row_passed (is_axis (length b.shape) along) _ _ row count item_type is in
       let below = axis_below (length b.shape) along checked.test (omega (arith, passed_row.row_of.long)) in
@@ -145,6 +161,19 @@ module _ (along : Along) (a b : ArrayValue) (row : List ℕ) (count : ℕ) (item
         ap (λ z. set (row ++ i ∷ []) axis (rotated_place (places_along b.shape axis) z (get_or (row ++ i ∷ []) axis 1))) (one_amount axis a (row ++ i ∷ []) one)
         ∙ set_before row i axis (rotated_place (places_along b.shape axis) (number_of (get_or a.items 0 (fill a.item_type))) (get_or (row ++ i ∷ []) axis 1)) (below_last not_last)
         ∙ ap (λ n. set row axis (rotated_place (places_along b.shape axis) (number_of (get_or a.items 0 (fill a.item_type))) n) ++ i ∷ []) (get_before row i axis 1 (below_last not_last))
+
+    -- the index of the row on the axis, and the first index list in the array
+    pub other_on : OnAxis (get_or b.shape axis 0) (get_or row axis 0)
+    other_on =
+        let on = on_axis b.shape (row ++ 1 ∷ []) axis (passed_row.row_of.places 1 (omega arith) passed_row.row_of.some) (omega (arith, passed_row.row_of.long, below_last not_last)) in
+        let is = get_before row 1 axis 0 (below_last not_last) in
+        record { low = omega (arith, on.low); high = omega (arith, on.high) }
+
+    pub other_list : IsArray a → (index : ℕ) → index ≡ rotated_place (places_along b.shape axis) (get_or (numbers a) 0 (pos 0)) (get_or row axis 0) → set (row ++ 1 ∷ []) axis index ≡ at_index 1
+    other_list sound index e =
+        let here : get_or (row ++ 1 ∷ []) axis 1 ≡ get_or row axis 0 = get_before row 1 axis 1 (below_last not_last) ∙ get_or_default row axis 1 0 (below_last not_last) in
+        ap (set (row ++ 1 ∷ []) axis) (e ∙ ap (λ i. rotated_place (places_along b.shape axis) (get_or (numbers a) 0 (pos 0)) i) (sym here)
+        ∙ ap (λ z. rotated_place (places_along b.shape axis) z (get_or (row ++ 1 ∷ []) axis 1)) (sym (amount_of axis a (row ++ 1 ∷ []) sound one)))
 
     pub other_item : (j : ℕ) → j < count → rotate_item along a b (row ++ (0 + j + 1) ∷ []) ≡ Ok (get_or b.items (first + j) (fill b.item_type))
     other_item j h = item_at j (first + j) h (place_beside b.shape at_index others (λ i. i) count inside_at at_other (λ k. omega arith) j h)
@@ -225,6 +254,23 @@ module _ (along : Along) (a b : ArrayValue) (row : List ℕ) (count : ℕ) (item
         let same = t.inside (omega arith) in
         omega (arith, sound.one_item_a_place)
 
+    line : (place begin : ℕ) → place ≡ first → begin ≡ from → IsArray b → TurnedLine along a b row count place begin
+    line place begin e f sound =
+        rw (e, f) (record { low = from_low; high = from_high; there = begin_there; fits = end_fits sound; end_item = end_item; begin_item = begin_item })
+
     pub turned_line : (place : ℕ) (at : List ℕ) → place ≡ first → at ≡ at_index 1 → IsArray b → TurnedLine along a b row count place (get_or at (length row) 0)
-    turned_line place at e f sound =
-        rw (e, f ∙ at_last 1, get_last row from 0) (record { low = from_low; high = from_high; there = begin_there; fits = end_fits sound; end_item = end_item; begin_item = begin_item })
+    turned_line place at e f sound = line place (get_or at (length row) 0) e (ap (λ xs. get_or xs (length row) 0) (f ∙ at_last 1) ∙ get_last row from 0) sound
+
+    -- the line moves by the places that the one amount moves the first one
+    pub one_line : (place turn : ℕ) → place ≡ places_before b.shape (row ++ 1 ∷ []) → IsArray a → size a.shape ≡ 1
+        → (0 < places_along b.shape axis → suc turn ≡ rotated_place (places_along b.shape axis) (get_or (numbers a) 0 (pos 0)) 1) → IsArray b
+        → TurnedLine along a b row count (place + turn) (suc turn)
+    one_line place turn begins sound_amounts one turn_is sound =
+        let n : places_along b.shape axis ≡ count =
+        ap (places_along b.shape) last_axis ∙ get_or_default b.shape (length row) 1 0 (omega (arith, passed_row.row_of.long)) ∙ passed_row.row_of.whole in
+        let same : get_or (numbers a) 0 (pos 0) ≡ amount =
+        sym (amount_of (length row) a (row ++ 1 ∷ []) sound_amounts one) ∙ ap (λ xs. number_of (extended a xs)) (remove_last row 1) in
+        let turned : suc turn ≡ from = turn_is (omega (arith, passed_row.row_of.some)) ∙ ap (λ m. rotated_place m (get_or (numbers a) 0 (pos 0)) 1) n ∙ ap (λ z. rotated_place count z 1) same in
+        let pair = places_in_row b.shape row 1 from (passed_row.row_of.places 1 (omega arith) passed_row.row_of.some) from_low in
+        let here : first ≡ places_before b.shape (row ++ from ∷ []) = ap (places_before b.shape) (at_last 1) in
+        line (place + turn) (suc turn) (omega arith) turned sound

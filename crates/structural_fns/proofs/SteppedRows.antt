@@ -1,9 +1,9 @@
 -- Rows of a result whose items are evenly spaced in an argument.
-use Rattle.std.{proofs.Common.{◌≡◌, ℕ, zero, suc, ◌+◌, ◌-◌, ◌*◌, ◌<◌, ◌≤◌, true, cond, List, [], ◌∷◌, ◌++◌, length, get_or, drop, reverse, Result, Ok, refl, ap, sym, ◌∙◌, arith, min, nat_eq, Bool, false, map, Err, subst, max, ◌/◌}, specs.List.{range_with_len}, proofs.lemmas.Bool.{false≢true, eqb-true, eqb-false}}
+use Rattle.std.{proofs.Common.{◌≡◌, ℕ, zero, suc, ◌+◌, ◌-◌, ◌*◌, ◌<◌, ◌≤◌, true, cond, List, [], ◌∷◌, ◌++◌, length, get_or, drop, reverse, Result, Ok, refl, ap, sym, ◌∙◌, arith, min, nat_eq, Bool, false, map, Err, subst, max, ◌/◌}, specs.List.{range_with_len}, proofs.lemmas.Bool.{eqb-true, eqb-false}}
 use Rattle.std.proofs.lemmas.List.{length-reverse, reverse-append, get_or_push}
 use Rattle.std.proofs.Math.Nat.{mul-div_cancel_left}
-use Rattle.arrays_core.{specs.declared.item.Item.{Item}, specs.declared.item.ItemType.{ItemType}, specs.declared.item.Kind.{Kind}, specs.Items.{fill}, specs.Arrays.{ArrayValue, IsArray}, specs.Building.{listed, with_row, IsRowOf}, specs.Shapes.{size, is_index_of, places_before, IsWithinLimits}}
-use Rattle.arrays_core.{proofs.Shapes.{places_below, head_of}, proofs.Rows.{row_end, places_in_row, with_row_none, with_row_more}}
+use Rattle.arrays_core.{specs.declared.item.Item.{Item}, specs.declared.item.ItemType.{ItemType}, specs.declared.item.Kind.{Kind}, specs.Items.{fill}, specs.Arrays.{ArrayValue, IsArray}, specs.Building.{listed, with_row, IsRowOf}, specs.Shapes.{size, is_index_of, places_before}}
+use Rattle.arrays_core.{proofs.Shapes.{places_below}, proofs.Rows.{row_end, places_in_row, with_row_none, with_row_more}}
 use Rattle.index_region.{specs.Checks.{Form, form_of}, specs.Answers.{IsRowIn}, proofs.Passing.{row_inside, place_of_row}, proofs.Placed.{left_placed, right_placed}}
 use Rattle.structural_fns.{specs.Transpose.{transpose_form, transpose_item}, specs.DyadicTranspose.{axes_to, gathered, transpose_by_form, transpose_by_item}, proofs.SourcePlaces.{transpose_inside, gathered_inside}}
 

@@ -1,24 +1,26 @@
 //! Rotate: moves the places of an axis cyclically.
 
-ghost use Rattle.std.specs.Prelude.{◌≡◌, ◌≤◌, ◌<◌, ◌≢◌, ◌++◌, ◌∷◌, [], IfOk, OnOk, Ok, Err, IfErr, IsTrue, Result, length, All, set, get_or, remove};
+ghost use Rattle.std.specs.Prelude.{◌≡◌, ◌≤◌, ◌<◌, ◌≢◌, ◌++◌, ◌∷◌, [], suc, ℤ, pos, IfOk, OnOk, Ok, Err, IfErr, IsTrue, Result, length, All, set, get_or, remove};
 ghost use Rattle.std.proofs.Common.{rules};
 ghost use Rattle.arrays_core.specs.Limits.{most_axes, longest_axis};
 ghost use Rattle.arrays_core.specs.declared.item.Kind.{Kind as AKind};
-ghost use Rattle.arrays_core.specs.Arrays.{ArrayValue, IsAnswerTo};
+ghost use Rattle.arrays_core.specs.Arrays.{ArrayValue, IsAnswerTo, IsArray};
 ghost use Rattle.arrays_core.specs.Shapes.{is_index_of, size};
 ghost use Rattle.arrays_core.specs.Building.{with_row};
-ghost use Rattle.index_region.specs.Checks.{Form};
+ghost use Rattle.index_region.specs.Checks.{Form, form_of};
 ghost use Rattle.function_names.specs.Axes.{axis_at};
 ghost use Rattle.index_region.specs.Axes.{places_along};
+ghost use Rattle.index_region.specs.Arguments.{numbers};
 ghost use Rattle.index_region.specs.ArgumentLists.{of_two_arguments};
 ghost use Rattle.index_region.specs.Answers.{IsPlaceOf, IsRowIn, IsSourceIn, source_value};
 ghost use Rattle.change_core.proofs.Growing.{never_grows};
 ghost use Rattle.structural_fns.specs.Rotate.{lines_checked, rotate_form, rotation, rotated_place, rotate_source, rotate_item, rotate_whole, rotate_rule};
 ghost use Rattle.structural_fns.specs.Laws.Rotate.{rotate_tight};
 
+use crate::index_source::{RowWith, place_of, row_place};
 use arrays_core::{
-    ApplyFault, Array, ArrayBuilder, Item, ItemType, Kind, Shape, index_in_row, places_before,
-    position, shape_of, without_axis,
+    ApplyFault, Array, ArrayBuilder, Item, ItemFunction, ItemType, Kind, RowFunction, Shape,
+    collect_rows, index_in_row, places_before, position, shape_of, without_axis,
 };
 use change_core::Announced;
 use index_region::{
@@ -159,27 +161,6 @@ impl Rotate {
         array.extend_run(items, place - before, before)
     }
 
-    /// Appends a row across the lines, which share one amount: a row of the array.
-    fn extend_across(
-        self,
-        amounts: &Seen,
-        array: &Seen,
-        row: &[u32],
-        count: u32,
-        items: &mut ArrayBuilder,
-    ) -> Result<(), AllocError>
-        requires row { IsRowIn (rotate_form self.along amounts.now array.now) row.now count items.old.item_type }
-        requires other { axis_at (length array.now.shape) self.along ≢ length row.now }
-        requires one { size amounts.now.shape ≡ 1 }
-        ensures items { OnOk result (with_row items.old.items (λ i. rotate_item self.along amounts.now array.now (row.now ++ i ∷ [])) count ≡ Ok items.new.items) }
-        ensures typed { items.new.item_type ≡ items.old.item_type }
-    {
-        let shape = array.shape();
-        let first = index_in_row(*shape.allocator(), row, 1);
-        let at = self.place_of(amounts, array, first.as_slice());
-        array.extend_run(items, places_before(shape, at.as_slice()), count)
-    }
-
     /// Appends a row across the lines item by item, as each may have its own amount.
     fn push_row(
         self,
@@ -207,7 +188,22 @@ impl Rotate {
         requires { length args.now ≡ 2 }
         ensures { IsAnswerTo (of_two_arguments (rotate_whole self.now.along) args.now) result }
     {
-        apply_rows(alloc, self, args)
+        let (amounts, array) = (&args[0], &args[1]);
+        if amounts.places() != 1 {
+            return apply_rows(alloc, self, args);
+        }
+        let (shape, item_type) = self.shape_of(args)?;
+        let axes = array.shape().as_slice();
+        let axis = self.along.axis_at(axes.len() as u32);
+        let rotated = RotatedArray {
+            rotate: *self,
+            amounts,
+            array,
+            axes,
+            axis,
+            turn: turn_of(axes.get(axis).copied().unwrap_or(1), amounts.number(1)),
+        };
+        collect_rows(alloc, &rotated, item_type, &shape)
     }
 }
 
@@ -253,10 +249,89 @@ impl RowPrimitive for Rotate {
         if self.along.axis_at(array.shape().len() as u32) == row.len() {
             return self.extend_turned(amounts, array, row, count, items);
         }
-        if amounts.places() == 1 {
-            return self.extend_across(amounts, array, row, count, items);
-        }
         self.push_row(amounts, array, row, count, items)
+    }
+}
+
+/// Returns how many places an amount moves those of an axis, below the length of the axis.
+fn turn_of(axis: u32, amount: i64) -> u32
+    requires within { axis ≤ longest_axis }
+    ensures { 0 < axis → suc result ≡ rotated_place axis amount 1 }
+{
+    if axis == 0 {
+        return 0;
+    }
+    rotated_place(axis, amount, 1) - 1
+}
+
+/// Returns the index that moves to an index of an axis.
+#[inline]
+fn turned_index(axis: u32, turn: u32, index: u32) -> u32
+    requires low { 1 ≤ index }
+    requires high { index ≤ axis }
+    requires below { turn < axis }
+    requires within { axis ≤ longest_axis }
+    ensures { (amount : ℤ) → suc turn ≡ rotated_place axis amount 1 → result ≡ rotated_place axis amount index }
+{
+    let moved = index + turn;
+    if moved > axis {
+        return moved - axis;
+    }
+    moved
+}
+
+/// The rotation of an array along an axis that it has, all lines by one amount.
+#[derive(Drop)]
+struct RotatedArray<'a, 'b> {
+    rotate: Rotate,
+    amounts: &'a Seen<'b>,
+    array: &'a Seen<'b>,
+    axes: &'a [u32],
+    /// The axis, counted from 0.
+    axis: usize,
+    /// How many places the amount moves those of the axis, below its length.
+    turn: u32,
+    ghost sound: { IsArray array.now },
+    ghost axes_are: { axes.now ≡ array.now.shape },
+    ghost axis_is: { axis ≡ axis_at (length array.now.shape) rotate.along },
+    ghost amounts_are: { IsArray amounts.now },
+    ghost one: { size amounts.now.shape ≡ 1 },
+    ghost turn_is: { 0 < places_along array.now.shape axis → suc turn ≡ rotated_place (places_along array.now.shape axis) (get_or (numbers amounts.now) 0 (pos 0)) 1 },
+    ghost passed: { rotate_form rotate.along amounts.now array.now ≡ Ok (form_of array.now.shape array.now.item_type) },
+}
+
+impl<'a, 'b> ItemFunction for RotatedArray<'a, 'b> {
+    ghost result_shape = { λ r. r.array.now.shape };
+
+    ghost result_type = { λ r. r.array.now.item_type };
+
+    ghost item = { λ r. rotate_item r.rotate.along r.amounts.now r.array.now };
+
+    fn item_at(&self, index: &[u32]) -> Result<Item, Kind> {
+        let array = self.array;
+        let source = self.rotate.source(self.amounts, array, index);
+        Ok(item_from(array, array, array.item_type(), source))
+    }
+}
+
+impl<'a, 'b> RowFunction for RotatedArray<'a, 'b> {
+    #[inline]
+    fn extend_row(
+        &self,
+        row: &[u32],
+        count: u32,
+        items: &mut ArrayBuilder,
+    ) -> Result<(), AllocError> {
+        let (axes, axis) = (self.axes, self.axis);
+        if axis == row.len() {
+            let first = row_place(axes, row);
+            self.array
+                .extend_run(items, first + self.turn, count - self.turn)?;
+            return self.array.extend_run(items, first, self.turn);
+        }
+        let index = turned_index(axes[axis], self.turn, row[axis]);
+        let first = place_of(axes, &RowWith { row, axis, index });
+        self.array.extend_run(items, first, count)
     }
 }
 

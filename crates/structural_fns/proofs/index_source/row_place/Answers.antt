@@ -1,5 +1,5 @@
-use Rattle.std.{proofs.Common.{◌≡◌, ◌≤◌, ◌+◌, ◌-◌, ◌*◌, ◌++◌, ◌∷◌, [], length, get_or, drop, arith}, proofs.lemmas.List.{length_push}}
-use Rattle.arrays_core.{specs.Shapes.{places_before}, proofs.Shapes.{Turn, turn_at, turn_ended, places_below}, proofs.Rows.{row_end}}
+use Rattle.std.{proofs.Common.{◌≡◌, ◌≤◌, ◌+◌, ◌-◌, ◌*◌, ◌++◌, ◌∷◌, [], length, get_or, arith}, proofs.lemmas.List.{length_push}}
+use Rattle.arrays_core.{specs.Shapes.{places_before}, proofs.Shapes.{turn_at, turn_ended, places_below}, proofs.Rows.{row_end}}
 use Rattle.{index_region.proofs.RowIndices.{get_before, get_last}, structural_fns.proofs.index_source.row_place.Goals.{In-loop-k, After-loop-k}}
 use Rattle.structural_fns.proofs.index_source.row_place.Goals as goal
 

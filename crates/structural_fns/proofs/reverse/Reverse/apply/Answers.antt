@@ -1,4 +1,4 @@
-use Rattle.std.proofs.Common.{◌≡◌, ◌∙◌, ◌∷◌, [], ap, length, Ok}
+use Rattle.std.proofs.Common.{◌≡◌, ◌∙◌, ap, length, Ok}
 use Rattle.{function_names.specs.Axes.{is_axis}, index_region.{specs.Checks.{form_of}, proofs.Passing.{one_argument, gives, limited_gives}}}
 use Rattle.structural_fns.{specs.Reverse.{reverse_form}, proofs.reverse.Reverse.apply.Goals.{In_ok-shape}}
 use Rattle.structural_fns.proofs.reverse.Reverse.apply.Goals as goal

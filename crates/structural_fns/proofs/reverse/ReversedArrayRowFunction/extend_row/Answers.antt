@@ -1,7 +1,6 @@
-use Rattle.std.proofs.Common.{◌≡◌, ◌+◌, ◌-◌, ◌<◌, ℕ, List, true, ap, sym, ◌∙◌, get_or, length, arith, Result, Ok, ◌++◌, ◌∷◌, []}
-use Rattle.{arrays_core.{specs.Items.{fill}, specs.Arrays.{ArrayValue}, specs.Building.{IsRowOf}, specs.declared.item.Kind.{Kind}, specs.Shapes.{places_before, size}, proofs.Rows.{row_put}, proofs.Shapes.{places_below}}}
-use Rattle.{function_names.{specs.declared.along.Along.{Along}, specs.Axes.{is_axis, axis_at}}, index_region.{specs.Checks.{form_of}, proofs.Passing.{gives}}}
-use Rattle.structural_fns.{specs.Reverse.{reverse_form, reverse_item}, proofs.ReversedRows.{at_index, below_last, inside_at, last_item, last_place, last_fits, other_item, other_fits, other_list, other_on}}
+use Rattle.std.proofs.Common.{◌+◌, ◌-◌, ap, sym, ◌∙◌, get_or, arith, Ok, ◌++◌, ◌∷◌, []}
+use Rattle.{arrays_core.{specs.Items.{fill}, proofs.Rows.{row_put}}}
+use Rattle.structural_fns.{specs.Reverse.{reverse_item}, proofs.ReversedRows.{below_last, inside_at, last_item, last_place, last_fits, other_item, other_fits, other_list, other_on}}
 use Rattle.structural_fns.proofs.reverse.ReversedArrayRowFunction.extend_row.Goals as goal
 
 -- ---- along the last axis
@@ -10,8 +9,13 @@ pub overflow_add-first : goal.overflow_add-first
 overflow_add-first c =
     let r = c.args.self.now in
     let place = rw r.axes_are at c.row_place-first.ensures in
-    omega (arith, place, r.sound.one_item_a_place, r.sound.within.size_within,
-    last_fits r.reverse.along r.array.now c.args.row.now c.args.count r.passed c.requires.row (sym r.axis_is ∙ c.if-axis-row.true) r.sound)
+    omega (
+      arith,
+      place,
+      r.sound.one_item_a_place,
+      r.sound.within.size_within,
+      last_fits r.reverse.along r.array.now c.args.row.now c.args.count r.passed c.requires.row (sym r.axis_is ∙ c.if-axis-row.true) r.sound,
+    )
 
 pub extend_back-requires-clause-high : goal.extend_back-requires-clause-high
 extend_back-requires-clause-high c =

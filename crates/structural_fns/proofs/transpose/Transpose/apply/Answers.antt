@@ -1,4 +1,4 @@
-use Rattle.std.proofs.Common.{◌≡◌, ◌∙◌, ◌∷◌, [], ap, reverse, Ok}
+use Rattle.std.proofs.Common.{◌≡◌, ◌∙◌, ap, reverse, Ok}
 use Rattle.index_region.{specs.Checks.{form_of}, proofs.Passing.{one_argument, limited_gives}}
 use Rattle.structural_fns.{specs.Transpose.{transpose_form}, proofs.transpose.Transpose.apply.Goals.{In_ok-shape}}
 use Rattle.structural_fns.proofs.transpose.Transpose.apply.Goals as goal
