@@ -1,5 +1,5 @@
 -- The rows of a catenation.
-use Rattle.std.{proofs.Common.{◌≡◌, ℕ, ◌+◌, ◌-◌, ◌*◌, ◌<◌, ◌≤◌, min, nat_eq, nat_le, Bool, true, false, cond, if◌then◌else◌, List, [], ◌∷◌, ◌++◌, length, get_or, set, insert, remove, Some, None, Result, Ok, refl, ap, sym, subst, ◌∙◌, ◌⊎◌, inl, inr, arith}, specs.Prelude.{unwrap_or, not, ◌&&◌}}
+use Rattle.std.{proofs.Common.{◌≡◌, ℕ, zero, suc, ◌+◌, ◌-◌, ◌*◌, ◌<◌, ◌≤◌, min, nat_eq, nat_le, Bool, true, false, cond, if◌then◌else◌, List, [], ◌∷◌, ◌++◌, length, get_or, set, insert, remove, Some, None, Result, Ok, refl, ap, sym, subst, ◌∙◌, ◌⊎◌, inl, inr, arith}, specs.Prelude.{unwrap_or, not, ◌&&◌}}
 use Rattle.std.{proofs.lemmas.Bool.{eqb-true, eqb-false, le-leb, lt-leb, not_from_false, false_from_ne_true}, proofs.lemmas.List.{set-append_left, get_or_append_left, get_or_push, append-nil}, proofs.lemmas.List.Edits.{remove-append_left, remove-append_right, length-insert, get_or-insert_at}}
 use Rattle.std.proofs.Math.Seq.{set-append_seam}
 use Rattle.arrays_core.{specs.declared.item.Item.{Item}, specs.declared.item.ItemType.{ItemType}, specs.declared.item.Kind.{Kind}, specs.Items.{fill}, specs.Arrays.{ArrayValue, IsArray, item_of}, specs.Building.{listed, with_row}, specs.Shapes.{is_index_of, places_before}, proofs.Shapes.{places_below}}
@@ -7,7 +7,7 @@ use Rattle.arrays_core.proofs.Rows.{places_in_row, with_row_none, with_row_more}
 use Rattle.function_names.{specs.declared.along.Along.{Along}, specs.Axes.{is_axis, axis_at}}
 use Rattle.index_region.{specs.Answers.{IsRowIn}, specs.Arguments.{is_scalar, has_items}, specs.Sources.{Place, item_from}, proofs.Passing.{RowInside, row_passed, row_inside, place_of_row}}
 use Rattle.structural_fns.{specs.Catenate.{joined_rank, joined_places, other_axes, ranks_join, axes_agree, types_join, joined_type, joined_shape, in_side, in_side_of_row, catenate_form, catenate_item}, specs.Laws.SharedAxes.{shared_long}, proofs.Sides.{right_typed}, proofs.SidePlaces.{JoinFacts, join_facts}}
-use Rattle.structural_fns.proofs.SteppedRows.{listed_same, step_of_two}
+use Rattle.structural_fns.proofs.SteppedRows.{listed_same}
 
 -- the places of a row all come from one place of a side, or from consecutive places
 record Stays (at : ℕ → List ℕ) : Type 0 where
@@ -84,6 +84,16 @@ stepped shape at before kept (inr moves) inside =
           let far = places_in_row shape moves.others (before + 1 - moves.skipped) (before + i - moves.skipped) begin (omega (arith, moves.low)) in
           rw (moves.is (before + i), first) (omega (arith, moves.low));
     }
+
+-- the step of a row is the distance of its first two places
+step_of_two : (first second stride m count i : ℕ) → 1 ≤ i → i ≤ count → m ≡ min count 2 → second ≡ first + (m - 1) * stride → (i - 1) * stride ≡ (i - 1) * (second - first)
+step_of_two first second stride m zero i low high e f = absurd (omega arith)
+step_of_two first second stride m (suc zero) i low high e f = let one : i ≡ 1 = omega arith in rw one (omega arith)
+step_of_two first second stride m (suc (suc count)) i low high e f =
+    let two : m ≡ 2 = omega arith in
+    let far : second ≡ first + (2 - 1) * stride = rw two at f in
+    let same : second - first ≡ stride = omega arith in
+    rw same refl
 
 -- a part of a row that comes from one side
 module _ (s : ArrayValue) (axis skipped : ℕ) (row : List ℕ) (before kept : ℕ) (below : axis ≤ length row) (low : axis ≡ length row → skipped ≤ before)

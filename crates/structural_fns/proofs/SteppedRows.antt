@@ -1,11 +1,11 @@
 -- Rows of a result whose items are evenly spaced in an argument.
-use Rattle.std.{proofs.Common.{◌≡◌, ℕ, zero, suc, ◌+◌, ◌-◌, ◌*◌, ◌<◌, ◌≤◌, true, cond, List, [], ◌∷◌, ◌++◌, length, get_or, drop, reverse, Result, Ok, refl, ap, sym, ◌∙◌, arith, min, nat_eq, Bool, false, map, Err, subst, max, ◌/◌}, specs.List.{range_with_len}, proofs.lemmas.Bool.{eqb-true, eqb-false}}
-use Rattle.std.proofs.lemmas.List.{length-reverse, reverse-append, get_or_push}
+use Rattle.std.{proofs.Common.{◌≡◌, ℕ, zero, suc, ◌+◌, ◌-◌, ◌*◌, ◌<◌, ◌≤◌, true, cond, List, [], ◌∷◌, ◌++◌, length, get_or, drop, reverse, Result, Ok, refl, ap, sym, ◌∙◌, arith, nat_eq, Bool, false, map, Err, subst, max, ◌/◌}, specs.List.{range_with_len}, proofs.lemmas.Bool.{eqb-true, eqb-false}}
+use Rattle.std.proofs.lemmas.List.{length-reverse, reverse-append, get_or_push, drop_more, drop_all}
 use Rattle.std.proofs.Math.Nat.{mul-div_cancel_left}
 use Rattle.arrays_core.{specs.declared.item.Item.{Item}, specs.declared.item.ItemType.{ItemType}, specs.declared.item.Kind.{Kind}, specs.Items.{fill}, specs.Arrays.{ArrayValue, IsArray}, specs.Building.{listed, with_row, IsRowOf}, specs.Shapes.{size, is_index_of, places_before}}
 use Rattle.arrays_core.{proofs.Shapes.{places_below}, proofs.Rows.{row_end, places_in_row, with_row_none, with_row_more}}
 use Rattle.index_region.{specs.Checks.{Form, form_of}, specs.Answers.{IsRowIn}, proofs.Passing.{row_inside, place_of_row}, proofs.Placed.{left_placed, right_placed}}
-use Rattle.structural_fns.{specs.Transpose.{transpose_form, transpose_item}, specs.DyadicTranspose.{axes_to, gathered, transpose_by_form, transpose_by_item}, proofs.SourcePlaces.{transpose_inside, gathered_inside}}
+use Rattle.structural_fns.{specs.Transpose.{transpose_form, transpose_item}, specs.DyadicTranspose.{axes_to, gathered, stride_to, transpose_by_form, transpose_by_item}, proofs.SourcePlaces.{transpose_inside, gathered_inside}}
 
 -- functions that agree on a range have the same values
 range_same : {A : Type 0} (f g : ℕ → A) (a n : ℕ) → ((i : ℕ) → a ≤ i → i < a + n → f i ≡ g i) → map f (range_with_len a n) ≡ map g (range_with_len a n)
@@ -127,10 +127,41 @@ before_end [] x y (suc k) h = refl
 before_end (z ∷ xs) x y zero h = refl
 before_end (z ∷ xs) x y (suc k) h = before_end xs x y k (λ e. h (ap suc e))
 
--- the distance of items along axis r, counted from 0: the sum of the strides of the axes that go there
-abbrev stride_to : List ℕ → List ℕ → ℕ → ℕ
-stride_to (n ∷ shape) (j ∷ axes) r = cond (nat_eq (j - 1) r) (size shape) 0 + stride_to shape axes r
-stride_to shape axes r = 0
+-- the axes that are left, and the stride of those before them
+pub record StrideSoFar (shape axes : List ℕ) (r places stride total : ℕ) : Type 0 where
+  pub some : 0 < size shape
+  pub places_is : places ≡ size shape
+  pub total_is : stride + stride_to shape axes r ≡ total
+
+pub stride_begins : (shape axes : List ℕ) (r places : ℕ) → places ≡ size shape → 0 < size shape → StrideSoFar shape axes r places 0 (stride_to shape axes r)
+stride_begins shape axes r places e some = record { some = some; places_is = e; total_is = omega arith }
+
+factor_positive : (n s : ℕ) → 0 < n * s → 0 < s
+factor_positive n zero h = absurd (omega arith)
+factor_positive n (suc s) h = omega arith
+
+pub stride_goes_on : (n : ℕ) (shape : List ℕ) (j : ℕ) (axes : List ℕ) (r places stride total : ℕ) → StrideSoFar (n ∷ shape) (j ∷ axes) r places stride total
+    → StrideSoFar shape axes r (places / max n 1) (stride + cond (nat_eq (j - 1) r) (places / max n 1) 0) total
+stride_goes_on n shape j axes r places stride total h =
+    let whole : places / max n 1 ≡ size shape = rw h.places_is (first_axis (n ∷ shape) (omega arith) h.some) in
+    record { some = factor_positive n (size shape) h.some; places_is = whole; total_is = rw whole (omega (arith, h.total_is)) }
+
+pub stride_at : (shape axes : List ℕ) (k r places stride total : ℕ) → k < length shape → length axes ≡ length shape → StrideSoFar (drop k shape) (drop k axes) r places stride total
+    → StrideSoFar (drop (k + 1) shape) (drop (k + 1) axes) r (places / max (get_or shape k 0) 1) (stride + cond (nat_eq (get_or axes k 0 - 1) r) (places / max (get_or shape k 0) 1) 0) total
+stride_at shape axes k r places stride total h same so_far =
+    stride_goes_on (get_or shape k 0) (drop (k + 1) shape) (get_or axes k 0) (drop (k + 1) axes) r places stride total (rw (drop_more shape k 0 h, drop_more axes k 0 (omega arith)) at so_far)
+
+pub stride_chosen : (x r p stride new : ℕ) → (x ≡ r → new ≡ stride + p) → ((x ≡ r → ⊥) → new ≡ stride) → new ≡ stride + cond (nat_eq x r) p 0
+stride_chosen x r p stride new same other = by_test (nat_eq x r) refl
+  where
+    by_test : (w : Bool) → nat_eq x r ≡ w → new ≡ stride + cond w p 0
+    by_test true e = same (eqb-true x r e)
+    by_test false e = let kept = other (eqb-false x r e) in omega arith
+
+pub stride_ends : (shape axes : List ℕ) (k r places stride total : ℕ) → length shape ≤ k → StrideSoFar (drop k shape) (drop k axes) r places stride total → stride ≡ total
+stride_ends shape axes k r places stride total h so_far =
+    let e : stride + stride_to [] (drop k axes) r ≡ total = rw (drop_all k shape h) at so_far.total_is in
+    omega arith
 
 one_axis_more : (goes : Bool) (s p q t i x y : ℕ) → p ≡ q + (i - 1) * t → (goes ≡ true → (x ≡ i) × (y ≡ 1)) → (goes ≡ false → x ≡ y)
     → (x - 1) * s + p ≡ (y - 1) * s + q + (i - 1) * (cond goes s 0 + t)
@@ -149,44 +180,25 @@ gathered_steps (n ∷ shape) (j ∷ axes) row i =
     (λ e. let same = eqb-true (j - 1) (length row) e in (get_or_push row i 0 (j - 1) (sym same), get_or_push row 1 0 (j - 1) (sym same)))
     (λ e. before_end row i 1 (j - 1) (eqb-false (j - 1) (length row) e))
 
--- the step of a row is the distance of its first two places
-pub first_before : (shape axes row : List ℕ) (i : ℕ) → places_before shape (gathered axes (row ++ 1 ∷ [])) ≤ places_before shape (gathered axes (row ++ i ∷ []))
-first_before shape axes row i = let there = gathered_steps shape axes row i in omega arith
-
-pub step_of_two : (first second stride m count i : ℕ) → 1 ≤ i → i ≤ count → m ≡ min count 2 → second ≡ first + (m - 1) * stride → (i - 1) * stride ≡ (i - 1) * (second - first)
-step_of_two first second stride m zero i low high e f = absurd (omega arith)
-step_of_two first second stride m (suc zero) i low high e f = let one : i ≡ 1 = omega arith in rw one (omega arith)
-step_of_two first second stride m (suc (suc count)) i low high e f =
-    let two : m ≡ 2 = omega arith in
-    let far : second ≡ first + (2 - 1) * stride = rw two at f in
-    let same : second - first ≡ stride = omega arith in
-    rw same refl
-
-pub place_by_two : (shape axes row : List ℕ) (count m i : ℕ) → m ≡ min count 2 → 1 ≤ i → i ≤ count
-    → places_before shape (gathered axes (row ++ i ∷ [])) ≡ places_before shape (gathered axes (row ++ 1 ∷ []))
-    + (i - 1) * (places_before shape (gathered axes (row ++ m ∷ [])) - places_before shape (gathered axes (row ++ 1 ∷ [])))
-place_by_two shape axes row count m i least low high =
-    gathered_steps shape axes row i
-    ∙ ap (λ s. places_before shape (gathered axes (row ++ 1 ∷ [])) + s)
-    (step_of_two (places_before shape (gathered axes (row ++ 1 ∷ []))) (places_before shape (gathered axes (row ++ m ∷ []))) (stride_to shape axes (length row)) m count i low high least
-    (gathered_steps shape axes row m))
-
 -- a row of an array transposed by axes
-module _ (a b : ArrayValue) (row : List ℕ) (count : ℕ) (item_type : ItemType) (h : IsRowIn (transpose_by_form a b) row count item_type) (first second m : ℕ) (least : m ≡ min count 2)
-    (begins : first ≡ places_before b.shape (gathered (axes_to a) (row ++ 1 ∷ []))) (goes_on : second ≡ places_before b.shape (gathered (axes_to a) (row ++ m ∷ []))) where
+module _ (a b : ArrayValue) (row : List ℕ) (count : ℕ) (item_type : ItemType) (h : IsRowIn (transpose_by_form a b) row count item_type) (first step : ℕ)
+    (begins : first ≡ places_before b.shape (gathered (axes_to a) (row ++ 1 ∷ []))) where
   abbrev index_at : ℕ → List ℕ
   index_at i = gathered (axes_to a) (row ++ i ∷ [])
 
   inside_at : (i : ℕ) → 1 ≤ i → i ≤ count → is_index_of b.shape (index_at i) ≡ true
   inside_at i low high = gathered_inside a b (row ++ i ∷ []) (place_of_row (transpose_by_form a b) row count item_type i h low high)
 
-  step_at : (i : ℕ) → 1 ≤ i → i ≤ count → places_before b.shape (index_at i) ≡ places_before b.shape (index_at 1) + (i - 1) * (second - first)
-  step_at i low high = rw (begins, goes_on) (place_by_two b.shape (axes_to a) row count m i least low high)
+  pub has_places : 0 < size b.shape
+  has_places = let some = row_some (transpose_by_form a b) row count item_type h in let below = places_below b.shape (index_at 1) (inside_at 1 (omega arith) some) in omega arith
 
-  pub transposed_by_steps : IsArray b → (k : ℕ) → k < count → first + k * (second - first) < length b.items
-  transposed_by_steps sound = steps_inside b index_at count (second - first) inside_at step_at first begins sound
+  step_at : step ≡ stride_to b.shape (axes_to a) (length row) → (i : ℕ) → 1 ≤ i → i ≤ count → places_before b.shape (index_at i) ≡ places_before b.shape (index_at 1) + (i - 1) * step
+  step_at e i low high = rw e (gathered_steps b.shape (axes_to a) row i)
 
-  pub transposed_by_items : (items : List Item)
-      → with_row items (λ i. transpose_by_item a b (row ++ i ∷ [])) count ≡ Ok (items ++ listed count (λ k. get_or b.items (first + k * (second - first)) (fill b.item_type)))
-  transposed_by_items items =
-      steps_row b index_at count (second - first) inside_at step_at first begins items (λ i. transpose_by_item a b (row ++ i ∷ [])) (λ i there. right_placed a b (index_at i) there)
+  pub transposed_by_steps : step ≡ stride_to b.shape (axes_to a) (length row) → IsArray b → (k : ℕ) → k < count → first + k * step < length b.items
+  transposed_by_steps e sound = steps_inside b index_at count step inside_at (step_at e) first begins sound
+
+  pub transposed_by_items : step ≡ stride_to b.shape (axes_to a) (length row) → (items : List Item)
+      → with_row items (λ i. transpose_by_item a b (row ++ i ∷ [])) count ≡ Ok (items ++ listed count (λ k. get_or b.items (first + k * step) (fill b.item_type)))
+  transposed_by_items e items =
+      steps_row b index_at count step inside_at (step_at e) first begins items (λ i. transpose_by_item a b (row ++ i ∷ [])) (λ i there. right_placed a b (index_at i) there)

@@ -1,6 +1,6 @@
 -- Dyadic transpose, A⍉B: axis i of b becomes axis A[i].
-use Rattle.std.{specs.Prelude.{ℕ, ◌-◌, max, min, nat_eq, ℤ, pos, int_le, unsigned_abs, Bool, ◌&&◌, List, [], ◌∷◌, map, length, get_or, zip, Result, true, Some, None}, specs.List.{filter, list_all, list_any, range_with_len}}
-use Rattle.arrays_core.{specs.declared.item.Item.{Item}, specs.declared.item.Kind.{Kind}, specs.declared.item.Kind.TheVariants.{Rank, Length, Domain}, specs.Arrays.{ArrayValue}}
+use Rattle.std.{specs.Prelude.{ℕ, ◌+◌, ◌-◌, if◌then◌else◌, max, min, nat_eq, ℤ, pos, int_le, unsigned_abs, Bool, ◌&&◌, List, [], ◌∷◌, map, length, get_or, zip, Result, true, Some, None}, specs.List.{filter, list_all, list_any, range_with_len}}
+use Rattle.arrays_core.{specs.declared.item.Item.{Item}, specs.declared.item.Kind.{Kind}, specs.declared.item.Kind.TheVariants.{Rank, Length, Domain}, specs.Arrays.{ArrayValue}, specs.Shapes.{size}}
 use Rattle.index_region.{specs.Checks.{check, Form, limited, whole}, specs.Arguments.{is_list, counts_as_numbers, numbers}, specs.Sources.{Place, Source, item_from}}
 use Rattle.change_core.{specs.RuleModels.{RuleModel}, specs.Sourced.{Spread, two_sourced}, specs.Ways.{meets}}
 
@@ -52,6 +52,11 @@ transpose_by_form a b =
 -- all axes that go to one take its index
 abbrev pub gathered : List ℕ → List ℕ → List ℕ
 gathered axes index = map (λ j. get_or index (j - 1) 0) axes
+
+-- the distance in b of items with adjacent indices on axis r of the result, counted from 0: the sizes behind the axes that go there, added up
+abbrev pub stride_to : List ℕ → List ℕ → ℕ → ℕ
+stride_to (n ∷ shape) (j ∷ axes) r = (if nat_eq (j - 1) r then size shape else 0) + stride_to shape axes r
+stride_to shape axes r = 0
 
 -- the source of the item at an index list
 abbrev pub transpose_by_source : ArrayValue → ArrayValue → List ℕ → Source

@@ -1,29 +1,30 @@
 //! Dyadic transpose: moves each axis to the axis that is named for it.
 
-ghost use Rattle.std.specs.Prelude.{◌≡◌, ◌≤◌, ◌<◌, ◌++◌, [], get_or, List, ℕ, Option, Some, None, IfOk, IfErr, Err, if◌then◌else◌, ◌∷◌, length};
+ghost use Rattle.std.specs.Prelude.{◌≡◌, ◌≤◌, ◌<◌, ◌-◌, ◌++◌, [], get_or, List, ℕ, Option, Some, None, Ok, IfOk, IfErr, Err, if◌then◌else◌, ◌∷◌, length};
 ghost use Rattle.std.proofs.Common.{rules};
 ghost use Rattle.arrays_core.specs.Limits.{most_axes, most_places};
 ghost use Rattle.arrays_core.specs.declared.item.ItemType.{ItemType as AType};
 ghost use Rattle.arrays_core.specs.Arrays.{ArrayValue, IsAnswerTo, IsArray};
-ghost use Rattle.arrays_core.specs.Shapes.{places_before};
+ghost use Rattle.arrays_core.specs.Shapes.{IsWithinLimits, size};
 ghost use Rattle.index_region.specs.ArgumentLists.{of_two_arguments};
 ghost use Rattle.index_region.specs.Arguments.{numbers};
 ghost use Rattle.index_region.specs.Answers.{IsPlaceOf, IsSourceIn, source_value};
-ghost use Rattle.index_region.specs.Checks.{limited};
+ghost use Rattle.index_region.specs.Checks.{form_of, limited};
 ghost use Rattle.change_core.specs.Ways.{meet_at, meets};
 ghost use Rattle.change_core.proofs.Growing.{never_grows};
-ghost use Rattle.structural_fns.specs.DyadicTranspose.{axes_to, greatest_of, least_of, all_positive, occurs, are_axes, lengths_at, transposed_shape, gathered, transpose_by_form, transpose_by_source, transpose_by_item, transpose_by_whole, axes_from_zero, transpose_by_rule};
+ghost use Rattle.structural_fns.specs.DyadicTranspose.{axes_to, greatest_of, least_of, all_positive, occurs, are_axes, lengths_at, transposed_shape, gathered, stride_to, transpose_by_form, transpose_by_source, transpose_by_item, transpose_by_whole, axes_from_zero, transpose_by_rule};
 ghost use Rattle.structural_fns.specs.LeastLength.{least_with};
 ghost use Rattle.structural_fns.specs.Laws.DyadicTranspose.{transpose_by_tight};
 
 use crate::even_steps::extend_evenly;
 use crate::index_source::{IndexSource, place_of};
 use crate::limits::MOST_AXES;
-use arrays_core::{ApplyFault, Array, ArrayBuilder, Item, ItemType, Kind, Shape};
-use change_core::Announced;
-use index_region::{
-    IndexBox, Intervals, Primitive, RowPrimitive, Seen, Source, apply_rows, item_from, limited,
+use arrays_core::{
+    ApplyFault, Array, ArrayBuilder, Item, ItemFunction, ItemType, Kind, RowFunction, Shape,
+    collect_rows, size,
 };
+use change_core::Announced;
+use index_region::{IndexBox, Intervals, Primitive, Seen, Source, item_from, limited};
 use smallvec::SmallVec;
 use std::alloc::{AllocError, Global};
 
@@ -146,23 +147,39 @@ fn gathered(alloc: Global, axes: &Seen, index: &[u32]) -> Shape
     at
 }
 
-/// The index list in the array of a place of a row of the result.
+/// Returns the distance in an array of items with adjacent indices on an axis of the result, counted from 0.
+fn stride_to(axes: &Seen, lengths: &[u32], axis: u64) -> u32
+    requires as_many { length lengths.now ≡ length axes.now.items }
+    requires within { IsWithinLimits lengths.now }
+    ensures { 0 < size lengths.now → result ≡ stride_to lengths.now (axes_to axes.now) axis }
+{
+    let mut places = size(lengths);
+    let mut stride = 0;
+    for k in 0..lengths.len() {
+        places = places / lengths[k].max(1);
+        if entry(axes, k as u32).saturating_sub(1) == axis {
+            stride = stride + places;
+        }
+    }
+    stride
+}
+
+/// The index list in the array of the first place of a row of the result.
 #[derive(Clone, Copy)]
 struct GatheredRow<'a, 'b> {
     axes: &'a Seen<'b>,
     row: &'a [u32],
-    index: u32,
 }
 
 impl<'a, 'b> IndexSource for GatheredRow<'a, 'b> {
-    ghost list = { λ s. gathered (axes_to s.axes.now) (s.row.now ++ s.index ∷ []) };
+    ghost list = { λ s. gathered (axes_to s.axes.now) (s.row.now ++ 1 ∷ []) };
 
     #[inline]
     fn index(&self, axis: usize) -> u32 {
         let _sound = self.axes.shape();
         let to = entry(self.axes, axis as u32).saturating_sub(1);
         if to == self.row.len() as u64 {
-            return self.index;
+            return 1;
         }
         self.row.get(to as usize).copied().unwrap_or(0)
     }
@@ -195,23 +212,22 @@ impl DyadicTranspose {
         Source::Place { arg: 1, at }
     }
 
-    /// Returns the offset in the array of an item of a row.
-    fn place_in_row(self, axes: &Seen, array: &Seen, row: &[u32], index: u32) -> u32
-        requires rank { length row.now < most_axes }
-        requires place { IsPlaceOf (transpose_by_form axes.now array.now) (row.now ++ index ∷ []) }
-        ensures is { result ≡ places_before array.now.shape (gathered (axes_to axes.now) (row.now ++ index ∷ [])) }
-        ensures sound { IsArray array.now }
-    {
-        let lengths = array.shape().as_slice();
-        place_of(lengths, &GatheredRow { axes, row, index })
-    }
-
     /// Computes the whole result by rows.
     pub fn apply(&self, alloc: Global, args: &[Seen]) -> Result<Array, ApplyFault>
         requires { length args.now ≡ 2 }
         ensures { IsAnswerTo (of_two_arguments transpose_by_whole args.now) result }
     {
-        apply_rows(alloc, self, args)
+        let (axes, array) = (&args[0], &args[1]);
+        let (shape, item_type) = self.shape_of(args)?;
+        let lengths = array.shape().as_slice();
+        let last = (shape.len() as u64).saturating_sub(1);
+        let gathered = GatheredArray {
+            axes,
+            array,
+            lengths,
+            step: stride_to(axes, lengths, last),
+        };
+        collect_rows(alloc, &gathered, item_type, &shape)
     }
 }
 
@@ -249,18 +265,45 @@ impl Primitive for DyadicTranspose {
     }
 }
 
-impl RowPrimitive for DyadicTranspose {
+/// The dyadic transpose of an array, by axes that have passed the checks.
+#[derive(Drop)]
+struct GatheredArray<'a, 'b> {
+    axes: &'a Seen<'b>,
+    array: &'a Seen<'b>,
+    lengths: &'a [u32],
+    /// The distance in the array of the items of a row.
+    step: u32,
+    ghost sound: { IsArray array.now },
+    ghost lengths_are: { lengths.now ≡ array.now.shape },
+    ghost step_is: { 0 < size array.now.shape → step ≡ stride_to array.now.shape (axes_to axes.now) (length (transposed_shape (axes_to axes.now) array.now.shape) - 1) },
+    ghost passed: { transpose_by_form axes.now array.now ≡ Ok (form_of (transposed_shape (axes_to axes.now) array.now.shape) array.now.item_type) },
+}
+
+impl<'a, 'b> ItemFunction for GatheredArray<'a, 'b> {
+    ghost result_shape = { λ r. transposed_shape (axes_to r.axes.now) r.array.now.shape };
+
+    ghost result_type = { λ r. r.array.now.item_type };
+
+    ghost item = { λ r. transpose_by_item r.axes.now r.array.now };
+
+    fn item_at(&self, index: &[u32]) -> Result<Item, Kind> {
+        let array = self.array;
+        let source = DyadicTranspose.source(self.axes, array, index);
+        Ok(item_from(array, array, array.item_type(), source))
+    }
+}
+
+impl<'a, 'b> RowFunction for GatheredArray<'a, 'b> {
+    #[inline]
     fn extend_row(
         &self,
-        args: &[Seen],
         row: &[u32],
         count: u32,
         items: &mut ArrayBuilder,
     ) -> Result<(), AllocError> {
-        let (axes, array) = (&args[0], &args[1]);
-        let first = self.place_in_row(axes, array, row, 1);
-        let second = self.place_in_row(axes, array, row, count.min(2));
-        extend_evenly(array, first, second - first, count, items)
+        let axes = self.axes;
+        let first = place_of(self.lengths, &GatheredRow { axes, row });
+        extend_evenly(self.array, first, self.step, count, items)
     }
 }
 

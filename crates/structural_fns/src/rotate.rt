@@ -253,7 +253,7 @@ impl RowPrimitive for Rotate {
     }
 }
 
-/// Returns how many places an amount moves those of an axis, below the length of the axis.
+/// Reduces an amount to a number of places below the length of an axis.
 fn turn_of(axis: u32, amount: i64) -> u32
     requires within { axis ≤ longest_axis }
     ensures { 0 < axis → suc result ≡ rotated_place axis amount 1 }
@@ -289,7 +289,7 @@ struct RotatedArray<'a, 'b> {
     axes: &'a [u32],
     /// The axis, counted from 0.
     axis: usize,
-    /// How many places the amount moves those of the axis, below its length.
+    /// The amount, reduced to a number of places below the length of the axis.
     turn: u32,
     ghost sound: { IsArray array.now },
     ghost axes_are: { axes.now ≡ array.now.shape },

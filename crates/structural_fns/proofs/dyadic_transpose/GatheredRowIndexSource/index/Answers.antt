@@ -5,4 +5,4 @@ use Rattle.structural_fns.proofs.dyadic_transpose.GatheredRowIndexSource.index.G
 pub entry-requires-clause-there : goal.entry-requires-clause-there
 entry-requires-clause-there c =
     let a = c.args.self.now.axes.now in
-    omega (arith, c.requires, length-map (axes_to a) (λ j. get_or (c.args.self.now.row.now ++ c.args.self.now.index ∷ []) (j - 1) 0), magnitudes_long a, numbers_long a)
+    omega (arith, c.requires, length-map (axes_to a) (λ j. get_or (c.args.self.now.row.now ++ 1 ∷ []) (j - 1) 0), magnitudes_long a, numbers_long a)
