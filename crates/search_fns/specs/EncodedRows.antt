@@ -25,7 +25,7 @@ pub record AreRows (radices zs : List ℤ) (rows : ℕ) (digits : List ℤ) : Ty
   pub long : length digits ≡ rows * length zs
   pub each : (k j : ℕ) → k < rows → j < length zs → digit radices (k + 1) (get_or zs j (pos 0)) ≡ Ok (get_or digits (k * length zs + j) (pos 0))
 
--- the radices are powers of two from 2 on, whose digits have so many bits together
+-- the radices are powers of two from 2 on, and the digits by all of them take `bits` bits
 abbrev pub ArePowers : List ℤ → ℕ → Type 0
 ArePowers [] bits = bits ≡ 0
 ArePowers (radix ∷ radices) bits = (own : ℕ) × (radix ≡ pos (2 ^ own)) × (1 ≤ own) × (own ≤ bits) × ArePowers radices (bits - own)
