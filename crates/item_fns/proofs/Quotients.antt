@@ -1,6 +1,7 @@
 -- Quotients by the machine's remainder, and quotients by -1.
-use Rattle.std.{proofs.Common.{◌≡◌, ℕ, zero, ◌+◌, ◌*◌, ◌/◌, ◌%◌, ◌^◌, ◌<◌, ◌≤◌, ◌≤ℤ◌, suc, SFits, unsigned_abs, refl, ap, sym, ◌∙◌, inl, arith, ℤ, pos, negsuc, neg_ℤ, ◌+ℤ◌, ◌-ℤ◌, ◌*ℤ◌, true, false, int_lt, Ok, of_z, w64, int_rem, int_div}, proofs.Math.IntN.{*ℤ_comm}, proofs.lemmas.Int.{ints, quot-rem, rem_below, fits_signed_from_abs}, proofs.lemmas.Bool.{le-ltb, true≢false, false≢true}, proofs.lemmas.Nat.{div-mul-add, mod-mul-add, mul-le}, specs.Ordering.{int_eq}}
-use Rattle.item_fns.{specs.Numbers.{residue, quotient, number_or_limit}, proofs.Residues.{as_it_is, whole_quotient, quotient_whole}, proofs.Signs.{zero_of_bits, is_not_zero}, proofs.Within.{held}}
+use Rattle.std.{proofs.Common.{◌≡◌, ℕ, zero, ◌+◌, ◌-◌, ◌*◌, ◌/◌, ◌%◌, ◌^◌, ◌<◌, ◌≤◌, ◌≤ℤ◌, suc, SFits, unsigned_abs, refl, ap, sym, ◌∙◌, inl, arith, ℤ, pos, negsuc, neg_ℤ, ◌+ℤ◌, ◌-ℤ◌, ◌*ℤ◌, true, false, int_lt, Ok, to_z, of_z, w64, int_rem, int_div}, proofs.Math.IntN.{*ℤ_comm}, proofs.lemmas.Int.{ints, quot-rem, rem_below, fits_signed_from_abs, to_z-of_z, to_z_pos, wrapping_sub-bits, int_wrap_fits}, proofs.lemmas.Bool.{le-ltb, true≢false, false≢true}, proofs.lemmas.Nat.{div-mul-add, mod-mul-add, mul-le}, specs.Ordering.{int_eq}, specs.Int.{int_wrap}}
+use borrow.Author.Differences.{up, down}
+use Rattle.item_fns.{specs.Numbers.{residue, quotient, number_or_limit}, specs.AtOnce.{IsNear}, specs.Laws.AtOnce.{near_fits}, proofs.Residues.{as_it_is, whole_quotient, quotient_whole}, proofs.Signs.{zero_of_bits, is_not_zero}, proofs.Within.{held}}
 
 nothing_left : (a p r : ℤ) → a -ℤ p ≡ pos 0 → p +ℤ r ≡ a → r ≡ pos 0
 nothing_left a p r h e = omega (arith, ints)
@@ -75,3 +76,26 @@ exact a (pos d) (pos n) two fits h =
 exact a (pos d) (negsuc n) two fits h =
     let below = below_zero (suc n * d) (let m = mul-le 1 2 (suc n) d (omega arith) (omega (arith, ints, two)) in omega arith) in
     negative_multiple a d (suc n) (omega (arith, ints, two)) fits (ap (λ z. int_lt z (pos 0)) (sym h) ∙ below.0) (sym below.1 ∙ ap unsigned_abs h)
+
+-- a difference of numbers without a sign, modulo 2 to the power 64
+difference_is : (m n : ℕ) → m < 2 ^ 62 → n < 2 ^ 62 → to_z w64 ((m + (2 ^ 64 - n)) % 2 ^ 64) ≡ pos m -ℤ pos n
+difference_is m n few less =
+    let near : IsNear 9223372036854775807 (pos m -ℤ pos n) = record { low = omega (arith, ints); high = omega (arith, ints) } in
+    wrapping_sub-bits w64 m n (omega arith) (omega arith)
+    ∙ (λ i. int_wrap w64 (to_z_pos w64 m (omega arith) i -ℤ to_z_pos w64 n (omega arith) i))
+    ∙ int_wrap_fits w64 (pos m -ℤ pos n) (near_fits (pos m -ℤ pos n) near)
+
+-- a difference whose product with the divisor is the dividend
+pub exact_difference : (a : ℤ) (d x y : ℕ) → 2 ≤ d → d ≤ 2097151 → x < 4294967296 → y < 4294967296 → SFits w64 a
+    → (x * d % 2 ^ 64 + (2 ^ 64 - y * d % 2 ^ 64)) % 2 ^ 64 ≡ of_z w64 a → quotient a (pos d) ≡ Ok (to_z w64 ((x + (2 ^ 64 - y)) % 2 ^ 64))
+exact_difference a d x y two most few less fits h =
+    let q = pos x -ℤ pos y in
+    let high : x * d ≤ 4294967296 * 2097151 = mul-le x d 4294967296 2097151 (omega arith) most in
+    let low : y * d ≤ 4294967296 * 2097151 = mul-le y d 4294967296 2097151 (omega arith) most in
+    let whole : x * d % 2 ^ 64 ≡ x * d = omega arith in
+    let rest : y * d % 2 ^ 64 ≡ y * d = omega arith in
+    let product : pos (x * d) -ℤ pos (y * d) ≡ a = sym (difference_is (x * d) (y * d) (omega arith) (omega arith)) ∙ ap (to_z w64) (rw (whole, rest) at h) ∙ to_z-of_z w64 a fits in
+    let parts : up q + y ≡ down q + x = omega (arith, ints) in
+    let times : (up q + y) * d ≡ (down q + x) * d = ap (λ n. n * d) parts in
+    let spread : q *ℤ pos d ≡ pos (x * d) -ℤ pos (y * d) = omega (arith, ints, times) in
+    exact a (pos d) q (omega (arith, ints)) fits (spread ∙ product) ∙ ap Ok (sym (difference_is x y (omega arith) (omega arith)))

@@ -1,6 +1,6 @@
 //! A type for each function of numbers, so that each gets its own compiled loop.
 
-ghost use Rattle.std.specs.Prelude.{◌≡◌, ◌<◌, ℤ, Result, Ok, IfSome, length};
+ghost use Rattle.std.specs.Prelude.{◌≡◌, ◌<◌, ◌*ℤ◌, ℤ, pos, unsigned_abs, Result, Ok, IfSome, length};
 ghost use Rattle.arrays_core.specs.declared.item.Kind.{Kind};
 ghost use Rattle.function_names.specs.declared.scalar.Scalar1.TheVariants as one;
 ghost use Rattle.function_names.specs.declared.scalar.Scalar2.TheVariants as two;
@@ -24,6 +24,33 @@ fn lower_half(number: i64) -> i64
     ensures { IsNear 1073741824 number → result ≡ number }
 {
     number.wrapping_shl(32) >> 32
+}
+
+/// Returns the number, or its opposite if the factor is negative.
+#[inline]
+fn with_sign_of(number: i64, factor: i64) -> i64
+    ensures near { IsNear 1073741824 number → IsNear 1073741824 result }
+    ensures is { IsNear 1073741824 number → result *ℤ pos (unsigned_abs factor) ≡ number *ℤ factor }
+{
+    if factor < 0 {
+        number.wrapping_neg()
+    } else {
+        number
+    }
+}
+
+/// Multiplies a number by a factor that many products share. Returns 0 beside it unless a product beyond 64 bits is possible. By the remainder the
+/// compiler sees outside the loop that the factor is short.
+#[inline]
+fn scaled(number: i64, factor: i64) -> (i64, u64)
+    ensures { result.1 ≡ 0 → dyadic_on_numbers two.Times number factor ≡ Ok result.0 }
+{
+    let magnitude = factor.unsigned_abs() % (2 * SHORT);
+    let signed = lower_half(with_sign_of(number, factor));
+    (
+        signed.wrapping_mul(magnitude.cast_signed()),
+        beyond(number, SHORT) | beyond(factor, SHORT),
+    )
 }
 
 /// A function of one number.
@@ -80,6 +107,20 @@ pub trait TwoNumbers {
             Err(_) => (0, 1),
         }
     }
+
+    /// Does the same with a left argument that many steps share.
+    fn step_from(&self, left: i64, b: i64) -> (i64, u64)
+        ensures { result.1 ≡ 0 → gives self.now left b ≡ Ok result.0 }
+    {
+        self.step(left, b)
+    }
+
+    /// Does the same with a right argument that many steps share.
+    fn step_to(&self, a: i64, right: i64) -> (i64, u64)
+        ensures { result.1 ≡ 0 → gives self.now a right ≡ Ok result.0 }
+    {
+        self.step(a, right)
+    }
 }
 
 /// A function of two numbers with a fixed left argument.
@@ -101,7 +142,7 @@ impl<S: TwoNumbers> OneNumber for WithLeft<S> {
     }
 
     fn step(&self, b: i64) -> (i64, u64) {
-        self.step.step(self.left, b)
+        self.step.step_from(self.left, b)
     }
 }
 
@@ -124,7 +165,7 @@ impl<S: TwoNumbers> OneNumber for WithRight<S> {
     }
 
     fn step(&self, a: i64) -> (i64, u64) {
-        self.step.step(a, self.right)
+        self.step.step_to(a, self.right)
     }
 }
 
@@ -281,6 +322,14 @@ impl TwoNumbers for Times {
             lower_half(a).wrapping_mul(lower_half(b)),
             beyond(a, SHORT) | beyond(b, SHORT),
         )
+    }
+
+    fn step_from(&self, left: i64, b: i64) -> (i64, u64) {
+        scaled(b, left)
+    }
+
+    fn step_to(&self, a: i64, right: i64) -> (i64, u64) {
+        scaled(a, right)
     }
 }
 

@@ -6,7 +6,6 @@ ghost use Rattle.function_names.specs.declared.scalar.Scalar2.TheVariants as two
 ghost use Rattle.item_fns.specs.Numbers.{dyadic_on_numbers};
 ghost use Rattle.item_fns.specs.NumberLists.{dyadic_results, paired_length, IsListAnswerTo};
 
-use crate::at_once::{NEAR, beyond};
 use crate::kernels::{Divide, OneNumber};
 use crate::loops::{on_each, on_lists};
 use crate::numbers::quotient;
@@ -52,10 +51,17 @@ impl Reciprocal {
     }
 }
 
-/// The greatest divisor whose product with each number from `-NEAR` to `NEAR` has 63 bits.
+/// The greatest divisor whose product with each number of 33 bits is exact.
 const GREATEST_DIVISOR: i64 = 2_097_151;
 
-/// A divisor whose exact quotients are products: with the inverse of its odd part modulo 2 to the power 64, shifted by its factors of 2.
+/// The least number with more than 32 bits.
+const WORD: u64 = 4_294_967_296;
+
+/// Half of it.
+const HALF_WORD: u64 = 2_147_483_648;
+
+/// A divisor whose exact quotients are products: with the inverse of its odd part modulo 2 to the power 64, shifted by its factors of 2. Only the
+/// quotient of a multiple, multiplied by the divisor, is the number again.
 #[derive(Clone, Copy)]
 struct ExactDivisor {
     divisor: i64,
@@ -93,19 +99,26 @@ impl OneNumber for ExactDivisor {
     ghost gives = { λ s a. dyadic_on_numbers two.Divide a s.divisor };
 
     fn at(&self, a: i64) -> Result<i64, Kind> {
-        quotient(a, self.divisor)
+        let guess = a.wrapping_mul(self.inverse).wrapping_shr(self.twos);
+        match guess.checked_mul(self.divisor) {
+            Some(product) if product == a => Ok(guess),
+            _ => quotient(a, self.divisor),
+        }
     }
 
     fn has_step(&self) -> bool {
         true
     }
 
-    // Only the quotient of a multiple, multiplied by the divisor, is the number again.
+    // The same modulo 2 to the power 32, so that the compiler multiplies short numbers. The guess is moved above 0 before its shift.
     fn step(&self, a: i64) -> (i64, u64) {
-        let guess = a.wrapping_mul(self.inverse).wrapping_shr(self.twos);
-        let product = guess.wrapping_mul(self.divisor);
-        let differs = product.cast_unsigned() ^ a.cast_unsigned();
-        (guess, differs | beyond(guess, NEAR))
+        let bits = (a.cast_unsigned() % WORD).wrapping_mul(self.inverse.cast_unsigned() % WORD);
+        let moved = (bits.wrapping_add(HALF_WORD) % WORD).wrapping_shr(self.twos);
+        let by = HALF_WORD.wrapping_shr(self.twos);
+        let divisor = self.divisor.cast_unsigned() % WORD;
+        let product = moved.wrapping_mul(divisor).wrapping_sub(by.wrapping_mul(divisor));
+        let guess = moved.wrapping_sub(by).cast_signed();
+        (guess, product ^ a.cast_unsigned())
     }
 }
 
