@@ -78,7 +78,7 @@ exact a (pos d) (negsuc n) two fits h =
     negative_multiple a d (suc n) (omega (arith, ints, two)) fits (ap (λ z. int_lt z (pos 0)) (sym h) ∙ below.0) (sym below.1 ∙ ap unsigned_abs h)
 
 -- a difference of numbers without a sign, modulo 2 to the power 64
-difference_is : (m n : ℕ) → m < 2 ^ 62 → n < 2 ^ 62 → to_z w64 ((m + (2 ^ 64 - n)) % 2 ^ 64) ≡ pos m -ℤ pos n
+difference_is : (m n : ℕ) → m < 2 ^ 63 → n < 2 ^ 63 → to_z w64 ((m + (2 ^ 64 - n)) % 2 ^ 64) ≡ pos m -ℤ pos n
 difference_is m n few less =
     let near : IsNear 9223372036854775807 (pos m -ℤ pos n) = record { low = omega (arith, ints); high = omega (arith, ints) } in
     wrapping_sub-bits w64 m n (omega arith) (omega arith)
@@ -86,12 +86,12 @@ difference_is m n few less =
     ∙ int_wrap_fits w64 (pos m -ℤ pos n) (near_fits (pos m -ℤ pos n) near)
 
 -- a difference whose product with the divisor is the dividend
-pub exact_difference : (a : ℤ) (d x y : ℕ) → 2 ≤ d → d ≤ 2097151 → x < 4294967296 → y < 4294967296 → SFits w64 a
+pub exact_difference : (a : ℤ) (d x y : ℕ) → 2 ≤ d → d ≤ 2147483647 → x < 4294967296 → y < 4294967296 → SFits w64 a
     → (x * d % 2 ^ 64 + (2 ^ 64 - y * d % 2 ^ 64)) % 2 ^ 64 ≡ of_z w64 a → quotient a (pos d) ≡ Ok (to_z w64 ((x + (2 ^ 64 - y)) % 2 ^ 64))
 exact_difference a d x y two most few less fits h =
     let q = pos x -ℤ pos y in
-    let high : x * d ≤ 4294967296 * 2097151 = mul-le x d 4294967296 2097151 (omega arith) most in
-    let low : y * d ≤ 4294967296 * 2097151 = mul-le y d 4294967296 2097151 (omega arith) most in
+    let high : x * d ≤ 4294967296 * 2147483647 = mul-le x d 4294967296 2147483647 (omega arith) most in
+    let low : y * d ≤ 4294967296 * 2147483647 = mul-le y d 4294967296 2147483647 (omega arith) most in
     let whole : x * d % 2 ^ 64 ≡ x * d = omega arith in
     let rest : y * d % 2 ^ 64 ≡ y * d = omega arith in
     let product : pos (x * d) -ℤ pos (y * d) ≡ a = sym (difference_is (x * d) (y * d) (omega arith) (omega arith)) ∙ ap (to_z w64) (rw (whole, rest) at h) ∙ to_z-of_z w64 a fits in

@@ -51,8 +51,8 @@ impl Reciprocal {
     }
 }
 
-/// The greatest divisor whose product with each number of 33 bits is exact.
-const GREATEST_DIVISOR: i64 = 2_097_151;
+/// The greatest divisor: its product with a number below `WORD` has 63 bits.
+const GREATEST_DIVISOR: i64 = 2_147_483_647;
 
 /// The least number with more than 32 bits.
 const WORD: u64 = 4_294_967_296;
@@ -68,7 +68,7 @@ struct ExactDivisor {
     inverse: i64,
     twos: u32,
     ghost two: { pos 2 ≤ℤ divisor },
-    ghost greatest: { divisor ≤ℤ pos 2097151 },
+    ghost greatest: { divisor ≤ℤ pos 2147483647 },
 }
 
 impl ExactDivisor {
@@ -116,7 +116,9 @@ impl OneNumber for ExactDivisor {
         let moved = (bits.wrapping_add(HALF_WORD) % WORD).wrapping_shr(self.twos);
         let by = HALF_WORD.wrapping_shr(self.twos);
         let divisor = self.divisor.cast_unsigned() % WORD;
-        let product = moved.wrapping_mul(divisor).wrapping_sub(by.wrapping_mul(divisor));
+        let product = moved
+            .wrapping_mul(divisor)
+            .wrapping_sub(by.wrapping_mul(divisor));
         let guess = moved.wrapping_sub(by).cast_signed();
         (guess, product ^ a.cast_unsigned())
     }

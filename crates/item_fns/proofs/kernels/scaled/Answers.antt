@@ -1,4 +1,4 @@
-use Rattle.std.{proofs.Common.{◌≡◌, ◌∙◌, ◌%◌, ◌≤◌, ◌*ℤ◌, ap, sym, arith, pos, unsigned_abs, to_z, of_z, Ok, w64, SFits, rules}, specs.Int.{int_wrapping_mul}, proofs.lemmas.Int.{ints, to_z-of_z, to_z_pos}}
+use Rattle.std.{proofs.Common.{◌≡◌, ◌∙◌, ◌%◌, ◌≤◌, ap, sym, arith, pos, unsigned_abs, to_z, of_z, Ok, w64, SFits, rules}, specs.Int.{int_wrapping_mul}, proofs.lemmas.Int.{ints, to_z-of_z, to_z_pos}}
 use Rattle.item_fns.{specs.Numbers.{number_or_limit}, specs.AtOnce.{IsNear}, proofs.Doubts.{none_left, none_right, within_bound, short_product}}
 use Rattle.item_fns.proofs.kernels.scaled.Goals as goal
 

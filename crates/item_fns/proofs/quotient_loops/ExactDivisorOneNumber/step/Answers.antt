@@ -1,8 +1,8 @@
-use Rattle.std.{proofs.Common.{◌≡◌, ◌∙◌, ◌/◌, ◌%◌, ◌<◌, ◌≤◌, ◌≤ℤ◌, ℤ, pos, negsuc, ap, sym, subst, Ok, arith, to_z, of_z, w64, rules}, proofs.Math.Nat.{div-le_self}, proofs.lemmas.Int.{ints, to_z-of_z}}
+use Rattle.std.{proofs.Common.{◌≡◌, ◌∙◌, ◌%◌, ◌<◌, ◌≤ℤ◌, ℤ, pos, negsuc, ap, sym, subst, Ok, arith, to_z, of_z, w64, rules}, proofs.Math.Nat.{div-le_self}, proofs.lemmas.Int.{ints, to_z-of_z}}
 use Rattle.item_fns.{specs.Numbers.{quotient}, proofs.Doubts.{same_bits}, proofs.Quotients.{exact_difference}}
 use Rattle.item_fns.proofs.quotient_loops.ExactDivisorOneNumber.step.Goals as goal
 
-lower_bits : (d : ℤ) → pos 2 ≤ℤ d → d ≤ℤ pos 2097151 → pos (of_z w64 d % 4294967296) ≡ d
+lower_bits : (d : ℤ) → pos 2 ≤ℤ d → d ≤ℤ pos 2147483647 → pos (of_z w64 d % 4294967296) ≡ d
 lower_bits (pos n) two most = let same : n % 4294967296 ≡ n = omega (arith, ints, most) in ap pos same
 lower_bits (negsuc n) two most = absurd (omega (arith, ints, two))
 
