@@ -1,6 +1,12 @@
 -- Words of doubt that are 0.
-use Rattle.std.{proofs.Common.{◌≡◌, ℕ, zero, suc, ◌+◌, ◌*◌, ◌/◌, ◌<◌, ◌≤◌, refl, arith, ap, sym, ◌∙◌, ℤ, pos, negsuc, ◌+ℤ◌, ◌-ℤ◌, ◌*ℤ◌, unsigned_abs, of_z, Bool, true, false, Ok, w64, SFits}, specs.Int.{int_wrapping_add, int_wrapping_sub, int_wrapping_mul, int_bit_xor, int_max, int_shl, int_shr}, specs.Int.Bits.{bit_or, bit_xor, xor_add_and}, proofs.lemmas.Int.{ints, clamps, wrapping_sub_is, wrapping_mul_is, int_wrap_fits, fits_signed_mul}, proofs.lemmas.Nat.{le_or_l, le_or_r, and_le_l, and_le_r}}
-use Rattle.item_fns.{specs.Numbers.{number_or_limit, truth, as_truth, opposite}, specs.AtOnce.{IsNear, IsTruth}, specs.Laws.AtOnce.{near_fits, near_sum}, proofs.Within.{held, held_ok}}
+use Rattle.std.{proofs.Common.{◌≡◌, ℕ, zero, suc, ◌+◌, ◌*◌, ◌/◌, ◌<◌, ◌≤◌, refl, arith, ap, sym, subst, ◌∙◌, [], ◌∷◌, Result, ℤ, pos, negsuc, ◌+ℤ◌, ◌-ℤ◌, ◌*ℤ◌, unsigned_abs, of_z, Bool, true, false, Ok, w64, SFits}, specs.Int.{int_wrapping_add, int_wrapping_sub, int_wrapping_mul, int_bit_xor, int_max, int_shl, int_shr}, specs.Int.Bits.{bit_or, bit_xor, xor_add_and}, proofs.lemmas.Int.{ints, clamps, wrapping_sub_is, wrapping_mul_is, int_wrap_fits, fits_signed_mul}, proofs.lemmas.Nat.{le_or_l, le_or_r, and_le_l, and_le_r}}
+use Rattle.{arrays_core.{specs.declared.item.Kind.{Kind}, specs.Items.{and_then}}, function_names.specs.declared.scalar.Scalar2.TheVariants.{Plus}}
+use Rattle.item_fns.{specs.Numbers.{dyadic_on_numbers, number_or_limit, truth, as_truth, opposite}, specs.Folds.{folded}, specs.AtOnce.{IsNear, IsTruth}, specs.Laws.AtOnce.{near_fits, near_sum}, proofs.Within.{held, held_ok}}
+
+-- the fold of four numbers before a fold, by steps
+pub four_steps : (f : ℤ → ℤ → Result ℤ Kind) (x y z w v a b c d : ℤ) → f w v ≡ Ok a → f z a ≡ Ok b → f y b ≡ Ok c → f x c ≡ Ok d → folded f (x ∷ y ∷ z ∷ w ∷ v ∷ []) ≡ Ok d
+four_steps f x y z w v a b c d fourth third second first =
+    ap (λ r. and_then (and_then (and_then r (f z)) (f y)) (f x)) fourth ∙ ap (λ r. and_then (and_then r (f y)) (f x)) third ∙ ap (λ r. and_then r (f x)) second ∙ first
 
 pub none_left : (m n : ℕ) → bit_or m n ≡ 0 → m ≡ 0
 none_left m n h = omega (arith, le_or_l m n, h)
@@ -28,6 +34,32 @@ pub half_sum : (a b : ℤ) → IsNear 2305843009213693952 a → IsNear 230584300
 half_sum a b h k f g =
     let fits = near_fits (a +ℤ b) (record { low = omega (arith, ints, h.low, k.low); high = omega (arith, ints, h.high, k.high) }) in
     held (a +ℤ b) fits ∙ ap Ok (sym (near_sum a b f g fits))
+
+-- a sum of numbers within bounds
+record Near (m : ℕ) (a b : ℤ) : Type 0 where
+  gives : number_or_limit (a +ℤ b) ≡ Ok (int_wrapping_add w64 a b)
+  near : IsNear m (int_wrapping_add w64 a b)
+
+near_step : (m n : ℕ) (a b : ℤ) → m + n < 9223372036854775808 → IsNear m a → IsNear n b → Near (m + n) a b
+near_step m n a b few h k =
+    let near : IsNear (m + n) (a +ℤ b) = record { low = omega (arith, ints, h.low, k.low); high = omega (arith, ints, h.high, k.high) } in
+    let f = near_fits a (record { low = omega (arith, ints, h.low); high = omega (arith, ints, h.high) }) in
+    let g = near_fits b (record { low = omega (arith, ints, k.low); high = omega (arith, ints, k.high) }) in
+    let fits = near_fits (a +ℤ b) (record { low = omega (arith, ints, near.low); high = omega (arith, ints, near.high) }) in
+    let is = near_sum a b f g fits in
+    record { gives = held (a +ℤ b) fits ∙ ap Ok (sym is); near = subst (IsNear (m + n)) (sym is) near }
+
+-- sums of five numbers
+pub five_sum : (x y z w v : ℤ) → IsNear 1152921504606846976 x → IsNear 1152921504606846976 y → IsNear 1152921504606846976 z → IsNear 1152921504606846976 w → IsNear 1152921504606846976 v
+    → folded (dyadic_on_numbers Plus) (x ∷ y ∷ z ∷ w ∷ v ∷ []) ≡ Ok (int_wrapping_add w64 x (int_wrapping_add w64 y (int_wrapping_add w64 z (int_wrapping_add w64 w v))))
+five_sum x y z w v h i j k l =
+    let bound : ℕ = 1152921504606846976 in
+    let f = dyadic_on_numbers Plus in
+    let two = near_step bound bound w v (omega arith) k l in
+    let three = near_step bound (bound + bound) z _ (omega arith) j two.near in
+    let four = near_step bound (bound + (bound + bound)) y _ (omega arith) i three.near in
+    let five = near_step bound (bound + (bound + (bound + bound))) x _ (omega arith) h four.near in
+    four_steps f x y z w v _ _ _ _ two.gives three.gives four.gives five.gives
 
 -- a difference that fits is the wrapping difference
 pub near_difference : (a b : ℤ) → SFits w64 a → SFits w64 b → SFits w64 (a -ℤ b) → int_wrapping_sub w64 a b ≡ a -ℤ b

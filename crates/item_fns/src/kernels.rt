@@ -1,6 +1,6 @@
 //! A type for each function of numbers, so that each gets its own compiled loop.
 
-ghost use Rattle.std.specs.Prelude.{◌≡◌, ◌<◌, ◌*ℤ◌, ℤ, pos, unsigned_abs, Result, Ok, IfSome, length};
+ghost use Rattle.std.specs.Prelude.{◌≡◌, ◌<◌, ◌*ℤ◌, ℤ, pos, unsigned_abs, Result, Ok, IfSome, length, [], ◌∷◌};
 ghost use Rattle.arrays_core.specs.declared.item.Kind.{Kind};
 ghost use Rattle.function_names.specs.declared.scalar.Scalar1.TheVariants as one;
 ghost use Rattle.function_names.specs.declared.scalar.Scalar2.TheVariants as two;
@@ -14,6 +14,9 @@ use arrays_core::Kind;
 
 /// A bound on two numbers: their sum and their difference are within 64 bits.
 const HALF: u64 = 2_305_843_009_213_693_952;
+
+/// A bound on five numbers: the sums of two to five of them are within 64 bits.
+const FIFTH: u64 = 1_152_921_504_606_846_976;
 
 /// A bound on two numbers of 31 bits and a sign: their product is within 64 bits.
 const SHORT: u64 = 1_073_741_824;
@@ -120,6 +123,18 @@ pub trait TwoNumbers {
         ensures { result.1 ≡ 0 → gives self.now a right ≡ Ok result.0 }
     {
         self.step(a, right)
+    }
+
+    /// Applies the function to four numbers before a fold, from the fourth on, without an early exit. Returns the new fold, and 0 unless an
+    /// error is possible.
+    fn four_steps(&self, first: i64, second: i64, third: i64, fourth: i64, fold: i64) -> (i64, u64)
+        ensures { result.1 ≡ 0 → folded (gives self.now) (first ∷ second ∷ third ∷ fourth ∷ fold ∷ []) ≡ Ok result.0 }
+    {
+        let (fold, of_fourth) = self.step(fourth, fold);
+        let (fold, of_third) = self.step(third, fold);
+        let (fold, of_second) = self.step(second, fold);
+        let (fold, of_first) = self.step(first, fold);
+        (fold, of_first | of_second | of_third | of_fourth)
     }
 }
 
@@ -275,6 +290,25 @@ impl TwoNumbers for Plus {
 
     fn step(&self, a: i64, b: i64) -> (i64, u64) {
         (a.wrapping_add(b), beyond(a, HALF) | beyond(b, HALF))
+    }
+
+    fn four_steps(
+        &self,
+        first: i64,
+        second: i64,
+        third: i64,
+        fourth: i64,
+        fold: i64,
+    ) -> (i64, u64) {
+        let of_two = third.wrapping_add(fourth.wrapping_add(fold));
+        let of_rows = beyond(first, FIFTH)
+            | beyond(second, FIFTH)
+            | beyond(third, FIFTH)
+            | beyond(fourth, FIFTH);
+        (
+            first.wrapping_add(second.wrapping_add(of_two)),
+            of_rows | beyond(fold, FIFTH),
+        )
     }
 }
 

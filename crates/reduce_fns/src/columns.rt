@@ -63,12 +63,15 @@ fn put_four<S: TwoNumbers>(step: &S, rows: &[i64], folds: &mut [i64]) -> u64
     let columns = folds.len();
     let mut doubt = 0;
     for column in 0..columns {
-        let (fold, fourth) = step.step(rows[3 * columns + column], folds[column]);
-        let (fold, third) = step.step(rows[2 * columns + column], fold);
-        let (fold, second) = step.step(rows[columns + column], fold);
-        let (fold, first) = step.step(rows[column], fold);
+        let (fold, more) = step.four_steps(
+            rows[column],
+            rows[columns + column],
+            rows[2 * columns + column],
+            rows[3 * columns + column],
+            folds[column],
+        );
         folds[column] = fold;
-        doubt |= first | second | third | fourth;
+        doubt |= more;
     }
     doubt
 }
