@@ -3,7 +3,7 @@
 from __future__ import annotations
 
 from .claims import PROVED
-from .front_end import ANSWERS, CHARACTERS, COMMANDS, DESK, FAULT_NAMES, PROGRAM_WORDS, REFUSAL_TEXTS, SHEET, STARTING, TYPING
+from .front_end import ANSWERS, CHARACTERS, COMMANDS, DESK, FAULT_NAMES, NAME_CHARACTERS, PROGRAM_WORDS, REFUSAL_TEXTS, SHEET, STARTING, TYPING
 from .texts import ARCHITECTURE, DEFINITIONS, RELIABILITY, RUN_LOOP, THEOREM
 
 # the file, a text that stands there once, the text planted in its place, and words of the failure
@@ -65,7 +65,7 @@ FAULTS = {
     "a note on no refusal": (ANSWERS, '"NOT TEXT\\n"', '"NOT UTF-8\\n"', "notes on no refusal: ['NOT TEXT']"),
     "a sign that is unknown": (CHARACTERS, "'⊖' | '⍉' => Some(c)", "'⊖' | '⍉' | '⍋' => Some(c)", "the signs: ['⍋']"),
     "a sign that passes for none": (CHARACTERS, "'∈' => Some('∊')", "'∈' | 'ε' => Some('∊')", "signs of the language look like one: ['ε']"),
-    "a letter that is unknown": (CHARACTERS, "c == '∆' || c == '⍙'", "c == '∆' || c == '⍙' || c == '_'", "a name: [A-Za-z∆⍙_]"),
+    "a letter that is unknown": (NAME_CHARACTERS, "c == '∆' || c == '⍙'", "c == '∆' || c == '⍙' || c == '_'", "a name: [A-Za-z∆⍙_]"),
     "a word behind ) that is unknown": (COMMANDS, '"COST" =>', '"COSTS" =>', "the words behind ): ['COST', 'COSTS']"),
     "a change that is unknown": (COMMANDS, "    Erase(Name),\n}", "    Erase(Name),\n    Swap(Name, Name),\n}", "changes: ['Swap']"),
     "a change of another kind": ("share/sheet/lines.py", '"edit", "row", "erase")', '"edit", "row")', "changes: ['erase']"),

@@ -20,6 +20,7 @@ X11 = {"minus": "-", "equal": "=", "parenright": ")", "parenleft": "(", "less": 
 X11.update({"asciicircum": "^", "slash": "/", "period": ".", "bracketleft": "[", "comma": ",", "greater": ">"})
 FAULT_NAMES, REFUSAL_TEXTS = "crates/array_text/src/faults.rt", "crates/sheet_cli/src/refusals.rt"
 CHARACTERS, SCANNER = "crates/apl_tokens/src/characters.rt", "crates/apl_tokens/src/scanner.rt"
+NAME_CHARACTERS = "crates/names/src/characters.rt"
 COMMANDS, ANSWERS = "crates/apl_expr/src/command.rt", "crates/sheet_cli/src/answer.rt"
 SHEET, DESK = "crates/sheet_recalc/src/sheet.rt", "crates/sheet_desk/src/desk.rt"
 CHANGES = {"Define": "definition", "Data": "data", "Cell": "edit", "Row": "row", "Erase": "erase"}  # the words of share/sheet for changes
@@ -90,8 +91,8 @@ class FrontEnd(Checks):
 
     def check_signs(self) -> None:
         """The signs are the character literals of the scanner and of the kinds of characters; a name is read as these say."""
-        text = self.files.texts[CHARACTERS]
-        held = characters(text) | characters(self.files.texts[SCANNER])
+        text = self.files.texts[NAME_CHARACTERS]
+        held = characters(text) | characters(self.files.texts[CHARACTERS]) | characters(self.files.texts[SCANNER])
         self.want_same({*self.known("SIGNS")}, held, "the signs")
         others = held & {*self.known("MISTAKEN")}
         self.want(not others, f"share/sheet says that signs of the language look like one: {sorted(others)}")

@@ -1,6 +1,6 @@
 -- The change of a line, from its front and the rest.
 use Rattle.std.{proofs.Common.{◌≡◌, ℕ, false, ◌≤◌, Some, None, Result, Ok, Err, List, [], ◌∷◌, length, refl, sym, ap, ◌∙◌, subst, arith, inl, inr}, specs.Prelude.{ℤ}}
-use Rattle.{smallvec.specs.SmallVec.{SmallVec}, apl_tokens.{specs.Lexemes.{Lexeme, Named, Sign}, specs.declared.name.Name.{Name}}}
+use Rattle.{smallvec.specs.SmallVec.{SmallVec}, apl_tokens.specs.Lexemes.{Lexeme, Named, Sign}, names.specs.declared.name.Name.{Name}}
 use Rattle.apl_expr.{specs.Limits.{most_tokens, most_height, most_nodes}, specs.declared.expr.Expr.{Expr}, specs.declared.fault.ParseFault.{ParseFault}, specs.declared.fault.ParseFault.TheVariants.{Syntax, Limit, NoMemory}, specs.Trees.{Tree, Literal, tree_of, literal_of, height, nodes}}
 use Rattle.apl_expr.{specs.Grammar.{IsTreeOf, IsTooLarge}, specs.Parsing.{IsParsed}, specs.Edits.{Open, Items, Write, edits, EditGives, LiteralGives}, specs.Lines.{Meaning, Define, Data, Cell, Row, Erase, data_word, row_word, erase_word, IsCellPositions, IsLit, IsChange, define, keep, cell, row, erase}}
 use Rattle.apl_expr.{specs.Fronts.{name_before, name_first, only_name, command_word}, specs.Changes.{IsNoChange, IsChangeOf}, proofs.Parsed.{one_tree_of}, proofs.CellEdits.{edit_read, edit_correct, literal_read, literal_correct}}

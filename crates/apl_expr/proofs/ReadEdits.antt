@@ -1,8 +1,7 @@
 -- Edits of a cell by a number, and rows of numbers, that are read from bytes are lines of the grammar.
 use Rattle.std.{proofs.Common.{ℕ, ◌*◌, ◌<◌, ◌≤◌, List, [], ◌∷◌, ◌++◌, length, Ok, refl, sym, ap, subst, arith, true, ◌≡◌, ◌+◌, length-append, lit<}, specs.Prelude.{ℤ, Some}, proofs.lemmas.List.{length-map}}
-use Rattle.smallvec.specs.SmallVec.{SmallVec}
-use Rattle.apl_tokens.{specs.declared.name.Name.{Name}, specs.Lexemes.{Lexeme, Number, Sign}, specs.Signs.{right_bracket, left_arrow}, specs.NumberEdits.{position_lexemes, edit_lexemes, row_numbers_of, AreSeveral, row_lexemes, Says}, specs.declared.row_edit.RowNumbers.{RowNumbers}}
-use Rattle.apl_tokens.specs.declared.row_edit.RowNumbers.TheVariants.{One, Several}
+use Rattle.{smallvec.specs.SmallVec.{SmallVec}, names.specs.declared.name.Name.{Name}}
+use Rattle.apl_tokens.{specs.Lexemes.{Lexeme, Number, Sign}, specs.Signs.{right_bracket, left_arrow}, specs.NumberEdits.{position_lexemes, edit_lexemes, row_numbers_of, AreSeveral, row_lexemes, Says}, specs.declared.row_edit.RowNumbers.{RowNumbers}, specs.declared.row_edit.RowNumbers.TheVariants.{One, Several}}
 use Rattle.apl_expr.{specs.declared.expr.Literal.{Literal}, specs.declared.expr.Literal.TheVariants.{Num}, specs.Limits.{most_tokens}, specs.Trees.{Numbers, literal_of, is_plain}, specs.Grammar.{one}, specs.Lines.{IsCellPositions, last, further, nums_lit, cell, row, change, IsCommand}, specs.Answers.{TokensAnswer}}
 use Rattle.apl_expr.proofs.Pairs.{numbers_read}
 use Rattle.apl_expr.specs.declared.command.Change.TheVariants as changed

@@ -18,9 +18,10 @@ use crate::fault::{LineFault, ParseFault};
 use crate::limits::MOST_TOKENS;
 use crate::parser::parse;
 use apl_tokens::{
-    CellPositions, Name, NumberEdit, NumberRow, RowNumbers, Spanned, Token, TokenFault,
-    number_edit, number_row, tokens_into,
+    CellPositions, NumberEdit, NumberRow, RowNumbers, Spanned, Token, TokenFault, number_edit,
+    number_row, tokens_into,
 };
+use names::Name;
 use std::alloc::Global;
 
 /// The number of tokens before the numbers of a row: `)`, `ROW` and the name.

@@ -1,7 +1,7 @@
 //! Expressions as trees.
 
-use apl_tokens::Name;
 use function_names::{Along, Scalar1, Scalar2};
+use names::Name;
 
 /// The functions of one argument, by their names in ISO/IEC 13751.
 #[derive(Clone, Copy, Debug, PartialEq, Eq)]

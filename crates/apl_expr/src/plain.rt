@@ -5,7 +5,7 @@ ghost use Rattle.apl_expr.specs.Trees.{Numbers, Text, Const, Name as Named, befo
 
 use crate::expr::{Expr, Literal, Sides};
 use crate::functions::{Function1, Function2};
-use apl_tokens::Name;
+use names::Name;
 use std::alloc::{AllocError, Global};
 
 /// Returns the literal of these numbers: one number is a scalar.

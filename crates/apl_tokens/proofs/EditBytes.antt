@@ -1,9 +1,9 @@
 -- The lexemes at the front of the bytes of an edit.
 use Rattle.std.{proofs.Common.{◌≡◌, ℕ, ◌+◌, ◌<◌, ◌≤◌, List, [], ◌∷◌, ◌++◌, length, refl, sym, ap, ◌∙◌, subst, append_assoc, arith, Bool, true, false, lit<, lit≤}, specs.Prelude.{ℤ, codes, Some, slice_get, ◌==◌, ◌||◌, ◌&&◌, encode_utf8_all, Ok}, specs.Char.{is_ascii_digit, is_ascii_alphabetic, len_utf8}}
 use Rattle.std.{specs.List.{list_all}, specs.Str.{chars, IsAscii, IsUtf8}, proofs.lemmas.Str.{chars-append, chars_from_encodes, chars-nil, IsUtf8-from_ascii}, proofs.lemmas.Str.Ascii.{encodes-IsAscii, IsAscii-nil, IsAscii-cons}, proofs.lemmas.List.{append-nil}}
-use Rattle.apl_tokens.{specs.Limits.{longest_name}, specs.Signs.{space, right_parenthesis, high_minus, delta, delta_underbar, left_arrow, left_bracket, right_bracket, semicolon}, specs.Lexemes.{Lexeme, Number, Named, Sign}}
-use Rattle.apl_tokens.{specs.Characters.{is_letter, is_name_part, joins_number, sign_of, decimal_from, signed, fits_number}, specs.Scans.{spanned, Ends, IsRun, stop, more, IsNumber, plain, minus, Scans, done, blank, sign, number, word}}
-use Rattle.apl_tokens.{specs.NumberEdits.{Says, position_lexemes, edit_lexemes, number_lexemes, row_lexemes}, specs.Reading.{ReadsBefore, Reads, EndsNumber, EndsName, minus_bytes, GoesOn}}
+use Rattle.names.{specs.Limits.{longest_name}, specs.Signs.{delta, delta_underbar}, specs.Characters.{is_letter, is_name_part}}
+use Rattle.apl_tokens.{specs.Signs.{space, right_parenthesis, high_minus, left_arrow, left_bracket, right_bracket, semicolon}, specs.Lexemes.{Lexeme, Number, Named, Sign}, specs.Characters.{joins_number, sign_of, decimal_from, signed, fits_number}}
+use Rattle.apl_tokens.{specs.Scans.{spanned, Ends, IsRun, stop, more, IsNumber, plain, minus, Scans, done, blank, sign, number, word}, specs.NumberEdits.{Says, position_lexemes, edit_lexemes, number_lexemes, row_lexemes}, specs.Reading.{ReadsBefore, Reads, EndsNumber, EndsName, minus_bytes, GoesOn}}
 
 -- the positions, each with `;` after it
 abbrev pub open_positions : List ℤ → List Lexeme

@@ -3,7 +3,5 @@ pub mod Turns
 pub mod Walk
 pub mod Sound
 pub mod Complete
-pub mod Names
-pub mod Words
 pub mod Order
 pub mod EditBytes

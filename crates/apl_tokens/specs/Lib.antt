@@ -1,8 +1,6 @@
 -- Used by public contracts.
-pub mod Words
 pub mod Lexemes
 pub mod Signs
-pub mod Limits
 pub mod Characters
 pub mod Scans
 pub mod Scanning
@@ -12,5 +10,3 @@ pub mod Scanner
 pub mod Order
 pub mod NumberEdits
 pub mod Reading
--- Proofs given with types: contracts see a name as its bytes.
-pub mod Laws

@@ -1,6 +1,7 @@
 -- Reading bytes from the front: the bytes at the front have these lexemes, for every continuation.
 use Rattle.std.{specs.Prelude.{ℕ, ℤ, Bool, true, false, List, [], ◌∷◌, ◌++◌}, specs.Char.{is_ascii_digit}, specs.Str.{chars}}
-use Rattle.apl_tokens.{specs.Lexemes.{Lexeme}, specs.Characters.{is_name_part, joins_number}, specs.Scans.{Ends}, specs.NumberEdits.{Says, number_lexemes}}
+use Rattle.apl_tokens.{specs.Lexemes.{Lexeme}, specs.Characters.{joins_number}, specs.Scans.{Ends}, specs.NumberEdits.{Says, number_lexemes}}
+use Rattle.names.specs.Characters.{is_name_part}
 
 -- if the characters of us satisfy C, the characters of bs have the lexemes ls and then the lexemes of us
 pub record ReadsBefore (C : List ℕ → Type 0) (bs us : List ℕ) (ls : List Lexeme) : Type 0 where

@@ -1,4 +1,4 @@
--- The characters of the language by name, each by its code point.
+-- The characters of the language by name, each by its code point; names has those of a name.
 use Rattle.std.specs.Prelude.{ℕ}
 
 -- a space
@@ -200,18 +200,6 @@ circumflex = 0x5e
 -- ∈
 abbrev pub element_of : ℕ
 element_of = 0x2208
-
--- ∆
-abbrev pub delta : ℕ
-delta = 0x2206
-
--- ⍙
-abbrev pub delta_underbar : ℕ
-delta_underbar = 0x2359
-
--- _
-abbrev pub underbar : ℕ
-underbar = 0x5f
 
 -- 0
 abbrev pub digit_zero : ℕ

@@ -8,7 +8,7 @@ ghost use Rattle.apl_tokens.specs.NumberEdits.{position_lexemes, IsNumberEdit};
 ghost use Rattle.apl_tokens.specs.Reading.{Reads};
 
 use crate::fronts::{after_arrow, name_front, number_front};
-use crate::name::Name;
+use names::Name;
 use smallvec::SmallVec;
 use std::alloc::Global;
 

@@ -1,8 +1,9 @@
 //! The classes of characters in a line.
 
 ghost use Rattle.std.specs.Prelude.{◌≡◌};
-ghost use Rattle.apl_tokens.specs.Characters.{is_blank, sign_of, is_letter, is_name_part, joins_number, spells_name};
-ghost use Rattle.std.specs.Str.{chars};
+ghost use Rattle.apl_tokens.specs.Characters.{is_blank, sign_of, joins_number};
+
+use names::is_letter;
 
 /// Returns true for a blank, which separates tokens.
 pub(crate) fn is_blank(c: char) -> bool
@@ -36,34 +37,9 @@ pub(crate) fn sign_of(c: char) -> Option<char>
     }
 }
 
-/// Returns true if a name may begin with the character.
-pub(crate) fn is_letter(c: char) -> bool
-    ensures { result ≡ is_letter c }
-{
-    c.is_ascii_alphabetic() || c == '∆' || c == '⍙'
-}
-
-/// Returns true if a name may continue with the character.
-pub(crate) fn is_name_part(c: char) -> bool
-    ensures { result ≡ is_name_part c }
-{
-    is_letter(c) || c.is_ascii_digit() || c == '_'
-}
-
 /// Returns true if the character may not follow a number directly.
 pub(crate) fn joins_number(c: char) -> bool
     ensures { result ≡ joins_number c }
 {
     is_letter(c) || c == '_' || c == '¯'
-}
-
-/// Returns true if the whole text is a name, of any length.
-pub(crate) fn spells_name(text: &str) -> bool
-    ensures { result ≡ spells_name (chars text.now) }
-{
-    let mut rest = text.chars();
-    let Some(first) = rest.next() else {
-        return false;
-    };
-    is_letter(first) && rest.all(is_name_part)
 }

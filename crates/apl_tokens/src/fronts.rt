@@ -4,13 +4,14 @@ ghost use Rattle.std.specs.Prelude.{◌≡◌, ◌≤◌, true, [], ◌∷◌, �
 ghost use Rattle.std.specs.Char.{is_ascii_digit};
 ghost use Rattle.std.specs.List.{list_all};
 ghost use Rattle.std.specs.Str.{IsAscii};
-ghost use Rattle.apl_tokens.specs.Characters.{is_name_part, decimal_from};
+ghost use Rattle.names.specs.Characters.{is_name_part};
+ghost use Rattle.apl_tokens.specs.Characters.{decimal_from};
 ghost use Rattle.apl_tokens.specs.Lexemes.{Named, Number, Sign};
 ghost use Rattle.apl_tokens.specs.Signs.{left_arrow, space};
 ghost use Rattle.apl_tokens.specs.Reading.{ReadsBefore, Reads, EndsName, EndsNumber, minus_bytes};
 
-use crate::name::Name;
 use crate::numbers::with_sign;
+use names::Name;
 
 /// The name at the front of a line, and the bytes after the byte that ends it.
 #[derive(Clone, Copy)]

@@ -6,7 +6,7 @@ ghost use Rattle.apl_tokens.specs.NumberEdits.{IsNumberRow, row_numbers_of, numb
 ghost use Rattle.apl_tokens.specs.Reading.{ReadsBefore, EndsNumber, GoesOn};
 
 use crate::fronts::{after_blank, name_front, number_front};
-use crate::name::Name;
+use names::Name;
 use std::alloc::Global;
 
 /// The numbers of a row.

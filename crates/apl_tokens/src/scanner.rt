@@ -8,11 +8,11 @@ ghost use Rattle.apl_tokens.specs.Scans.{with_front, spanned};
 ghost use Rattle.apl_tokens.specs.Scanner.{begun, ended, then_begun, turn, scan, Between, Quoted, Goes};
 ghost use Rattle.apl_tokens.specs.Scanning.{scan_of, all_spanned, prepended, IsReading, StandsAt, Turns, Finds, AreTokensIn, AreTokensOf};
 
-use crate::characters::{is_blank, is_letter, is_name_part, joins_number, sign_of};
+use crate::characters::{is_blank, joins_number, sign_of};
 use crate::fault::TokenFault;
-use crate::name::Name;
 use crate::numbers::number_of_digits;
 use crate::token::{Span, Spanned, Token};
+use names::{Name, is_letter, is_name_part};
 use std::alloc::Global;
 
 /// The initial capacity of a list of tokens, which is enough for most lines.

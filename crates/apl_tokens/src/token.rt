@@ -3,7 +3,7 @@
 ghost use Rattle.std.specs.Prelude.{Some};
 ghost use Rattle.apl_tokens.specs.Spans.{span_text};
 
-use crate::name::Name;
+use names::Name;
 use std::fmt;
 use std::fmt::{Display, Formatter, Write};
 

@@ -3,8 +3,8 @@
 ghost use Rattle.std.specs.Prelude.{◌≡◌, ◌++◌, IfOk, OnOk, string_bytes};
 ghost use Rattle.array_text.specs.Text.{kind_text, origin_text, fault_text};
 
-use apl_tokens::Name;
 use arrays_core::{Fault, Kind};
+use names::Name;
 use std::alloc::{AllocError, Global};
 
 /// Returns the name of an error.

@@ -6,7 +6,7 @@ ghost use Rattle.arrays_core.specs.Outcomes.{fault, IsOutcomeOf};
 
 use crate::array::Array;
 use crate::item::Kind;
-use apl_tokens::Name;
+use names::Name;
 use std::alloc::{AllocError, AllocFailed};
 
 /// An error in place of an array, with its origin.

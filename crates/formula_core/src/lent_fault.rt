@@ -5,8 +5,8 @@ ghost use Rattle.arrays_core.specs.declared.item.Kind.TheVariants.{Value};
 ghost use Rattle.arrays_core.specs.Outcomes.{fault};
 ghost use Rattle.formula_core.specs.Outcomes.{arisen_in};
 
-use apl_tokens::Name;
 use arrays_core::{Fault, Kind};
+use names::Name;
 use std::marker::Model;
 
 /// Returns VALUE ERROR, the error of an absent name or of a node without a result.

@@ -12,7 +12,7 @@ use crate::constant::Constant;
 use crate::kept::Kept;
 use crate::sums::total_of;
 use apl_expr::{Expr, Function1, Function2, Literal, Sides};
-use apl_tokens::Name;
+use names::Name;
 use operator_fns::Reduce;
 use std::alloc::{AllocError, Global};
 

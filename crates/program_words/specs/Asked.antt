@@ -1,6 +1,6 @@
 -- The meaning of the words of the command line.
 use Rattle.std.{specs.Prelude.{◌≡◌, ◌↔◌, ◌≤◌, true, false, List, [], Bool, IsTrue, Option, Some, None, codes, length, option_map, string_bytes}, specs.declared.alloc.Global.{Global}, specs.declared.string.String.{String}, specs.Str.{bytes_eq, chars}}
-use Rattle.apl_tokens.{specs.Characters.{spells_name}, specs.Limits.{longest_name}}
+use Rattle.names.{specs.Characters.{spells_name}, specs.Limits.{longest_name}}
 use Rattle.clap.{specs.Words.{IsAmong, Row, Text, fault_of, first_of, kind_of, one_of, subcommand_of}, specs.declared.error.kind.ErrorKind.TheVariants.{InvalidValue}}
 use Rattle.program_words.{specs.declared.reading.Words.{Words}, specs.declared.reading.WordsFault.{WordsFault}, specs.declared.reading.WordsFault.TheVariants.{NoMemory, BadName, BadWords}, specs.Program.{aplsheet}}
 

@@ -9,9 +9,9 @@ ghost use Rattle.program_words.specs.Matched.{IsForName, IsRefusalFor, HasTableW
 ghost use Rattle.program_words.specs.declared.reading.WordsFault.TheVariants.{NoMemory};
 
 use crate::command::program;
-use apl_tokens::Name;
 use clap::error::ErrorKind;
 use clap::{ArgMatches, Error};
+use names::Name;
 use std::alloc::{AllocError, Global};
 
 /// The content of the words.

@@ -12,9 +12,9 @@ ghost use Rattle.sheet_cli.specs.Printed.{printed_bytes};
 use crate::printed::Printed;
 use crate::refusals::refusal_text;
 use apl_expr::Expr;
-use apl_tokens::Name;
 use array_text::{print, print_fault, write_table};
 use arrays_core::Array;
+use names::Name;
 use sheet_recalc::{Refusal, Sheet};
 use std::alloc::{AllocError, Global};
 

@@ -22,10 +22,10 @@ use crate::evaluation::{Inputs, lent};
 use crate::plans::Found;
 use crate::proposal::Proposal;
 use crate::proposed_sheet::ProposedSheet;
-use apl_tokens::Name;
 use change_core::Meter;
 use formula_core::{Formula, Input, LentFault, Plan};
 use index_region::Delta;
+use names::Name;
 use smallvec::SmallVec;
 use std::alloc::{AllocError, Global};
 

@@ -15,10 +15,10 @@ ghost use Rattle.sheet_recalc.specs.Costs.{cell_patch, cell_delta};
 use crate::entry::Entry;
 use crate::refusal::Refusal;
 use apl_expr::Literal;
-use apl_tokens::Name;
 use arrays_core::{Array, Item, Shape};
 use index_region::{IndexBox, Patch};
 use indexmap::IndexMap;
+use names::Name;
 use smallvec::SmallVec;
 
 /// Returns the patch that puts a literal into one cell of the data of a name, or refuses it. It takes no memory.

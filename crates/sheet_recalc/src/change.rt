@@ -11,8 +11,8 @@ use crate::pending::Pending;
 use crate::refusal::Refusal;
 use crate::sheet::Sheet;
 use apl_expr::Change;
-use apl_tokens::Name;
 use change_core::Meter;
+use names::Name;
 use std::alloc::{AllocError, Global};
 use std::collections::VecDeque;
 

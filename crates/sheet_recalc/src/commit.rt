@@ -21,11 +21,11 @@ use crate::entry::Entry;
 use crate::growth::Growth;
 use crate::plans::{Found, hint_at};
 use crate::proposal::Proposal;
-use apl_tokens::Name;
 use dep_order::{Users, give_lists, refer, take_larger};
 use formula_core::Plan;
 use index_region::{Delta, Patch, Tail};
 use indexmap::IndexMap;
+use names::Name;
 
 /// Makes a planned change: binds the name to its proposal and gives each formula its new results. It takes no memory, and empties the map `found`
 /// but keeps its memory.

@@ -10,8 +10,8 @@ ghost use Rattle.sheet_recalc.specs.Changes.{IsCycleFrom};
 
 use crate::plans::Found;
 use crate::proposed_sheet::ProposedSheet;
-use apl_tokens::Name;
 use dep_order::first_found;
+use names::Name;
 use std::alloc::{AllocError, Global};
 
 /// Returns the cycle that the name would close by a reference to a name that reaches it. The name comes first, then the reference. Each next entry

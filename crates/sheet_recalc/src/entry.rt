@@ -6,10 +6,10 @@ ghost use Rattle.sheet_recalc.specs.Entries.{binding_of, entry_outcome, adopting
 ghost use Rattle.sheet_recalc.specs.Names.{referred};
 ghost use Rattle.sheet_recalc.specs.Live.{CanAdopt};
 
-use apl_tokens::Name;
 use arrays_core::{Array, Fault};
 use formula_core::{Formula, LentFault, Plan};
 use index_region::{Patch, Tail};
+use names::Name;
 
 /// Data, or a formula with its results.
 #[derive(Drop)]

@@ -8,10 +8,10 @@ ghost use Rattle.sheet_recalc.specs.Live.{IsCurrent};
 ghost use Rattle.sheet_recalc.specs.Meaning.{val};
 
 use crate::entry::Entry;
-use apl_tokens::Name;
 use arrays_core::{Array, Fault};
 use formula_core::{Input, LentFault, unknown};
 use indexmap::IndexMap;
+use names::Name;
 use smallvec::SmallVec;
 
 /// The inputs of a formula: up to four are stored inline.

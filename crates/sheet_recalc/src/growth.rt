@@ -5,10 +5,10 @@ ghost use Rattle.sheet_recalc.specs.Pending.{IsBrought, HasPlace};
 
 use crate::entry::Entry;
 use crate::proposal::Proposal;
-use apl_tokens::Name;
 use dep_order::{Users, has_room_for, larger_map, lists_for};
 use index_region::Delta;
 use indexmap::IndexMap;
+use names::Name;
 use std::alloc::{AllocError, Global};
 
 /// The missing memory for one more entry: larger tables if the sheet's are full, and lists of users.

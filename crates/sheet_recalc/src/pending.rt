@@ -7,8 +7,8 @@ use crate::budget::Budget;
 use crate::growth::Growth;
 use crate::plans::Plans;
 use crate::proposal::Proposal;
-use apl_tokens::Name;
 use change_core::Meter;
+use names::Name;
 
 /// A change that is worked out by steps, with all the memory of making it.
 #[derive(Drop)]

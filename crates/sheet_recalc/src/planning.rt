@@ -23,11 +23,11 @@ use crate::plans::{Found, Plans};
 use crate::proposed_sheet::ProposedSheet;
 use crate::refusal::Refusal;
 use crate::sheet::MOST_NAMES;
-use apl_tokens::Name;
 use change_core::Meter;
 use dep_order::{Users, affected, first_found};
 use index_region::Delta;
 use indexmap::IndexMap;
+use names::Name;
 use std::alloc::{AllocError, Global};
 
 /// Finds the names that a change reaches, in the memory of `found`. With `is_known` that map has them already, and the call returns at once.

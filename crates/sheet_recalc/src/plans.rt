@@ -7,9 +7,9 @@ ghost use Rattle.dep_order.specs.Users.{EndsWith};
 ghost use Rattle.sheet_recalc.specs.Live.{plan_in};
 ghost use Rattle.sheet_recalc.specs.Planning.{waiting_names, coming_cost};
 
-use apl_tokens::Name;
 use formula_core::Plan;
 use indexmap::IndexMap;
+use names::Name;
 use std::alloc::Global;
 
 /// The names that a change reaches, each after all that refer to it, with the plans that are whole.

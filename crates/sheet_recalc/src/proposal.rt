@@ -3,9 +3,9 @@
 ghost use Rattle.std.specs.Prelude.{◌≡◌};
 ghost use Rattle.sheet_recalc.specs.ProposedSheet.{is_data, is_edit, proposed_references};
 
-use apl_tokens::Name;
 use formula_core::Formula;
 use index_region::Delta;
+use names::Name;
 
 /// The next binding of a name.
 #[derive(Drop)]

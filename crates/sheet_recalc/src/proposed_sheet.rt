@@ -8,9 +8,9 @@ ghost use Rattle.sheet_recalc.specs.declared.entry.Entry.TheVariants.{Formula as
 
 use crate::entry::Entry;
 use crate::proposal::Proposal;
-use apl_tokens::Name;
 use formula_core::Formula;
 use indexmap::IndexMap;
+use names::Name;
 
 /// The names of a sheet with one rebound or removed. A rebound name keeps its index, a new one comes last. The names after a removed one move up.
 #[derive(Drop)]

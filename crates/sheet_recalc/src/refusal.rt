@@ -3,8 +3,8 @@
 ghost use Rattle.std.specs.Prelude.{◌≡◌};
 ghost use Rattle.sheet_recalc.specs.declared.refusal.Refusal.TheVariants.{NoMemory};
 
-use apl_tokens::Name;
 use arrays_core::Fault;
+use names::Name;
 use std::alloc::{AllocError, AllocFailed};
 
 /// The reason why a change or a slot command is refused. The sheet or desk then stays. A sheet never returns the last four.

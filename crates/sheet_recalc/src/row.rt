@@ -15,11 +15,11 @@ ghost use Rattle.sheet_recalc.specs.Rows.{row_put, items_in_row, are_of_type};
 use crate::entry::Entry;
 use crate::refusal::Refusal;
 use apl_expr::Literal;
-use apl_tokens::Name;
 use arrays_core::{ApplyFault, Array, Item, ItemType, Shape, is_within_limits, shape_of};
 use formula_core::array_of;
 use index_region::Tail;
 use indexmap::IndexMap;
+use names::Name;
 use std::alloc::{AllocError, Global};
 
 /// Returns the tail that appends a literal to the data of a name as its last row, or refuses it.

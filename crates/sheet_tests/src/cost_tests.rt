@@ -2,7 +2,7 @@
 
 use crate::fixtures::are_made;
 use apl_expr::Literal;
-use apl_tokens::Name;
+use names::Name;
 use sheet_recalc::Sheet;
 use std::alloc::Global;
 

@@ -1,7 +1,7 @@
 //! Changes and trees from lines, and the values that a sheet shows.
 
 use apl_expr::{Change, Command, Expr, line};
-use apl_tokens::Name;
+use names::Name;
 use sheet_recalc::Sheet;
 use std::alloc::Global;
 

@@ -6,11 +6,12 @@ ghost use Rattle.formula_core.specs.Formulas.{IsHeld};
 ghost use Rattle.formula_core.specs.Meaning.{names_in};
 
 use apl_expr::parse;
-use apl_tokens::{Name, tokens};
+use apl_tokens::tokens;
 use arrays_core::{Array, Fault, Item, ItemType, shape_of};
 use change_core::Meter;
 use formula_core::{Formula, Input, Shows};
 use index_region::{Delta, IndexBox, Patch, Seen};
+use names::Name;
 use std::alloc::Global;
 use std::process::Abort;
 

@@ -2,8 +2,8 @@
 
 use crate::fixtures::{MOST_TRIES, are_made, change_of, shows, tree_of};
 use apl_expr::{Change, Literal};
-use apl_tokens::Name;
 use arrays_core::Array;
+use names::Name;
 use sheet_recalc::{Refusal, Sheet};
 use std::alloc::Global;
 use std::collections::VecDeque;

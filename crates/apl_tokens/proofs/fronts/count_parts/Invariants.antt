@@ -1,4 +1,4 @@
-use Rattle.{std.{proofs.Common.{◌≡◌, true, take}, specs.List.{list_all}, specs.Str.{IsAscii}}, apl_tokens.specs.Characters.{is_name_part}}
+use Rattle.{std.{proofs.Common.{◌≡◌, true, take}, specs.List.{list_all}, specs.Str.{IsAscii}}, names.specs.Characters.{is_name_part}}
 use Rattle.apl_tokens.proofs.fronts.count_parts.Given as goal
 
 abbrev pub invariant-loop-index : goal.invariant-loop-index

@@ -1,5 +1,5 @@
 use Rattle.std.{proofs.Common.{List, ℕ, sym, subst, rules, ◌≡◌, true}, specs.Char.{is_ascii_alphabetic}, specs.List.{list_all}, specs.Str.{IsAscii}, proofs.lemmas.Str.{is_utf8-from_IsUtf8, IsUtf8-from_ascii}}
-use Rattle.apl_tokens.{specs.Characters.{is_name_part}, proofs.EditBytes.{letters_read}}
+use Rattle.{names.specs.Characters.{is_name_part}, apl_tokens.proofs.EditBytes.{letters_read}}
 use Rattle.apl_tokens.proofs.fronts.name_front.Goals as goal
 
 pub of_letters-requires : goal.of_letters-requires

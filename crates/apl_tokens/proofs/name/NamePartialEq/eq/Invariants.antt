@@ -1,5 +1,0 @@
-use Rattle.{std.specs.Prelude.{◌≡◌, ℕ, ◌≤◌, ◌<◌}, apl_tokens.specs.Words.{word_at, count_of_words}}
-use Rattle.apl_tokens.proofs.name.NamePartialEq.eq.Given as goal
-
-abbrev pub invariant-loop-index : goal.invariant-loop-index
-invariant-loop-index l = (l.index ≤ count_of_words l.self) × ((k : ℕ) → k < l.index → word_at l.self k ≡ word_at l.other k)

@@ -1,6 +1,0 @@
--- The limits of a token.
-use Rattle.std.specs.Prelude.{ℕ}
-
--- the greatest length of a name, in bytes
-abbrev pub longest_name : ℕ
-longest_name = 63

@@ -1,0 +1,5 @@
+use Rattle.std.{proofs.Common.{rules}, proofs.lemmas.Nat.{le_bytes_8}}
+use Rattle.names.proofs.name.number_of.Goals as goal
+
+pub returns : goal.returns
+returns c = le_bytes_8 c.args.bytes _ (search rules) (search rules) c.from_le_bytes.ensures
