@@ -108,7 +108,8 @@ class FrontEnd(Checks):
         self.want_same({*self.known("CHANGES")}, {*CHANGES.values()}, "the changes")
         commands = {name.lower() for name in variants(text, "Command") - {"Nothing", "Change", "Show"}}
         self.want_same({word.lower() for word in words} - {*CHANGES.values()}, commands, "the commands")
-        arms = re.findall(r"Command::(\w+)(?:\(.*?\))? => (.*)$", body_of(self.files.texts[ANSWERS], "carry_out"), re.M)
+        bodies = "\n".join(body_of(self.files.texts[ANSWERS], name) for name in ("carry_out", "carry_out_other"))
+        arms = re.findall(r"Command::(\w+)(?:\(.*?\))? => (.*)$", bodies, re.M)
         printing = {name.lower() for name, outcome in arms if not outcome.startswith(("outcome_text(", 'Ok(Printed::Fixed("")'))}
         self.want_same({*self.known("WELL")}, printing - {"show"}, "the commands that print something")
 

@@ -116,5 +116,5 @@ answered_too_long old line answer e h = rw e (too_long h)
 pub answered_not_text : (old : State) (line answer : List ℕ) → answer ≡ codes "NOT TEXT\n" → length (strip_cr line) ≤ longest_line → (IsUtf8 (strip_cr line) → ⊥) → IsAnswer old line answer old
 answered_not_text old line answer e h n = rw e (not_text h n)
 
-pub answered_text : (old new : State) (line answer : List ℕ) → length (strip_cr line) ≤ longest_line → IsUtf8 (strip_cr line) → IsTextAnswer old (chars (strip_cr line)) answer new → IsAnswer old line answer new
-answered_text old new line answer h u a = of_text h u a
+pub answered_text : (old new : State) (line stripped cs answer : List ℕ) → stripped ≡ strip_cr line → length stripped ≤ longest_line → IsUtf8 stripped → cs ≡ chars stripped → IsTextAnswer old cs answer new → IsAnswer old line answer new
+answered_text old new line stripped cs answer is h u e a = of_text (rw (← is) h) (rw (← is) u) (rw (← is, ← e) a)

@@ -1,11 +1,13 @@
 //! The answer to one line.
 ghost use Rattle.std.specs.Prelude.{◌≡◌, IfOk, OnErr, IsOk};
-ghost use Rattle.std.specs.Str.{chars};
 ghost use Rattle.apl_expr.specs.Lines.{meaning};
 ghost use Rattle.apl_expr.specs.Trees.{tree_of};
+ghost use Rattle.apl_expr.specs.declared.command.Change.{Change as AnyChange};
+ghost use Rattle.apl_expr.specs.declared.command.Command.TheVariants.{Change, Show};
+ghost use Rattle.apl_expr.specs.declared.expr.Expr.{Expr as AnyExpr};
 ghost use Rattle.formula_core.specs.Meaning.{eval};
 ghost use Rattle.sheet_recalc.specs.Meaning.{val};
-ghost use Rattle.sheet_cli.specs.Answer.{state_of, shown_text, IsCarriedOut, IsTextAnswer, IsAnswer};
+ghost use Rattle.sheet_cli.specs.Answer.{state_of, shown_text, IsCarriedOut, IsAnswer};
 ghost use Rattle.sheet_cli.specs.Lines.{strip_cr};
 ghost use Rattle.sheet_cli.specs.Printed.{printed_bytes};
 ghost use Rattle.sheet_cli.specs.Refusals.{TakesNoMemory};
@@ -39,38 +41,22 @@ pub(crate) fn answer(
     if line.len() > LONGEST_LINE {
         return Ok(Printed::Fixed("LINE TOO LONG\n"));
     }
-    match str::from_utf8(line) {
-        Ok(text) => answer_text(alloc, desk, room, text),
-        Err(_) => Ok(Printed::Fixed("NOT TEXT\n")),
-    }
-}
-
-/// Answers a text.
-fn answer_text(
-    alloc: Global,
-    desk: &mut Desk,
-    room: &mut Vec<Spanned>,
-    text: &str,
-) -> Result<Printed, AllocError>
-    ensures ok { IfOk result (λ answer. IsTextAnswer (state_of desk.old) (chars text.now) (printed_bytes answer) (state_of desk.new)) }
-    ensures err { OnErr result (desk.new ≡ desk.old) }
-{
+    let Ok(text) = str::from_utf8(line) else {
+        return Ok(Printed::Fixed("NOT TEXT\n"));
+    };
     let mut command = Command::Nothing;
     match line_into(alloc, text, room, &mut command) {
-        Ok(()) => carry_out_lent(alloc, desk, &mut command),
+        Ok(()) => carry_out(alloc, desk, &mut command),
         Err(LineFault::Syntax) => Ok(Printed::Fixed("SYNTAX ERROR\n")),
         Err(LineFault::Limit) => Ok(Printed::Fixed("LIMIT ERROR\n")),
         Err(LineFault::NoMemory) => Err(AllocError),
     }
 }
 
-/// Executes a command. Borrows a change or an expression from it; moves any other command out.
+/// Executes a command. Borrows a change or an expression from it; moves any other command out. `TakesNoMemory` lists the commands that are never
+/// refused memory.
 #[inline(always)]
-fn carry_out_lent(
-    alloc: Global,
-    desk: &mut Desk,
-    command: &mut Command,
-) -> Result<Printed, AllocError>
+fn carry_out(alloc: Global, desk: &mut Desk, command: &mut Command) -> Result<Printed, AllocError>
     ensures ok { IfOk result (λ text. IsCarriedOut (state_of desk.old) (meaning command.old) (printed_bytes text) (state_of desk.new)) }
     ensures no_memory { TakesNoMemory desk.old (meaning command.old) → IsOk result }
     ensures err { OnErr result (desk.new ≡ desk.old) }
@@ -78,43 +64,24 @@ fn carry_out_lent(
     match command {
         Command::Change(change) => outcome_text(alloc, desk.plain_lent(change)),
         Command::Show(expr) => shown(alloc, desk.sheet(), expr),
-        _ => carry_out_taken(alloc, desk, command),
+        _ => carry_out_other(alloc, desk, command),
     }
 }
 
-/// Moves a command out and executes it.
-fn carry_out_taken(
+/// Executes any command but a change and an expression, and moves it out.
+fn carry_out_other(
     alloc: Global,
     desk: &mut Desk,
     command: &mut Command,
 ) -> Result<Printed, AllocError>
+    requires change { (change : AnyChange) → command.old ≡ Change change → ⊥ }
+    requires show { (tree : AnyExpr) → command.old ≡ Show tree → ⊥ }
     ensures ok { IfOk result (λ text. IsCarriedOut (state_of desk.old) (meaning command.old) (printed_bytes text) (state_of desk.new)) }
     ensures no_memory { TakesNoMemory desk.old (meaning command.old) → IsOk result }
     ensures err { OnErr result (desk.new ≡ desk.old) }
 {
-    carry_out(alloc, desk, mem::replace(command, Command::Nothing))
-}
-
-/// Returns the text of an expression's value or error.
-fn shown(alloc: Global, sheet: &Sheet, expr: &Expr) -> Result<Printed, AllocError>
-    ensures { IfOk result (λ text. printed_bytes text ≡ shown_text (eval (tree_of expr.now) (val sheet.now.names))) }
-{
-    match show(alloc, sheet, expr) {
-        Ok(text) => Ok(Printed::Made(text)),
-        Err(AllocError) => Err(AllocError),
-    }
-}
-
-/// Executes a command. `TakesNoMemory` lists the commands that are never refused memory.
-fn carry_out(alloc: Global, desk: &mut Desk, command: Command) -> Result<Printed, AllocError>
-    ensures ok { IfOk result (λ text. IsCarriedOut (state_of desk.old) (meaning command) (printed_bytes text) (state_of desk.new)) }
-    ensures no_memory { TakesNoMemory desk.old (meaning command) → IsOk result }
-    ensures err { OnErr result (desk.new ≡ desk.old) }
-{
-    match command {
+    match mem::replace(command, Command::Nothing) {
         Command::Nothing => Ok(Printed::Fixed("")),
-        Command::Change(change) => outcome_text(alloc, desk.plain(change)),
-        Command::Show(expr) => shown(alloc, desk.sheet(), &expr),
         Command::Names => Ok(Printed::Made(list_names(alloc, desk.sheet())?)),
         Command::Cost => Ok(Printed::Count(CountLine::new(desk.sheet().last_cost()))),
         Command::Csv(name) => shown_table(alloc, desk.sheet(), name),
@@ -125,6 +92,17 @@ fn carry_out(alloc: Global, desk: &mut Desk, command: Command) -> Result<Printed
         Command::Step(number) => count_text(alloc, desk.step(number)),
         Command::Commit(number) => outcome_text(alloc, desk.commit(number)),
         Command::Drop(number) => outcome_text(alloc, desk.drop_slot(number)),
+        Command::Show(_) | Command::Change(_) => unreachable!(),
+    }
+}
+
+/// Returns the text of an expression's value or error.
+fn shown(alloc: Global, sheet: &Sheet, expr: &Expr) -> Result<Printed, AllocError>
+    ensures { IfOk result (λ text. printed_bytes text ≡ shown_text (eval (tree_of expr.now) (val sheet.now.names))) }
+{
+    match show(alloc, sheet, expr) {
+        Ok(text) => Ok(Printed::Made(text)),
+        Err(AllocError) => Err(AllocError),
     }
 }
 

@@ -1,5 +1,5 @@
 //! The loop from a source to a sink.
-ghost use Rattle.std.specs.Prelude.{◌≡◌, ◌+◌, ◌≤◌, ◌<◌, ◌^◌, ◌∷◌, ℕ, List, [], ◌++◌, length, take, slice_index, MatchOption, OnOk, OnErr, IfOk, IsErrOf, true};
+ghost use Rattle.std.specs.Prelude.{◌≡◌, ◌+◌, ◌≤◌, ◌<◌, ◌^◌, ℕ, List, [], ◌++◌, length, take, slice_index, MatchOption, OnOk, OnErr, IfOk, IsErrOf, true};
 ghost use Rattle.std.specs.Io.KnownBytes.{Appends};
 ghost use Rattle.sheet_cli.specs.Answer.{state_of};
 ghost use Rattle.sheet_cli.specs.Lines.{strip_bom, ended_lines};
@@ -120,13 +120,6 @@ fn stripped(kept: &[u8], lines: u64) -> &[u8]
     if lines == 0 { strip_bom(kept) } else { kept }
 }
 
-/// Returns the current line without the byte order mark, if it is the first line.
-fn line_of(open_line: &OpenLine, lines: u64) -> &[u8]
-    ensures { result.now ≡ line_after lines open_line.now }
-{
-    stripped(open_line.as_slice(), lines)
-}
-
 /// Returns the first `KEPT` bytes.
 fn kept_of(bytes: &[u8]) -> &[u8]
     ensures { result.now ≡ take most_kept bytes.now }
@@ -150,67 +143,6 @@ fn find_line_feed(bytes: &[u8]) -> Option<usize>
         i += 1;
     }
     None
-}
-
-/// Answers the current line, which an LF ends.
-fn end_line<W: Sink>(
-    alloc: Global,
-    desk: &mut Desk,
-    sink: &mut W,
-    progress: &mut Progress,
-) -> Result<(), Failed>
-    requires lines { progress.old.tally.lines < u64.MAX }
-    requires refused { progress.old.tally.refused_for_memory < u64.MAX }
-    ensures lines { progress.new.tally.lines ≡ progress.old.tally.lines + 1 }
-    ensures refused { progress.new.tally.refused_for_memory ≤ progress.old.tally.refused_for_memory + 1 }
-    ensures ok { OnOk result ((text : List ℕ) × Appends (W.written sink.old) (W.written sink.new) text
-        × Feeds (10 ∷ []) (standing progress.old.open_line progress.old.tally (state_of desk.old)) text (standing progress.new.open_line progress.new.tally (state_of desk.new))) }
-    ensures err { OnErr result ((text : List ℕ) × Appends (W.written sink.old) (W.written sink.new) text
-        × StopsIn (10 ∷ []) (standing progress.old.open_line progress.old.tally (state_of desk.old)) text (state_of desk.new)) }
-    ensures fault { OnErr result (W.has_failed sink.new ≡ true) }
-{
-    let line = line_of(&progress.open_line, progress.tally.lines);
-    answer_line(
-        alloc,
-        desk,
-        sink,
-        &mut progress.tally,
-        &mut progress.room,
-        line,
-    )?;
-    progress.open_line.clear();
-    Ok(())
-}
-
-/// Answers a line that ends within these bytes and began in them: reads it in place, without a copy.
-fn answer_lying<W: Sink>(
-    alloc: Global,
-    desk: &mut Desk,
-    sink: &mut W,
-    progress: &mut Progress,
-    bytes: &[u8],
-) -> Result<(), Failed>
-    requires lines { progress.old.tally.lines < u64.MAX }
-    requires refused { progress.old.tally.refused_for_memory < u64.MAX }
-    requires none { progress.old.open_line ≡ [] }
-    requires one { ended_lines bytes.now ≡ [] }
-    ensures lines { progress.new.tally.lines ≡ progress.old.tally.lines + 1 }
-    ensures refused { progress.new.tally.refused_for_memory ≤ progress.old.tally.refused_for_memory + 1 }
-    ensures ok { OnOk result ((text : List ℕ) × Appends (W.written sink.old) (W.written sink.new) text
-        × Feeds (bytes.now ++ 10 ∷ []) (standing progress.old.open_line progress.old.tally (state_of desk.old)) text (standing progress.new.open_line progress.new.tally (state_of desk.new))) }
-    ensures err { OnErr result ((text : List ℕ) × Appends (W.written sink.old) (W.written sink.new) text
-        × StopsIn (bytes.now ++ 10 ∷ []) (standing progress.old.open_line progress.old.tally (state_of desk.old)) text (state_of desk.new)) }
-    ensures fault { OnErr result (W.has_failed sink.new ≡ true) }
-{
-    let line = stripped(kept_of(bytes), progress.tally.lines);
-    answer_line(
-        alloc,
-        desk,
-        sink,
-        &mut progress.tally,
-        &mut progress.room,
-        line,
-    )
 }
 
 /// Consumes bytes up to the first LF, or all if there is none. Returns their number.
@@ -237,11 +169,29 @@ fn take_piece<W: Sink>(
         return Ok(bytes.len());
     };
     if progress.open_line.as_slice().is_empty() {
-        answer_lying(alloc, desk, sink, progress, &bytes[..end])?;
+        // The line began in these bytes: it is read in place, without a copy.
+        let line = stripped(kept_of(&bytes[..end]), progress.tally.lines);
+        answer_line(
+            alloc,
+            desk,
+            sink,
+            &mut progress.tally,
+            &mut progress.room,
+            line,
+        )?;
         return Ok(end + 1);
     }
     progress.open_line.append(&bytes[..end]);
-    end_line(alloc, desk, sink, progress)?;
+    let line = stripped(progress.open_line.as_slice(), progress.tally.lines);
+    answer_line(
+        alloc,
+        desk,
+        sink,
+        &mut progress.tally,
+        &mut progress.room,
+        line,
+    )?;
+    progress.open_line.clear();
     Ok(end + 1)
 }
 
@@ -286,7 +236,7 @@ fn answer_last<W: Sink>(
         × StopsAtEnd (standing progress.old.open_line progress.old.tally (state_of desk.old)) text (state_of desk.new)) }
     ensures fault { OnErr result (W.has_failed sink.new ≡ true) }
 {
-    let line = line_of(&progress.open_line, progress.tally.lines);
+    let line = stripped(progress.open_line.as_slice(), progress.tally.lines);
     if line.is_empty() {
         return Ok(());
     }
