@@ -11,10 +11,6 @@ use Rattle.sheet_recalc.proofs.Refused.{refused_define, refused_put, refused_era
 use Rattle.sheet_recalc.specs.declared.entry.Entry.TheVariants as entry
 use Rattle.sheet_recalc.specs.declared.proposal.Proposal.TheVariants as proposed
 
-pub if_ok_both : {T E : Type 0} (r : Result T E) (P Q R : T → Type 0) → ((t : T) → P t → Q t → R t) → IfOk r P → IfOk r Q → IfOk r R
-if_ok_both (Ok t) P Q R f p q = f t p q
-if_ok_both (Err e) P Q R f p q = p
-
 pub if_ok_map : {T E : Type 0} (r : Result T E) (P Q : T → Type 0) → ((t : T) → P t → Q t) → IfOk r P → IfOk r Q
 if_ok_map (Ok t) P Q f h = f t h
 if_ok_map (Err e) P Q f h = h

@@ -4,7 +4,7 @@ use Rattle.std.{specs.Option.{option_map, unwrap_or}, specs.List.{IsDistinct, Co
 use Rattle.{indexmap.specs.IndexMap.{insert_entry, set_value_at}, arrays_core.{specs.Arrays.{ArrayValue}, specs.Outcomes.{Outcome}}}
 use Rattle.dep_order.{specs.Reachability.{Chain, IsAcyclic, Reaches}, specs.Users.{Uses, EndsWith, EachFollowsUsers, HasNothing}, proofs.Following.{contains_none}}
 use Rattle.formula_core.specs.Plans.{PlanValue}
-use Rattle.sheet_recalc.{specs.Names.{Names, Data, binding, put, without, Refers}, specs.Meaning.{shown_beside, val, val_at}, specs.Entries.{names_of, binding_of, entry_outcome, adopting}, specs.Live.{IsRightEntry, IsCurrent, IsLive, IsReach, CanAdopt, AreRightOnceTaken, IsAdopting, entry_after, plan_in}}
+use Rattle.sheet_recalc.{specs.Names.{Names, Data, binding, put, without, Refers}, specs.Meaning.{shown_beside, val, val_at}, specs.Entries.{names_of, binding_of, entry_outcome, adopting, HasData}, specs.Live.{IsRightEntry, IsCurrent, IsLive, IsReach, CanAdopt, AreRightOnceTaken, IsAdopting, entry_after, plan_in}}
 use Rattle.sheet_recalc.{specs.declared.entry.Entry.{Entry}, proofs.NameEquality.{names_equal, equal-true, equal-same}, proofs.Putting.{lookup_put}, proofs.Removing.{others, lookup_others, names_of_others}}
 use Rattle.sheet_recalc.specs.declared.entry.Entry.TheVariants as entry
 
@@ -53,6 +53,14 @@ set_is_put name v (e ∷ es) h = by (bytes_eq name e.0) refl (set_is_put name v 
         → IsSome (lookup (bytes_eq name) (e ∷ es)) → set_value (bytes_eq name) (e ∷ es) v ≡ insert_entry bytes_eq (e ∷ es) name v
     by true is rest h = rw is refl
     by false is rest h = let there : IsSome (lookup (bytes_eq name) es) = rw is at h in rw is (ap (λ fs. e ∷ fs) (rest there))
+
+-- data that is edited in place is put there
+pub edited_in_place : (name : List ℕ) (es after : List (List ℕ × Entry)) (a b : ArrayValue) (e new : Entry) → HasData es name a → Some e ≡ lookup (bytes_eq name) es → (e ≡ entry.Data a → new ≡ entry.Data b)
+    → after ≡ set_value (bytes_eq name) es new → after ≡ insert_entry bytes_eq es name (entry.Data b)
+edited_in_place name es after a b e new held there edits wrote =
+    let both : Some e ≡ Some (entry.Data a) = there ∙ held in
+    let this : e ≡ entry.Data a = cc in
+    wrote ∙ (ap (set_value (bytes_eq name) es) (edits this) ∙ set_is_put name (entry.Data b) es (subst (λ o. IsSome o) (sym held) refl))
 
 adopting_binding : (e : Entry) (p : PlanValue) → binding_of (adopting e p) ≡ binding_of e
 adopting_binding (entry.Data a) p = refl
@@ -338,6 +346,13 @@ pub adopting_planned : (es : List (List ℕ × Entry)) (name : List ℕ) (own : 
 adopting_planned es name own plans =
     adopting_after es (insert_entry bytes_eq es name own) name (Some own) (put (names_of es) name (binding_of own)) plans (names_of_insert name own es)
     (λ q. lookup_put name own es q ∙ ap (λ (t : Bool). cond t (Some own) (lookup (bytes_eq q) es)) (names_equal.symm name q))
+
+-- after its data is edited in place
+pub adopting_edited : (es after : List (List ℕ × Entry)) (name : List ℕ) (own : Entry) (plans : List ℕ → Option PlanValue) → after ≡ insert_entry bytes_eq es name own
+    → AreRightOnceTaken es name (Some own) (put (names_of es) name (binding_of own)) plans → IsAdopting (names_of after) after plans
+adopting_edited es after name own plans is planned =
+    let put_in = subst (λ (ns : Names). IsAdopting ns (insert_entry bytes_eq es name own) plans) (sym (names_of_insert name own es)) (adopting_planned es name own plans planned) in
+    subst (λ (fs : List (List ℕ × Entry)). IsAdopting (names_of fs) fs plans) (sym is) put_in
 
 -- once the name is removed
 pub adopting_removed : (es : List (List ℕ × Entry)) (name : List ℕ) (plans : List ℕ → Option PlanValue)

@@ -33,15 +33,23 @@ item_put a index [] = Err Length
 item_put a index (item ∷ []) = if is_same_type (type_of item) a.item_type then Ok (with_item a index item) else Err Domain
 item_put a index (item ∷ other ∷ items) = Err Length
 
--- the data with the literal in one cell, or the reason for a refusal: first the number of positions, then each position on its axis, then the
+-- an edit of the data of a name; an absent name and one bound to a formula refuse it
+abbrev pub on_data : (ArrayValue → Result ArrayValue Refusal) → Option Binding → Result ArrayValue Refusal
+on_data edit None = Err NotFound
+on_data edit (Some (Formula t)) = Err NotData
+on_data edit (Some (Data a)) = edit a
+
+-- the array with the literal in one cell, or the reason for a refusal: first the number of positions, then each position on its axis, then the
 -- literal
-abbrev pub cell_put : Option Binding → List ℤ → Literal → Result ArrayValue Refusal
-cell_put None positions literal = Err NotFound
-cell_put (Some (Formula t)) positions literal = Err NotData
-cell_put (Some (Data a)) positions literal =
+abbrev pub with_cell : List ℤ → Literal → ArrayValue → Result ArrayValue Refusal
+with_cell positions literal a =
     if length positions == length a.shape
     then (if is_index_of a.shape (index_of_numbers positions) then item_put a (index_of_numbers positions) (literal_items literal) else Err Index)
     else Err Rank
+
+-- the data with the literal in one cell, or the reason for a refusal
+abbrev pub cell_put : Option Binding → List ℤ → Literal → Result ArrayValue Refusal
+cell_put bound positions literal = on_data (with_cell positions literal) bound
 
 -- a call returns the wanted result, or want of memory
 abbrev pub IsDataAnswer : Result ArrayValue Refusal → Result ArrayValue Refusal → Type 0

@@ -3,7 +3,7 @@ use Rattle.std.{specs.Prelude.{ℕ, ◌==◌, Bool, List, [], ◌∷◌, length,
 use Rattle.apl_expr.specs.Trees.{Literal}
 use Rattle.arrays_core.{specs.Arrays.{ArrayValue}, specs.Growth.{one_longer, grown_by}, specs.Items.{type_of}, specs.declared.item.Item.{Item}, specs.declared.item.ItemType.{ItemType}}
 use Rattle.index_region.{specs.Checks.{is_within_limits}, specs.Arguments.{is_same_type}}
-use Rattle.sheet_recalc.{specs.Names.{Binding, Data, Formula}, specs.Cells.{literal_items}, specs.declared.refusal.Refusal.{Refusal}, specs.declared.refusal.Refusal.TheVariants.{NotFound, NotData, Rank, Length, Domain, Limit}}
+use Rattle.sheet_recalc.{specs.Names.{Binding}, specs.Cells.{literal_items, on_data}, specs.declared.refusal.Refusal.{Refusal}, specs.declared.refusal.Refusal.TheVariants.{Rank, Length, Domain, Limit}}
 
 -- the number of items of a row: one for a vector, one for each column of a matrix; other arrays have no rows
 abbrev pub items_in_row : List ℕ → Option ℕ
@@ -29,6 +29,4 @@ row_items_put a (Some count) row = if length row == count then items_put a row e
 
 -- the data with the literal as its last row, or the reason for a refusal
 abbrev pub row_put : Option Binding → Literal → Result ArrayValue Refusal
-row_put None literal = Err NotFound
-row_put (Some (Formula t)) literal = Err NotData
-row_put (Some (Data a)) literal = row_items_put a (items_in_row a.shape) (literal_items literal)
+row_put bound literal = on_data (λ a. row_items_put a (items_in_row a.shape) (literal_items literal)) bound

@@ -2,47 +2,27 @@
 
 ghost use Rattle.std.specs.Prelude.{◌≡◌, IfOk, IfErr, MatchOption, Some, Ok, Err, true, false, ◌≤◌, length};
 ghost use Rattle.apl_expr.specs.Trees.{literal_of};
-ghost use Rattle.arrays_core.specs.Arrays.{ArrayValue};
 ghost use Rattle.arrays_core.specs.Limits.{most_axes};
-ghost use Rattle.arrays_core.specs.Shapes.{IsWithinLimits, is_index_of};
+ghost use Rattle.arrays_core.specs.Shapes.{is_index_of};
 ghost use Rattle.index_region.specs.Patches.{FitsPatch, patched};
 ghost use Rattle.index_region.specs.declared.delta.Delta.TheVariants.{Patch as IsPatched};
-ghost use Rattle.sheet_recalc.specs.Names.{binding, Data};
-ghost use Rattle.sheet_recalc.specs.Entries.{names_of, HasData};
-ghost use Rattle.sheet_recalc.specs.Cells.{cell_put, index_of_number, index_of_numbers, lies_on_axis, literal_items, item_put, IsDataAnswer, IsOnlyItem};
-ghost use Rattle.sheet_recalc.specs.Costs.{cell_patch, cell_delta};
+ghost use Rattle.sheet_recalc.specs.Names.{Data};
+ghost use Rattle.sheet_recalc.specs.Cells.{cell_put, index_of_number, index_of_numbers, lies_on_axis, literal_items, IsDataAnswer, IsOnlyItem};
+ghost use Rattle.sheet_recalc.specs.Costs.{cell_delta};
 
-use crate::entry::Entry;
 use crate::refusal::Refusal;
 use apl_expr::Literal;
 use arrays_core::{Array, Item, Shape};
 use index_region::{IndexBox, Patch};
-use indexmap::IndexMap;
-use names::Name;
 use smallvec::SmallVec;
 
-/// Returns the patch that puts a literal into one cell of the data of a name, or refuses it. It takes no memory.
-#[inline(always)]
+/// Returns the patch that puts a literal into one cell of an array, or the first reason to refuse it: a wrong number of positions, a position off its
+/// axis, a literal of several items, an item of the other type. It takes no memory.
 pub(crate) fn cell_patch(
-    entries: &IndexMap<Name, Entry>,
-    name: Name,
+    array: &Array,
     positions: &[i64],
     literal: &Literal,
 ) -> Result<Patch, Refusal>
-    ensures put { IfOk result (λ patch. (a : ArrayValue) × HasData entries.now.entries name a × FitsPatch a patch
-        × (cell_put (binding (names_of entries.now.entries) name) positions.now (literal_of literal.now) ≡ Ok (patched a patch))) }
-    ensures delta { IfOk result (λ patch. IsPatched patch ≡ cell_delta (index_of_numbers positions.now) (literal_items (literal_of literal.now))) }
-    ensures refused { IfErr result (λ cause. IsDataAnswer (cell_put (binding (names_of entries.now.entries) name) positions.now (literal_of literal.now)) (Err cause)) }
-{
-    match entries.get(&name) {
-        None => Err(Refusal::NotFound),
-        Some(Entry::Formula(_)) => Err(Refusal::NotData),
-        Some(Entry::Data(array)) => patch_of(array, positions, literal),
-    }
-}
-
-/// Returns the patch that puts a literal into one cell of an array, or refuses it.
-fn patch_of(array: &Array, positions: &[i64], literal: &Literal) -> Result<Patch, Refusal>
     ensures put { IfOk result (λ patch. cell_put (Some (Data array.now)) positions.now (literal_of literal.now) ≡ Ok (patched array.now patch)) }
     ensures fits { IfOk result (λ patch. FitsPatch array.now patch) }
     ensures delta { IfOk result (λ patch. IsPatched patch ≡ cell_delta (index_of_numbers positions.now) (literal_items (literal_of literal.now))) }
@@ -54,33 +34,14 @@ fn patch_of(array: &Array, positions: &[i64], literal: &Literal) -> Result<Patch
     let Some(index) = index_of(array.shape(), positions) else {
         return Err(Refusal::Index);
     };
-    patch_with(array, &index, literal)
-}
-
-/// Returns the patch that puts a literal at an index list; refuses a literal of several items or of the other type.
-fn patch_with(array: &Array, index: &Shape, literal: &Literal) -> Result<Patch, Refusal>
-    requires { is_index_of array.now.shape index.now.items ≡ true }
-    ensures put { IfOk result (λ patch. item_put array.now index.now.items (literal_items (literal_of literal.now)) ≡ Ok (patched array.now patch)) }
-    ensures fits { IfOk result (λ patch. FitsPatch array.now patch) }
-    ensures delta { IfOk result (λ patch. IsPatched patch ≡ cell_delta index.now.items (literal_items (literal_of literal.now))) }
-    ensures refused { IfErr result (λ cause. IsDataAnswer (item_put array.now index.now.items (literal_items (literal_of literal.now))) (Err cause)) }
-{
     let Some(item) = only_item(literal) else {
         return Err(Refusal::Length);
     };
     if item.item_type() != array.item_type() {
         return Err(Refusal::Domain);
     }
-    Ok(patch_at(array.shape(), index, item))
-}
-
-/// Returns the patch of one place of a shape, with this item.
-fn patch_at(shape: &Shape, index: &Shape, item: Item) -> Patch
-    requires within { IsWithinLimits shape.now.items }
-    requires inside { is_index_of shape.now.items index.now.items ≡ true }
-    ensures { result ≡ cell_patch index.now.items item }
-{
-    Patch::one(IndexBox::at(shape.as_slice(), index.as_slice()), item)
+    let region = IndexBox::at(array.shape().as_slice(), index.as_slice());
+    Ok(Patch::one(region, item))
 }
 
 /// Returns the item of a literal that has one item.

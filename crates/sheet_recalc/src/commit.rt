@@ -3,7 +3,7 @@
 ghost use Rattle.std.specs.Prelude.{◌≡◌, ◌<◌, ℕ, List, [], Some, None, length, get_or, slice_get, true, IsTrue, if◌then◌else◌};
 ghost use Rattle.std.specs.Str.{bytes_eq};
 ghost use Rattle.std.specs.Map.{lookup, keys_of, set_value};
-ghost use Rattle.indexmap.specs.IndexMap.{spare, insert_entry};
+ghost use Rattle.indexmap.specs.IndexMap.{spare};
 ghost use Rattle.arrays_core.specs.Arrays.{ArrayValue};
 ghost use Rattle.arrays_core.specs.Growth.{grown_by};
 ghost use Rattle.index_region.specs.Patches.{patched, FitsPatch};
@@ -201,18 +201,11 @@ fn commit_patch(
     ensures current { IsCurrent entries.new.entries }
     ensures found { AreEmptied found.old.entries found.new.entries }
 {
-    write_patch(entries, name, patch);
-    adopt_all(entries, found, places);
-}
-
-/// Writes new items into the data of a name.
-fn write_patch(entries: &mut IndexMap<Name, Entry>, name: Name, patch: &Patch)
-    requires { (a : ArrayValue) × HasData entries.old.entries name a × FitsPatch a patch.now }
-    ensures { (a : ArrayValue) → HasData entries.old.entries name a → entries.new.entries ≡ insert_entry bytes_eq entries.old.entries name (DataEntry (patched a patch.now)) }
-{
     if let Some(entry) = entries.get_mut(&name) {
         entry.write(patch);
+        return adopt_all(entries, found, places);
     }
+    unreachable!()
 }
 
 /// Appends a row to the data of a name in place, and gives each formula its new results.
@@ -230,19 +223,11 @@ fn commit_row(
     ensures current { IsCurrent entries.new.entries }
     ensures found { AreEmptied found.old.entries found.new.entries }
 {
-    put_behind(entries, name, tail);
-    adopt_all(entries, found, places);
-}
-
-/// Appends items to the data of a name.
-fn put_behind(entries: &mut IndexMap<Name, Entry>, name: Name, tail: Tail)
-    requires { (a : ArrayValue) × HasData entries.old.entries name a × FitsTail a tail }
-    ensures { (a : ArrayValue) → HasData entries.old.entries name a → entries.new.entries ≡ insert_entry bytes_eq entries.old.entries name (DataEntry (grown_by a tail.items)) }
-{
-    match entries.get_mut(&name) {
-        Some(entry) => entry.grow(tail),
-        None => drop(tail),
+    if let Some(entry) = entries.get_mut(&name) {
+        entry.grow(tail);
+        return adopt_all(entries, found, places);
     }
+    unreachable!()
 }
 
 /// Returns the references of the entry of a name.

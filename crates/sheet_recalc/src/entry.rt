@@ -1,14 +1,19 @@
 //! The entry of a name.
 
-ghost use Rattle.std.specs.Prelude.{◌≡◌};
+ghost use Rattle.std.specs.Prelude.{◌≡◌, Result, Err, IfOk, IfErr};
+ghost use Rattle.arrays_core.specs.Arrays.{ArrayValue};
 ghost use Rattle.formula_core.specs.Outcomes.{read};
-ghost use Rattle.sheet_recalc.specs.Entries.{binding_of, entry_outcome, adopting, patched_entry, grown_entry, FitsEntry, FitsBehind};
-ghost use Rattle.sheet_recalc.specs.Names.{referred};
+ghost use Rattle.sheet_recalc.specs.Cells.{on_data, IsDataAnswer};
+ghost use Rattle.sheet_recalc.specs.Entries.{binding_of, entry_outcome, adopting, patched_entry, grown_entry, names_of, HasData, FitsEntry, FitsBehind};
+ghost use Rattle.sheet_recalc.specs.Names.{binding, referred};
 ghost use Rattle.sheet_recalc.specs.Live.{CanAdopt};
+ghost use Rattle.sheet_recalc.specs.declared.refusal.Refusal.{Refusal as AnyRefusal};
 
+use crate::refusal::Refusal;
 use arrays_core::{Array, Fault};
 use formula_core::{Formula, LentFault, Plan};
 use index_region::{Patch, Tail};
+use indexmap::IndexMap;
 use names::Name;
 
 /// Data, or a formula with its results.
@@ -88,5 +93,21 @@ impl Entry {
             Entry::Data(array) => tail.write_behind(array),
             Entry::Formula(_) => drop(tail),
         }
+    }
+}
+
+/// Returns the array of a name that is bound to data. Refuses an absent name, and one that is bound to a formula.
+#[inline(always)]
+pub(crate) fn data_of<'a>(
+    entries: &'a IndexMap<Name, Entry>,
+    name: &Name,
+) -> Result<&'a Array, Refusal>
+    ensures bound { IfOk result (λ array. HasData entries.now.entries name.now array.now) }
+    ensures refused { IfErr result (λ cause. (edit : ArrayValue → Result ArrayValue AnyRefusal) → IsDataAnswer (on_data edit (binding (names_of entries.now.entries) name.now)) (Err cause)) }
+{
+    match entries.get(name) {
+        None => Err(Refusal::NotFound),
+        Some(Entry::Formula(_)) => Err(Refusal::NotData),
+        Some(Entry::Data(array)) => Ok(array),
     }
 }

@@ -2,49 +2,24 @@
 
 ghost use Rattle.std.specs.Prelude.{◌≡◌, ◌<◌, ◌≤◌, IfOk, IfErr, Ok, Err, Some, true, length};
 ghost use Rattle.apl_expr.specs.Trees.{literal_of};
-ghost use Rattle.arrays_core.specs.Arrays.{ArrayValue};
 ghost use Rattle.arrays_core.specs.Growth.{one_longer, grown_by};
 ghost use Rattle.arrays_core.specs.Limits.{most_places};
 ghost use Rattle.arrays_core.specs.Shapes.{IsWithinLimits};
 ghost use Rattle.index_region.specs.Tails.{FitsTail};
-ghost use Rattle.sheet_recalc.specs.Names.{binding, Data};
-ghost use Rattle.sheet_recalc.specs.Entries.{names_of, HasData};
+ghost use Rattle.sheet_recalc.specs.Names.{Data};
 ghost use Rattle.sheet_recalc.specs.Cells.{literal_items, IsDataAnswer};
 ghost use Rattle.sheet_recalc.specs.Rows.{row_put, items_in_row, are_of_type};
 
-use crate::entry::Entry;
 use crate::refusal::Refusal;
 use apl_expr::Literal;
 use arrays_core::{ApplyFault, Array, Item, ItemType, Shape, is_within_limits, shape_of};
 use formula_core::array_of;
 use index_region::Tail;
-use indexmap::IndexMap;
-use names::Name;
 use std::alloc::{AllocError, Global};
 
-/// Returns the tail that appends a literal to the data of a name as its last row, or refuses it.
+/// Returns the tail that appends a literal to an array as its last row, or the first reason to refuse it.
 #[inline(always)]
-pub(crate) fn row_behind(
-    alloc: Global,
-    entries: &IndexMap<Name, Entry>,
-    name: Name,
-    literal: &Literal,
-) -> Result<Tail, Refusal>
-    ensures put { IfOk result (λ tail. (a : ArrayValue) × HasData entries.now.entries name a × FitsTail a tail
-        × (row_put (binding (names_of entries.now.entries) name) (literal_of literal.now) ≡ Ok (grown_by a tail.items))) }
-    ensures items { IfOk result (λ tail. tail.items ≡ literal_items (literal_of literal.now)) }
-    ensures refused { IfErr result (λ cause. IsDataAnswer (row_put (binding (names_of entries.now.entries) name) (literal_of literal.now)) (Err cause)) }
-{
-    match entries.get(&name) {
-        None => Err(Refusal::NotFound),
-        Some(Entry::Formula(_)) => Err(Refusal::NotData),
-        Some(Entry::Data(array)) => tail_of(alloc, array, literal),
-    }
-}
-
-/// Returns the tail that appends a literal to an array as its last row, or refuses it.
-#[inline(always)]
-fn tail_of(alloc: Global, array: &Array, literal: &Literal) -> Result<Tail, Refusal>
+pub(crate) fn row_behind(alloc: Global, array: &Array, literal: &Literal) -> Result<Tail, Refusal>
     ensures put { IfOk result (λ tail. row_put (Some (Data array.now)) (literal_of literal.now) ≡ Ok (grown_by array.now tail.items)) }
     ensures fits { IfOk result (FitsTail array.now) }
     ensures items { IfOk result (λ tail. tail.items ≡ literal_items (literal_of literal.now)) }

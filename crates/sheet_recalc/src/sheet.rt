@@ -17,7 +17,7 @@ ghost use Rattle.sheet_recalc.specs.History.{change_of};
 use crate::budget::Budget;
 use crate::cell::cell_patch;
 use crate::commit::make;
-use crate::entry::Entry;
+use crate::entry::{Entry, data_of};
 use crate::growth::growth_for;
 use crate::pending::Pending;
 use crate::planning::{begun, functions_in, run};
@@ -404,7 +404,7 @@ impl Sheet {
         ensures is { IfOk result (λ proposal. IsProposalOf self.now (SetCell name positions.now (literal_of literal.now)) name proposal 0) }
         ensures refused { IfErr result (Refuses self.now.names (SetCell name positions.now (literal_of literal.now))) }
     {
-        let patch = cell_patch(&self.entries, name, positions, literal)?;
+        let patch = cell_patch(data_of(&self.entries, &name)?, positions, literal)?;
         Ok(Proposal::Data(Delta::Patch(patch)))
     }
 
@@ -414,7 +414,7 @@ impl Sheet {
         ensures is { IfOk result (λ proposal. IsProposalOf self.now (AddRow name (literal_of literal.now)) name proposal 0) }
         ensures refused { IfErr result (Refuses self.now.names (AddRow name (literal_of literal.now))) }
     {
-        let tail = row_behind(self.alloc, &self.entries, name, literal)?;
+        let tail = row_behind(self.alloc, data_of(&self.entries, &name)?, literal)?;
         Ok(Proposal::Data(Delta::Grown(tail)))
     }
 

@@ -1,33 +1,43 @@
-use Rattle.std.{proofs.Common.{◌≡◌, ◌∙◌, sym, ap, subst, Option, Some, None, Err}, specs.Option.{option_map}, proofs.lemmas.Result.{IfErr-weaker}}
-use Rattle.apl_expr.specs.Trees.{literal_of}
-use Rattle.sheet_recalc.{specs.Names.{Binding, Data, binding}, specs.Entries.{names_of, binding_of}, specs.Cells.{cell_put, IsDataAnswer}, specs.declared.entry.Entry.{Entry}, proofs.Asked.{if_ok_both}, proofs.Live.{binding_of_name}}
+use Rattle.std.{proofs.Common.{◌≡◌, ◌∙◌, ◌==◌, ◌∷◌, [], length, true, rules, arith, sym, ap, subst, Ok}, proofs.lemmas.Bool.{not-false}}
+use Rattle.{apl_expr.specs.Trees.{literal_of}, arrays_core.specs.{Items.{type_of}, Shapes.{is_index_of}, contracts.item.ItemType.{the_type}}}
+use Rattle.index_region.{specs.Boxes.{box_size}, specs.Patches.{PatchValue, FitsPatch, patched}, proofs.OnePlace.{one_place, one_place_size}}
+use Rattle.sheet_recalc.{specs.Cells.{literal_items, index_of_numbers, item_put}, specs.Costs.{cell_patch}, proofs.CellPatches.{item_is_put, fits_one}}
+use denote.Enum.Bare.{same_true}
 use Rattle.sheet_recalc.proofs.cell.cell_patch.Goals as goal
 
-pub returns-in-None-clause-refused : goal.returns-in-None-clause-refused
-returns-in-None-clause-refused c =
-    let es = c.args.entries.now.entries in
-    let is : binding (names_of es) c.args.name ≡ None = binding_of_name es c.args.name ∙ ap (option_map binding_of) (sym c.in-None.ensures.value) in
-    ap (λ (b : Option Binding). cell_put b c.args.positions.now (literal_of c.args.literal.now)) is
+pub one-requires : goal.one-requires
+one-requires c =
+    let region : c.at-region.result ≡ one_place c.in-Some.index.items = c.at-region.ensures ∙ ap one_place c.as_slice-2.ensures in
+    ap box_size region ∙ one_place_size c.in-Some.index.items
 
-pub returns-in-Some-Formula-clause-refused : goal.returns-in-Some-Formula-clause-refused
-returns-in-Some-Formula-clause-refused c =
-    let es = c.args.entries.now.entries in
-    let is : binding (names_of es) c.args.name ≡ Some (binding_of c.in-Some-Formula.field-0.now) = binding_of_name es c.args.name ∙ ap (option_map binding_of) (sym c.in-Some-Formula.ensures.value) in
-    ap (λ (b : Option Binding). cell_put b c.args.positions.now (literal_of c.args.literal.now)) (is ∙ ap (λ (e : Entry). Some (binding_of e)) c.in-Some-Formula.field-0-is)
+pub returns-clause-put : goal.returns-clause-put
+returns-clause-put c =
+    let a = c.args.array.now in
+    let index = c.in-Some.index.items in
+    let items = literal_items (literal_of c.args.literal.now) in
+    let item = c.in-Some-only_item.item in
+    let region : c.at-region.result ≡ one_place index = c.at-region.ensures ∙ ap one_place c.as_slice-2.ensures in
+    let patch : c.one.result ≡ cell_patch index item = c.one.ensures ∙ (λ i. record { region = region i; item_type = type_of item; items = item ∷ [] }) in
+    let same : c.item_type.result ≡ c.item_type-2.result = same_true the_type (search rules) _ _ (not-false _ (sym c.if-ne.ensures)) in
+    let there : c.item_type-2.result ≡ a.item_type = search in
+    let on_axes : is_index_of a.shape (index_of_numbers c.args.positions.now) ≡ true = subst (λ shape. is_index_of shape (index_of_numbers c.args.positions.now) ≡ true) c.shape-2.ensures.is c.in-Some.ensures.1 in
+    let is : index ≡ index_of_numbers c.args.positions.now = c.in-Some.ensures.0 in
+    let inside : is_index_of a.shape index ≡ true = subst (λ i. is_index_of a.shape i ≡ true) (sym is) on_axes in
+    let put : item_put a index items ≡ Ok (patched a (cell_patch index item)) = item_is_put a index items item c.shape.ensures.sound inside c.in-Some-only_item.ensures (sym c.item_type.ensures ∙ same ∙ there) in
+    let lengths : length c.args.positions.now ≡ length a.shape = omega (arith, c.if-positions-len.false, c.len.ensures.value, ap length c.shape.ensures.is) in
+    let rank : length c.args.positions.now == length a.shape ≡ true = search (rules, lengths) in
+    rw (rank, on_axes, sym is) (put ∙ ap (λ (p : PatchValue). Ok (patched a p)) (sym patch))
 
-pub returns-in-Some-Data-clause-put : goal.returns-in-Some-Data-clause-put
-returns-in-Some-Data-clause-put c =
-    let es = c.args.entries.now.entries in
-    let literal = literal_of c.args.literal.now in
-    let a = c.in-Some-Data.array in
-    let held = sym c.in-Some-Data.ensures.value ∙ ap (λ (e : Entry). Some e) c.in-Some-Data.field-0-is in
-    let is : binding (names_of es) c.args.name ≡ Some (Data a) = binding_of_name es c.args.name ∙ ap (option_map binding_of) held in
-    if_ok_both c.patch_of.result _ _ _ (λ p put fits. (a, held, fits, ap (λ (b : Option Binding). cell_put b c.args.positions.now literal) is ∙ put)) c.patch_of.ensures.put c.patch_of.ensures.fits
-
-pub returns-in-Some-Data-clause-refused : goal.returns-in-Some-Data-clause-refused
-returns-in-Some-Data-clause-refused c =
-    let es = c.args.entries.now.entries in
-    let literal = literal_of c.args.literal.now in
-    let held = sym c.in-Some-Data.ensures.value ∙ ap (λ (e : Entry). Some e) c.in-Some-Data.field-0-is in
-    let is : binding (names_of es) c.args.name ≡ Some (Data c.in-Some-Data.array) = binding_of_name es c.args.name ∙ ap (option_map binding_of) held in
-    IfErr-weaker c.patch_of.result _ _ (λ cause h. subst (λ (b : Option Binding). IsDataAnswer (cell_put b c.args.positions.now literal) (Err cause)) (sym is) h) c.patch_of.ensures.refused
+pub returns-clause-fits : goal.returns-clause-fits
+returns-clause-fits c =
+    let a = c.args.array.now in
+    let index = c.in-Some.index.items in
+    let item = c.in-Some-only_item.item in
+    let region : c.at-region.result ≡ one_place index = c.at-region.ensures ∙ ap one_place c.as_slice-2.ensures in
+    let patch : c.one.result ≡ cell_patch index item = c.one.ensures ∙ (λ i. record { region = region i; item_type = type_of item; items = item ∷ [] }) in
+    let same : c.item_type.result ≡ c.item_type-2.result = same_true the_type (search rules) _ _ (not-false _ (sym c.if-ne.ensures)) in
+    let there : c.item_type-2.result ≡ a.item_type = search in
+    let on_axes : is_index_of a.shape (index_of_numbers c.args.positions.now) ≡ true = subst (λ shape. is_index_of shape (index_of_numbers c.args.positions.now) ≡ true) c.shape-2.ensures.is c.in-Some.ensures.1 in
+    let is : index ≡ index_of_numbers c.args.positions.now = c.in-Some.ensures.0 in
+    let inside : is_index_of a.shape index ≡ true = subst (λ i. is_index_of a.shape i ≡ true) (sym is) on_axes in
+    subst (λ (p : PatchValue). FitsPatch a p) (sym patch) (fits_one a index item inside (sym c.item_type.ensures ∙ same ∙ there))

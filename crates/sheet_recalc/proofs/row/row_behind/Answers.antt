@@ -1,33 +1,16 @@
-use Rattle.std.{proofs.Common.{◌≡◌, ◌∙◌, sym, ap, subst, Option, Some, None, Err}, specs.Option.{option_map}, proofs.lemmas.Result.{IfErr-weaker}}
-use Rattle.apl_expr.specs.Trees.{literal_of}
-use Rattle.sheet_recalc.{specs.Names.{Binding, Data, binding}, specs.Entries.{names_of, binding_of}, specs.Cells.{IsDataAnswer}, specs.Rows.{row_put}, specs.declared.entry.Entry.{Entry}, proofs.Asked.{if_ok_both}, proofs.Live.{binding_of_name}}
+use Rattle.{std.proofs.Common.{◌≡◌, ◌∙◌, List, ℕ, length, true, refl, sym, ap, subst, Some, Ok}, apl_expr.specs.Trees.{literal_of}}
+use Rattle.arrays_core.{specs.Growth.{one_longer, grown_by}, specs.Shapes.{IsWithinLimits}, specs.declared.item.Item.{Item}}
+use Rattle.{index_region.specs.Tails.{TailValue}, sheet_recalc.{specs.Cells.{literal_items}, specs.Rows.{items_in_row, are_of_type}, proofs.Rows.{row_is_put}}}
 use Rattle.sheet_recalc.proofs.row.row_behind.Goals as goal
 
-pub returns-in-None-clause-refused : goal.returns-in-None-clause-refused
-returns-in-None-clause-refused c =
-    let es = c.args.entries.now.entries in
-    let is : binding (names_of es) c.args.name ≡ None = binding_of_name es c.args.name ∙ ap (option_map binding_of) (sym c.in-None.ensures.value) in
-    ap (λ (b : Option Binding). row_put b (literal_of c.args.literal.now)) is
-
-pub returns-in-Some-Formula-clause-refused : goal.returns-in-Some-Formula-clause-refused
-returns-in-Some-Formula-clause-refused c =
-    let es = c.args.entries.now.entries in
-    let is : binding (names_of es) c.args.name ≡ Some (binding_of c.in-Some-Formula.field-0.now) = binding_of_name es c.args.name ∙ ap (option_map binding_of) (sym c.in-Some-Formula.ensures.value) in
-    ap (λ (b : Option Binding). row_put b (literal_of c.args.literal.now)) (is ∙ ap (λ (e : Entry). Some (binding_of e)) c.in-Some-Formula.field-0-is)
-
-pub returns-in-Some-Data-clause-put : goal.returns-in-Some-Data-clause-put
-returns-in-Some-Data-clause-put c =
-    let es = c.args.entries.now.entries in
-    let literal = literal_of c.args.literal.now in
-    let a = c.in-Some-Data.array in
-    let held = sym c.in-Some-Data.ensures.value ∙ ap (λ (e : Entry). Some e) c.in-Some-Data.field-0-is in
-    let is : binding (names_of es) c.args.name ≡ Some (Data a) = binding_of_name es c.args.name ∙ ap (option_map binding_of) held in
-    if_ok_both c.tail_of.result _ _ _ (λ t put fits. (a, held, fits, ap (λ (b : Option Binding). row_put b literal) is ∙ put)) c.tail_of.ensures.put c.tail_of.ensures.fits
-
-pub returns-in-Some-Data-clause-refused : goal.returns-in-Some-Data-clause-refused
-returns-in-Some-Data-clause-refused c =
-    let es = c.args.entries.now.entries in
-    let literal = literal_of c.args.literal.now in
-    let held = sym c.in-Some-Data.ensures.value ∙ ap (λ (e : Entry). Some e) c.in-Some-Data.field-0-is in
-    let is : binding (names_of es) c.args.name ≡ Some (Data c.in-Some-Data.array) = binding_of_name es c.args.name ∙ ap (option_map binding_of) held in
-    IfErr-weaker c.tail_of.result _ _ (λ cause h. subst (λ (b : Option Binding). IsDataAnswer (row_put b literal) (Err cause)) (sym is) h) c.tail_of.ensures.refused
+pub returns-clause-put : goal.returns-clause-put
+returns-clause-put c =
+    let a = c.args.array.now in
+    let row = literal_items (literal_of c.args.literal.now) in
+    let has : items_in_row a.shape ≡ Some c.in-Some.count = cc in
+    let long : length row ≡ c.in-Some.count = cc in
+    let typed : are_of_type a.item_type row ≡ true = cc in
+    let same : c.one_longer-shape.result.items ≡ one_longer a.shape = cc in
+    let limits = subst (λ (shape : List ℕ). IsWithinLimits shape) (c.as_slice-2.ensures ∙ same) (c.if-not-is_within_limits.ensures.0 refl) in
+    let items = ap (λ (t : TailValue). t.items) c.in_ok-tail_to.ensures in
+    row_is_put a c.in-Some.count row has long typed limits ∙ ap (λ (xs : List Item). Ok (grown_by a xs)) (sym items)
