@@ -180,7 +180,18 @@ impl<'a, 'b> Ahead<'a, 'b> {
         ensures { IsInputOf (outline_of self.now.proposed.now) name.now result }
     {
         if *name == self.proposed.name {
-            return self.own();
+            let name = &self.proposed.name;
+            return match self.proposed.proposal {
+                Proposal::Data(delta) => Input::of(lent(self.proposed.entries, name), delta),
+                Proposal::Removed => Input::Bad {
+                    fault: LentFault::unknown(),
+                    changed: true,
+                },
+                Proposal::Formula(formula) => match plan_in(self.found, name) {
+                    Some(plan) => self.by_plan(name, formula, plan),
+                    None => unreachable!(),
+                },
+            };
         }
         let Some(plan) = plan_in(self.found, name) else {
             return Input::of(lent(self.proposed.entries, name), self.unchanged);
@@ -188,27 +199,6 @@ impl<'a, 'b> Ahead<'a, 'b> {
         match self.proposed.formula_of(*name) {
             Some(formula) => self.by_plan(name, formula, plan),
             None => unreachable!(),
-        }
-    }
-
-    /// Returns the input of the name that the change is about.
-    #[inline(always)]
-    fn own(&self) -> Input<'_>
-        requires ahead { IsAhead self.now }
-        requires done { HasItsPlan (outline_of self.now.proposed.now) (plan_in self.now.found.now.entries) self.now.proposed.now.name }
-        ensures { IsInputOf (outline_of self.now.proposed.now) self.now.proposed.now.name result }
-    {
-        let name = &self.proposed.name;
-        match self.proposed.proposal {
-            Proposal::Data(delta) => Input::of(lent(self.proposed.entries, name), delta),
-            Proposal::Removed => Input::Bad {
-                fault: LentFault::unknown(),
-                changed: true,
-            },
-            Proposal::Formula(formula) => match plan_in(self.found, name) {
-                Some(plan) => self.by_plan(name, formula, plan),
-                None => unreachable!(),
-            },
         }
     }
 

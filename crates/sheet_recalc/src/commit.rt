@@ -19,7 +19,7 @@ ghost use Rattle.sheet_recalc.specs.ProposedSheet.{is_edit, proposed_names};
 
 use crate::entry::Entry;
 use crate::growth::Growth;
-use crate::plans::{Found, hint_at};
+use crate::plans::Found;
 use crate::proposal::Proposal;
 use dep_order::{Users, give_lists, refer, take_larger};
 use formula_core::Plan;
@@ -271,18 +271,8 @@ fn adopt_at(entries: &mut IndexMap<Name, Entry>, found: &mut Found, place: usize
         return;
     };
     if let Some(plan) = lies.take() {
-        adopt_one(entries, &name, hint_at(places, place), plan);
-    }
-}
-
-/// Returns true if the entry of a name stands at this place.
-#[inline(always)]
-fn stands_at(entries: &IndexMap<Name, Entry>, place: usize, name: &Name) -> bool
-    ensures { IsTrue result → (e : EntryValue) × ((slice_get entries.now.entries place ≡ Some (name.now, e)) × (lookup (bytes_eq name.now) entries.now.entries ≡ Some e)) }
-{
-    match entries.get_index(place) {
-        Some((there, _)) => *there == *name,
-        None => false,
+        let hint = places.get(place).copied().unwrap_or(0);
+        adopt_one(entries, &name, hint, plan);
     }
 }
 
@@ -294,23 +284,15 @@ fn adopt_one(entries: &mut IndexMap<Name, Entry>, name: &Name, hint: usize, plan
         × ((q : List ℕ) → lookup (bytes_eq q) entries.new.entries ≡ (if bytes_eq name.now q then Some (adopting e plan) else lookup (bytes_eq q) entries.old.entries)) }
     ensures absent { lookup (bytes_eq name.now) entries.old.entries ≡ None → entries.new.entries ≡ entries.old.entries }
 {
-    if !stands_at(entries, hint, name) {
-        return adopt_by_name(entries, *name, plan);
+    if let Some((there, _)) = entries.get_index(hint) {
+        if *there == *name {
+            return match entries.get_index_mut(hint) {
+                Some(entry) => entry.adopt(plan),
+                None => drop(plan),
+            };
+        }
     }
-    match entries.get_index_mut(hint) {
-        Some(entry) => entry.adopt(plan),
-        None => drop(plan),
-    }
-}
-
-/// Gives the formula of a name its new results, by a lookup.
-fn adopt_by_name(entries: &mut IndexMap<Name, Entry>, name: Name, plan: Plan)
-    requires { (e : EntryValue) → lookup (bytes_eq name) entries.old.entries ≡ Some e → CanAdopt e plan }
-    ensures present { (e : EntryValue) → lookup (bytes_eq name) entries.old.entries ≡ Some e → (entries.new.entries ≡ set_value (bytes_eq name) entries.old.entries (adopting e plan))
-        × ((q : List ℕ) → lookup (bytes_eq q) entries.new.entries ≡ (if bytes_eq name q then Some (adopting e plan) else lookup (bytes_eq q) entries.old.entries)) }
-    ensures absent { lookup (bytes_eq name) entries.old.entries ≡ None → entries.new.entries ≡ entries.old.entries }
-{
-    match entries.get_mut(&name) {
+    match entries.get_mut(name) {
         Some(entry) => entry.adopt(plan),
         None => drop(plan),
     }

@@ -50,18 +50,6 @@ fn growth_with(
     if entries.len() < entries.capacity() && has_room_for(users, references) {
         return Ok(None);
     }
-    all_that_lacks(alloc, entries, users, references)
-}
-
-/// Allocates the missing memory for one more entry, if some is missing.
-fn all_that_lacks(
-    alloc: Global,
-    entries: &IndexMap<Name, Entry>,
-    users: &Users<Name>,
-    references: &[Name],
-) -> Result<Option<Box<Growth>>, AllocError>
-    ensures { IfOk result (IsBrought (record { entries = entries.now; users = users.now }) references.now) }
-{
     let lists = lists_for(alloc, users, references)?;
     let growth = Growth {
         entries: larger_map(alloc, entries, 1)?,

@@ -18,7 +18,7 @@ use crate::ahead::Ahead;
 use crate::budget::Budget;
 use crate::cycle::cycle_through;
 use crate::entry::Entry;
-use crate::evaluation::{shown, shown_is_array};
+use crate::evaluation::lent;
 use crate::plans::{Found, Plans};
 use crate::proposed_sheet::ProposedSheet;
 use crate::refusal::Refusal;
@@ -90,8 +90,11 @@ fn shown_is_sound(proposed: &ProposedSheet<'_>)
     requires { IsCurrent proposed.now.entries.now.entries }
     ensures { is_data proposed.now.proposal.now ≡ false → IfOk (val (names_of proposed.now.entries.now.entries) proposed.now.name) IsArray }
 {
-    if !proposed.proposal.is_data() {
-        shown_is_array(&shown(proposed.entries, proposed.name));
+    if proposed.proposal.is_data() {
+        return;
+    }
+    if let Ok(array) = lent(proposed.entries, &proposed.name) {
+        let _is_array = array.shape();
     }
 }
 
@@ -118,17 +121,10 @@ fn functions_at(proposed: &ProposedSheet<'_>, found: &Found, place: usize) -> u6
     requires { place < length found.now.entries }
     ensures { result ≡ functions_at (outline_of proposed.now) (get_or (keys_of found.now.entries) place []) }
 {
-    match found.get_index(place) {
-        Some((name, _)) => functions_of(proposed, *name),
-        None => 0,
-    }
-}
-
-/// Counts the functions of the formula of a name.
-fn functions_of(proposed: &ProposedSheet<'_>, name: Name) -> u64
-    ensures { result ≡ functions_at (outline_of proposed.now) name }
-{
-    match proposed.formula_of(name) {
+    let Some((name, _)) = found.get_index(place) else {
+        return 0;
+    };
+    match proposed.formula_of(*name) {
         Some(formula) => formula.all_operations() as u64,
         None => 0,
     }

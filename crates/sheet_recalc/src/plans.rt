@@ -73,7 +73,8 @@ impl Plans {
     /// Returns the hint of the last name that waits: its likely place in the sheet.
     #[inline(always)]
     pub(crate) fn hint(&self) -> usize {
-        hint_at(self.places.as_slice(), self.waiting.saturating_sub(1))
+        let place = self.waiting.saturating_sub(1);
+        self.places.get(place).copied().unwrap_or(0)
     }
 
     /// Stores the plan under way as the plan of the last name that waits, and the name's place in the sheet as a hint.
@@ -97,15 +98,6 @@ impl Plans {
         if let Some(lies) = self.found.get_index_mut(self.waiting) {
             *lies = Some(plan);
         }
-    }
-}
-
-/// Returns the hint at a place of the list, or 0.
-#[inline(always)]
-pub(crate) fn hint_at(places: &[usize], which: usize) -> usize {
-    match places.get(which) {
-        Some(place) => *place,
-        None => 0,
     }
 }
 
