@@ -3,6 +3,7 @@
 from __future__ import annotations
 
 import os
+import signal
 import subprocess
 import sys
 import time
@@ -57,6 +58,7 @@ class Room:
         own = {"XDG_STATE_HOME": str(self.folder / "state"), "TERM": "dumb", "LC_ALL": "C.UTF-8", "INPUTRC": "/dev/null"}
         own["TMPDIR"] = folder
         self.environment = {**os.environ, **own, "HOME": folder}
+        self.leaders: list[subprocess.Popen[bytes]] = []  # a process for each terminal, the leader of its group
 
     def put(self, name: str, text: Union[str, bytes]) -> str:
         """Makes a file, and returns its name."""
@@ -93,6 +95,13 @@ class Room:
         pipe = self.folder / f"pipe{len(os.listdir(self.folder))}"
         os.mkfifo(pipe)
         return os.open(pipe, os.O_RDONLY | os.O_NONBLOCK), f"exec 9> {pipe}; "
+
+    def stop(self) -> None:
+        """Kills the front ends that the test left on terminals: one that lost its terminal would write its log after the folder is gone."""
+        for leader in self.leaders:
+            if leader.poll() is None:
+                os.killpg(leader.pid, signal.SIGKILL)
+                leader.wait()
 
     def logs(self) -> list[Path]:
         """Returns the logs of sessions."""

@@ -34,6 +34,7 @@ class Screen:
         call = room.words(*words, program=program)
         begun = ["setsid", "--ctty", *([shell, "-i"] if shell else ["sh", "-c", f"{shlex.join(call)} {more}"] if more else call)]
         self.process = subprocess.Popen(begun, stdin=slave, stdout=slave, stderr=slave, cwd=room.folder, env=room.environment)
+        room.leaders.append(self.process)
         os.close(slave)
         self.shown, self.decoder, self.pipe = "", codecs.getincrementaldecoder("utf-8")("replace"), -1
         if shell:
